@@ -5,27 +5,23 @@ use Rattle.std.specs.Prelude.{Option, None, IfSome}
 use Rattle.iol_event.specs.declared.event.Event.{Event}
 use Rattle.iol_image.specs.Image.{IsImage}
 use Rattle.iol_steps.specs.Step.{Image}
-use Rattle.iol_isdu.specs.declared.values.Request.{Request}
-use Rattle.iol_isdu.specs.declared.values.Answer.{Answer}
 use Rattle.iol_far.specs.declared.carried.Carried.{Carried}
 use Rattle.iol_far.specs.Far.{Far}
 use Rattle.iol_mode.specs.declared.configuration.Configuration.{Configuration}
 use Rattle.iol_mode.specs.declared.configuration.Devices.{Devices}
 use Rattle.iol_mode.specs.declared.states.State.{State}
-use Rattle.iol_mode.specs.declared.why.Why.{Why}
-use Rattle.iol_steps.specs.declared.mode.Mode.{Mode}
 use Rattle.iol_steps.specs.declared.mode.Mode.TheVariants.{Down as ModeDown}
 use Rattle.iol_steps.specs.Session.{session_through}
-use Rattle.iol_steps.specs.Bridge.{IsOpen}
-use Rattle.iol_steps.specs.Kinds.{restart_steps}
-use Rattle.iol_steps.specs.Station.{job_of}
+use Rattle.iol_steps.specs.Bridge.{Hidden, IsOpen}
+use Rattle.iol_steps.specs.Kinds.{Seen, restart_steps}
+use Rattle.iol_steps.specs.Station.{session_of}
 use Rattle.iol_steps.specs.Exchange.{hidden_lost}
-use Rattle.iol_app.proofs.KindsSession.{lost_opens}
+use Rattle.iol_app.proofs.OpenLevel.{lost_opens}
 use Rattle.iol_app.specs.Requests.{request_in}
 use Rattle.iol_app.specs.State.{SessionState, wanting}
 use Rattle.iol_mode.specs.Kinds.{SeesPulses}
 use Rattle.iol_app.specs.StationState.{StateFits as Joined}
-use Rattle.iol_app.specs.Core.{Core, Ghost, Stands, RequestStands, work_of, session_in, opened_core, opened_ghost, wanting_core, restarted_core, restarted_ghost}
+use Rattle.iol_app.specs.Core.{Core, Ghost, Stands, RequestStands, work_of, seen_in, session_in, opened_core, opened_ghost, wanting_core, restarted_core, restarted_ghost}
 
 pub opens : (devices : Devices) (limit : ℕ) (far : Far) (silence : ℕ) (told : Bool)
     (due : Event × List Event)
@@ -57,30 +53,16 @@ request_opens : (state : State) (t : SessionState) (g : Ghost) (far : Far) → J
     → IsOpen far.isdu (request_in t.current) g.request.hidden
 request_opens state t g far j h = grind (arith, common_steps)
 
-session_is : (r : Option Request) (answer : Option Answer) (late : Option Request) (busy : ℕ)
-    (asked : Bool) (carried : List Carried) (mode : Mode) (why : Option Why) →
-    session_through (restart_steps r)
-    (record {
-      job = job_of r answer busy asked;
-      late = late;
-      carried = carried;
-      mode = mode;
-      why = why;
-    })
-    ≡ record {
-      job = None;
-      late = (hidden_lost r
-          (record { answer = answer; late = late })).late;
-      carried = carried;
-      mode = ModeDown;
-      why = None;
-    }
-session_is r answer late busy asked carried mode why = grind (arith, common_steps)
+session_is : (seen : Seen) (h : Hidden) (carried : List Carried)
+    → session_through (restart_steps seen.request) (session_of seen h carried)
+    ≡ session_of (record seen { request = None; mode = ModeDown; why = None })
+    (hidden_lost seen.request h) carried
+session_is seen h carried = grind (arith, common_steps)
 
 pub restarted_session : (c : Core) (g : Ghost) (far : Far)
     → session_through (restart_steps (request_in c.session.current)) (session_in c g far)
     ≡ session_in (restarted_core c) (restarted_ghost c g) far
-restarted_session c g far = grind (arith, common_steps, session_is)
+restarted_session c g far = session_is (seen_in c g) g.request.hidden far.carried
 
 pub restarts : (c : Core) (g : Ghost) (far : Far) (silence : ℕ) → Stands c g far silence
     → Stands (restarted_core c) (restarted_ghost c g) far silence

@@ -1,27 +1,26 @@
 -- What the kinds of good replies rest on: what zeros in place of an answer can be, and what is in
 -- doubt then; what is counted, and what is noted, of the message that is out.
 use Rattle.std.proofs.lemmas.Grind.{common_steps}
-use Rattle.std.proofs.Common.{◌≡◌, inl, inr, ℕ, zero, suc, ◌+◌, ◌%◌, min, Bool, true, false, ◌==◌, not, ◌&&◌, List, [], ◌∷◌, ◌++◌, length, refl, sym, ap, ◌∙◌, arith, Option, Some, None, ◌⊎◌}
-use Rattle.std.specs.Prelude.{IfSome, IsTrue, if◌then◌else◌, slice_index, bytes_eq, replicate}
+use Rattle.std.proofs.Common.{◌≡◌, ℕ, zero, suc, ◌+◌, ◌%◌, min, Bool, true, false, ◌==◌, ◌&&◌, List, [], ◌∷◌, ◌++◌, length, refl, ap, arith, Option, Some, ◌⊎◌}
+use Rattle.std.specs.Prelude.{IfSome, IsTrue, if◌then◌else◌, slice_index, bytes_eq, replicate, None, IsSome}
 use Rattle.std.proofs.lemmas.Bool.Decides.{nat_tests}
-use Rattle.iol_octets.specs.declared.control.Channel.{Channel}
-use Rattle.iol_octets.specs.declared.flow_control.Flow.{Flow}
 use Rattle.iol_octets.specs.declared.flow_control.Flow.TheVariants.{Count}
 use Rattle.iol_isdu.specs.Answers.{is_read, answer_fault}
 use Rattle.iol_isdu.specs.declared.values.Request.{Request}
 use Rattle.iol_isdu.specs.declared.values.Cause.{Cause}
 use Rattle.iol_isdu.specs.declared.values.Cause.TheVariants.{BusyTooLong, Protocol}
+use Rattle.iol_segment.specs.TextLaws.{joined as joined_octets}
 use Rattle.iol_segment.specs.Cut.{Cutting, last_given}
-use Rattle.iol_segment.specs.Join.{Joining, Stage, Taken, stage, staged, taken as taken_by, Open, Complete, Wrong}
+use Rattle.iol_segment.specs.Join.{Joining, Stage, Taken, stage, staged, taken as taken_by, Complete}
 use Rattle.iol_far.specs.declared.kind.HandsOver.{HandsOver}
 use Rattle.iol_far.specs.declared.kind.Recalls.{Recalls}
 use Rattle.iol_far.specs.declared.kind.Recalls.TheVariants.{UntilSent}
-use Rattle.iol_far.specs.Level.{Progress, Clear, Had as IsHad, Unsure, Move, Ask, Leave, Other, IsMove, IsIdle, is_open, asked as level_asked, may_be_none}
+use Rattle.iol_far.specs.Level.{Clear, Had as IsHad, Unsure, Move, Leave, Other, IsIdle, is_open, asked as level_asked, may_be_none, Busy as IsBusy, Stands as FarStands, grown_by}
 use Rattle.iol_mode.specs.declared.configuration.Devices.{Devices}
 use Rattle.iol_mode.specs.declared.configuration.Devices.TheVariants.{Own, Any}
 use Rattle.iol_mode.specs.Kinds.{trusted}
-use Rattle.iol_steps.specs.Step.{repeats_at, misreads_at, doubts_at}
-use Rattle.iol_steps.specs.Exchange.{ReadsAnswer}
+use Rattle.iol_steps.specs.Step.{repeats_at, misreads_at, doubts_at, Moment}
+use Rattle.iol_steps.specs.Exchange.{ReadsAnswer, MayAbort}
 use Rattle.iol_app.specs.declared.request.Current.{Current}
 use Rattle.iol_app.specs.declared.request.Progress.TheVariants.{Refused}
 use Rattle.iol_app.specs.declared.session.Exchange.{Exchange}
@@ -32,8 +31,14 @@ use Rattle.iol_app.specs.Ends.{BusyAt, AbortAt}
 use Rattle.iol_app.proofs.Joining.{taken_next}
 use Rattle.iol_app.proofs.Sessions.{text_some}
 use Rattle.iol_app.specs.Core.{vain_by, AgainBy}
-use Rattle.iol_app.proofs.Had.{took, text, h}
 use Rattle.iol_isdu.specs.declared.fault.IsduFault.{IsduFault}
+use Rattle.iol_isdu.specs.declared.values.Answer.{Answer}
+use Rattle.iol_far.specs.declared.carried.Carried.{Carried}
+use Rattle.iol_far.specs.Isdu.{IsduState, fits, answer_text, isdu_data}
+use Rattle.iol_steps.specs.Bridge.{Hidden}
+use Rattle.iol_steps.specs.Kinds.{Seen, WasAborted, brought_steps}
+use Rattle.iol_steps.specs.Station.{AnswerFits}
+use Rattle.iol_app.proofs.OwnSession.{SessionRuns}
 
 pub first_idle : (devices : Devices) (source : Request) (given : ℕ)
     → segment_move source given ≡ Leave → IsIdle (before_last devices source given)
@@ -45,18 +50,10 @@ pub busy_waits : (doubts : Bool) (limit busy : ℕ) (cancels : Bool) (abort : Op
     (if one_more counted == limit then waiting abort BusyTooLong else abort) (busy + 1) cancels
 busy_waits doubts limit busy cancels abort counted e k = grind (arith, common_steps)
 
--- a question hands nothing over
-pub asks_once : (devices : Devices) (hands_over : HandsOver) (size : ℕ) (what : Move)
-    → ReadsAnswer what → repeats_at devices hands_over size what ≡ false
-asks_once devices hands_over size what asks = grind (arith, common_steps)
-
-pub other_hands : (devices : Devices) (hands_over : HandsOver) (size : ℕ)
-    → repeats_at devices hands_over size Other ≡ false
-other_hands devices hands_over size = grind (arith, common_steps)
-
-pub asks_none : (size : ℕ) (p : Progress) (channel : Channel) (read : Bool) (flow : Flow)
-    (sent : List ℕ) → IsIdle p → IsMove size Ask p channel read flow sent → ⊥
-asks_none size p channel read flow sent idle move = grind (arith, common_steps)
+-- only a request's first segment hands it over
+pub hands_none : (devices : Devices) (hands_over : HandsOver) (size : ℕ) (what : Move)
+    → ReadsAnswer what ⊎ (what ≡ Other) → repeats_at devices hands_over size what ≡ false
+hands_none devices hands_over size what asks = grind (arith, common_steps)
 
 -- At a port for any device
 
@@ -85,17 +82,11 @@ pub vain_again : (devices : Devices) (current : Current) (tries : ℕ) → devic
 vain_again Any current zero any low again =
     absurd (omega (arith, low again))
 vain_again Any current (suc k) any low again = (k, rw again refl)
-vain_again Own current tries any low again = absurd (let z : Path Devices Own Any = any in cc)
+vain_again Own current tries any low again = cc
 
-pub vain_once : (devices : Devices) (current : Current) (tries : ℕ) → devices ≡ Any
-    → current.again ≡ false → vain_by devices NextMessage (Some current) tries ≡ 0
-vain_once devices current tries any once = grind (arith, common_steps)
-
-and_both : (x y : Bool) → (x && y) ≡ true → (x ≡ true) × (y ≡ true)
-and_both x y e = grind (arith, common_steps)
-
-not_true : (x : Bool) → not x ≡ true → x ≡ false
-not_true x e = grind (arith, common_steps)
+pub vain_some : (devices : Devices) (current : Current) (tries k : ℕ) → devices ≡ Any
+    → vain_by devices NextMessage (Some current) tries ≡ suc k → current.again ≡ true
+vain_some devices current tries k any some = grind (arith, common_steps)
 
 -- zeros where a text would end
 pub zeros : (octets : List ℕ) → are_zeros octets ≡ bytes_eq octets (replicate (length octets) 0)
@@ -107,83 +98,47 @@ staged_forgotten : (count : Option ℕ) (octets od : List ℕ) (at : Stage) → 
 staged_forgotten count octets od at e = grind (arith, common_steps)
 
 -- such are none of an answer, or are as a device sends them that has forgotten it
-pub forgotten_none : (size had : ℕ) (joining : Joining) (od : List ℕ) (k : ℕ)
+pub forgotten_none : {size had : ℕ} {joining : Joining} (od : List ℕ) (k : ℕ)
     → IsJoining size had joining
     → forgotten_by (taken_by joining (Count ((had + 1) % 16)) od).took od ≡ true
     → may_be_none UntilSent (suc k) joining.text od ≡ true
-forgotten_none size had joining od k h e =
-    let staged_is = taken_next size had joining od h in
+forgotten_none {size} {had} {joining} od k h e =
     let found = staged_forgotten (Some (suc had % 16)) (joining.text ++ od) od
-    (stage (joining.text ++ od))
-    (ap (λ (x : Taken). forgotten_by x.took od) (sym staged_is) ∙ e) in
+    (stage (joining.text ++ od)) (rw (taken_next size had joining od h) at e) in
     rw (← zeros od, found.0, found.1) refl
 
-staged_refused : (cutter : Cutting Request) (abort : Option Cause) (had : ℕ) (count : Option ℕ)
-    (octets od : List ℕ) (at : Stage) → are_zeros od ≡ true → is_open at ≡ false
-    → (if forgotten_by (staged false count octets at).took od then GoesOn (refused cutter abort)
-    else joined cutter abort had (staged false count octets at).took
-    (staged false count octets at).joining) ≡ GoesOn (refused cutter abort)
-staged_refused cutter abort had count octets od at none closed = grind (arith, common_steps)
+-- where they end a text, it is refused, or taken for an answer's by who asked for them once
+abbrev pub EndsText : Bool → Cutting Request → Option Cause → Outcome → Type 0
+EndsText again cutter abort (GoesOn next) = next ≡ refused cutter abort
+EndsText again cutter abort (HasText text) = again ≡ false
 
-pub none_refused : (size had : ℕ) (cutter : Cutting Request) (abort : Option Cause)
-    (joining : Joining) (od : List ℕ) (k : ℕ) → IsJoining size had joining
-    → may_be_none UntilSent (suc k) joining.text od ≡ true
-    → received true cutter abort joining (had + 1) od ≡ GoesOn (refused cutter abort)
-none_refused size had cutter abort joining od k h e =
-    let both = and_both (bytes_eq od (replicate (length od) 0))
-    (not (is_open (stage (joining.text ++ od)))) e in
-    let closed : is_open (stage (joining.text ++ od)) ≡ false =
-    not_true (is_open (stage (joining.text ++ od))) both.1 in
-    rw (taken_next size had joining od h)
-    (staged_refused cutter abort (had + 1) (Some (suc had % 16)) (joining.text ++ od) od
-    (stage (joining.text ++ od)) (zeros od ∙ both.0) closed)
+none_zeros : (text od : List ℕ) (k : ℕ) → are_zeros od ≡ bytes_eq od (replicate (length od) 0)
+    → may_be_none UntilSent (suc k) text od ≡ true
+    → (are_zeros od ≡ true) × (is_open (stage (text ++ od)) ≡ false)
+none_zeros text od k same e = grind (arith, common_steps)
 
-finished_ends : (cutter : Cutting Request) (abort : Option Cause) (text : List ℕ)
-    (fault : Option IsduFault) → let outcome : Outcome = finished cutter abort text fault in
-    (outcome ≡ GoesOn (refused cutter abort)) ⊎ ((other : List ℕ) × (outcome ≡ HasText other))
-finished_ends cutter abort text None = inr (text, refl)
-finished_ends cutter abort text (Some fault) = inl refl
-
-joined_ends : (cutter : Cutting Request) (abort : Option Cause) (had : ℕ) (count : Option ℕ)
-    (octets : List ℕ) (at : Stage) → is_open at ≡ false → let outcome : Outcome =
-    joined cutter abort had (staged false count octets at).took
-    (staged false count octets at).joining in
-    (outcome ≡ GoesOn (refused cutter abort)) ⊎ ((text : List ℕ) × (outcome ≡ HasText text))
-joined_ends cutter abort had count octets Open closed =
-    absurd (let z : true ≡ false = closed in cc)
-joined_ends cutter abort had count octets (Complete text) closed =
-    finished_ends cutter abort text (answer_fault (is_read cutter.source) text)
-joined_ends cutter abort had count octets Wrong closed = inl refl
+finished_ends : (again : Bool) (cutter : Cutting Request) (abort : Option Cause) (text : List ℕ)
+    (fault : Option IsduFault) → EndsText again cutter abort (if again && true
+    then GoesOn (refused cutter abort) else finished cutter abort text fault)
+finished_ends again cutter abort text fault = grind (arith, common_steps)
 
 staged_ends : (again : Bool) (cutter : Cutting Request) (abort : Option Cause) (had : ℕ)
-    (count : Option ℕ) (octets od : List ℕ) (at : Stage) → is_open at ≡ false
-    → let outcome : Outcome =
-    (if again && forgotten_by (staged false count octets at).took od then GoesOn (refused cutter
-    abort) else joined cutter abort had (staged false count octets at).took
-    (staged false count octets at).joining) in
-    (outcome ≡ GoesOn (refused cutter abort)) ⊎ ((text : List ℕ) × (outcome ≡ HasText text))
-staged_ends again cutter abort had count octets od at closed = split
-    (again && forgotten_by (staged false count octets at).took od)
-  where
-    split : (b : Bool) → let outcome : Outcome =
-        (if b then GoesOn (refused cutter abort) else joined cutter abort had
-        (staged false count octets at).took (staged false count octets at).joining) in
-        (outcome ≡ GoesOn (refused cutter abort)) ⊎ ((text : List ℕ) × (outcome ≡ HasText text))
-    split true = inl refl
-    split false = joined_ends cutter abort had count octets at closed
+    (count : Option ℕ) (octets od : List ℕ) (at : Stage) → are_zeros od ≡ true
+    → is_open at ≡ false → let t : Taken = staged false count octets at in
+    EndsText again cutter abort (if again && forgotten_by t.took od
+    then GoesOn (refused cutter abort) else joined cutter abort had t.took t.joining)
+staged_ends again cutter abort had count octets od (Complete text) none closed =
+    rw none (finished_ends again cutter abort text (answer_fault (is_read cutter.source) text))
+staged_ends again cutter abort had count octets od at none closed = grind (arith, common_steps)
 
--- where they end a text, it is refused, or an answer's
-pub none_ends : (size had : ℕ) (cutter : Cutting Request) (abort : Option Cause)
-    (joining : Joining) (od : List ℕ) (k : ℕ) (again : Bool) → IsJoining size had joining
+pub none_ends : {size had : ℕ} {joining : Joining} (cutter : Cutting Request)
+    (abort : Option Cause) (od : List ℕ) (k : ℕ) (again : Bool) → IsJoining size had joining
     → may_be_none UntilSent (suc k) joining.text od ≡ true
-    → let outcome : Outcome = received again cutter abort joining (had + 1) od in
-    (outcome ≡ GoesOn (refused cutter abort)) ⊎ ((text : List ℕ) × (outcome ≡ HasText text))
-none_ends size had cutter abort joining od k again h e =
-    let both = and_both (bytes_eq od (replicate (length od) 0))
-    (not (is_open (stage (joining.text ++ od)))) e in
-    rw (taken_next size had joining od h)
-    (staged_ends again cutter abort (had + 1) (Some (suc had % 16)) (joining.text ++ od) od
-    (stage (joining.text ++ od)) (not_true (is_open (stage (joining.text ++ od))) both.1))
+    → EndsText again cutter abort (received again cutter abort joining (had + 1) od)
+none_ends {size} {had} {joining} cutter abort od k again h e =
+    let none = none_zeros joining.text od k (zeros od) e in
+    rw (taken_next size had joining od h) (staged_ends again cutter abort (had + 1)
+    (Some (suc had % 16)) (joining.text ++ od) od (stage (joining.text ++ od)) none.0 none.1)
 
 pub trusts_none : (devices : Devices) (recalls : Recalls) (vain : ℕ) (text od : List ℕ)
     → may_be_none (trusted devices recalls) vain text od ≡ true
@@ -215,3 +170,41 @@ pub other_once : (devices : Devices) (e : Exchange) (tries : ℕ) (current : Opt
     → (e ≡ NextMessage → ⊥) → IfSome current (AgainBy devices e tries)
     → IfSome current (λ c. c.again ≡ false)
 other_once devices e tries current other h = grind (arith, common_steps)
+
+-- the session where a request is cut off, whether it had an answer or not
+pub aborted_session : (m : Moment) (seen : Seen) (h : Hidden) (c : List Carried) (r : Request)
+    (cause : Cause) → seen.request ≡ Some r
+    → MayAbort (doubts_at m.terms.devices m.terms.kind.recalls) m.terms.busy_limit seen.busy
+    seen.asked cause → SessionRuns m seen h c (brought_steps (WasAborted cause) seen.request)
+    (record seen { request = None }) h c
+aborted_session m seen h c r cause under may = grind (arith, common_steps)
+
+-- What a good reply says of the answer
+
+not_one : (size : ℕ) → (slice_index (replicate size 0) 0 == 1) ≡ true → ⊥
+not_one size e = grind (arith, common_steps)
+
+pub more_grown : (base : List Carried) (r : Request) (a : Answer) → base ≡ grown_by base r a → ⊥
+more_grown base r a e = grind (arith, common_steps)
+
+-- a device that is busy has not answered
+pub busy_unanswered : (hands_over : HandsOver) (size : ℕ) (base : List Carried) (r : Request)
+    (s : IsduState) (counted : Option ℕ) (c : List Carried) (h : Hidden)
+    → FarStands hands_over size base (IsBusy r) s counted c → AnswerFits base (Some r) h c
+    → (slice_index (isdu_data size s) 0 == 1) ≡ true → h.answer ≡ None
+busy_unanswered hands_over size base r s counted c h stands answer e =
+    grind (arith, common_steps, not_one, more_grown)
+
+-- where the record has grown, the device has answered
+pub grown_answered : (base : List Carried) (r : Request) (a : Answer) (h : Hidden)
+    (c : List Carried) → AnswerFits base (Some r) h c → c ≡ grown_by base r a → IsSome h.answer
+grown_answered base r a h c fits grown = grind (arith, common_steps, more_grown)
+
+pub had_answer : (hands_over : HandsOver) (size : ℕ) (base : List Carried) (r : Request) (i : ℕ)
+    (text : List ℕ) (s : IsduState) (counted : Option ℕ) (c : List Carried) (h : Hidden)
+    (x : Answer) → FarStands hands_over size base (IsHad r i text) s counted c
+    → AnswerFits base (Some r) h c
+    → ((a : Answer) → IsTrue (fits r a) → text ≡ joined_octets size (answer_text r a) i → a ≡ x)
+    → h.answer ≡ Some x
+had_answer hands_over size base r i text s counted c h x stands fits only =
+    grind (arith, common_steps)

@@ -1,5 +1,5 @@
 -- The calls that aren't turns, over the core's own data.
-use Rattle.std.proofs.Common.{◌≡◌, ℕ, true, false, refl, sym, subst, Option, Some, None}
+use Rattle.std.proofs.Common.{◌≡◌, ℕ, Bool, true, false, refl, sym, subst, Option, Some, None}
 use Rattle.std.specs.Prelude.{IsSome, IfSome}
 use Rattle.iol_isdu.specs.declared.values.Request.{Request}
 use Rattle.iol_isdu.specs.declared.values.Cause.{Cause}
@@ -8,29 +8,27 @@ use Rattle.iol_image.specs.Image.{IsImage}
 use Rattle.iol_mode.specs.declared.states.Operate.{Operate}
 use Rattle.iol_mode.specs.declared.configuration.Configuration.{Configuration}
 use Rattle.iol_mode.specs.declared.configuration.Devices.{Devices}
-use Rattle.iol_mode.specs.Kinds.{SeesPulses}
 use Rattle.iol_mode.specs.declared.states.State.{State}
 use Rattle.iol_mode.specs.declared.states.State.TheVariants.{Down as AtDown, Operate as AtOperate}
 use Rattle.iol_steps.specs.declared.mode.Mode.TheVariants.{Operate as ModeOperate}
 use Rattle.iol_steps.specs.Step.{Image, Deny, doubts_at}
-use Rattle.iol_steps.specs.Session.{MaySession, cancelling, session_through}
-use Rattle.iol_steps.specs.Kinds.{restart_steps}
+use Rattle.iol_steps.specs.Session.{MaySession, cancelling}
 use Rattle.iol_app.specs.declared.request.Current.{Current}
-use Rattle.iol_app.specs.Requests.{request_in}
+use Rattle.iol_app.specs.Requests.{waiting}
+use Rattle.iol_app.specs.Ends.{AbortAt}
+use Rattle.iol_far.specs.Far.{Far}
 use Rattle.iol_app.specs.State.{SessionState, OutSuits, begun_in, aborted_in}
 use Rattle.iol_app.specs.StationState.{mode_in, StateFits as Joined}
-use Rattle.iol_app.proofs.Asking.{begin_gives, denies, aborts_by, waiting_at, marked_at}
+use Rattle.iol_app.proofs.Asking.{begin_gives, denies, aborts_by, waiting_at, cancelled_at}
 use Rattle.iol_app.proofs.Calling.{asks_else, opens, wants, restarts, restarted_session}
-use Rattle.iol_app.specs.Core.{Core, Stands, BeginGives, session_in, operate_core, asking_ghost, opened_core, opened_ghost, wanting_core, restarted_core, restarted_ghost}
+use Rattle.iol_app.specs.Core.{Core, Ghost, Stands, BeginGives, session_in, operate_core, asking_ghost, opened_core, wanting_core, restarted_core}
 use Rattle.iol_app.specs.Seen.{NewSteps, BeginSteps, DenySteps, AbortSteps, CancelSteps, WantSteps, RestartSteps}
 
 pub new_steps : (devices : Devices) (busy : ℕ) (new : Core) → new ≡ opened_core devices busy
     → NewSteps new
 unfolding NewSteps
-new_steps devices busy new e = λ far sees n told due. subst
-    (λ (c : Core). Stands c (opened_ghost far told due) far n) (sym e)
-    (opens devices busy far n told due
-    (subst (λ (c : Core). SeesPulses c.session.configuration.devices far) e sees))
+new_steps devices busy new e =
+    λ far sees n told due. rw e (opens devices busy far n told due (rw e at sees))
 
 -- in OPERATE with no request under way
 at_free : (P : Core → Type 0) (state : State) (session : SessionState)
@@ -42,21 +40,16 @@ at_free P (AtOperate s) session mode free f =
 at_free P state session mode free f = absurd (let k : mode_in state ≡ ModeOperate = mode in cc)
 
 -- with a request under way, so in OPERATE
-at_request : (P : Core → Type 0) (state : State) (session : SessionState) → Joined state session
-    → IsSome session.current
-    → ((s : Operate) (current : Current) → P (operate_core s session (Some current)))
-    → P (record { state = state; session = session })
-at_request P (AtDown s) session joined some f =
-    absurd (let k : false ≡ true = subst IsSome joined.0 some in cc)
-at_request P (AtOperate s) session joined some f = by_current session.current refl some
-  where
-    by_current : (current : Option Current) → session.current ≡ current → IsSome current
-        → P (operate_core s session session.current)
-    by_current None e k = absurd (let n : false ≡ true = k in cc)
-    by_current (Some current) e k = subst (λ (c : Option Current). P (operate_core s session c))
-        (sym e) (f s current)
-at_request P state session joined some f =
-    absurd (let k : false ≡ true = subst IsSome joined.0.0 some in cc)
+at_request : (P : Core → Type 0) (state : State) (t : SessionState) (current : Option Current)
+    → Joined state (record t { current = current }) → IsSome current
+    → ((s : Operate) (c : Current) → P (operate_core s t (Some c)))
+    → P (record { state = state; session = record t { current = current } })
+at_request P (AtDown s) t current joined some f =
+    absurd (let k : false ≡ true = rw joined.0 at some in cc)
+at_request P (AtOperate s) t None joined some f = absurd (let n : false ≡ true = some in cc)
+at_request P (AtOperate s) t (Some c) joined some f = f s c
+at_request P state t current joined some f =
+    absurd (let k : false ≡ true = rw joined.0.0 at some in cc)
 
 pub deny_steps : (old : Core) → mode_in old.state ≡ ModeOperate → old.session.current ≡ None
     → old.session.isdu ≡ Some false → DenySteps old
@@ -72,75 +65,61 @@ pub begin_steps : (request : Request) (old new : Core) → mode_in old.state ≡
     → new ≡ record old { session = begun_in request old.session } → BeginSteps request old new
 unfolding BeginSteps
 begin_steps request old new mode free known suits e = λ follows g far n stands.
-    subst (λ (k : Core). BeginGives old k g far n request) (sym e)
-    (at_free (λ (c : Core). Stands c g far n
+    rw e (at_free (λ (c : Core). Stands c g far n
     → BeginGives c (record c { session = begun_in request c.session }) g far n request)
     old.state old.session mode free
-    (λ s k. begin_gives s old.session g far n request k
-    (subst (OutSuits old.session.exchange) free suits) known follows) stands)
+    (λ s k. begin_gives s old.session g far n request k (rw free at suits) known follows) stands)
 
 -- an abort leaves both ends standing
 module _ (old new : Core) (cause : Cause) (some : IsSome old.session.current)
     (e : new ≡ record old { session = aborted_in cause old.session }) where
-  aborted_is : (k : Cause) → cause ≡ k → record old { session = aborted_in k old.session } ≡ new
-  aborted_is k same = subst (λ (x : Cause). record old { session = aborted_in x old.session }
-      ≡ new) same (sym e)
+  abbrev AbortedAt : Ghost → Option Cause → Bool → Type 0
+  AbortedAt g abort asked = AbortAt (doubts_at old.session.configuration.devices g.kind.recalls)
+      old.session.limit abort g.request.busy asked
+
+  waits : (k : Cause) (asks : Bool) (g : Ghost) (far : Far) (n : ℕ) → Stands old g far n
+      → ((abort : Option Cause) → AbortedAt g abort g.request.asked
+      → AbortedAt g (waiting abort k) asks)
+      → Stands (record old { session = aborted_in k old.session }) (asking_ghost asks g) far n
+  waits k asks g far n stands may =
+      at_request (λ (c : Core). Stands c g far n
+      → Stands (record c { session = aborted_in k c.session }) (asking_ghost asks g) far n)
+      old.state old.session old.session.current stands.joined some
+      (λ s current h. aborts_by k asks s old.session current g far n h
+      (may current.abort h.request.busy.1)) stands
 
   pub abort_steps : AbortSteps cause old new
   unfolding AbortSteps
   abort_steps = λ g far n stands same low.
-      subst (λ (k : Core). Stands k g far n) (aborted_is BusyTooLong same)
-      (at_request (λ (c : Core). Stands c g far n
-      → Stands (record c { session = aborted_in BusyTooLong c.session }) g far n)
-      old.state old.session stands.joined some (λ s current k.
-      aborts_by BusyTooLong g.request.asked s old.session current g far n k
-      (waiting_at (doubts_at old.session.configuration.devices g.kind.recalls) old.session.limit
-      g.request.busy
-      g.request.asked BusyTooLong current.abort
-      k.request.busy.1 low)) stands)
+      rw (e, same) (waits BusyTooLong g.request.asked g far n stands
+      (λ abort h. waiting_at (doubts_at old.session.configuration.devices g.kind.recalls)
+      old.session.limit g.request.busy g.request.asked BusyTooLong abort h low))
 
   pub cancel_steps : CancelSteps cause old new
   unfolding CancelSteps
   cancel_steps = λ g far n stands same.
-      subst (λ (k : Core). Stands k (asking_ghost true g) far n
-      × (cancelling (session_in old g far) ≡ session_in k (asking_ghost true g) far))
-      (aborted_is Cancelled same) (
-        at_request (λ (c : Core). Stands c g far n
-            → Stands (record c { session = aborted_in Cancelled c.session })
-            (asking_ghost true g) far n)
-            old.state old.session stands.joined some (λ s current k.
-            aborts_by Cancelled true s old.session current g far n k
-            (waiting_at (doubts_at old.session.configuration.devices g.kind.recalls)
-            old.session.limit g.request.busy true
-            Cancelled current.abort
-            (marked_at (doubts_at old.session.configuration.devices g.kind.recalls)
-            old.session.limit g.request.busy
-            g.request.asked current.abort
-            k.request.busy.1) refl)) stands,
+      rw (e, same) (
+        waits Cancelled true g far n stands
+            (λ abort h. cancelled_at (doubts_at old.session.configuration.devices g.kind.recalls)
+            old.session.limit g.request.busy g.request.asked abort h),
         at_request (λ (c : Core). cancelling (session_in c g far)
             ≡ session_in (record c { session = aborted_in Cancelled c.session })
-            (asking_ghost true g) far)
-            old.state old.session stands.joined some (λ s current. refl),
+            (asking_ghost true g) far) old.state old.session old.session.current stands.joined
+            some (λ s current. refl),
       )
 
 pub want_steps : (wanted : Option Image) (old new : Core) → IfSome wanted IsImage
     → new ≡ wanting_core wanted old → WantSteps old new
 unfolding WantSteps
-want_steps wanted old new image e =
-    λ g far n stands. subst (λ (c : Core). Stands c g far n) (sym e)
-    (wants old g far n wanted image stands)
+want_steps wanted old new image e = λ g far n stands. rw e (wants old g far n wanted image stands)
 
 pub ask_steps : (k : Configuration) (old new : Core)
     → k.devices ≡ old.session.configuration.devices
     → new ≡ record old { session = record old.session { configuration = k } } → WantSteps old new
 unfolding WantSteps
-ask_steps k old new same e = λ g far n stands.
-    subst (λ (c : Core). Stands c g far n) (sym e) (asks_else old g far n k same stands)
+ask_steps k old new same e = λ g far n stands. rw e (asks_else old g far n k same stands)
 
 pub restart_steps_of : (old new : Core) → new ≡ restarted_core old → RestartSteps old new
 unfolding RestartSteps
 restart_steps_of old new e = λ g far n stands.
-    subst (λ (c : Core). Stands c (restarted_ghost old g) far n
-    × (session_through (restart_steps (request_in old.session.current))
-    (session_in old g far) ≡ session_in c (restarted_ghost old g) far)) (sym e)
-    (restarts old g far n stands, restarted_session old g far)
+    rw e (restarts old g far n stands, restarted_session old g far)

@@ -32,8 +32,7 @@ GoesOn size text (suc i) = i * size < length text
 
 pub given_goes_on : (size : ℕ) (text : List ℕ) (given : ℕ) (flow : Flow) (piece : ArrayVec ℕ)
     → last_given size text given ≡ Some (flow, piece) → GoesOn size text given
-given_goes_on size text zero flow piece e = tt
-given_goes_on size text (suc i) flow piece e = (is_pair size text i flow piece e).within
+given_goes_on size text given flow piece e = grind (arith, common_steps)
 
 -- on to the next segment, or to asking
 pub sent_on_fits : (cutter : Cutting Request) (abort : Option Cause) → IsRequest cutter.source

@@ -1,15 +1,13 @@
 -- What the far end does in one call of a port outside OPERATE, and what the port makes of it.
-use Rattle.std.proofs.Common.{◌≡◌, ◌≢◌, ◌⊎◌, ℕ, Bool, true, false, ◌&&◌, List, [], ◌∷◌, ◌++◌, filter, refl, sym, ◌∙◌, subst, arith}
+use Rattle.std.proofs.Common.{◌≡◌, ◌≢◌, ◌⊎◌, ℕ, Bool, true, false, ◌&&◌, List, [], ◌∷◌, ◌++◌, filter, refl, sym, ◌∙◌, arith}
 use Rattle.std.proofs.lemmas.Grind.{common_steps}
-use Rattle.std.specs.Prelude.{Option, Some, None, IsTrue}
-use Rattle.iol_isdu.specs.declared.values.Request.{Request}
+use Rattle.std.specs.Prelude.{Some, None, IsTrue}
 use Rattle.iol_event.specs.declared.event.Event.{Event}
-use Rattle.iol_far.specs.Isdu.{IsduState, Empty}
+use Rattle.iol_far.specs.Isdu.{Empty}
 use Rattle.iol_far.specs.Far.{Far, hear}
 use Rattle.iol_far.specs.Local.{LocalStep, locals}
 use Rattle.iol_far.specs.Laws.{confirms as octets_confirm}
 use Rattle.iol_link.specs.Honest.{Passage, far_after}
-use Rattle.iol_mode.specs.declared.configuration.Configuration.{Configuration}
 use Rattle.iol_mode.specs.declared.states.State.{State}
 use Rattle.iol_mode.specs.declared.why.Why.{Why}
 use Rattle.iol_mode.specs.Kinds.{SeesPulses}
@@ -49,10 +47,6 @@ none_rests awake = grind (arith, common_steps)
 pub untold_of : (f : List Event) (t : Bool) → untold (frozen_of f t) ≡ frozen_of f false
 untold_of f t = grind (arith, common_steps)
 
-open_same : (h : Hidden) (old new : IsduState) → (new ≡ old) ⊎ (new ≡ Empty) → IsOpen old None h
-    → IsOpen new None h
-open_same h old new same opens = grind (arith, common_steps)
-
 pub unconfirming : (o : List ℕ) (far : Far) (t : Bool) → octets_confirm o ≡ false
     → ConfirmsTold o far t
 unconfirming o far t unconfirmed w e = absurd (let z : false ≡ true = sym unconfirmed ∙ e in cc)
@@ -62,7 +56,7 @@ pub opens_passed : (h : Hidden) (far : Far) (own : List LocalStep) (passage : Pa
     → ((hear (locals far own) o).far.isdu ≡ (locals far own).isdu)
     ⊎ ((hear (locals far own) o).far.isdu ≡ Empty) → IsOpen far.isdu None h
     → IsOpen (far_after passage (locals far own) o).isdu None (hidden_through None far own h)
-opens_passed h far own passage o holds opens = grind (arith, common_steps, own_open, open_same)
+opens_passed h far own passage o holds opens = grind (arith, common_steps, own_open)
 
 module _ (c : Core) (g : Ghost) (far : Far) where
   -- the far end's part, with no request under way
@@ -93,33 +87,30 @@ module _ (c : Core) (g : Ghost) (far : Far) where
     abbrev hidden_there : Hidden
     hidden_there = hidden_through None far own g.request.hidden
 
-    page_there : there.page ≡ far.page
-    page_there = page_locals laws own far
-
-    kind_there : there.kind ≡ far.kind
-    kind_there = laws.much.kind_kept far own
-
-    misses_there : there.misses_pulses ≡ far.misses_pulses
-    misses_there = laws.much.misses_kept far own
-
     -- a wake that it sees, or nothing of it
     pub seen_effect : (wakes : Bool) → Effect (woken_if wakes there)
-    seen_effect wakes = record {
-      steps = wake_steps far own wakes;
-      hidden = hidden_there;
-      told = told_wake far own wakes g.events.told;
-      session = λ m.
-          wake_session m (seen_in c g) g.request.hidden far own wakes free opens_seen;
-      frozen = wake_frozen far own wakes g.events.told;
-      images = λ m. wake_images m (shown_in c.session g.sent) far own wakes;
-      before = λ ys busy confirm calm. wake_before far own wakes ys busy calm;
-      opens = woken_as (λ (f : Far). IsOpen f.isdu None hidden_there) wakes there tt
-          (own_open None g.request.hidden own far opens);
-      page = woken_as (λ (f : Far). f.page ≡ far.page) wakes there page_there page_there;
-      kind = woken_as (λ (f : Far). f.kind ≡ far.kind) wakes there kind_there kind_there;
-      misses = woken_as (λ (f : Far). f.misses_pulses ≡ far.misses_pulses) wakes there
-          misses_there misses_there;
-    }
+    seen_effect wakes =
+        let page = page_locals laws own far in
+        let kind = laws.much.kind_kept far own in
+        let misses = laws.much.misses_kept far own in
+        let kept = woken_as (λ (f : Far). (f.page ≡ far.page) × (f.kind ≡ far.kind)
+        × (f.misses_pulses ≡ far.misses_pulses) × IsOpen f.isdu None hidden_there) wakes there
+        (page, kind, misses, tt)
+        (page, kind, misses, own_open None g.request.hidden own far opens) in
+        record {
+          steps = wake_steps far own wakes;
+          hidden = hidden_there;
+          told = told_wake far own wakes g.events.told;
+          session = λ m.
+              wake_session m (seen_in c g) g.request.hidden far own wakes free opens_seen;
+          frozen = wake_frozen far own wakes g.events.told;
+          images = λ m. wake_images m (shown_in c.session g.sent) far own wakes;
+          before = λ ys busy confirm calm. wake_before far own wakes ys busy calm;
+          opens = kept.3;
+          page = kept.0;
+          kind = kept.1;
+          misses = kept.2;
+        }
 
     -- where nothing was told, octets that confirm nothing leave it so
     pub untold_after : (passage : Passage) (o : List ℕ) → octets_confirm o ≡ false
@@ -138,10 +129,8 @@ module _ (c : Core) (g : Ghost) (far : Far) where
       steps = exchange_steps None far own passage o;
       hidden = hidden_there;
       told = told_exchanged far own passage o g.events.told;
-      session = λ m. subst (λ (r : Option Request). SessionRuns m (seen_in c g) g.request.hidden
-          far.carried (exchange_steps r far own passage o) (seen_in c g)
-          (hidden_through r far own g.request.hidden) (far_after passage there o).carried) free
-          (exchange_session m (seen_in c g) g.request.hidden far own passage o opens_seen);
+      session = λ m. rw free (rw free at (exchange_session m (seen_in c g) g.request.hidden far own
+          passage o opens_seen));
       frozen = exchange_frozen None far own passage o g.events.told
           (unconfirming o there (told_through far own g.events.told) unconfirmed);
       images = λ m. exchange_images m None (shown_in c.session g.sent) far own passage o sent;
@@ -160,9 +149,7 @@ module _ (c : Core) (g : Ghost) (far : Far) where
         let e = passed_effect passage o unconfirmed still_open sent in
         record e {
           told = false;
-          frozen = subst (λ (t : Bool). FrozenRuns far.events.frozen g.events.told
-              (exchange_steps None far own passage o) (far_after passage there o).events.frozen t)
-              (untold_after passage o unconfirmed untold) e.frozen;
+          frozen = rw (untold_after passage o unconfirmed untold) at e.frozen;
         }
 
   -- what the port makes of it, outside OPERATE
@@ -214,6 +201,10 @@ module _ (c : Core) (g : Ghost) (far : Far) where
         let before = effect.before ys e.plain.0 e.plain.1 e.plain.2 in
         let after : Ghost = ended hidden told in
         let was : c.session.image ≡ None = stands.shown.image below in
+        let sees : SeesPulses next.session.configuration.devices far' = rw e.configuration
+        (sees_kept c.session.configuration.devices far far' effect.misses stands.sees) in
+        let never : IsTrue after.fresh → FreshAt next.state (work_of next.session) far' =
+        λ k. absurd (let z : false ≡ true = k in cc) in
         record {
           call = call;
           steps = effect.steps ++ ys;
@@ -233,28 +224,9 @@ module _ (c : Core) (g : Ghost) (far : Far) where
           images = images_runs-append m (images_in c g far)
               (images_of (shown_in c.session g.sent) far') (images_in next after far')
               effect.steps ys (effect.images m) e.images;
-          image_is_last = (
-            (λ k. absurd (below k.0)),
-            (λ k. e.image),
-            (λ k f. e.image ∙ sym was),
-          );
+          image_is_last = ((λ k. absurd (below k.0)), (λ k. e.image), (λ k f. e.image ∙ sym was));
           output_is_wanted = λ k. absurd (below k.0);
-          stands = record {
-            page = effect.page ∙ stands.page;
-            kind = effect.kind ∙ stands.kind;
-            sees = subst (λ (k : Configuration). SeesPulses k.devices far') (sym e.configuration)
-                (sees_kept c.session.configuration.devices far far' effect.misses stands.sees);
-            fits = fits;
-            link = link;
-            joined = joined;
-            calm = e.left.quiet;
-            fresh = λ k. absurd (let z : false ≡ true = k in cc);
-            sent = e.sent;
-            request = e.left.request;
-            events = e.left.events;
-            output = e.left.output;
-            shown = e.shown;
-          };
+          stands = assumption (effect.page ∙ stands.page, effect.kind ∙ stands.kind, sees, never);
         }
 
     -- it goes down, for a cause

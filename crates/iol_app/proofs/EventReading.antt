@@ -1,14 +1,11 @@
 -- The reading of events goes with the far end's frozen list.
-use Rattle.std.proofs.Common.{◌≡◌, ℕ, Bool, true, false, not, List, sym, subst, arith}
-use Rattle.std.specs.Prelude.{Option, Some, None, if◌then◌else◌}
-use Rattle.iol_mseq.specs.declared.master.MasterMsg.{MasterMsg}
-use Rattle.iol_isdu.specs.declared.values.Answer.{Answer}
+use Rattle.std.proofs.Common.{◌≡◌, ℕ, Bool, true, false, not, List, arith}
+use Rattle.std.specs.Prelude.{Option, Some, None}
 use Rattle.iol_event.specs.Memory.{Events, IsEventMemory, is_empty, released}
 use Rattle.iol_event.specs.Laws.{MemoryStaysValid, WaitsForAll, GivesFrozen}
-use Rattle.iol_far.specs.Isdu.{IsduState}
 use Rattle.iol_far.specs.Codec.{layout_in}
 use Rattle.iol_far.specs.Far.{Far, hear, heard_as, events_after}
-use Rattle.iol_far.specs.Local.{LocalStep, local, locals, carried_by, is_input, Carry as OwnCarry, Raise as OwnRaise, Input as OwnInput, NoInput as OwnNoInput, Power as OwnPower}
+use Rattle.iol_far.specs.Local.{LocalStep, locals}
 use Rattle.iol_far.specs.Laws.{confirms as octets_confirm}
 use Rattle.iol_steps.specs.Bridge.{confirms_by}
 use Rattle.iol_steps.specs.Station.{Reading, is_due, wants_octet, EventsFit}
@@ -23,23 +20,11 @@ pub record ReaderLaws : Type 0 where
   pub waits : WaitsForAll
   pub gives : GivesFrozen
 
-carried_events : (g : Far) (a : Answer) (s : IsduState) → (carried_by s g a).events ≡ g.events
-carried_events g a s = grind (arith, common_steps)
-
 module _ (laws : ReaderLaws) where
-  memory_step : (far : Far) (step : LocalStep) → IsEventMemory far.events
-      → IsEventMemory (local far step).events
-  memory_step far (OwnCarry a) h = subst IsEventMemory (sym (carried_events far a far.isdu)) h
-  memory_step far (OwnRaise e) h = laws.memory.raise far.events e h
-  memory_step far (OwnInput image) h =
-      elim (is_input far image) as (λ b. IsEventMemory
-      (if b then record far { input = Some image } else far).events) [ true ↦ h | false ↦ h ]
-  memory_step far OwnNoInput h = h
-  memory_step far OwnPower h = laws.memory.at_first
-
   pub memory_locals : (steps : List LocalStep) (far : Far) → IsEventMemory far.events
       → IsEventMemory (locals far steps).events
-  memory_locals = by_locals (λ far. IsEventMemory far.events) memory_step
+  memory_locals = by_locals (λ far. IsEventMemory far.events) (λ far step h.
+      grind (arith, common_steps, laws.memory.raise far.events, laws.memory.at_first))
 
   memory_worked : (m : Events) (c : Bool) → IsEventMemory m → IsEventMemory (events_after m c)
   memory_worked m true h = laws.memory.confirm m h
@@ -68,12 +53,10 @@ released_held m = grind (arith, common_steps)
 
 pub ends_hold : (far : Far) (o reply : List ℕ) → octets_confirm o ≡ false
     → (hear far o).reply ≡ Some reply → (hear far o).far.events.held ≡ false
-ends_hold far o reply other = by_accepted P far o
+ends_hold far o reply other = by_accepted
+    (λ q. (heard_as far o q).reply ≡ Some reply → (heard_as far o q).far.events.held ≡ false) far o
     (λ r. absurd (let z : Path (Option (List ℕ)) None (Some reply) = r in cc))
     (λ w m e r. rw (confirms_of (layout_in far.page far.mode) o m e, other)
     (released_held far.events))
     (λ w c k m e r. rw (confirms_of (layout_in far.page c.into) o m e, other)
     (released_held far.events))
-  where
-    P : Option (Far × MasterMsg) → Type 0
-    P q = (heard_as far o q).reply ≡ Some reply → (heard_as far o q).far.events.held ≡ false

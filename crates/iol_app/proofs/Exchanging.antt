@@ -16,19 +16,20 @@ use Rattle.iol_far.specs.Local.{LocalStep, locals}
 use Rattle.iol_mseq.specs.Master.{HasMasterParts}
 use Rattle.iol_mseq.specs.declared.master.MasterMsg.{MasterMsg}
 use Rattle.iol_far.specs.Linked.{TextsAreHeard}
-use Rattle.iol_far.specs.Level.{Progress, Begin, IsLevel, taken}
+use Rattle.iol_far.specs.Level.{Progress, Move, Begin, IsLevel, taken}
 use Rattle.iol_far.specs.Laws.{confirms as octets_confirm}
 use Rattle.iol_link.specs.Attempts.{Sending}
-use Rattle.iol_link.specs.Honest.{Passage, OutLost, far_after}
+use Rattle.iol_link.specs.Honest.{Passage, far_after}
 use Rattle.iol_mode.specs.Stands.{StateStands}
 use Rattle.iol_mode.specs.States.{InDown, StateFits}
 use Rattle.iol_mode.specs.declared.why.Why.TheVariants.{Lost}
 use Rattle.iol_steps.specs.declared.mode.Mode.TheVariants.{Down as ModeDown, Operate as ModeOperate}
 use Rattle.iol_steps.specs.declared.said.Said.{Said}
+use Rattle.iol_steps.specs.declared.said.Said.TheVariants.{Busy as SaidBusy, Answered, Cut as SaidCut, Reported}
 use Rattle.iol_steps.specs.Step.{Step, repeats_at, doubts_at, is_clash_free, WireCall, Exchanged, silence_by, CallFits, is_for_book, is_report, book_said, reports_said, no_make}
 use Rattle.iol_steps.specs.Bridge.{Hidden, IsOpen, hidden_through, hidden_again, again_steps, told_through, exchange_steps, told_exchanged}
-use Rattle.iol_steps.specs.Kinds.{lost_steps, quiet_said, lost_said}
-use Rattle.iol_steps.specs.Station.{Reading, AnswerFits, is_due, images_of, session_of}
+use Rattle.iol_steps.specs.Kinds.{Brought, Missed, Gone, WasBusy, WasAnswered, WasAborted, WasReported, Had, lost_steps, brought_steps, quiet_said, lost_said}
+use Rattle.iol_steps.specs.Station.{Reading, AnswerFits, is_due, images_of}
 use Rattle.iol_steps.specs.Exchange.{hidden_lost, told_by}
 use Rattle.iol_steps.specs.Turn.{ImageIsLast}
 use Rattle.iol_app.proofs.Given.{Laws, page_locals, page_after, kind_after, level_locals, level_after, sees_kept, misses_passed}
@@ -36,20 +37,18 @@ use Rattle.iol_app.proofs.OwnSession.{SessionRuns, MayAgain, session_runs-append
 use Rattle.iol_app.proofs.FrozenPart.{FrozenRuns, frozen_runs-append, exchange_frozen, again_frozen}
 use Rattle.iol_app.proofs.ImagesPart.{ImagesRuns, OutputsSent, images_runs-append, exchange_images, again_images}
 use Rattle.iol_app.specs.Ends.{OutputTold, EventsTold, output_for, SentSeen}
-use Rattle.iol_app.proofs.OpenLevel.{IsTied, tied_locals, late_locals, again_late, hear_carried}
+use Rattle.iol_app.proofs.OpenLevel.{lost_opens, tied_locals, late_locals, again_late, carried_after}
 use Rattle.iol_app.proofs.Clash.{Before, exchange_before, beside_again, no_busy, no_confirm, no_clash}
 use Rattle.iol_app.proofs.Fresh.{fresh_turn}
-use Rattle.iol_app.proofs.KindsSession.{lost_session, lost_opens}
 use Rattle.iol_app.proofs.Told.{told_locals, told_exchange, confirms_told}
 use Rattle.iol_app.proofs.FirstOctet.{confirms_of}
-use Rattle.iol_app.proofs.Missed.{quiet_book}
 use Rattle.iol_app.proofs.Shown.{shown_as}
 use Rattle.iol_app.specs.declared.request.Current.{Current}
 use Rattle.iol_app.specs.declared.session.Exchange.{Exchange}
 use Rattle.iol_app.specs.Requests.{request_in}
 use Rattle.iol_app.specs.Moves.{progress_of, move_for, confirms_events}
 use Rattle.iol_app.specs.Messages.{question}
-use Rattle.iol_app.specs.State.{SessionState, IsSession, od_size, doubts, missed_by}
+use Rattle.iol_app.specs.State.{SessionState, IsSession, doubts, missed_by}
 use Rattle.iol_app.specs.StationState.{StateFits as Joined, mode_in}
 use Rattle.iol_app.proofs.OperateMessages.{exchange_confirms}
 use Rattle.iol_app.proofs.SmallFacts.{confirms_is, more_silence, same_carried}
@@ -58,8 +57,8 @@ use Rattle.iol_app.proofs.Doubts.{missed_request_by}
 use Rattle.iol_app.proofs.Missing.{Stays, sent_again, asked_for, busy_missed}
 use Rattle.iol_app.proofs.Telling.{told_layout}
 use Rattle.iol_app.specs.Core.{Core, Ghost, OfRequest, OfEvents, Stands, ReceiveGives, work_of, vain_by, after_missed, OperateRequest, RequestStands, EventsStand, OutputStands, CalmAt, ShownStands, core_out, reading_in, ordered_by, moment_of, seen_in, shown_in, images_in, settled_core}
-use Rattle.iol_mode.specs.Kinds.{SeesPulses}
-use Rattle.iol_mode.specs.declared.configuration.Configuration.{Configuration}
+use Rattle.iol_mode.specs.Kinds.{trusted}
+use Rattle.iol_far.specs.declared.kind.Recalls.{Recalls}
 use Rattle.iol_mode.specs.declared.configuration.Devices.{Devices}
 
 -- what goes out again hands over what it did
@@ -69,7 +68,23 @@ repeats_missed : (devices : Devices) (hands_over : HandsOver) (size : ℕ) (e : 
     → repeats_at devices hands_over size (move_for e current) ≡ false
 repeats_missed devices hands_over size e current once = grind (arith, common_steps)
 
--- what the far end's own part is, however far the message came
+-- what is said of what an exchange brings
+abbrev pub Says : Brought → Option Request → Said → Type 0
+Says Missed request said = said ≡ quiet_said request
+Says Gone request said = said ≡ lost_said request
+Says WasBusy request said = said ≡ SaidBusy
+Says (WasAnswered answer) request said = said ≡ Answered answer
+Says (WasAborted cause) request said = said ≡ SaidCut cause
+Says (WasReported events) request said = said ≡ Reported events
+Says Had request said = said ≡ quiet_said request
+Says kind request said = ⊥
+
+said_of : (kind : Brought) (request : Option Request) (said : Said) → Says kind request said
+    → (filter is_for_book (brought_steps kind request) ≡ book_said said)
+    × (filter is_report (brought_steps kind request) ≡ reports_said said)
+    × (no_make (brought_steps kind request) ≡ true)
+said_of kind request said says = grind (arith, common_steps)
+
 -- whether the message hands the device its request with each hearing
 abbrev pub repeats_out : Layouts → SessionState → Ghost → Exchange → Option Current → Bool
 repeats_out layouts t g e current =
@@ -83,405 +98,377 @@ state_passed layouts w far steps passage =
 abbrev pub hidden_own : Ghost → Far → List LocalStep → Option Current → Hidden
 hidden_own g far steps current = hidden_through (request_in current) far steps g.request.hidden
 
-pub record Passes (layouts : Layouts) (w : Sending) (t : SessionState) (g : Ghost) (far : Far)
-    (steps : List LocalStep) (passage : Passage) (e : Exchange)
-    (current : Option Current) : Type 0 where
-  pub opens : IsOpen (state_passed layouts w far steps passage) (request_in current)
-      (hidden_again (request_in current) (state_passed layouts w far steps passage)
-      (hidden_own g far steps current))
-  -- the answer is taken back only where the device may carry the request out again
-  pub again : MayAgain (λ r. repeats_at t.configuration.devices g.kind.hands_over
-      (layout_in g.page FarOperate).od (Begin r)) (request_in current)
-      (state_passed layouts w far steps passage) (hidden_own g far steps current)
-  pub kept : repeats_out layouts t g e current ≡ false
-      → hidden_again (request_in current) (state_passed layouts w far steps passage)
-      (hidden_own g far steps current) ≡ hidden_own g far steps current
-  pub outputs : OutputTold g.sent (output_for e ≡ None) t.output.told
-      (far_after passage (locals far steps) (master_text layouts.run w.message))
-  pub sends : OutputsSent g.sent (locals far steps) (master_text layouts.run w.message)
+-- of an exchange, however far its message came: the octets out, the far end behind it, whether the
+-- frozen list is told then, and the reading that the message is sent in
+pub record Words : Type 0 where
+  pub o : List ℕ
+  pub passed : Far
+  pub told : Bool
+  pub R : Reading
+  pub devices : Devices
+  pub trust : Recalls
+  -- whether it may be in doubt what the device made of a request
+  pub doubts : Bool
+
+-- and of the request that it is for
+pub record RequestWords : Type 0 where
+  pub c : Core
+  pub request : Option Request
+  pub own : Hidden
+  -- where the device is handed the request again, it has no answer any more
+  pub hidden : Hidden
+  -- the far end's steps, and that the request is handed over again
+  pub xs : List Step
+  pub back : List Step
+  pub what : Move
+  pub repeats : Bool
+  pub progress : Progress
+  pub vain : ℕ
+
+module _ (layouts : Layouts) (w : Sending) (t : SessionState) (g : Ghost) (far : Far)
+    (steps : List LocalStep) (passage : Passage) where
+  abbrev pub words : Words
+  words =
+      let o : List ℕ = master_text layouts.run w.message in
+      record {
+        o = o;
+        passed = far_after passage (locals far steps) o;
+        told = told_exchanged far steps passage o g.events.told;
+        R = reading_in t.events g.events;
+        devices = t.configuration.devices;
+        trust = trusted t.configuration.devices g.kind.recalls;
+        doubts = doubts_at t.configuration.devices g.kind.recalls;
+      }
+
+  module _ (e : Exchange) (current : Option Current) where
+    abbrev pub request_words : RequestWords
+    request_words =
+        let request : Option Request = request_in current in
+        let own : Hidden = hidden_own g far steps current in
+        record {
+          c = core_out layouts w t e current;
+          request = request;
+          own = own;
+          hidden = hidden_again request words.passed.isdu own;
+          xs = exchange_steps request far steps passage words.o;
+          back = again_steps request words.passed.isdu own;
+          what = move_for e current;
+          repeats = repeats_out layouts t g e current;
+          progress = progress_of words.devices t.clear current;
+          vain = vain_by words.devices e current w.tries;
+        }
+
+    open words use {o, passed, devices}
+    open request_words use {request, own, hidden, repeats}
+
+    -- what the far end's own part is
+    pub record Passes : Type 0 where
+      pub opens : IsOpen passed.isdu request hidden
+      -- the answer is taken back only where the device may carry the request out again
+      pub again : MayAgain (λ r. repeats_at devices g.kind.hands_over
+          (layout_in g.page FarOperate).od (Begin r)) request passed.isdu own
+      pub kept : repeats ≡ false → hidden ≡ own
+      pub outputs : OutputTold g.sent (output_for e ≡ None) t.output.told passed
+      pub sends : OutputsSent g.sent (locals far steps) o
 
 module _ (laws : Laws) (layouts : Layouts) (w : Sending) (t : SessionState) (g : Ghost)
-    (far : Far) (n : ℕ) (steps : List LocalStep) (passage : Passage) where
-  abbrev pub o : List ℕ
-  o = master_text layouts.run w.message
+    (far : Far) (n : ℕ) (steps : List LocalStep) (passage : Passage) (e : Exchange)
+    (current : Option Current) (stands : Stands (core_out layouts w t e current) g far n) where
+  open (words layouts w t g far steps passage) use {o, passed, told, R, devices, doubts as in_doubt}
+  open (request_words layouts w t g far steps passage e current) use {c, request, own as h}
+  open (request_words layouts w t g far steps passage e current) use {hidden as h', xs, back}
+  open (request_words layouts w t g far steps passage e current) use {repeats, progress, vain}
+  open stands use {request as up}
 
-  abbrev pub passed : Far
-  passed = far_after passage (locals far steps) o
+  -- the far end's part, that of the level by the request's own fields
+  pub at : layout_in g.page FarOperate ≡ layouts.run
+  at = told_layout g.page FarOperate layouts (ap layouts_of (sym stands.page) ∙ stands.link.told)
 
-  abbrev pub told : Bool
-  told = told_exchanged far steps passage o g.events.told
+  pub some_od : 1 ≤ layouts.run.od
+  some_od = subst (λ (l : Shape). 1 ≤ l.od) at (laws.layouts g.page FarOperate).1
 
-  abbrev pub R : Reading
-  R = reading_in t.events g.events
+  pub level_here : IsLevel g.page g.kind layouts.run.od g.request.base up.link progress o vain
+      (locals far steps)
+  level_here = level_locals laws g.page g.kind layouts.run.od some_od g.request.base up.link
+      progress o vain steps far up.level
 
-  module _ (e : Exchange) (current : Option Current)
-      (stands : Stands (core_out layouts w t e current) g far n) where
-    abbrev c : Core
-    c = core_out layouts w t e current
+  pub level' : IsLevel g.page g.kind layouts.run.od g.request.base up.link progress o (suc vain)
+      passed
+  level' = level_after laws g.page g.kind layouts.run.od some_od g.request.base up.link
+      progress o vain passage (locals far steps) level_here
 
-    abbrev request : Option Request
-    request = request_in current
+  pub late' : h'.late ≡ None
+  late' = again_late request passed.isdu h
+      ∙ late_locals request steps far g.request.hidden up.late
 
-    abbrev h : Hidden
-    h = hidden_own g far steps current
+  pub tied' : repeats ≡ false → AnswerFits g.request.base request h passed.carried
+  tied' once = rw (carried_after passage (locals far steps) o)
+      (tied_locals g.request.base request steps far g.request.hidden up.opens
+      (up.late, up.answer once)).1
 
-    abbrev xs : List Step
-    xs = exchange_steps request far steps passage o
+  -- the steps stand before those of an outcome
+  pub before_ends : (ys : List Step) → no_busy ys ≡ true → no_confirm ys ≡ true
+      → IsTrue (is_clash_free ys) → Before xs (back ++ ys)
+  before_ends ys busy confirm free =
+      let b = beside_again request passed.isdu h ys in
+      exchange_before request far steps passage o (back ++ ys) (b.busy busy)
+      (b.confirm confirm) (b.free free)
 
-    -- where the device is handed the request again, it has no answer any more
-    abbrev back : List Step
-    back = again_steps request passed.isdu h
+  pub confirms : octets_confirm o ≡ confirms_events e
+  confirms = sym (confirms_of (layout_in g.page (taken up.link o).mode) o w.message
+      up.out.goes.spells) ∙ exchange_confirms e t.events.reading current w.message
+      stands.joined.out_for.head
 
-    abbrev h' : Hidden
-    h' = hidden_again request passed.isdu h
+  due : octets_confirm o ≡ true → is_due R ≡ true
+  due k = up.out.confirm (confirms_is e (sym confirms ∙ k))
 
-    abbrev repeats : Bool
-    repeats = repeats_out layouts t g e current
+  told_before : EventsTold R (octets_confirm o) far g.events.told
+  told_before = rw confirms stands.events
 
-    abbrev up : OperateRequest (record { out = Some w; layouts = layouts }) (work_of c.session) R
-        g far
-    up = stands.request
+  pub told' : EventsTold R (octets_confirm o) passed told
+  told' = told_exchange laws.events o R due steps passage far g.events.told told_before
 
-    abbrev pub progress : Progress
-    progress = progress_of t.configuration.devices t.clear current
+  module _ (far' : Far) (n' : ℕ) (far_is : far' ≡ passed) (said : Said)
+      (p : Passes layouts w t g far steps passage e current) where
+    abbrev pub ended : OfRequest → OfEvents → Ghost
+    ended of_request of_events =
+        record g { request = of_request; events = of_events; fresh = false }
 
-    abbrev pub vain : ℕ
-    vain = vain_by t.configuration.devices e current w.tries
+    -- what an outcome has to bring
+    pub record Ends (call : WireCall) (next : Core) (of_request : OfRequest)
+        (of_events : OfEvents) (kind : Brought) : Type 0 where
+      pub terms : (next.session.limit ≡ t.limit)
+          × (next.session.configuration ≡ t.configuration)
+      pub session : SessionRuns (moment_of c g n call) (seen_in c g) h' passed.carried
+          (brought_steps kind request) (seen_in next (ended of_request of_events))
+          of_request.hidden passed.carried
+      pub frozen : FrozenRuns passed.events.frozen told (brought_steps kind request)
+          passed.events.frozen of_events.told
+      pub images : ImagesRuns (moment_of c g n call) (images_of (shown_in t g.sent) passed)
+          (brought_steps kind request) (images_in next (ended of_request of_events) passed)
+      pub apart : Before xs (back ++ brought_steps kind request)
+      pub calm : IsTrue g.fresh → no_clash (brought_steps kind request)
+      pub says : Says kind request said
+      pub last : ImageIsLast (moment_of c g n call) (mode_in next.state) (images_in c g far)
+          (images_in next (ended of_request of_events) passed)
+      pub wanted : silence_by call n ≡ 0
+          → output_of passed ≡ ordered_by (told_by (output_for e) t.output.told)
+          w.message.out.items
+      pub request_is : RequestStands next.state (work_of next.session) next.session.events
+          (ended of_request of_events) passed
+      pub events : EventsStand next.state next.session.exchange next.session.events
+          of_events passed
+      pub output : OutputStands next.state next.session.exchange next.session.output.told
+          g.sent passed
+      pub sent : SentSeen next.session.layout next.session.output.carried.items g.sent
+      pub shown : ShownStands next g.page
 
-    -- the far end's part, that of the level by the request's own fields
-    pub at : layout_in g.page FarOperate ≡ layouts.run
-    at = told_layout g.page FarOperate layouts (ap layouts_of (sym stands.page) ∙ stands.link.told)
-
-    pub some_od : 1 ≤ layouts.run.od
-    some_od = subst (λ (l : Shape). 1 ≤ l.od) at (laws.layouts g.page FarOperate).1
-
-    pub page' : passed.page ≡ g.page
-    page' = page_after laws passage (locals far steps) o ∙ page_locals laws steps far ∙ stands.page
-
-    pub kind' : passed.kind ≡ g.kind
-    kind' = kind_after laws passage (locals far steps) o ∙ laws.much.kind_kept far steps
-        ∙ stands.kind
-
-    pub level_here : IsLevel g.page g.kind layouts.run.od g.request.base up.link progress o vain
-        (locals far steps)
-    level_here = level_locals laws g.page g.kind layouts.run.od some_od g.request.base up.link
-        progress o vain steps far up.level
-
-    pub level' : IsLevel g.page g.kind layouts.run.od g.request.base up.link progress o (suc vain)
-        passed
-    level' = level_after laws g.page g.kind layouts.run.od some_od g.request.base up.link
-        progress o vain passage (locals far steps) level_here
-
-    pub late' : h.late ≡ None
-    late' = late_locals request steps far g.request.hidden up.late
-
-    tied_here : repeats ≡ false → IsTied g.request.base request h (locals far steps).carried
-    tied_here once = tied_locals g.request.base request steps far g.request.hidden up.opens
-        (up.late, up.answer once)
-
-    tied_by : repeats ≡ false → (q : Passage) → IsTied g.request.base request h
-        (far_after q (locals far steps) o).carried
-    tied_by once OutLost = tied_here once
-    tied_by once other = subst (IsTied g.request.base request h)
-        (sym (hear_carried (locals far steps) o)) (tied_here once)
-
-    pub tied' : repeats ≡ false → AnswerFits g.request.base request h passed.carried
-    tied' once = (tied_by once passage).1
-
-    -- the steps stand before those of an outcome
-    pub before_ends : (ys : List Step) → no_busy ys ≡ true → no_confirm ys ≡ true
-        → IsTrue (is_clash_free ys) → Before xs (back ++ ys)
-    before_ends ys busy confirm free =
-        let b = beside_again request passed.isdu h ys in
-        exchange_before request far steps passage o (back ++ ys) (b.busy busy)
-        (b.confirm confirm) (b.free free)
-
-    pub confirms : octets_confirm o ≡ confirms_events e
-    confirms = sym (confirms_of (layout_in g.page (taken up.link o).mode) o w.message
-        up.out.goes.spells) ∙ exchange_confirms e t.events.reading current w.message
-        stands.joined.out_for.head
-
-    due : octets_confirm o ≡ true → is_due R ≡ true
-    due k = up.out.confirm (confirms_is e (sym confirms ∙ k))
-
-    told_before : EventsTold R (octets_confirm o) far g.events.told
-    told_before = subst (λ (b : Bool). EventsTold R b far g.events.told) (sym confirms)
-        stands.events
-
-    pub told' : EventsTold R (octets_confirm o) passed told
-    told' = told_exchange laws.events o R due steps passage far g.events.told told_before
-
-    module _ (far' : Far) (n' : ℕ) (far_is : far' ≡ passed) (said : Said)
-        (p : Passes layouts w t g far steps passage e current) where
-      abbrev pub ended : OfRequest → OfEvents → Ghost
-      ended of_request of_events =
-          record g { request = of_request; events = of_events; fresh = false }
-
-      -- what an outcome has to bring
-      pub record Ends (call : WireCall) (next : Core) (of_request : OfRequest)
-          (of_events : OfEvents)
-          (ys : List Step) : Type 0
-        where
-          pub limit : next.session.limit ≡ t.limit
-          pub configuration : next.session.configuration ≡ t.configuration
-          pub session : SessionRuns (moment_of c g n call) (seen_in c g) h' passed.carried ys
-              (seen_in next (ended of_request of_events)) of_request.hidden passed.carried
-          pub frozen : FrozenRuns passed.events.frozen told ys passed.events.frozen of_events.told
-          pub images : ImagesRuns (moment_of c g n call) (images_of (shown_in t g.sent) passed) ys
-              (images_in next (ended of_request of_events) passed)
-          pub apart : Before xs (back ++ ys)
-          pub calm : IsTrue g.fresh → no_clash ys
-          pub once : no_make ys ≡ true
-          pub book : filter is_for_book ys ≡ book_said said
-          pub reports : filter is_report ys ≡ reports_said said
-          pub last : ImageIsLast (moment_of c g n call) (mode_in next.state) (images_in c g far)
-              (images_in next (ended of_request of_events) passed)
-          pub wanted : silence_by call n ≡ 0
-              → output_of passed ≡ ordered_by (told_by (output_for e) t.output.told)
-              w.message.out.items
-          pub request_is : RequestStands next.state (work_of next.session) next.session.events
-              (ended of_request of_events) passed
-          pub events : EventsStand next.state next.session.exchange next.session.events
-              of_events passed
-          pub output : OutputStands next.state next.session.exchange next.session.output.told
-              g.sent passed
-          pub sent : SentSeen next.session.layout next.session.output.carried.items g.sent
-          pub shown : ShownStands next g.page
-
-      pub gives : (call : WireCall) (next : Core) (of_request : OfRequest) (of_events : OfEvents)
-          (ys : List Step) → Ends call next of_request of_events ys → CallFits ModeOperate call
-          → n' ≡ silence_by call n → StateStands next.state n' far' → StateFits next.state
-          → Joined next.state next.session → CalmAt next.state n'
-          → ReceiveGives c g far n said next far' n'
-      gives call next of_request of_events ys b fits silent link state_fits joined calm =
-          let m = moment_of c g n call in
-          let beside = beside_again request passed.isdu h ys in
-          let after : Ghost = ended of_request of_events in
-          subst (λ (f : Far). ReceiveGives c g far n said next f n') (sym far_is) (record {
-            unmade = b.apart.make (beside.make b.once);
-            given = record {
-              call = call;
-              steps = xs ++ (back ++ ys);
-              after = after;
-              fits = fits;
-              silent = silent;
-              terms = (b.limit, refl, b.configuration, refl);
-              clash_free = b.apart.free;
-              fresh = λ k. fresh_turn request far steps passage o (back ++ ys)
-                  (stands.fresh k).1 (beside.calm (b.calm k));
-              said_book = b.apart.book ∙ beside.book ∙ b.book;
-              said_reports = b.apart.reports ∙ beside.reports ∙ b.reports;
-              session = session_runs-append m (seen_in c g) (seen_in c g) (seen_in next after)
-                  g.request.hidden h after.request.hidden far.carried passed.carried
-                  passed.carried xs (back ++ ys) (exchange_session m (seen_in c g)
-                  g.request.hidden far steps passage o up.opens)
-                  (session_runs-append m (seen_in c g) (seen_in c g) (seen_in next after) h h'
-                  after.request.hidden passed.carried passed.carried passed.carried back ys
-                  (again_session m (seen_in c g) h passed.isdu passed.carried p.again) b.session);
-              frozen = frozen_runs-append far.events.frozen passed.events.frozen
-                  passed.events.frozen g.events.told told after.events.told xs (back ++ ys)
-                  (exchange_frozen request far steps passage o g.events.told
-                  (confirms_told laws.events o R due (locals far steps)
-                  (told_through far steps g.events.told)
-                  (told_locals laws.events R (octets_confirm o) steps far
-                  g.events.told told_before))) (again_frozen request passed.isdu h
-                  passed.events.frozen passed.events.frozen told after.events.told ys b.frozen);
-              images = images_runs-append m (images_in c g far)
-                  (images_of (shown_in t g.sent) passed) (images_in next after passed) xs
-                  (back ++ ys) (exchange_images m request (shown_in t g.sent) far steps passage o
-                  p.sends) (again_images m request passed.isdu h
-                  (images_of (shown_in t g.sent) passed) (images_in next after passed) ys
-                  b.images);
-              image_is_last = b.last;
-              output_is_wanted = λ k. b.wanted k.2;
-              stands = record {
-                page = page';
-                kind = kind';
-                sees = subst (λ (k : Configuration). SeesPulses k.devices passed)
-                    (sym b.configuration) (sees_kept t.configuration.devices far passed
-                    (misses_passed laws.much passage steps far o) stands.sees);
-                fits = state_fits;
-                link = subst (λ (f : Far). StateStands next.state n' f) far_is link;
-                joined = joined;
-                calm = calm;
-                fresh = λ k. absurd (let z : false ≡ true = k in cc);
-                sent = b.sent;
-                request = b.request_is;
-                events = b.events;
-                output = b.output;
-                shown = b.shown;
-              };
+    pub gives : (call : WireCall) (next : Core) (of_request : OfRequest) (of_events : OfEvents)
+        (kind : Brought) → Ends call next of_request of_events kind → CallFits ModeOperate call
+        → n' ≡ silence_by call n → StateStands next.state n' far' → StateFits next.state
+        → Joined next.state next.session → CalmAt next.state n'
+        → ReceiveGives c g far n said next far' n'
+    gives call next of_request of_events kind b fits silent link state_fits joined calm =
+        let ys : List Step = brought_steps kind request in
+        let said_is = said_of kind request said b.says in
+        let m = moment_of c g n call in
+        let beside = beside_again request passed.isdu h ys in
+        let after : Ghost = ended of_request of_events in
+        subst (λ (f : Far). ReceiveGives c g far n said next f n') (sym far_is) (record {
+          unmade = b.apart.make (beside.make said_is.2);
+          given = record {
+            call = call;
+            steps = xs ++ (back ++ ys);
+            after = after;
+            fits = fits;
+            silent = silent;
+            terms = (b.terms.0, refl, b.terms.1, refl);
+            clash_free = b.apart.free;
+            fresh = λ k. fresh_turn request far steps passage o (back ++ ys)
+                (stands.fresh k).1 (beside.calm (b.calm k));
+            said_book = b.apart.book ∙ beside.book ∙ said_is.0;
+            said_reports = b.apart.reports ∙ beside.reports ∙ said_is.1;
+            session = session_runs-append m (seen_in c g) (seen_in c g) (seen_in next after)
+                g.request.hidden h after.request.hidden far.carried passed.carried
+                passed.carried xs (back ++ ys) (exchange_session m (seen_in c g)
+                g.request.hidden far steps passage o up.opens)
+                (session_runs-append m (seen_in c g) (seen_in c g) (seen_in next after) h h'
+                after.request.hidden passed.carried passed.carried passed.carried back ys
+                (again_session m (seen_in c g) h passed.isdu passed.carried p.again) b.session);
+            frozen = frozen_runs-append far.events.frozen passed.events.frozen
+                passed.events.frozen g.events.told told after.events.told xs (back ++ ys)
+                (exchange_frozen request far steps passage o g.events.told
+                (confirms_told laws.events o R due (locals far steps)
+                (told_through far steps g.events.told)
+                (told_locals laws.events R (octets_confirm o) steps far
+                g.events.told told_before))) (again_frozen request passed.isdu h
+                passed.events.frozen passed.events.frozen told after.events.told ys b.frozen);
+            images = images_runs-append m (images_in c g far)
+                (images_of (shown_in t g.sent) passed) (images_in next after passed) xs
+                (back ++ ys) (exchange_images m request (shown_in t g.sent) far steps passage o
+                p.sends) (again_images m request passed.isdu h
+                (images_of (shown_in t g.sent) passed) (images_in next after passed) ys
+                b.images);
+            image_is_last = b.last;
+            output_is_wanted = λ k. b.wanted k.2;
+            stands = record {
+              page = page_after laws passage (locals far steps) o ∙ page_locals laws steps far
+                  ∙ stands.page;
+              kind = kind_after laws passage (locals far steps) o
+                  ∙ laws.much.kind_kept far steps ∙ stands.kind;
+              sees = rw b.terms.1 (sees_kept t.configuration.devices far passed
+                  (misses_passed laws.much passage steps far o) stands.sees);
+              fits = state_fits;
+              link = rw far_is at link;
+              joined = joined;
+              calm = calm;
+              fresh = λ k. cc;
+              sent = b.sent;
+              request = b.request_is;
+              events = b.events;
+              output = b.output;
+              shown = b.shown;
             };
-          })
+          };
+        })
 
-      -- No good reply
+    -- No good reply
 
-      abbrev unheard : OfRequest
-      unheard = record g.request { hidden = h' }
+    abbrev unheard : OfRequest
+    unheard = record g.request { hidden = h' }
 
-      late_now : h'.late ≡ None
-      late_now = again_late request passed.isdu h ∙ late'
+    abbrev away : OfEvents
+    away = record g.events { told = told }
 
-      abbrev away : OfEvents
-      away = record g.events { told = told }
+    -- what is left of it: the message out stays so, or a question goes out in its place
+    abbrev pub again : Sending
+    again = record { message = w.message; tries = w.tries + 1 }
 
-      -- what is left of it: the message out stays so, or a question goes out in its place
-      abbrev pub again : Sending
-      again = record { message = w.message; tries = w.tries + 1 }
+    abbrev pub missed_core : Core
+    missed_core = after_missed (core_out layouts again t e current)
 
-      abbrev pub missed_core : Core
-      missed_core = after_missed (core_out layouts again t e current)
+    module _ (heard : TextsAreHeard) (valid : IsSession c.session) where
+      abbrev s : SessionState
+      s = c.session
 
-      module _ (heard : TextsAreHeard) (valid : IsSession c.session) where
-        abbrev s : SessionState
-        s = c.session
+      abbrev carried : List ℕ
+      carried = t.output.carried.items
 
-        abbrev carried : List ℕ
-        carried = t.output.carried.items
+      layout_is : t.layout ≡ Some layouts.run
+      layout_is = stands.joined.told.0
 
-        layout_is : t.layout ≡ Some layouts.run
-        layout_is = stands.joined.told.0
+      parts : HasMasterParts layouts.run (question carried)
+      parts = rw layout_is at (question_parts t.layout t.output valid.output)
 
-        parts : HasMasterParts layouts.run (question carried)
-        parts = subst (λ (l : Option Shape). IfSome l
-            (λ layout. HasMasterParts layout (question carried))) layout_is
-            (question_parts t.layout t.output valid.output)
+      sized : IfSome current (λ q. q.cutter.size ≡ layouts.run.od)
+      sized = rw layout_is at valid.size
 
-        sized : IfSome current (λ q. q.cutter.size ≡ layouts.run.od)
-        sized = subst (λ (l : Option Shape). IfSome current (λ q. q.cutter.size ≡ od_size l))
-            layout_is valid.size
+      carries : IfSome g.sent (λ image. carried ≡ image)
+      carries = same_carried g.sent carried carried refl (rw layout_is at stands.sent)
 
-        carries : IfSome g.sent (λ image. carried ≡ image)
-        carries = same_carried g.sent carried carried refl
-            (subst (λ (l : Option Shape). SentSeen l carried g.sent) layout_is stands.sent)
+      same_request : request_in (missed_by t.configuration.devices (Some e) current) ≡ request
+      same_request = missed_request_by t.configuration.devices (Some e) current
 
-        same_request : request_in (missed_by t.configuration.devices (Some e) current) ≡ request
-        same_request = missed_request_by t.configuration.devices (Some e) current
+      -- the request, once the ends are level with what is out from now on
+      abbrev AgainStays : MasterMsg → Type 0
+      AgainStays m = Stays laws heard g.page g.kind layouts g.request.base up.link w R g.sent
+          t.clear t.limit carried at some_od parts carries passed t.configuration.devices e
+          (missed_by t.configuration.devices (Some e) current) m
 
-        -- the request, once the ends are level with what is out from now on
-        abbrev AgainStays : MasterMsg → Type 0
-        AgainStays m = Stays laws heard g.page g.kind layouts g.request.base up.link w R g.sent
-            t.clear t.limit carried at some_od parts carries passed t.configuration.devices e
-            (missed_by t.configuration.devices (Some e) current) m
+      abbrev Requests : Sending → Type 0
+      Requests out = OperateRequest (record { out = Some out; layouts = layouts })
+          (work_of missed_core.session) R (ended unheard away) passed
 
-        abbrev Requests : Sending → Type 0
-        Requests out = OperateRequest (record { out = Some out; layouts = layouts })
-            (work_of missed_core.session) R (ended unheard away) passed
+      request_out : (m : MasterMsg) → AgainStays m
+          → Requests (record { message = m; tries = w.tries + 1 })
+      request_out m k = record {
+        late = late';
+        opens = rw same_request p.opens;
+        link = up.link;
+        linked = k.linked;
+        level = k.level;
+        out = k.out;
+        answer = λ once.
+            let still = repeats_missed devices g.kind.hands_over layouts.run.od e current once in
+            rw same_request (rw (p.kept still) (tied' still));
+        busy = busy_missed devices in_doubt t.limit e current g.request.busy g.request.asked
+            up.busy;
+        known = rw same_request up.known;
+      }
 
-        request_out : (m : MasterMsg) → AgainStays m
-            → Requests (record { message = m; tries = w.tries + 1 })
-        request_out m k = record {
-          late = late_now;
-          opens = rw same_request p.opens;
-          link = up.link;
-          linked = k.linked;
-          level = k.level;
-          out = k.out;
-          answer = λ once.
-              let still : repeats ≡ false = repeats_missed t.configuration.devices
-              g.kind.hands_over layouts.run.od e current once in
-              subst (λ (q : Hidden). AnswerFits g.request.base
-              (request_in (missed_by t.configuration.devices (Some e) current)) q passed.carried)
-              (sym (p.kept still)) (rw same_request (tied' still));
-          busy = busy_missed t.configuration.devices
-              (doubts_at t.configuration.devices g.kind.recalls) t.limit e current g.request.busy
-              g.request.asked up.busy;
-          known = rw same_request up.known;
-        }
+      request_by : (b : Bool) → doubts s ≡ b
+          → Requests (if b then record again { message = question carried } else again)
+      request_by true is = request_out (question carried)
+          (asked_for laws heard g.page g.kind layouts g.request.base up.link w R g.sent
+          t.clear t.limit carried at some_od parts carries passed t.configuration.devices e
+          current valid.current sized is up.out up.linked level')
+      request_by false is = request_out w.message
+          (sent_again laws heard g.page g.kind layouts g.request.base up.link w R g.sent
+          t.clear t.limit carried at some_od parts carries passed t.configuration.devices e
+          current valid.current sized is up.out up.linked level')
 
-        request_by : (b : Bool) → doubts s ≡ b
-            → Requests (if b then record again { message = question carried } else again)
-        request_by true is = request_out (question carried)
-            (asked_for laws heard g.page g.kind layouts g.request.base up.link w R g.sent
-            t.clear t.limit carried at some_od parts carries passed t.configuration.devices e
-            current valid.current sized is up.out up.linked level')
-        request_by false is = request_out w.message
-            (sent_again laws heard g.page g.kind layouts g.request.base up.link w R g.sent
-            t.clear t.limit carried at some_od parts carries passed t.configuration.devices e
-            current valid.current sized is up.out up.linked level')
+      pub misses : said ≡ quiet_said request
+          → Ends (Exchanged false) missed_core unheard away Missed
+      misses says = record {
+        terms = (refl, refl);
+        session = (tt, rw same_request refl);
+        frozen = (tt, refl);
+        images = (tt, refl);
+        apart = before_ends [] refl refl refl;
+        calm = λ k. refl;
+        says = says;
+        last = ((λ k. absurd (more_silence n k.1)), (λ k. absurd (k refl)), (λ k l. refl));
+        wanted = λ k. absurd (more_silence n k);
+        request_is = request_by (doubts s) refl;
+        events = rw confirms at told';
+        output = p.outputs;
+        sent = stands.sent;
+        shown = shown_as stands.shown (λ k. absurd (k refl)) refl stands.shown.present
+            stands.shown.no_form;
+      }
 
-        pub misses : said ≡ quiet_said request → Ends (Exchanged false) missed_core unheard away []
-        misses says = record {
-          limit = refl;
-          configuration = refl;
-          session = (
-            tt,
-            ap (λ (r : Option Request). session_of (record (seen_in c g) { request = r }) h'
-                passed.carried) (sym same_request),
-          );
-          frozen = (tt, refl);
-          images = (tt, refl);
-          apart = before_ends [] refl refl refl;
-          calm = λ k. refl;
-          once = refl;
-          book = rw says (sym (quiet_book request).0);
-          reports = rw says (sym (quiet_book request).1);
-          last = ((λ k. absurd (more_silence n k.1)), (λ k. absurd (k refl)), (λ k l. refl));
+    pub loses : said ≡ lost_said request → 3 ≤ min 3 (n + 1)
+        → Ends (Exchanged false) (settled_core (InDown (record { why = Some Lost }))
+        c.session) (record g.request { hidden = hidden_lost request h' }) away Gone
+    loses says third =
+        let f = fit request in
+        record {
+          terms = (refl, refl);
+          session = f.3;
+          frozen = f.1.0;
+          images = f.1.1;
+          apart = f.0;
+          calm = λ k. f.2;
+          says = says;
+          last = ((λ k. absurd (more_silence n k.1)), (λ k. refl), (λ k l. cc));
           wanted = λ k. absurd (more_silence n k);
-          request_is = request_by (doubts s) refl;
-          events = subst (λ (b : Bool). EventsTold R b passed told) confirms told';
-          output = p.outputs;
+          request_is = lost_opens passed.isdu request h' p.opens;
+          events = tt;
+          output = tt;
           sent = stands.sent;
-          shown = shown_as stands.shown (λ k. absurd (k refl)) refl stands.shown.present
+          shown = shown_as stands.shown (λ k. refl) refl stands.shown.present
               stands.shown.no_form;
         }
-
-      pub loses : said ≡ lost_said request → 3 ≤ min 3 (n + 1)
-          → Ends (Exchanged false) (settled_core (InDown (record { why = Some Lost }))
-          c.session) (record g.request { hidden = hidden_lost request h' }) away
-          (lost_steps request)
-      loses says third =
-          let f = fit request in
-          record {
-            limit = refl;
-            configuration = refl;
-            session = lost_session (moment_of c g n (Exchanged false)) (seen_in c g) h'
-                passed.carried (λ k. absurd (let z : ModeOperate ≡ ModeDown = k in cc)) third;
-            frozen = f.1;
-            images = f.2;
-            apart = f.0;
-            calm = λ k. f.5;
-            once = f.6;
-            book = rw says f.3;
-            reports = rw says f.4;
-            last = (
-              (λ k. absurd (more_silence n k.1)),
-              (λ k. refl),
-              (λ k l. absurd (let z : ModeDown ≡ ModeOperate = l in cc)),
-            );
-            wanted = λ k. absurd (more_silence n k);
-            request_is = lost_opens passed.isdu request h' p.opens;
-            events = tt;
-            output = tt;
-            sent = stands.sent;
-            shown = shown_as stands.shown (λ k. refl) refl stands.shown.present
-                stands.shown.no_form;
-          }
-        where
-          fit : (r : Option Request) → Before xs (back ++ lost_steps r)
-              × FrozenRuns passed.events.frozen told (lost_steps r)
-              passed.events.frozen told
-              × ImagesRuns (moment_of c g n (Exchanged false))
-              (images_of (shown_in t g.sent) passed) (lost_steps r)
-              (images_of (record (shown_in t g.sent) { image = None }) passed)
-              × (filter is_for_book (lost_steps r) ≡ book_said (lost_said r))
-              × (filter is_report (lost_steps r) ≡ reports_said (lost_said r))
-              × no_clash (lost_steps r) × (no_make (lost_steps r) ≡ true)
-          fit None = (
-            before_ends (lost_steps None) refl refl refl,
-            ((tt, (tt, tt)), refl),
-            ((tt, (tt, tt)), refl),
-            refl,
-            refl,
-            refl,
-            refl,
-          )
-          fit (Some r) = (
-            before_ends (lost_steps (Some r)) refl refl refl,
-            ((tt, (tt, (tt, tt))), refl),
-            ((tt, (tt, (tt, tt))), refl),
-            refl,
-            refl,
-            refl,
-            refl,
-          )
+      where
+        fit : (r : Option Request) → Before xs (back ++ lost_steps r)
+            × (FrozenRuns passed.events.frozen told (lost_steps r) passed.events.frozen told
+            × ImagesRuns (moment_of c g n (Exchanged false))
+            (images_of (shown_in t g.sent) passed) (lost_steps r)
+            (images_of (record (shown_in t g.sent) { image = None }) passed))
+            × no_clash (lost_steps r)
+            × SessionRuns (moment_of c g n (Exchanged false))
+            (record (seen_in c g) { request = r }) h' passed.carried (lost_steps r)
+            (record (seen_in c g) { request = None; mode = ModeDown; why = Some Lost })
+            (hidden_lost r h') passed.carried
+        fit None = (
+          before_ends (lost_steps None) refl refl refl,
+          (((tt, (tt, tt)), refl), ((tt, (tt, tt)), refl)),
+          refl,
+          ((tt, ((third, tt), tt)), refl),
+        )
+        fit (Some r) = (
+          before_ends (lost_steps (Some r)) refl refl refl,
+          (((tt, (tt, (tt, tt))), refl), ((tt, (tt, (tt, tt))), refl)),
+          refl,
+          ((third, (tt, ((third, tt), tt))), refl),
+        )

@@ -26,14 +26,12 @@ calm_owns : (request : Option Request) (steps : List LocalStep) (far : Far)
     → handed far.isdu ≡ None → AllCalm (own_steps request far steps)
 calm_owns request [] far h = tt
 calm_owns request (step ∷ steps) far h =
-    calm-append (own_step request far step) (own_steps request (local far step) steps)
-    (calm_own request far step h) (calm_owns request steps (local far step)
-    (step_unhanded far step h))
+    calm-append _ _ (calm_own request far step h)
+    (calm_owns request steps (local far step) (step_unhanded far step h))
 
 pub fresh_turn : (request : Option Request) (far : Far) (steps : List LocalStep)
     (passage : Passage) (o : List ℕ) (ys : List Step) → handed far.isdu ≡ None → no_clash ys
     → IsTrue (list_all is_calm (exchange_steps request far steps passage o ++ ys))
 fresh_turn request far steps passage o ys h k =
     no_clash-append (exchange_steps request far steps passage o) ys
-    (calm_passed (own_steps request far steps) passage (locals far steps) o
-    (calm_owns request steps far h)) k
+    (calm_passed _ passage (locals far steps) o (calm_owns request steps far h)) k

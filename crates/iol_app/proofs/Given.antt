@@ -72,22 +72,20 @@ module _ (laws : Laws) where
     abbrev stays : LevelStays page kind size base link p o
     stays = (laws.level size has).stays page kind base link p o
 
-    pub level_locals : (most : ℕ) (steps : List LocalStep) (far : Far)
-        → IsLevel page kind size base link p o most far
-        → IsLevel page kind size base link p o most (locals far steps)
-    level_locals most =
-        by_locals (IsLevel page kind size base link p o most) (stays.steps most)
+    abbrev pub Level : ℕ → Far → Type 0
+    Level most far = IsLevel page kind size base link p o most far
 
-    pub level_after : (most : ℕ) (passage : Passage) (far : Far)
-        → IsLevel page kind size base link p o most far
-        → IsLevel page kind size base link p o (suc most) (far_after passage far o)
+    pub level_locals : (most : ℕ) (steps : List LocalStep) (far : Far) → Level most far
+        → Level most (locals far steps)
+    level_locals most = by_locals (Level most) (stays.steps most)
+
+    pub level_after : (most : ℕ) (passage : Passage) (far : Far) → Level most far
+        → Level (suc most) (far_after passage far o)
     level_after most OutLost far h = stays.loses most far h
     level_after most other far h = stays.hears most far h
 
     -- more hearings are allowed
-    pub level_more : (most more : ℕ) (far : Far) → most ≤ more
-        → IsLevel page kind size base link p o most far
-        → IsLevel page kind size base link p o more far
+    pub level_more : (most more : ℕ) (far : Far) → most ≤ more → Level most far → Level more far
     level_more most more far few (inl h) = inl h
     level_more most more far few (inr (before, rest, h, heard, is)) =
         inr (before, rest, h, omega (arith, few, heard), is)

@@ -3,7 +3,7 @@ use Rattle.std.proofs.lemmas.Grind.{common_steps}
 use Rattle.std.proofs.Common.{◌≡◌, ℕ, zero, suc, ◌*◌, ◌%◌, ◌<◌, Bool, true, false, ◌&&◌, if◌then◌else◌, List, ◌++◌, length, refl, arith, ◌+◌, Option, Some}
 use Rattle.std.proofs.lemmas.List.{length-append}
 use Rattle.iol_isdu.specs.declared.fault.IsduFault.{IsduFault}
-use Rattle.iol_segment.specs.Join.{Open, stage, Stage, Joining, staged, taken}
+use Rattle.iol_segment.specs.Join.{Open, stage, Stage, Joining, Taken, staged, taken}
 use Rattle.iol_segment.specs.TextLaws.{HoldsLength, TextLaws, joined as joined_octets}
 use Rattle.std.proofs.Math.Numerals.{add-one}
 use Rattle.iol_octets.specs.declared.flow_control.Flow.TheVariants.{Count}
@@ -48,40 +48,38 @@ StaysCurrent cutter (GoesOn next) = IsCurrent next × (next.cutter.size ≡ cutt
 StaysCurrent cutter (HasText text) = Unit {0}
 
 module _ (current : Current) (h : IsCurrent current) where
-  pub refused_stays : StaysCurrent current.cutter (GoesOn (refused current.cutter current.abort))
+  open current use {cutter, abort}
+
+  pub refused_stays : StaysCurrent cutter (GoesOn (refused cutter abort))
   refused_stays = grind (arith, common_steps)
 
   finished_stays : (text : List ℕ) (fault : Option IsduFault)
-      → StaysCurrent current.cutter (finished current.cutter current.abort text fault)
+      → StaysCurrent cutter (finished cutter abort text fault)
   finished_stays text fault = grind (arith, common_steps)
 
   -- a segment of this number was taken
   pub joined_stays : (had : ℕ) (octets : List ℕ) (at : Stage) → stage octets ≡ at
-      → length octets ≡ suc had * current.cutter.size
-      → StaysCurrent current.cutter (joined current.cutter current.abort had
-      (staged false (count_at had) octets at).took
-      (staged false (count_at had) octets at).joining)
+      → length octets ≡ suc had * cutter.size
+      → let t : Taken = staged false (count_at had) octets at in
+      StaysCurrent cutter (joined cutter abort had t.took t.joining)
   joined_stays had octets at e size = grind (arith, common_steps, finished_stays, refused_stays)
 
-  -- a segment that is joined to those before it
-  next_stays : (j : Joining) (had : ℕ) (od : List ℕ)
-      → IsJoining current.cutter.size had j → length od ≡ current.cutter.size
-      → StaysCurrent current.cutter (joined current.cutter current.abort (had + 1)
-      (taken j (Count ((had + 1) % 16)) od).took (taken j (Count ((had + 1) % 16)) od).joining)
-  next_stays j had od joining size =
-      let all = length-append j.text od in
-      let before : length j.text ≡ suc had * current.cutter.size = joining.size_of in
-      let long : length (j.text ++ od) ≡ suc (suc had) * current.cutter.size = omega arith in
-      rw (taken_next current.cutter.size had j od joining, add-one had)
-      (joined_stays (suc had) (j.text ++ od) (stage (j.text ++ od)) refl long)
-
-  -- the reply to a COUNT read
+  -- the reply to a COUNT read, with the next segment
   pub received_stays : (again : Bool) (j : Joining) (had : ℕ) (od : List ℕ)
-      → IsJoining current.cutter.size had j → length od ≡ current.cutter.size
-      → StaysCurrent current.cutter (received again current.cutter current.abort j (had + 1) od)
+      → IsJoining cutter.size had j → length od ≡ cutter.size
+      → StaysCurrent cutter (received again cutter abort j (had + 1) od)
   received_stays again j had od joining size =
-      elim (again && forgotten_by (taken j (Count ((had + 1) % 16)) od).took od) as
-      (λ b. StaysCurrent current.cutter (if b then GoesOn (refused current.cutter current.abort)
-      else joined current.cutter current.abort (had + 1)
-      (taken j (Count ((had + 1) % 16)) od).took (taken j (Count ((had + 1) % 16)) od).joining))
-      [ true ↦ refused_stays | false ↦ next_stays j had od joining size ]
+      elim (again && forgotten_by t.took od) as
+      (λ b. StaysCurrent cutter (if b then GoesOn (refused cutter abort)
+      else joined cutter abort (had + 1) t.took t.joining)) [ true ↦ refused_stays | false ↦ next ]
+    where
+      t : Taken
+      t = taken j (Count ((had + 1) % 16)) od
+
+      next : StaysCurrent cutter (joined cutter abort (had + 1) t.took t.joining)
+      next =
+          let all = length-append j.text od in
+          let before : length j.text ≡ suc had * cutter.size = joining.size_of in
+          let long : length (j.text ++ od) ≡ suc (suc had) * cutter.size = omega arith in
+          rw (taken_next cutter.size had j od joining, add-one had)
+          (joined_stays (suc had) (j.text ++ od) (stage (j.text ++ od)) refl long)

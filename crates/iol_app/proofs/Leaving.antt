@@ -1,18 +1,17 @@
 -- An exchange of a start-up whose device wasn't reset yet: DeviceStartup is out, or behind it the
 -- read of the page's first octet.
-use Rattle.std.proofs.Common.{◌≡◌, ◌≢◌, ℕ, ◌+◌, min, Bool, true, false, List, [], ◌∷◌, ◌++◌, slice_index, refl, sym, ◌∙◌, ap, subst, arith}
+use Rattle.std.proofs.Common.{◌≡◌, ◌≢◌, ℕ, ◌+◌, min, Bool, true, false, List, [], ◌∷◌, refl, sym, ◌∙◌, ap, subst, arith}
 use Rattle.std.proofs.lemmas.Grind.{common_steps}
 use Rattle.std.proofs.lemmas.Bool.Decides.{nat_tests}
-use Rattle.std.specs.Prelude.{Option, Some, None, IfSome, ◌==◌, if◌then◌else◌}
+use Rattle.std.specs.Prelude.{Option, Some, None, ◌==◌, if◌then◌else◌}
 use Rattle.iol_mseq.specs.Shape.{Shape, IsLayout, startup_shape}
 use Rattle.iol_mseq.specs.Texts.{master_text}
 use Rattle.iol_mseq.specs.Replies.{reply_in}
 use Rattle.iol_mseq.specs.declared.master.MasterMsg.{MasterMsg}
 use Rattle.iol_mseq.specs.declared.reply.Reply.{Reply}
 use Rattle.iol_far.specs.declared.mode.Mode.TheVariants.{Startup as FarStartup, Operate as FarOperate}
-use Rattle.iol_far.specs.Isdu.{IsduState, Empty}
 use Rattle.iol_far.specs.Codec.{message_in, octets_of}
-use Rattle.iol_far.specs.Far.{Far, WaitingCommand, layout_of, accepted, heard_as, worked, reply_to, output_of, is_mode}
+use Rattle.iol_far.specs.Far.{Far, layout_of, accepted, heard_as, worked, reply_to, output_of}
 use Rattle.iol_far.specs.Local.{locals}
 use Rattle.iol_far.specs.Level.{Link}
 use Rattle.iol_far.specs.Linked.{TextsAreHeard, IsAt}
@@ -24,23 +23,20 @@ use Rattle.iol_link.specs.Honest.{Passage, OutLost, IsUnread, HonestExchange, fa
 use Rattle.iol_mode.specs.declared.configuration.Devices.{Devices}
 use Rattle.iol_mode.specs.declared.configuration.Devices.TheVariants.{Any}
 use Rattle.iol_mode.specs.declared.states.Startup.{Startup}
-use Rattle.iol_mode.specs.declared.states.Told.{Told}
 use Rattle.iol_mode.specs.declared.states.Step.{Step as PageStep}
 use Rattle.iol_mode.specs.declared.states.Step.TheVariants.{Reset as Leaves, First, Read}
 use Rattle.iol_mode.specs.declared.states.State.TheVariants.{Startup as AtStartup}
 use Rattle.iol_mode.specs.declared.why.Why.TheVariants.{Lost}
 use Rattle.iol_mode.specs.Next.{read_by}
-use Rattle.iol_mode.specs.Stands.{startup_link, StepLevel, StartupStands, StateStands}
-use Rattle.iol_mode.specs.States.{Outcome, InStartup, OutcomeFits, StartupFits, StateFits, step_message, state_of, is_behind, begun, step_after, startup_by, startup_turned}
+use Rattle.iol_mode.specs.Stands.{startup_link, StartupStands, StateStands}
+use Rattle.iol_mode.specs.States.{Outcome, InStartup, OutcomeFits, StartupFits, StateFits, state_of, is_behind, begun, step_after, startup_by, startup_turned}
 use Rattle.iol_mode.specs.Turns.{IsRisen}
 use Rattle.iol_mode.specs.Exchanges.{text_out, judged}
-use Rattle.iol_mode.specs.Messages.{unsent}
 use Rattle.iol_steps.specs.declared.mode.Mode.TheVariants.{Startup as ModeStartup, Operate as ModeOperate}
 use Rattle.iol_steps.specs.declared.said.Said.TheVariants.{Idle}
-use Rattle.iol_steps.specs.Step.{Step, Reset, Exchanged, silence_by, resets}
+use Rattle.iol_steps.specs.Step.{Step, Reset, Exchanged, silence_by}
 use Rattle.iol_steps.specs.Session.{MayReset}
-use Rattle.iol_steps.specs.Bridge.{Hidden, IsOpen}
-use Rattle.iol_steps.specs.Station.{images_of}
+use Rattle.iol_steps.specs.Bridge.{Hidden}
 use Rattle.iol_app.proofs.Given.{Laws, sized_locals}
 use Rattle.iol_app.proofs.Orderly.{orderly_locals, alike_sent}
 use Rattle.iol_app.proofs.Effects.{Effect, Ends, untold_effect, opens_passed, untold_of, gives, loses}
@@ -51,8 +47,7 @@ use Rattle.iol_app.proofs.SmallFacts.{third_time}
 use Rattle.arrayvec.specs.ArrayVec.{ArrayVec}
 use Rattle.iol_app.specs.Requests.{request_in}
 use Rattle.iol_app.specs.State.{SessionState}
-use Rattle.iol_app.specs.StationState.{IsTold, told_in}
-use Rattle.iol_app.specs.Core.{Core, Ghost, Stands, CallGives, shown_in, settled_core}
+use Rattle.iol_app.specs.Core.{Core, Ghost, Stands, CallGives, settled_core}
 
 startup_valid : IsLayout startup_shape
 startup_valid = record { kind = refl; od = refl; pd_in = omega arith; pd_out = omega arith }
@@ -63,19 +58,8 @@ below e = absurd (cc)
 may_reset : (devices : Devices) → devices ≡ Any → MayReset devices ModeStartup (Exchanged true)
 may_reset devices e = grind (arith, common_steps)
 
-no_output : (far : Far) → far.valid ≡ false → output_of far ≡ None
-no_output far e = grind (arith, common_steps)
-
 is_valid_not : (v : Bool) → (v ≡ true → FarStartup ≡ FarOperate) → v ≡ false
 is_valid_not v h = grind (arith, common_steps)
-
--- nothing of the page is read yet
-read_none : (step : PageStep) → is_behind step ≡ false → read_by step ≡ None
-read_none step b = grind (arith, common_steps)
-
-orderly_of : (step : PageStep) (o : List ℕ) (tries : ℕ) (far : Far) → is_behind step ≡ false
-    → StepLevel step o tries far → IsOrderly far
-orderly_of step o tries far b level = grind (arith, common_steps)
 
 module _ (laws : Laws) (leaves : OrderlyLaws) (heard : TextsAreHeard) (s : Startup)
     (t : SessionState) (g : Ghost) (far far' : Far) (n n' : ℕ) (came : Option (List ℕ))
@@ -97,19 +81,17 @@ module _ (laws : Laws) (leaves : OrderlyLaws) (heard : TextsAreHeard) (s : Start
   to_page : IsToPage o message
   to_page = record {
     heard = heard startup_shape message stands.fits.parts;
-    page = ap (λ (q : MasterMsg). q.mc.channel) stands.fits.message_is
-        ∙ step_channel s.step stands.fits.step;
+    page = rw stands.fits.message_is (step_channel s.step stands.fits.step);
   }
 
-  orderly : IsOrderly far
-  orderly = orderly_of s.step o s.sent.tries far b stands.link.level
-
-  orderly_there : IsOrderly there
-  orderly_there = orderly_locals leaves far x.steps orderly
+  orderly : IsOrderly there
+  orderly =
+      let level = stands.link.level in
+      orderly_locals leaves far x.steps (grind (arith, common_steps, b, level))
 
   orderly_passed : (passage : Passage) → IsOrderly (far_after passage there o)
-  orderly_passed OutLost = orderly_there
-  orderly_passed other = leaves.hears there o message to_page orderly_there
+  orderly_passed OutLost = orderly
+  orderly_passed other = leaves.hears there o message to_page orderly
 
   unconfirmed : octets_confirm o ≡ false
   unconfirmed = sym (confirms_of startup_shape o message to_page.heard)
@@ -118,11 +100,14 @@ module _ (laws : Laws) (leaves : OrderlyLaws) (heard : TextsAreHeard) (s : Start
   abbrev passed : Far
   passed = far_after x.passage there o
 
+  nothing : request_in t.current ≡ None
+  nothing = ap request_in stands.joined.0.0
+
   abbrev effect : Effect c g far passed
-  effect = untold_effect c g far laws (ap request_in stands.joined.0.0) stands.request.1 x.steps
-      x.passage o unconfirmed (opens_passed g.request.hidden far x.steps x.passage o
+  effect = untold_effect c g far laws nothing stands.request.1 x.steps x.passage o unconfirmed
+      (opens_passed g.request.hidden far x.steps x.passage o
       (leaves.holds there o message to_page) stands.request.1)
-      (alike_sent leaves g.sent there o message to_page orderly_there) stands.events.1
+      (alike_sent leaves g.sent there o message to_page orderly) stands.events.1
 
   -- Whether the silence went on
 
@@ -137,21 +122,18 @@ module _ (laws : Laws) (leaves : OrderlyLaws) (heard : TextsAreHeard) (s : Start
       → good_reply startup_shape message (Some reply) ≡ None → ⊥
   answers None e reply is bad = absurd (cc)
   answers (Some (at, m)) e reply is bad =
-      let alike = leaves.alike there o message to_page orderly_there at m e in
+      let alike = leaves.alike there o message to_page orderly at m e in
       let new : Far = worked at o m in
-      let reads : reply_in (layout_of new) m.mc.read (octets_of (reply_to new (layout_of new) m))
-      ≡ Some (reply_to new (layout_of new) m) = laws.reads new m
-      (subst IsSized (ap (λ (q : Option (Far × MasterMsg)). (heard_as there o q).far) e)
+      let answer : Reply = reply_to new (layout_of new) m in
+      let reads = laws.reads new m (subst IsSized
+      (ap (λ (q : Option (Far × MasterMsg)). (heard_as there o q).far) e)
       (laws.sized.hears there o (sized_locals laws x.steps far x.regular.sized))) in
-      let here : reply_in startup_shape message.mc.read reply
-      ≡ Some (reply_to new (layout_of new) m) =
-      ap (reply_in startup_shape message.mc.read)
-      (let z : Some reply ≡ Some (octets_of (reply_to new (layout_of new) m)) = sym is in cc)
-      ∙ ap (λ (l : Shape). reply_in l message.mc.read (octets_of (reply_to new (layout_of new) m)))
-      (sym alike.layout)
-      ∙ ap (λ (q : MasterMsg). reply_in (layout_of new) q.mc.read
-      (octets_of (reply_to new (layout_of new) m))) (sym alike.message_is) ∙ reads in
-      let k : None ≡ Some (reply_to new (layout_of new) m) = sym bad ∙ here in cc
+      let same : reply ≡ octets_of answer = cc in
+      let here : reply_in startup_shape message.mc.read reply ≡ Some answer = rw same
+      (ap (λ (l : Shape). reply_in l message.mc.read (octets_of answer)) (sym alike.layout)
+      ∙ ap (λ (q : MasterMsg). reply_in (layout_of new) q.mc.read (octets_of answer))
+      (sym alike.message_is) ∙ reads) in
+      let k : None ≡ Some answer = sym bad ∙ here in cc
 
   missed : good_reply startup_shape message came ≡ None → n' ≡ min 3 (n + 1)
   missed bad = grind (arith, common_steps, answers)
@@ -164,92 +146,77 @@ module _ (laws : Laws) (leaves : OrderlyLaws) (heard : TextsAreHeard) (s : Start
   abbrev Gives : Outcome → Type 0
   Gives outcome = CallGives c g far n Idle (settled_core outcome t) passed n'
 
-  nothing : request_in t.current ≡ None
-  nothing = ap request_in stands.joined.0.0
-
   no_image : t.image ≡ None
   no_image = stands.shown.image below
 
   -- it stays in STARTUP
-  stays_up : (answered : Bool) (ys : List Step) (next : Startup) (hidden : Hidden)
+  stays_up : {answered : Bool} {ys : List Step} {next : Startup} {hidden : Hidden}
       → Ends c g far passed effect n n' stands below (Exchanged answered) ys
       (record { state = AtStartup next; session = t }) hidden false
       → n' ≡ silence_by (Exchanged answered) n
       → StartupFits next → StartupStands next n' passed → read_by next.step ≡ None
       → Gives (InStartup next)
-  stays_up answered ys next hidden e silence fits link none =
-      subst (λ (q : Option Told). CallGives c g far n Idle
-      (record { state = AtStartup next; session = told_in q t }) passed n') (sym none)
+  stays_up {answered} {ys} {next} {hidden} e silence fits link none = rw none
       (gives c g far passed effect n n' stands below (Exchanged answered) ys
       (record { state = AtStartup next; session = t }) hidden false e tt silence fits link
-      (stands.joined.0, subst (λ (q : Option Told). IsTold q t) (sym none) tt))
+      (stands.joined.0, rw none tt))
 
   -- it goes on before the reset
-  goes : (answered : Bool) → n' ≡ silence_by (Exchanged answered) n → (next : Startup)
+  goes : (answered : Bool) → n' ≡ silence_by (Exchanged answered) n → {next : Startup}
       → is_behind next.step ≡ false → StartupStands next n' passed → StartupFits next
       → Gives (InStartup next)
-  goes answered silence next before link fits = stays_up answered [] next effect.hidden
-      (record {
+  goes answered silence {next} before link fits =
+      stays_up {answered = answered} {ys = []} {hidden = effect.hidden} (record {
         limit = refl;
         configuration = refl;
         plain = (refl, refl, refl, refl);
-        book = sym (ap (λ (was : Bool). resets was (is_behind next.step) ++ []) b
-            ∙ ap (λ (is : Bool). resets false is ++ []) before);
+        book = rw (b, before) refl;
         session = (tt, refl);
         frozen = (tt, refl);
         images = (tt, refl);
         image = no_image;
         left = record {
           request = (
-            λ k. absurd (let z : false ≡ true = sym before ∙ k in cc),
+            λ k. absurd (cc (before, k)),
             effect.opens,
             stands.request.2,
             λ _. stands.request.3 b,
           );
           events = (stands.events.0, refl);
-          output = (
-            stands.output.0,
-            λ k. absurd (let z : false ≡ true = sym before ∙ k in cc),
-          );
+          output = (stands.output.0, λ k. absurd (cc (before, k)));
           quiet = tt;
         };
         sent = stands.sent;
         shown = shown_as stands.shown (λ e. no_image) refl stands.shown.present
             stands.shown.no_form;
-      }) silence fits link (read_none next.step before)
+      }) silence fits link (grind (arith, common_steps, before))
 
   -- the page's first octet is read: the device holds nothing of before
-  reads : n' ≡ 0 → (octets : ArrayVec ℕ) → IsAt passed.page startup_link passed
+  reads : n' ≡ 0 → {octets : ArrayVec ℕ} → IsAt passed.page startup_link passed
       → StateStands (state_of (begun (Read octets))) n' passed
       → StateFits (state_of (begun (Read octets))) → Gives (begun (Read octets))
-  reads silence octets at link fits =
+  reads silence at link fits =
       let orderly = orderly_passed x.passage in
       let mode : passed.mode ≡ FarStartup = ap (λ (l : Link). l.mode) at.link_is in
-      let empty : passed.isdu ≡ Empty = orderly.startup mode in
       let off : passed.valid ≡ false =
       is_valid_not passed.valid (λ v. sym mode ∙ orderly.valid v) in
-      let hidden : Hidden = record effect.hidden { late = None } in
-      stays_up true (Reset ∷ []) _ hidden
+      let none : output_of passed ≡ None = grind (arith, common_steps, off) in
+      stays_up {answered = true} {ys = Reset ∷ []} {hidden = record effect.hidden { late = None }}
       (record {
         limit = refl;
         configuration = refl;
         plain = (refl, refl, refl, refl);
-        book = sym (ap (λ (was : Bool). resets was true ++ []) b);
+        book = rw b refl;
         session = ((may_reset t.configuration.devices (stands.request.3 b), tt), rw nothing refl);
         frozen = ((tt, tt), untold_of passed.events.frozen effect.told);
-        images = (
-          (tt, tt),
-          ap (λ (q : Option (List ℕ)).
-              record (images_of (shown_in t g.sent) passed) { output = q })
-              (sym (no_output passed off)),
-        );
+        images = ((tt, tt), rw none refl);
         image = no_image;
         left = record {
           request = (
             λ _. refl,
-            subst (λ (q : IsduState). IsOpen q None hidden) (sym empty) tt,
+            rw (orderly.startup mode) tt,
             stands.request.2,
-            λ k. absurd (let z : true ≡ false = k in cc),
+            λ k. absurd (cc k),
           );
           events = (stands.events.0, refl);
           output = (
@@ -257,9 +224,7 @@ module _ (laws : Laws) (leaves : OrderlyLaws) (heard : TextsAreHeard) (s : Start
             λ _. record {
               untold = stands.output.0;
               off = λ a. off;
-              waits = subst (λ (w : Option WaitingCommand). IfSome w
-                  (λ command. is_mode passed.mode command.into ≡ false))
-                  (sym (ap (λ (l : Link). l.waits) at.link_is)) tt;
+              waits = rw (ap (λ (l : Link). l.waits) at.link_is) tt;
             },
           );
           quiet = tt;
@@ -271,10 +236,6 @@ module _ (laws : Laws) (leaves : OrderlyLaws) (heard : TextsAreHeard) (s : Start
 
   -- What comes back
 
-  here : (outcome : Outcome) → StateStands (state_of outcome) n' far'
-      → StateStands (state_of outcome) n' passed
-  here outcome = subst (λ (f : Far). StateStands (state_of outcome) n' f) x.far_is
-
   by_tries : (two : Bool) → (s.sent.tries == 2) ≡ two → n' ≡ min 3 (n + 1)
       → let outcome : Outcome = startup_by t.configuration
       (record { message = message; tries = if two then 0 else s.sent.tries + 1 }) s.step
@@ -283,35 +244,26 @@ module _ (laws : Laws) (leaves : OrderlyLaws) (heard : TextsAreHeard) (s : Start
   by_tries true two silence risen fits =
       loses c g far passed effect n n' stands below (Exchanged false) Lost nothing
       (third_time s.sent.tries n (grind (arith, nat_tests)) stands.link.tries) tt silence
-  by_tries false two silence risen fits = goes false silence
-      (record {
-        sent = record { message = message; tries = s.sent.tries + 1 };
-        step = s.step;
-      }) b (here (startup_by t.configuration
-      (record { message = message; tries = s.sent.tries + 1 }) s.step Again) risen.both.stands) fits
+  by_tries false two silence risen fits =
+      goes false silence b (rw x.far_is at risen.both.stands) fits
 
   by_step : (step : PageStep) → is_behind step ≡ false → (r : Reply) → n' ≡ 0
       → IsRisen (is_behind step) (step_after t.configuration step r) n' far far'
       → OutcomeFits (step_after t.configuration step r) → Gives (step_after t.configuration step r)
-  by_step Leaves before r silence risen fits = goes true silence
-      (record { sent = unsent (step_message First); step = First }) refl
-      (here (begun First) risen.both.stands) fits
+  by_step Leaves before r silence risen fits =
+      goes true silence refl (rw x.far_is at risen.both.stands) fits
   by_step First before r silence risen fits = reads silence
-      (record { items = slice_index r.od.items 0 ∷ [] })
-      (subst (λ (f : Far). IsAt f.page startup_link f) x.far_is (risen.both.met refl))
-      (here (begun (Read (record { items = slice_index r.od.items 0 ∷ [] })))
-      risen.both.stands) fits
+      (rw x.far_is at (risen.both.met refl)) (rw x.far_is at risen.both.stands) fits
   by_step other before r silence risen fits = absurd (cc)
 
   by_reply : (q : Option Reply) → good_reply startup_shape message came ≡ q
       → let outcome : Outcome = startup_turned t.configuration s q in
       IsRisen (is_behind s.step) outcome n' far far' → OutcomeFits outcome → Gives outcome
-  by_reply None bad risen fits = by_tries (s.sent.tries == 2) refl (missed bad) risen fits
-  by_reply (Some r) good risen fits = by_step s.step b r (had r good) risen fits
+  by_reply None bad = by_tries (s.sent.tries == 2) refl (missed bad)
+  by_reply (Some r) good = by_step s.step b r (had r good)
 
   pub leaving_rises : let outcome : Outcome = judged t.configuration (AtStartup s) came in
       IsRisen (is_behind s.step) outcome n' far far' → OutcomeFits outcome
       → CallGives c g far n Idle (settled_core outcome t) far' n'
-  leaving_rises risen fits = subst (λ (f : Far). CallGives c g far n Idle
-      (settled_core (judged t.configuration (AtStartup s) came) t) f n') (sym x.far_is)
-      (by_reply (good_reply startup_shape message came) refl risen fits)
+  leaving_rises risen fits =
+      rw x.far_is (by_reply (good_reply startup_shape message came) refl risen fits)

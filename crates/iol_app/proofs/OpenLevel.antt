@@ -8,6 +8,7 @@ use Rattle.iol_far.specs.declared.carried.Carried.{Carried}
 use Rattle.iol_far.specs.Isdu.{IsduState, Handed, fits, received, isdu_data}
 use Rattle.iol_far.specs.Far.{Far, Heard, hear, heard_as}
 use Rattle.iol_far.specs.Local.{LocalStep, local, locals}
+use Rattle.iol_link.specs.Honest.{Passage, OutLost, far_after}
 use Rattle.iol_far.specs.declared.kind.Kind.{Kind}
 use Rattle.iol_far.specs.declared.kind.HandsOver.{HandsOver}
 use Rattle.iol_far.specs.declared.kind.Recalls.{Recalls}
@@ -18,12 +19,13 @@ use Rattle.iol_steps.specs.Station.{AnswerFits, ProgressFits}
 use Rattle.iol_app.proofs.Accepted.{by_accepted}
 use Rattle.iol_app.proofs.Moves.{idle_base}
 use Rattle.iol_app.proofs.OwnSession.{own_open_step}
+use Rattle.iol_steps.specs.Exchange.{hidden_lost}
 
 pub handed_opens : (base : List Carried) (request : Option Request) (h : Hidden)
-    (carried : List Carried) (q : Request) →
-    request ≡ Some q → carried ≡ base → AnswerFits base request h carried
+    (carried : List Carried) (q : Request)
+    → request ≡ Some q → carried ≡ base → AnswerFits base request h carried
     → open_request request h ≡ Some q
-handed_opens base request h carried q given given2 given3 = grind (arith, common_steps)
+handed_opens base request h carried q named same fits = grind (arith, common_steps)
 
 late_step : (request : Option Request) (far : Far) (step : LocalStep) (h : Hidden)
     → h.late ≡ None → (hidden_after request far step h).late ≡ None
@@ -58,6 +60,11 @@ pub hear_carried : (far : Far) (o : List ℕ) → (hear far o).far.carried ≡ f
 hear_carried far o = by_accepted (λ q. (heard_as far o q).far.carried ≡ far.carried) far o refl
     (λ awake m e. refl) (λ awake command w m e. refl)
 
+pub carried_after : (passage : Passage) (far : Far) (o : List ℕ)
+    → (far_after passage far o).carried ≡ far.carried
+carried_after OutLost far o = refl
+carried_after other far o = hear_carried far o
+
 unhanded : (text : List ℕ) (last : Option ℕ) (q : Request) → Handed q ≡ received text last → ⊥
 unhanded text last q e = grind (arith, common_steps)
 
@@ -66,22 +73,21 @@ written_handed : (hands_over : HandsOver) (size : ℕ) (base : List Carried) (r 
     → IsWritten hands_over size base r i (Handed q) counted c → (q ≡ r) × (c ≡ base)
 written_handed hands_over size base r i q counted c h = grind (arith, common_steps, unhanded)
 
--- the far end is handed a request only where the progress names it, and the record is as it was
-pub stands_handed : (hands_over : HandsOver) (size : ℕ) (base : List Carried) (p : Progress)
-    (q : Request) (counted : Option ℕ) (c : List Carried)
-    → FarStands hands_over size base p (Handed q) counted c
-    → ((request : Option Request) → ProgressFits p request → request ≡ Some q) × (c ≡ base)
-stands_handed hands_over size base p q counted c h = grind (arith, common_steps, written_handed)
+module _ (hands_over : HandsOver) (size : ℕ) (base : List Carried) (p : Progress)
+    (counted : Option ℕ) (c : List Carried) where
+  -- the far end is handed a request only where the progress names it, and the record is as it was
+  stands_handed : (q : Request) → FarStands hands_over size base p (Handed q) counted c
+      → ((request : Option Request) → ProgressFits p request → request ≡ Some q) × (c ≡ base)
+  stands_handed q h = grind (arith, common_steps, written_handed)
 
--- what is handed is the request under way, where both stand so
-pub stands_open : (hands_over : HandsOver) (size : ℕ) (base : List Carried) (p : Progress)
-    (state : IsduState) (counted : Option ℕ) (c : List Carried) (request : Option Request)
-    (h : Hidden) → FarStands hands_over size base p state counted c → ProgressFits p request
-    → AnswerFits base request h c → IsOpen state request h
-stands_open hands_over size base p (Handed q) counted c request h stands fits answer =
-    let there = stands_handed hands_over size base p q counted c stands in
-    handed_opens base request h c q (there.0 request fits) there.1 answer
-stands_open hands_over size base p state counted c request h stands fits answer = tt
+  -- what is handed is the request under way, where both stand so
+  pub stands_open : (state : IsduState) (request : Option Request) (h : Hidden)
+      → FarStands hands_over size base p state counted c → ProgressFits p request
+      → AnswerFits base request h c → IsOpen state request h
+  stands_open (Handed q) request h stands fits answer =
+      let there = stands_handed q stands in
+      handed_opens base request h c q (there.0 request fits) there.1 answer
+  stands_open state request h stands fits answer = tt
 
 -- what is handed once more has no answer any more
 pub again_opens : (request : Option Request) (q : Request) (h : Hidden) → request ≡ Some q
@@ -108,45 +114,49 @@ fits_after trust vain p what x request fits begins = grind (arith, common_steps)
 base_kept : (what : Move) (base c : List Carried) (p : Progress) → (what ≡ Leave → ⊥)
     → ((q : Request) → what ≡ Begin q → IsIdle p) → IsGrown base p c → c ≡ base_after what base c
     → c ≡ base
-base_kept (Begin q) base c p other idle grown e = idle_base base c p (idle q refl) grown
-base_kept what base c p other idle grown e = grind (arith, common_steps)
+base_kept what base c p other idle grown e = grind (arith, common_steps, idle_base)
 
 -- the far end once it heard a message that it replies to
-pub replied_opens : (page : List ℕ) (kind : Kind) (trust : Recalls) (vain size : ℕ)
-    (base : List Carried) (link : Link) (p : Progress) (o : List ℕ) (m : MasterMsg) (what : Move)
-    (heard : Heard) (request : Option Request) (h : Hidden)
-    → ReplySays page kind trust vain size base link p o m what heard → ProgressFits p request
+pub replied_opens : {page : List ℕ} {kind : Kind} {trust : Recalls} {vain size : ℕ}
+    {base : List Carried} {link : Link} {p : Progress} {o : List ℕ} {m : MasterMsg} {what : Move}
+    {heard : Heard} → ReplySays page kind trust vain size base link p o m what heard
+    → (request : Option Request) (h : Hidden) → ProgressFits p request
     → ((q : Request) → what ≡ Begin q → (request ≡ Some q) × IsIdle p)
     → IsOpen heard.far.isdu request (hidden_again request heard.far.isdu h)
     × (IsOutOnce kind.hands_over size what (suc vain)
     → AnswerFits base request h heard.far.carried → IsOpen heard.far.isdu request h)
-replied_opens page kind trust vain size base link p o m what heard request h says fits begins =
+replied_opens {kind} {trust} {vain} {size} {base} {p} {what} {heard} says request h fits begins =
     by_state heard.far.isdu refl
   where
     p' : Progress
     p' = after trust vain p what (isdu_data size heard.far.isdu)
 
-    left : (q : Request) → what ≡ Leave
-        → FarStands kind.hands_over size (base_after what base heard.far.carried) p' (Handed q)
-        heard.far.counted heard.far.carried → ⊥
+    c : List Carried
+    c = heard.far.carried
+
+    Holds : IsduState → Type 0
+    Holds s = FarStands kind.hands_over size (base_after what base c) p' s heard.far.counted c
+
+    left : (q : Request) → what ≡ Leave → Holds (Handed q) → ⊥
     left q e = grind (arith, common_steps)
 
     by_state : (s : IsduState) → heard.far.isdu ≡ s → IsOpen s request (hidden_again request s h)
-        × (IsOutOnce kind.hands_over size what (suc vain)
-        → AnswerFits base request h heard.far.carried → IsOpen s request h)
+        × (IsOutOnce kind.hands_over size what (suc vain) → AnswerFits base request h c
+        → IsOpen s request h)
     by_state (Handed q) e =
-        let stands : FarStands kind.hands_over size (base_after what base heard.far.carried) p'
-        (Handed q) heard.far.counted heard.far.carried =
-        subst (λ (s : IsduState). FarStands kind.hands_over size
-        (base_after what base heard.far.carried) p' s heard.far.counted heard.far.carried) e
-        says.before.stands in
-        let there = stands_handed kind.hands_over size (base_after what base heard.far.carried) p' q
-        heard.far.counted heard.far.carried stands in
-        let named : request ≡ Some q = there.0 request (fits_after trust vain p what
-        (isdu_data size heard.far.isdu) request fits (λ r k. (begins r k).0)) in (
+        let stands = subst Holds e says.before.stands in
+        let there = stands_handed kind.hands_over size (base_after what base c) p'
+        heard.far.counted c q stands in
+        let named = there.0 request (fits_after trust vain p what (isdu_data size heard.far.isdu)
+        request fits (λ r k. (begins r k).0)) in (
           again_opens request q h named,
-          λ once answer. handed_opens base request h heard.far.carried q named
-              (base_kept what base heard.far.carried p (λ k. left q k stands)
-              (λ r k. (begins r k).1) (says.grown once) there.1) answer,
+          λ once answer. handed_opens base request h c q named
+              (base_kept what base c p (λ k. left q k stands) (λ r k. (begins r k).1)
+              (says.grown once) there.1) answer,
         )
     by_state s e = (tt, λ once answer. tt)
+
+-- what the device is handed is still what it may carry out
+pub lost_opens : (state : IsduState) (request : Option Request) (h : Hidden)
+    → IsOpen state request h → IsOpen state None (hidden_lost request h)
+lost_opens state request h opens = grind (arith, common_steps)

@@ -1,16 +1,16 @@
 -- What the messages of OPERATE are for the device.
 use Rattle.std.proofs.lemmas.Grind.{common_steps}
-use Rattle.std.proofs.Common.{◌≡◌, ℕ, Bool, List, refl, ap, ◌∙◌, Option, None, zero, suc, ◌-◌, ◌≤◌, [], ◌∷◌, ◌++◌, length, replicate, drop, sym, arith}
+use Rattle.std.proofs.Common.{◌≡◌, ℕ, List, refl, ap, ◌∙◌, Option, None, zero, suc, ◌-◌, ◌≤◌, [], ◌∷◌, ◌++◌, length, replicate, drop, sym, arith}
 use Rattle.std.specs.Prelude.{◌⊎◌}
 use Rattle.iol_octets.specs.declared.control.Channel.TheVariants.{Page}
 use Rattle.iol_mseq.specs.Shape.{Shape}
 use Rattle.iol_mseq.specs.declared.master.MasterMsg.{MasterMsg}
-use Rattle.iol_far.specs.Far.{is_confirm, command_in}
+use Rattle.iol_far.specs.Far.{command_in}
 use Rattle.iol_app.specs.declared.event_work.Reading.{Reading}
 use Rattle.iol_app.specs.declared.request.Current.{Current}
 use Rattle.iol_app.specs.declared.session.Exchange.{Exchange}
 use Rattle.iol_app.specs.declared.session.Exchange.TheVariants.{TellOutput, DropOutput}
-use Rattle.iol_app.specs.Messages.{Head, head_for, head_of, data_for}
+use Rattle.iol_app.specs.Messages.{head_for, head_of, data_for}
 use Rattle.iol_app.specs.Moves.{confirms_events}
 use Rattle.iol_mseq.specs.Texts.{master_text}
 use Rattle.iol_page.specs.Commands.{command_octet}
@@ -21,20 +21,12 @@ use Rattle.iol_steps.specs.declared.mode.Mode.TheVariants.{Operate}
 use Rattle.iol_steps.specs.Station.{confirms, output_by}
 use Rattle.iol_app.specs.Ends.{output_for}
 
-abbrev pub is_confirm_head : Head → Bool
-is_confirm_head head = is_confirm head.channel head.read head.address
-
-pub confirms_by_head : (exchange : Exchange) (reading : Reading) (current : Option Current)
-    → is_confirm_head (head_for exchange reading current) ≡ confirms_events exchange
-confirms_by_head exchange reading current = grind (arith, common_steps)
-
 -- a confirm, a read of events
 
 pub exchange_confirms : (exchange : Exchange) (reading : Reading) (current : Option Current)
     (message : MasterMsg) → head_of message.mc ≡ head_for exchange reading current
     → confirms message ≡ confirms_events exchange
-exchange_confirms exchange reading current message e = ap is_confirm_head e
-    ∙ confirms_by_head exchange reading current
+exchange_confirms exchange reading current message e = grind (arith, common_steps)
 
 -- an output command
 
@@ -48,11 +40,10 @@ exchange_command exchange reading current size message e d = grind (arith, commo
 
 zeros_only : (xs : List ℕ) (value : ℕ) (ys : List ℕ) (n : ℕ) → xs ++ value ∷ ys ≡ replicate n 0
     → value ≡ 0
-zeros_only [] value ys zero e = absurd (let k : value ∷ ys ≡ [] = e in cc)
-zeros_only [] value ys (suc n) e = let k : value ∷ ys ≡ 0 ∷ replicate n 0 = e in cc
-zeros_only (x ∷ xs) value ys zero e = absurd (let k : x ∷ (xs ++ value ∷ ys) ≡ [] = e in cc)
-zeros_only (x ∷ xs) value ys (suc n) e =
-    zeros_only xs value ys n (let k : x ∷ (xs ++ value ∷ ys) ≡ 0 ∷ replicate n 0 = e in cc)
+zeros_only [] value ys zero e = absurd (cc e)
+zeros_only [] value ys (suc n) e = cc e
+zeros_only (x ∷ xs) value ys zero e = absurd (cc e)
+zeros_only (x ∷ xs) value ys (suc n) e = zeros_only xs value ys n (cc e)
 
 not_zero : (octet : ℕ) → octet ≡ 0x98 → octet ≡ 0 → ⊥
 not_zero octet e z = omega arith

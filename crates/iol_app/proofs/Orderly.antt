@@ -1,13 +1,12 @@
 -- The far end as it can be, while a message of STARTUP to the page is out, or a test read.
-use Rattle.std.proofs.Common.{◌≡◌, ℕ, false, List, refl, sym, subst}
-use Rattle.std.specs.Prelude.{Option, Some, IfSome}
+use Rattle.std.proofs.Common.{◌≡◌, ℕ, false, List, refl}
+use Rattle.std.specs.Prelude.{Option}
 use Rattle.iol_octets.specs.Control.{control_of}
 use Rattle.iol_octets.specs.Checksum as checksum
 use Rattle.iol_mseq.specs.Shape.{startup_shape}
 use Rattle.iol_mseq.specs.Master.{HasMasterParts}
 use Rattle.iol_mseq.specs.Texts.{master_text}
 use Rattle.iol_mseq.specs.declared.master.MasterMsg.{MasterMsg}
-use Rattle.iol_far.specs.Codec.{message_in}
 use Rattle.iol_far.specs.Far.{Far}
 use Rattle.iol_far.specs.Local.{LocalStep, locals}
 use Rattle.iol_far.specs.Laws.{confirms as octets_confirm}
@@ -35,8 +34,7 @@ first_parts = record { out = refl; od = refl }
 pub test_to_page : TextsAreHeard → IsToPage test_read (page_read 2)
 unfolding control_of
 test_to_page heard = record {
-  heard = subst (λ (o : List ℕ). message_in startup_shape o ≡ Some (page_read 2)) test_is
-      (heard startup_shape (page_read 2) first_parts);
+  heard = rw test_is at (heard startup_shape (page_read 2) first_parts);
   page = refl;
 }
 
@@ -49,5 +47,4 @@ module _ (leaves : OrderlyLaws) where
   pub alike_sent : (sent : Option (List ℕ)) (far : Far) (o : List ℕ) (m : MasterMsg)
       → IsToPage o m → IsOrderly far → OutputsSent sent far o
   alike_sent sent far o m to_page orderly there heard e =
-      subst (λ (q : Option (List ℕ)). IfSome q (λ x. sent ≡ Some x))
-      (sym (leaves.alike far o m to_page orderly there heard e).output) tt
+      rw (leaves.alike far o m to_page orderly there heard e).output tt

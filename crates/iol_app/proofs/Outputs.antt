@@ -4,7 +4,7 @@ use Rattle.std.proofs.lemmas.Grind.{common_steps}
 use Rattle.std.proofs.Common.{arith, Bool, List}
 use Rattle.std.specs.Prelude.{Option}
 use Rattle.iol_far.specs.Far.{Far}
-use Rattle.iol_far.specs.Local.{LocalStep, local, locals}
+use Rattle.iol_far.specs.Local.{LocalStep, locals}
 use Rattle.iol_steps.specs.Step.{Image}
 use Rattle.iol_app.proofs.Given.{by_locals}
 use Rattle.iol_app.specs.Ends.{OutputTold}
@@ -13,9 +13,6 @@ module _ (sent : Option Image) (known : Type 0) (told : Bool) where
   abbrev Outputs : Far → Type 0
   Outputs far = OutputTold sent known told far
 
-  outputs_step : (far : Far) (step : LocalStep) → Outputs far → Outputs (local far step)
-  outputs_step far step h = grind (arith, common_steps)
-
   pub outputs_locals : (steps : List LocalStep) (far : Far) → Outputs far
       → Outputs (locals far steps)
-  outputs_locals = by_locals Outputs outputs_step
+  outputs_locals = by_locals Outputs (λ far step h. grind (arith, common_steps))

@@ -1,6 +1,6 @@
 -- The two pieces of a turn, over the core's own data.
 use Rattle.std.proofs.lemmas.Grind.{common_steps}
-use Rattle.std.proofs.Common.{◌≡◌, inl, inr, ℕ, Bool, true, false, List, [], ◌∷◌, refl, sym, ap, subst, Option, Some, None, arith}
+use Rattle.std.proofs.Common.{◌≡◌, inl, inr, ℕ, Bool, true, false, List, [], ◌∷◌, refl, ap, Option, Some, None, arith}
 use Rattle.iol_octets.specs.Control.{control_of}
 use Rattle.iol_mseq.specs.Shape.{startup_shape}
 use Rattle.iol_mseq.specs.Master.{HasMasterParts}
@@ -17,22 +17,23 @@ use Rattle.iol_mode.specs.declared.states.State.{State}
 use Rattle.iol_mode.specs.declared.states.State.TheVariants.{Down as AtDown, Operate as AtOperate}
 use Rattle.iol_mode.specs.Messages.{command_message, unsent}
 use Rattle.iol_mode.specs.Next.{EnteredFits}
-use Rattle.iol_mode.specs.States.{Outcome, OutcomeFits, StateFits, IsDown, is_reset, is_starting, state_of, waked, operate_by, counted}
+use Rattle.iol_mode.specs.States.{Outcome, OutcomeFits, StateFits, IsDown, state_of, waked, operate_by, counted}
 use Rattle.iol_mode.specs.Exchanges.{IsSending, AreFew, ExchangeGives, AcceptedBy, StandsOn, WakeStands, judged, text_out}
-use Rattle.iol_mode.specs.Turns.{IsRisen}
 use Rattle.iol_mode.specs.Stands.{StateStands}
-use Rattle.iol_steps.specs.declared.mode.Mode.TheVariants.{Down as ModeDown, Operate as ModeOperate}
+use Rattle.iol_steps.specs.declared.mode.Mode.TheVariants.{Operate as ModeOperate}
 use Rattle.iol_steps.specs.declared.said.Said.{Said}
 use Rattle.iol_steps.specs.declared.said.Said.TheVariants.{Idle}
-use Rattle.iol_steps.specs.Step.{Step, Make, Moment, no_make}
+use Rattle.iol_steps.specs.Step.{Step, Moment, no_make}
 use Rattle.iol_steps.specs.Images.{Images, MayImagesAll, images_after}
+use Rattle.iol_app.specs.declared.request.Current.{Current}
 use Rattle.iol_app.specs.declared.session.Exchange.{Exchange}
+use Rattle.iol_app.specs.Requests.{request_in, EndsRequest}
 use Rattle.iol_app.specs.Due.{due_of}
 use Rattle.iol_app.specs.Outputs.{carried_by}
 use Rattle.iol_app.specs.State.{SessionState, IsSession, IsOutBy, IsMessageFor, sending}
-use Rattle.iol_app.specs.StationState.{StateFits as Joined, IsStill, NextFits, IsSettledSaid, settled_session, waked_session, mode_in}
+use Rattle.iol_app.specs.StationState.{StateFits as Joined, IsStill, NextFits, IsSettledSaid, waked_session, mode_in}
 use Rattle.iol_app.specs.StationLaws.{StationLaws}
-use Rattle.iol_app.specs.Core.{came_of, Core, Ghost, Stands, CallGives, ReceiveGives, SendGives, made_ghost, IsAttempted, ordered, moment_of, images_in, after_exchange, settled_core, after_wake, core_out}
+use Rattle.iol_app.specs.Core.{came_of, Core, Ghost, Stands, CallGives, IsAttempted, ordered, moment_of, images_in, after_exchange, settled_core, after_wake, core_out, free_core}
 use Rattle.iol_app.proofs.Orderly.{first_parts}
 use Rattle.iol_app.proofs.Doubts.{after_fits}
 use Rattle.iol_app.specs.Pieces.{SendSteps, Received, WakeSteps, ReceiveSteps}
@@ -57,6 +58,12 @@ pub still_said : (outcome : Outcome) (s : SessionState) (said : Said) → IsStil
     → IsSettledSaid outcome s said → said ≡ Idle
 still_said outcome s said still h = grind (arith, common_steps)
 
+-- only a request that is under way is answered or cut off
+pub settled_ends : (s : SessionState) (outcome : Outcome) (said : Said)
+    (current : Option Current) → s.current ≡ current → IsSettledSaid outcome s said
+    → EndsRequest said (request_in current)
+settled_ends s outcome said current e h = grind (arith, common_steps)
+
 -- a message that is out is the session's, and none is out where the session has none
 pub some_exchange : (e : Option Exchange) (s : SessionState) (m : MasterMsg)
     → IsOutBy e s (Some m) → (x : Exchange) × (e ≡ Some x)
@@ -72,13 +79,10 @@ operate_tried : (w : Sending) (layouts : Layouts) (reply : Option Reply) (s : Se
     (operate_by (counted w reply) layouts (attempt_of w.tries reply)) s).state
 operate_tried w layouts reply s = grind (arith, common_steps)
 
-entered_tried : (outcome : Outcome) (n : ℕ) (far : Far) → EnteredFits outcome n far
-    → IsAttempted (state_of outcome)
-entered_tried outcome n far h = grind (arith, common_steps)
-
--- a turn of a start-up leaves no message that would go out again in OPERATE
+-- nor does a turn of a start-up leave one that would go out again in OPERATE
 risen_settled : (outcome : Outcome) (s : SessionState) (n : ℕ) (far : Far)
-    → EnteredFits outcome n far → after_exchange outcome s ≡ settled_core outcome s
+    → EnteredFits outcome n far
+    → (after_exchange outcome s ≡ settled_core outcome s) × IsAttempted (state_of outcome)
 risen_settled outcome s n far h = grind (arith, common_steps)
 
 waked_tried : (devices : Devices) (answered : Bool)
@@ -92,12 +96,10 @@ wanted_at state t n far tried stands none = grind (arith, common_steps)
 -- what went out before goes out again
 pub same_sends : (old : Core) → SendSteps old old
 unfolding SendSteps
-same_sends old = λ g far n stands. inl
-    (record {
-      same = refl;
-      asks = λ tried calm. wanted_at old.state old.session n far tried
-          stands.link calm;
-    })
+same_sends old = λ g far n stands.
+    let asks = λ (tried : IsAttempted old.state) (calm : n ≡ 0).
+    wanted_at old.state old.session n far tried stands.link calm in
+    inl (assumption asks)
 
 -- what is made of what comes back may be taken up
 out_next : (out : Option Sending) (layouts : Layouts) (came : Option (List ℕ))
@@ -115,98 +117,77 @@ judged_next state came s sends fits =
 unmade : (m : Moment) (steps : List Step) (i : Images) → (m.began ≡ ModeOperate → ⊥)
     → MayImagesAll m steps i → no_make steps ≡ true
 unmade m [] i down may = refl
-unmade m (Make ∷ steps) i down may = absurd (down may.0.0)
 unmade m (x ∷ steps) i down may = grind (arith, common_steps, unmade m steps (images_after m x i))
 
-module _ (laws : StationLaws) (t : SessionState) (came : Option (List ℕ)) (said : Said)
-    (valid : IsSession t) (g : Ghost) (far far' : Far) (n n' : ℕ) where
-  abbrev at : State → Core
-  at state = record { state = state; session = t }
+unmade_by : {c next : Core} {g : Ghost} {far far' : Far} {n n' : ℕ} {said : Said}
+    → (mode_in c.state ≡ ModeOperate → ⊥) → (r : CallGives c g far n said next far' n')
+    → no_make r.steps ≡ true
+unmade_by {c} {g = g} {far = far} {n = n} down r =
+    unmade (moment_of c g n r.call) r.steps (images_in c g far) down r.images.0
+
+-- in down neither
+not_up : (state : State) → IsDown state → mode_in state ≡ ModeOperate → ⊥
+not_up state down up = grind (arith, common_steps)
+
+module _ (laws : StationLaws) (came : Option (List ℕ)) (said : Said) (g : Ghost) (far far' : Far)
+    (n n' : ℕ) where
+  abbrev core_of : State → SessionState → Core
+  core_of state s = record { state = state; session = s }
 
   -- what it comes to
-  abbrev outcome : State → Outcome
-  outcome state = judged t.configuration state came
+  abbrev outcome : State → SessionState → Outcome
+  outcome state s = judged s.configuration state came
 
-  abbrev Came : State → Type 0
-  Came state = Received (at state) g far n said (after_exchange (outcome state) t) far' n'
+  abbrev Came : State → SessionState → Type 0
+  Came state s =
+      Received (core_of state s) g far n said (after_exchange (outcome state s) s) far' n'
 
-  abbrev Gives : State → Type 0
-  Gives state = Stands (at state) g far n → HonestExchange far n (text_out state) came far' n'
-      → AreFew state → OutcomeFits (outcome state) → ExchangeGives state came (outcome state)
-      → IsSettledSaid (outcome state) t said
-      → StandsOn (state_of (outcome state)) (after_exchange (outcome state) t).state → Came state
-
-  -- in both modes of a start-up
-  rise_gives : (state : State) → is_starting state ≡ true → (mode_in state ≡ ModeOperate → ⊥)
-      → IsStill t → NextFits (outcome state) t → Stands (at state) g far n
-      → HonestExchange far n (text_out state) came far' n' → OutcomeFits (outcome state)
-      → IsRisen (is_reset state) (outcome state) n' far far'
-      → IsSettledSaid (outcome state) t said → Came state
-  rise_gives state starting down still next stands x fits risen says =
-      let settled : Core = settled_core (outcome state) t in
-      let given : CallGives (at state) g far n Idle settled far' n' =
-      laws.rises.gives (at state) g far far' n n' came starting stands valid x risen fits
-      (settled_fits (outcome state) t fits next) in
-      subst (λ (c : Core). Received (at state) g far n said c far' n')
-      (sym (risen_settled (outcome state) t n' far' risen.entered))
-      (subst (λ (k : Said). Received (at state) g far n k settled far' n')
-      (sym (still_said (outcome state) t said still says))
-      (record {
-        given = given;
-        unmade =
-            unmade (moment_of (at state) g n given.call) given.steps (images_in (at state) g far)
-            down given.images.0;
-        attempted = entered_tried (outcome state) n' far' risen.entered;
-      }))
+  abbrev Gives : State → SessionState → Type 0
+  Gives state s = IsSession s → Stands (core_of state s) g far n
+      → HonestExchange far n (text_out state) came far' n' → AreFew state
+      → OutcomeFits (outcome state s) → ExchangeGives state came (outcome state s)
+      → IsSettledSaid (outcome state s) s said
+      → StandsOn (state_of (outcome state s)) (after_exchange (outcome state s) s).state
+      → Came state s
 
   -- in OPERATE, where the message is for this
-  out_gives : (layouts : Layouts) (w : Sending) (e : Exchange) → t.exchange ≡ Some e
-      → Gives (AtOperate (record { out = Some w; layouts = layouts }))
-  out_gives layouts w e is stands x few fits gives says on =
-      let state : State = AtOperate (record { out = Some w; layouts = layouts }) in
-      let named : SessionState = record t { exchange = Some e } in
-      let same : t ≡ named = ap (λ (k : Option Exchange). record t { exchange = k }) is in
-      let given = gives far far' n n' stands.link x in
-      let joined : Joined (state_of (outcome state)) (settled_session (outcome state) t) =
-      settled_fits (outcome state) t fits (out_next (Some w) layouts came t refl stands.joined) in
-      let next : SessionState → Core = after_exchange (outcome state) in
-      let fitting : StateFits (next t).state × Joined (next t).state (next t).session =
-      after_fits (counted w (good_reply layouts.run w.message came)) layouts
-      (attempt_of w.tries (good_reply layouts.run w.message came)) t valid
-      stands.joined.told.0 fits joined in
-      let got : ReceiveGives (core_out layouts w t e t.current) g far n said (next named) far' n' =
-      laws.receives.gives layouts w t e g far far' n n' came said
-      (subst (λ (s : SessionState). let c : Core = record { state = state; session = s } in
-      Stands c g far n) same stands) (subst IsSession same valid) x few given.0 given.1
-      (subst (λ (s : SessionState). StandsOn (state_of (outcome state)) (next s).state) same on)
-      (subst (λ (s : SessionState). StateFits (next s).state) same fitting.0)
-      (subst (λ (s : SessionState). Joined (next s).state (next s).session) same fitting.1)
-      (subst (λ (s : SessionState). IsSettledSaid (outcome state) s said) same says) in
-      subst (λ (s : SessionState). let c : Core = record { state = state; session = s } in
-      Received c g far n said (next s) far' n') (sym same)
-      (record {
+  operate_gives : (out : Option Sending) (layouts : Layouts) (t : SessionState)
+      (e : Option Exchange) → IsSending (AtOperate (record { out = out; layouts = layouts }))
+      → Gives (AtOperate (record { out = out; layouts = layouts })) (record t { exchange = e })
+  operate_gives None layouts t e sends valid stands x few fits gives says on =
+      absurd (let e : false ≡ true = sends in cc)
+  operate_gives (Some w) layouts t None sends valid stands x few fits gives says on =
+      absurd stands.joined.out_for
+  operate_gives (Some w) layouts t (Some e) sends valid stands x few fits gives says on =
+      let s : SessionState = record t { exchange = Some e } in
+      let reply : Option Reply = good_reply layouts.run w.message came in
+      let met = gives far far' n n' stands.link x in
+      let fitting = after_fits (counted w reply) layouts (attempt_of w.tries reply) s valid
+      stands.joined.told.0 fits (settled_fits
+      (operate_by (counted w reply) layouts (attempt_of w.tries reply)) s fits
+      (out_next (Some w) layouts came s refl stands.joined)) in
+      let got = laws.receives.gives layouts w t e g far far' n n' came said stands valid x few
+      met.0 met.1 on fitting.0 fitting.1 says in
+      record {
         given = got.given;
         unmade = got.unmade;
-        attempted = operate_tried w layouts (good_reply layouts.run w.message came) named;
-      })
+        attempted = operate_tried w layouts reply s;
+      }
 
-  operate_gives : (out : Option Sending) (layouts : Layouts)
-      → IsSending (AtOperate (record { out = out; layouts = layouts }))
-      → Gives (AtOperate (record { out = out; layouts = layouts }))
-  operate_gives None layouts sends stands x few fits gives says on =
-      absurd (let e : false ≡ true = sends in cc)
-  operate_gives (Some w) layouts sends stands x few fits gives says on =
-      let (e, is) = some_exchange t.exchange t w.message stands.joined.out_for in
-      out_gives layouts w e is stands x few fits gives says on
-
-  state_gives : (state : State) → IsSending state → Gives state
-  state_gives (AtDown s) sends stands x few fits gives says on = absurd sends
-  state_gives (AtOperate s) sends stands x few fits gives says on =
-      operate_gives s.out s.layouts sends stands x few fits gives says on
-  state_gives state sends stands x few fits gives says on =
-      rise_gives state refl (λ e. absurd (let k : mode_in state ≡ ModeOperate = e in cc))
-      stands.joined.0 (judged_next state came t sends stands.joined) stands x fits
-      (gives far far' n n' stands.link x) says
+  state_gives : (state : State) (s : SessionState) → IsSending state → Gives state s
+  state_gives (AtDown o) s sends = absurd sends
+  state_gives (AtOperate o) s sends = operate_gives o.out o.layouts s s.exchange sends
+  -- in both modes of a start-up
+  state_gives state s sends = λ valid stands x few fits gives says on.
+      let o : Outcome = outcome state s in
+      let risen = gives far far' n n' stands.link x in
+      let given : CallGives (core_of state s) g far n Idle (settled_core o s) far' n' =
+      laws.rises.gives (core_of state s) g far far' n n' came refl stands valid x risen fits
+      (settled_fits o s fits (judged_next state came s sends stands.joined)) in
+      let settled = risen_settled o s n' far' risen.entered in
+      let down : mode_in state ≡ ModeOperate → ⊥ = λ up. cc in
+      rw (settled.0, still_said o s said stands.joined.0 says)
+      (record { given = given; unmade = unmade_by down given; attempted = settled.1 })
 
 pub receive_steps : StationLaws → (old : Core) (came : Option (List ℕ)) (said : Said)
     (new : Core) → IsSession old.session → IsSending old.state → AreFew old.state
@@ -216,11 +197,8 @@ pub receive_steps : StationLaws → (old : Core) (came : Option (List ℕ)) (sai
     → new ≡ after_exchange (came_of old came) old.session → ReceiveSteps old came said new
 unfolding ReceiveSteps
 receive_steps laws old came said new valid sends few fits gives says on e =
-    λ g far far' n n' stands x.
-    subst (λ (k : Core). Received old g far n said k far' n') (sym e)
-    (state_gives laws old.session came said valid g far far' n n' old.state sends stands x
-    few fits gives says
-    (subst (λ (k : Core). StandsOn (state_of (came_of old came)) k.state) e on))
+    λ g far far' n n' stands x. rw e (state_gives laws came said g far far' n n' old.state
+    old.session sends valid stands x few fits gives says (rw e at on))
 
 -- In OPERATE a new message goes out
 module _ (laws : StationLaws) (layouts : Layouts) (t : SessionState) (room : Bool)
@@ -240,11 +218,9 @@ module _ (laws : StationLaws) (layouts : Layouts) (t : SessionState) (room : Boo
       → SendSteps (free t) next
   unfolding SendSteps
   new_sends none is carries fits accepted on = λ g far n stands.
-      let same : t ≡ record t { exchange = None } =
-      ap (λ (x : Option Exchange). record t { exchange = x }) none in
-      inr (subst (λ (s : SessionState). SendGives (free s) next g (made_ghost t g) far n) (sym same)
-      (laws.sends.gives layouts t room m g far n
-      (subst (λ (s : SessionState). Stands (free s) g far n) same stands) valid is carries
+      let same : free t ≡ free_core layouts t =
+      ap (λ (x : Option Exchange). free (record t { exchange = x })) none in
+      inr (rw same (laws.sends.gives layouts t room m g far n (rw same at stands) valid is carries
       (on far n stands.link) fits (λ link operating. accepted far stands.link.told link operating)))
 
 -- A wake
@@ -257,15 +233,8 @@ wake_steps laws old answered new down stands_by e = λ g far far' n stands x.
     let given : CallGives old g far n Idle (after_wake answered old.session) far' n =
     laws.wakes.gives old g far far' n answered stands down x (stands_by far far' n stands.sees x)
     (waked_fits old.session.configuration.devices answered) in
-    subst (λ (k : Core). Received old g far n Idle k far' n) (sym e)
-    (record {
+    rw e (record {
       given = given;
-      unmade =
-          unmade (moment_of old g n given.call) given.steps (images_in old g far)
-          (not_up old.state down) given.images.0;
+      unmade = unmade_by (not_up old.state down) given;
       attempted = waked_tried old.session.configuration.devices answered;
     })
-  where
-    not_up : (state : State) → IsDown state → mode_in state ≡ ModeOperate → ⊥
-    not_up (AtDown s) k e = let z : ModeDown ≡ ModeOperate = e in cc
-    not_up state k e = k

@@ -1,8 +1,8 @@
 -- The reading of events goes with the far end's frozen list, by the code's own reading.
-use Rattle.std.proofs.Common.{◌≡◌, ℕ, ◌+◌, ◌*◌, ◌≤◌, ◌<◌, Bool, true, false, List, [], ◌∷◌, length, refl, sym, subst, arith}
-use Rattle.std.specs.Prelude.{Option, Some, None, nat_lt}
-use Rattle.std.proofs.lemmas.Bool.Decides.{nat_tests}
+use Rattle.std.proofs.Common.{◌≡◌, ℕ, ◌+◌, ◌*◌, ◌≤◌, Bool, true, false, List, [], ◌∷◌, length, refl, sym, subst, arith}
+use Rattle.std.specs.Prelude.{Some, None}
 use Rattle.std.proofs.lemmas.Grind.{common_steps}
+use native.Mathlib.Decide.{dec_lt}
 use Rattle.iol_event.specs.declared.event.Event.{Event}
 use Rattle.iol_event.specs.Memory.{Events, IsEventMemory, event_octet}
 use Rattle.iol_event.specs.Reading.{Taken, taken, next_address, reading, IsEventList}
@@ -30,41 +30,24 @@ module _ (laws : ReaderLaws) (event : Bool) where
   read_on : (e : Event) (es : List Event) (i : ℕ) (m : Events) → IsEventList (e ∷ es)
       → i ≤ 3 * length (e ∷ es) → IsFrozen e es m
       → Took (taken_from (event_octet (e ∷ es)) (reading (e ∷ es) i)) event m
-  read_on e es i m list most frozen = by_test (nat_lt i (3 * length (e ∷ es))) refl
-    where
-      P : Taken → Type 0
-      P t = Took t event m
-
-      by_test : (b : Bool) → nat_lt i (3 * length (e ∷ es)) ≡ b
-          → P (taken_from (event_octet (e ∷ es)) (reading (e ∷ es) i))
-      by_test true t =
-          let lt : i < 3 * length (e ∷ es) = grind (arith, nat_tests, common_steps) in
-          subst P (sym (laws.waits (e ∷ es) list i lt))
-          (record {
-            due = (e, es);
-            fit = (e, es, frozen, (i + 1, omega arith, refl));
-            form = refl;
-            more = λ k. refl;
-            whole = λ l k. absurd (let z : Path (Option (List Event)) None (Some l) = k in
-                cc);
-          })
-      by_test false t =
-          let is : i ≡ 3 * length (e ∷ es) = grind (arith, nat_tests, common_steps) in
-          subst (λ (j : ℕ). P (taken_from (event_octet (e ∷ es)) (reading (e ∷ es) j))) (sym is)
-          (subst P (sym (laws.gives (e ∷ es) list))
-          (record {
-            due = (e, es);
-            fit = frozen;
-            form = refl;
-            more = λ k. absurd (let z : Path (Option (List Event)) (Some (e ∷ es)) None = k in
-                cc);
-            whole = λ l k. (
-              (let z : Path (Option (List Event)) (Some (e ∷ es))
-                  (Some l) = k in cc),
-              frozen.0,
-              refl,
-            );
-          }))
+  read_on e es i m list most frozen = elim (dec_lt i (3 * length (e ∷ es))) [
+    | yes lt ↦ rw (laws.waits (e ∷ es) list i lt) (record {
+      due = (e, es);
+      fit = (e, es, frozen, (i + 1, omega arith, refl));
+      form = refl;
+      more = λ k. refl;
+      whole = λ l k. cc;
+    })
+    | no least ↦
+        let is : i ≡ 3 * length (e ∷ es) = omega arith in
+        rw (is, laws.gives (e ∷ es) list) (record {
+          due = (e, es);
+          fit = frozen;
+          form = refl;
+          more = λ k. cc;
+          whole = λ l k. ((cc), frozen.0, refl);
+        })
+  ]
 
   frozen_list : (e : Event) (es : List Event) (m : Events) → IsEventMemory m → IsFrozen e es m
       → IsEventList (e ∷ es)
@@ -81,8 +64,6 @@ module _ (laws : ReaderLaws) (event : Bool) where
       (omega arith) fit.2)
   reads_next (UnderWay octets) flag due c m valid fit wants =
       subst (λ (l : List Event). Took (taken octets (event_octet l (next_address octets))) event
-      m) (sym fit.2.0)
-      (subst (λ (o : List ℕ). Took (taken o (event_octet (fit.0 ∷ fit.1) (next_address o)))
-      event m) (sym fit.3.2)
+      m) (sym fit.2.0) (rw fit.3.2
       (read_on fit.0 fit.1 fit.3.0 m (frozen_list fit.0 fit.1 m valid fit.2) fit.3.1 fit.2))
-  reads_next other flag due c m valid fit wants = absurd (let z : false ≡ true = wants in cc)
+  reads_next other flag due c m valid fit wants = cc

@@ -1,29 +1,29 @@
 -- What comes back in OPERATE: from the wire's own words.
-use Rattle.std.proofs.Common.{◌≡◌, ℕ, suc, ◌+◌, ◌≤◌, ◌<◌, min, Bool, true, false, ◌==◌, List, refl, sym, ◌∙◌, ap, subst, arith}
+use Rattle.std.proofs.Common.{◌≡◌, ◌≢◌, ◌⊎◌, inl, inr, ℕ, suc, ◌+◌, ◌≤◌, ◌<◌, min, Bool, true, false, ◌==◌, List, refl, sym, ◌∙◌, arith}
 use Rattle.std.proofs.lemmas.Bool.Decides.{nat_tests}
 use Rattle.std.proofs.lemmas.Grind.{common_steps}
-use Rattle.std.specs.Prelude.{Option, Some, None, if◌then◌else◌}
+use Rattle.std.specs.Prelude.{Option, Some, None, IsSome, if◌then◌else◌}
 use Rattle.iol_isdu.specs.declared.values.Request.{Request}
 use Rattle.iol_far.specs.declared.kind.HandsOver.{HandsOver}
 use Rattle.iol_far.specs.declared.mode.Mode.TheVariants.{Operate as FarOperate}
 use Rattle.iol_far.specs.Codec.{layout_in}
-use Rattle.iol_far.specs.Isdu.{IsduState, Handed}
+use Rattle.iol_far.specs.Isdu.{IsduState}
 use Rattle.iol_mseq.specs.Texts.{master_text}
 use Rattle.iol_mseq.specs.declared.reply.Reply.{Reply}
 use Rattle.iol_page.specs.declared.page.Layouts.{Layouts}
 use Rattle.iol_event.specs.declared.event.Event.{Event}
 use Rattle.iol_event.specs.Laws.{MemoryStaysValid, WaitsForAll, GivesFrozen}
 use Rattle.iol_far.specs.Far.{Far, hear, command_in}
-use Rattle.iol_far.specs.Local.{LocalStep, locals}
+use Rattle.iol_far.specs.Local.{locals}
 use Rattle.iol_far.specs.Linked.{TextsAreHeard}
 use Rattle.iol_far.specs.Level.{Progress, Link, Move, Begin, IsOutOnce, IsLevel}
 use Rattle.iol_mode.specs.declared.configuration.Devices.{Devices}
-use Rattle.iol_mode.specs.declared.configuration.Devices.TheVariants.{Own, Any}
+use Rattle.iol_mode.specs.declared.configuration.Devices.TheVariants.{Any}
 use Rattle.iol_mode.specs.Kinds.{trusted}
 use Rattle.iol_mode.specs.Exchanges.{StandsOn}
 use Rattle.iol_far.specs.Laws.{RepliesAreRead, InputStaysSized, MuchStays, LevelLaws, EventLaws, ModesHaveLayouts}
 use Rattle.iol_link.specs.Attempts.{Sending, good_reply, attempt_of}
-use Rattle.iol_link.specs.Honest.{Passage, Clean, HonestExchange, far_after}
+use Rattle.iol_link.specs.Honest.{Passage, Clean, HonestExchange}
 use Rattle.iol_link.specs.declared.handler.Attempt.TheVariants.{Again, Lost as WasLost}
 use Rattle.iol_mode.specs.Stands.{IsOperating, IsAccepted}
 use Rattle.iol_mode.specs.States.{Outcome, StateFits, state_of, operate_by, counted}
@@ -33,7 +33,7 @@ use Rattle.iol_steps.specs.declared.said.Said.{Said}
 use Rattle.iol_steps.specs.Step.{Exchanged, repeats_at}
 use Rattle.iol_steps.specs.Bridge.{Hidden, IsOpen, hidden_again}
 use Rattle.iol_steps.specs.Station.{AnswerFits, output_by}
-use Rattle.iol_steps.specs.Exchange.{TextNamesAnswer, told_by}
+use Rattle.iol_steps.specs.Exchange.{TextNamesAnswer}
 use Rattle.iol_app.proofs.Given.{Laws, all_laws, page_locals}
 use Rattle.iol_app.proofs.EventReading.{ReaderLaws}
 use Rattle.iol_app.proofs.OwnSession.{MayAgain, own_open}
@@ -41,19 +41,16 @@ use Rattle.iol_app.proofs.Moves.{whole_begins}
 use Rattle.iol_app.proofs.OpenLevel.{open_again}
 use Rattle.iol_app.specs.Ends.{OutputTold, output_for}
 use Rattle.iol_app.proofs.Outputs.{outputs_locals}
-use Rattle.iol_app.specs.declared.request.Current.{Current}
 use Rattle.iol_app.specs.declared.session.Exchange.{Exchange}
 use Rattle.iol_app.specs.Requests.{request_in}
-use Rattle.iol_app.specs.Messages.{data_for}
 use Rattle.iol_app.specs.Moves.{progress_of, move_for, AnswersAreTakenUp}
-use Rattle.iol_app.specs.State.{SessionState, IsSession, od_size}
+use Rattle.iol_app.specs.State.{SessionState, IsSession}
 use Rattle.iol_app.specs.StationState.{StateFits as Joined, IsSettledSaid}
 use Rattle.iol_app.proofs.OperateMessages.{exchange_command}
 use Rattle.iol_app.proofs.Turns.{good_parts}
-use Rattle.iol_mseq.specs.Shape.{Shape}
 use Rattle.iol_app.specs.Core.{Core, Ghost, Stands, ReceiveGives, Receives, vain_by, core_out, after_exchange}
 use Rattle.iol_app.proofs.SmallFacts.{operating, third_time, begins_request}
-use Rattle.iol_app.proofs.StartExchange.{trusts}
+use Rattle.iol_app.proofs.Stations.{trusts}
 use Rattle.iol_app.proofs.FarSide.{Goes, IsGoing, silent, replied, says_of, outputs_sent, outputs_after, opens_after, replied_told, replied_out}
 use Rattle.iol_app.proofs.Exchanging.{Passes, repeats_out, state_passed, hidden_own, gives, misses, loses, at, level_here, tied'}
 use Rattle.iol_app.proofs.Had.{Good, Replied, progress_fits, had}
@@ -62,247 +59,200 @@ use Rattle.iol_app.proofs.Cases.{message}
 unrepeated : (devices : Devices) (hands_over : HandsOver) (size : ℕ) (what : Move) (times : ℕ)
     → (devices ≡ Any → IsOutOnce hands_over size what times)
     → repeats_at devices hands_over size what ≡ false → IsOutOnce hands_over size what times
-unrepeated Any hands_over size what times once still = once refl
-unrepeated Own hands_over size what times once still =
-    λ hands. absurd (let z : false ≡ true = sym still ∙ hands in cc)
+unrepeated devices hands_over size what times once still = grind (arith, common_steps)
 
 -- where the answer is taken back, the request may be carried out again
-may_open : (repeats : Request → Bool) (state : IsduState) (request : Option Request) (h : Hidden)
-    → IsOpen state request h → MayAgain repeats request state h
-may_open repeats state request h opens = grind (arith, common_steps)
+may_again : (repeats : Request → Bool) (state : IsduState) (request : Option Request) (h : Hidden)
+    → IsOpen state request h ⊎ ((q : Request) → request ≡ Some q → repeats q ≡ true)
+    → MayAgain repeats request state h
+may_again repeats state request h may = grind (arith, common_steps)
 
-may_whole : (devices : Devices) (hands_over : HandsOver) (size : ℕ) (what : Move)
-    (request : Option Request) (state : IsduState) (h : Hidden)
-    → repeats_at devices hands_over size what ≡ true
-    → ((q : Request) → what ≡ Begin q → request ≡ Some q)
-    → MayAgain (λ r. repeats_at devices hands_over size (Begin r)) request state h
-may_whole devices hands_over size what request state h whole begins =
-    let (q, is) = whole_begins devices hands_over size what whole in
-    rw (begins q is) (by_state q is state)
-  where
-    by_state : (q : Request) → what ≡ Begin q → (s : IsduState)
-        → MayAgain (λ r. repeats_at devices hands_over size (Begin r)) (Some q) s h
-    by_state q is (Handed held) =
-        λ answered. ap (repeats_at devices hands_over size) (sym is) ∙ whole
-    by_state q is s = tt
+module _ (names : TextNamesAnswer) (taken : AnswersAreTakenUp) (laws : Laws)
+    (heard : TextsAreHeard) (readers : ReaderLaws) (layouts : Layouts) (w : Sending)
+    (t : SessionState) (e : Exchange) (g : Ghost) (far far' : Far) (n n' : ℕ)
+    (came : Option (List ℕ)) (said : Said) where
+  abbrev c : Core
+  c = core_out layouts w t e t.current
 
-module _ (laws : Laws) (layouts : Layouts) (w : Sending) (t : SessionState) (g : Ghost)
-    (far : Far) (n : ℕ) (steps : List LocalStep) (e : Exchange) (current : Option Current)
-    (stands : Stands (core_out layouts w t e current) g far n) where
   abbrev o : List ℕ
   o = master_text layouts.run w.message
 
-  commands : output_by ModeOperate (command_in w.message) ≡ output_for e
-  commands = exchange_command e t.events.reading current layouts.run.od w.message
-      stands.joined.out_for.head (stands.joined.out_for.octets
-      ∙ ap (λ (l : Option Shape). data_for e (od_size l) current) stands.joined.told.0)
+  abbrev after_by : Option Reply → Outcome
+  after_by reply = operate_by (counted w reply) layouts (attempt_of w.tries reply)
 
-  abbrev devices : Devices
-  devices = t.configuration.devices
+  -- the link's own part of what is left, and the session's
+  record Left (outcome : Outcome) : Type 0 where
+    pub on : StandsOn (state_of outcome) (after_exchange outcome c.session).state
+    pub fits : StateFits (after_exchange outcome c.session).state
+    pub joined : Joined (after_exchange outcome c.session).state
+        (after_exchange outcome c.session).session
 
-  abbrev progress : Progress
-  progress = progress_of devices t.clear current
+  module _ (stands : Stands c g far n) (valid : IsSession c.session)
+      (x : HonestExchange far n o came far' n') (few : w.tries < 3)
+      (accepts : (link : Link) → IsOperating layouts link
+      → IsAccepted layouts far.page link w.message) where
+    abbrev there : Far
+    there = locals far x.steps
 
-  abbrev pub going : Goes
-  going = record {
-    page = g.page;
-    kind = g.kind;
-    run = layouts.run;
-    base = g.request.base;
-    link = stands.request.link;
-    progress = progress;
-    message = w.message;
-    o = o;
-    what = move_for e current;
-    trust = trusted devices g.kind.recalls;
-    vain = vain_by devices e current w.tries;
-    mode = ModeOperate;
-    sent = g.sent;
-    told = t.output.told;
-  }
+    abbrev devices : Devices
+    devices = t.configuration.devices
 
-  goes : IsGoing going
-  goes = record {
-    sent_at = stands.request.out.goes;
-    trusts = trusts devices g.kind.recalls;
-    at_mode = stands.request.out.mode;
-    layout = at laws layouts w t g far n steps Clean e current stands;
-    carries = λ k. stands.request.out.carries;
-    tells = λ k. stands.request.out.tells (sym commands ∙ k);
-    starting = λ k. absurd (k refl);
-  }
+    abbrev progress : Progress
+    progress = progress_of devices t.clear t.current
 
-  page_here : (locals far steps).page ≡ g.page
-  page_here = page_locals laws steps far ∙ stands.page
+    abbrev what : Move
+    what = move_for e t.current
 
-  level : IsLevel g.page g.kind layouts.run.od g.request.base stands.request.link progress o
-      (vain_by devices e current w.tries) (locals far steps)
-  level = level_here laws layouts w t g far n steps Clean e current stands
+    abbrev vain : ℕ
+    vain = vain_by devices e t.current w.tries
 
-  outputs_here : OutputTold g.sent (output_by ModeOperate (command_in w.message) ≡ None)
-      t.output.told (locals far steps)
-  outputs_here = outputs_locals g.sent (output_by ModeOperate (command_in w.message) ≡ None)
-      t.output.told steps far (subst (λ (c : Option Bool). OutputTold g.sent (c ≡ None)
-      t.output.told far) (sym commands) stands.output)
+    commands : output_by ModeOperate (command_in w.message) ≡ output_for e
+    commands = exchange_command e t.events.reading t.current layouts.run.od w.message
+        stands.joined.out_for.head (rw stands.joined.told.0 at stands.joined.out_for.octets)
 
-  -- where the device is handed no request with each hearing, none was handed a second time
-  pub once : repeats_out layouts t g e current ≡ false
-      → IsOutOnce g.kind.hands_over layouts.run.od (move_for e current)
-      (suc (vain_by devices e current w.tries))
-  once still = unrepeated devices g.kind.hands_over layouts.run.od (move_for e current)
-      (suc (vain_by devices e current w.tries)) stands.request.out.once still
+    abbrev going : Goes
+    going = record {
+      page = g.page;
+      kind = g.kind;
+      run = layouts.run;
+      base = g.request.base;
+      link = stands.request.link;
+      progress = progress;
+      message = w.message;
+      o = o;
+      what = what;
+      trust = trusted devices g.kind.recalls;
+      vain = vain;
+      mode = ModeOperate;
+      sent = g.sent;
+      told = t.output.told;
+    }
 
-  passes : (passage : Passage) → Passes layouts w t g far steps passage e current
-  passes passage = record {
-    opens = opens.0;
-    kept = λ still. (open_again state request h (opened still)).1;
-    again = by_repeats (repeats_out layouts t g e current) refl;
-    outputs = subst (λ (c : Option Bool). OutputTold g.sent (c ≡ None) t.output.told
-        (far_after passage (locals far steps) o)) commands
-        (outputs_after laws going goes passage (locals far steps) page_here level outputs_here);
-    sends = outputs_sent laws going goes (locals far steps) page_here level outputs_here;
-  }
-    where
-      request : Option Request
-      request = request_in current
+    same_layout : layout_in g.page FarOperate ≡ layouts.run
+    same_layout = at laws layouts w t g far n x.steps Clean e t.current stands
 
-      h : Hidden
-      h = hidden_own g far steps current
+    goes : IsGoing going
+    goes =
+        let tells : output_by ModeOperate (command_in w.message) ≡ Some true → IsSome g.sent =
+        λ k. stands.request.out.tells (sym commands ∙ k) in
+        let starting : ModeOperate ≢ ModeOperate → t.output.told ≡ false = λ k. absurd (k refl) in
+        assumption (stands.request.out, trusts devices g.kind.recalls, same_layout, tells, starting)
 
-      state : IsduState
-      state = state_passed layouts w far steps passage
+    same_page : there.page ≡ g.page
+    same_page = page_locals laws x.steps far ∙ stands.page
 
-      opens : IsOpen state request (hidden_again request state h)
-          × (IsOutOnce g.kind.hands_over layouts.run.od (move_for e current)
-          (suc (vain_by devices e current w.tries))
-          → AnswerFits g.request.base request h (hear (locals far steps) o).far.carried
-          → IsOpen state request h)
-      opens = opens_after laws going goes (locals far steps) level request h
-          (progress_fits devices t.clear current) (λ q k. begins_request e current q k)
-          (own_open request g.request.hidden steps far stands.request.opens) passage
+    level : IsLevel g.page g.kind layouts.run.od g.request.base stands.request.link progress o vain
+        there
+    level = level_here laws layouts w t g far n x.steps Clean e t.current stands
 
-      opened : repeats_out layouts t g e current ≡ false → IsOpen state request h
-      opened still = opens.1 (once still)
-          (tied' laws layouts w t g far n steps Clean e current stands still)
+    outputs : OutputTold g.sent (output_by ModeOperate (command_in w.message) ≡ None)
+        t.output.told there
+    outputs = outputs_locals g.sent (output_by ModeOperate (command_in w.message) ≡ None)
+        t.output.told x.steps far (rw commands stands.output)
 
-      by_repeats : (b : Bool) → repeats_out layouts t g e current ≡ b
-          → MayAgain (λ r. repeats_at devices g.kind.hands_over
-          (layout_in g.page FarOperate).od (Begin r)) request state h
-      by_repeats false still = may_open (λ r. repeats_at devices g.kind.hands_over
-          (layout_in g.page FarOperate).od (Begin r)) state request h (opened still)
-      by_repeats true whole = may_whole devices g.kind.hands_over
-          (layout_in g.page FarOperate).od (move_for e current) request state h
-          (subst (λ (l : Shape). repeats_at devices g.kind.hands_over l.od (move_for e current)
-          ≡ true) (sym (at laws layouts w t g far n steps Clean e current stands)) whole)
-          (λ q k. begins_request e current q k)
+    -- where the device is handed no request with each hearing, none was handed a second time
+    once : repeats_out layouts t g e t.current ≡ false
+        → IsOutOnce g.kind.hands_over layouts.run.od what (suc vain)
+    once still = unrepeated devices g.kind.hands_over layouts.run.od what (suc vain)
+        stands.request.out.once still
 
-module _ (names : TextNamesAnswer) (taken : AnswersAreTakenUp) (laws : Laws)
-    (heard : TextsAreHeard) (readers : ReaderLaws) where
-  module _ (layouts : Layouts) (w : Sending) (t : SessionState) (e : Exchange) (g : Ghost)
-      (far far' : Far) (n n' : ℕ) (came : Option (List ℕ)) (said : Said) where
-    abbrev c : Core
-    c = core_out layouts w t e t.current
+    passes : (passage : Passage) → Passes layouts w t g far x.steps passage e t.current
+    passes passage = record {
+      opens = opens.0;
+      kept = λ still. (open_again state request h (opened still)).1;
+      again = may_again _ state request h (by_repeats (repeats_out layouts t g e t.current) refl);
+      outputs = rw (← commands) (outputs_after laws going goes passage there same_page level
+          outputs);
+      sends = outputs_sent laws going goes there same_page level outputs;
+    }
+      where
+        request : Option Request
+        request = request_in t.current
 
-    abbrev after_by : Option Reply → Outcome
-    after_by reply = operate_by (counted w reply) layouts (attempt_of w.tries reply)
+        h : Hidden
+        h = hidden_own g far x.steps t.current
 
-    -- the link's own part of what is left, and the session's
-    record Left (outcome : Outcome) : Type 0 where
-      pub on : StandsOn (state_of outcome) (after_exchange outcome c.session).state
-      pub fits : StateFits (after_exchange outcome c.session).state
-      pub joined : Joined (after_exchange outcome c.session).state
-          (after_exchange outcome c.session).session
+        state : IsduState
+        state = state_passed layouts w far x.steps passage
 
-    module _ (stands : Stands c g far n) (valid : IsSession c.session)
-        (x : HonestExchange far n (master_text layouts.run w.message) came far' n')
-        (few : w.tries < 3)
-        (accepts : (link : Link) → IsOperating layouts link
-        → IsAccepted layouts far.page link w.message) where
-      abbrev sending : Goes
-      sending = going laws layouts w t g far n x.steps e t.current stands
+        opens : IsOpen state request (hidden_again request state h)
+            × (IsOutOnce g.kind.hands_over layouts.run.od what (suc vain)
+            → AnswerFits g.request.base request h (hear there o).far.carried
+            → IsOpen state request h)
+        opens = opens_after laws going goes there level request h
+            (progress_fits devices t.clear t.current) (begins_request e t.current)
+            (own_open request g.request.hidden x.steps far stands.request.opens) passage
 
-      goes_out : IsGoing sending
-      goes_out = goes laws layouts w t g far n x.steps e t.current stands
+        opened : repeats_out layouts t g e t.current ≡ false → IsOpen state request h
+        opened still = opens.1 (once still)
+            (tied' laws layouts w t g far n x.steps Clean e t.current stands still)
 
-      passing : Passes layouts w t g far x.steps x.passage e t.current
-      passing = passes laws layouts w t g far n x.steps e t.current stands x.passage
+        by_repeats : (b : Bool) → repeats_out layouts t g e t.current ≡ b
+            → IsOpen state request h ⊎ ((q : Request) → request ≡ Some q → repeats_at devices
+            g.kind.hands_over (layout_in g.page FarOperate).od (Begin q) ≡ true)
+        by_repeats false still = inl (opened still)
+        by_repeats true whole = inr (λ q same.
+            let (r, is) = whole_begins devices g.kind.hands_over layouts.run.od what whole in
+            let named = begins_request e t.current r is in
+            let k : r ≡ q = cc in
+            rw same_layout (rw k at (rw is at whole)))
 
-      by_tries : (b : Bool) → (w.tries == 2) ≡ b → n' ≡ min 3 (n + 1)
-          → let o : Outcome = operate_by
-          (record { message = w.message; tries = if b then 0 else w.tries + 1 }) layouts
-          (if b then WasLost else Again) in
-          IsMet o n' far' → Left o → IsSettledSaid o c.session said
-          → ReceiveGives c g far n said (after_exchange o c.session) far' n'
-      by_tries true two silence met left says =
-          gives laws layouts w t g far n x.steps x.passage e t.current stands far' n' x.far_is
-          said passing
-          (Exchanged false) _ _ _ _
-          (loses laws layouts w t g far n x.steps x.passage e t.current stands far' n' x.far_is
-          said passing says
-          (third_time w.tries n (grind (arith, nat_tests)) stands.link.tries)) tt silence
-          (left.on far' n' met.stands) left.fits left.joined tt
-      by_tries false two silence met left says =
-          gives laws layouts w t g far n x.steps x.passage e t.current stands far' n' x.far_is
-          said passing
-          (Exchanged false) _ _ _ _
-          (misses laws layouts w t g far n x.steps x.passage e t.current stands far' n' x.far_is
-          said passing heard valid says) tt silence (left.on far' n' met.stands) left.fits
-          left.joined tt
+    by_tries : (b : Bool) → (w.tries == 2) ≡ b → n' ≡ min 3 (n + 1)
+        → let outcome : Outcome = operate_by
+        (record { message = w.message; tries = if b then 0 else w.tries + 1 }) layouts
+        (if b then WasLost else Again) in
+        IsMet outcome n' far' → Left outcome → IsSettledSaid outcome c.session said
+        → ReceiveGives c g far n said (after_exchange outcome c.session) far' n'
+    by_tries true two silence met left says =
+        gives laws layouts w t g far n x.steps x.passage e t.current stands far' n' x.far_is said
+        (passes x.passage) (Exchanged false) _ _ _ _
+        (loses laws layouts w t g far n x.steps x.passage e t.current stands far' n' x.far_is said
+        (passes x.passage) says (third_time w.tries n (grind (arith, nat_tests)) stands.link.tries))
+        tt silence (left.on far' n' met.stands) left.fits left.joined tt
+    by_tries false two silence met left says =
+        gives laws layouts w t g far n x.steps x.passage e t.current stands far' n' x.far_is said
+        (passes x.passage) (Exchanged false) _ _ _ _
+        (misses laws layouts w t g far n x.steps x.passage e t.current stands far' n' x.far_is said
+        (passes x.passage) heard valid says)
+        tt silence (left.on far' n' met.stands) left.fits left.joined tt
 
-      by_reply : (reply : Option Reply) → good_reply layouts.run w.message came ≡ reply
-          → IsMet (after_by reply) n' far' → Left (after_by reply)
-          → IsSettledSaid (after_by reply) c.session said
-          → ReceiveGives c g far n said (after_exchange (after_by reply) c.session) far' n'
-      by_reply None good met left says =
-          by_tries (w.tries == 2) refl
-          (silent laws sending goes_out far far' n n' came x stands.request.level good) met left
-          says
-      by_reply (Some r) good met left says =
-          let is = replied laws sending goes_out far far' n n' came x stands.request.level r good in
-          let level_now = level laws layouts w t g far n x.steps e t.current stands in
-          let here = page_here laws layouts w t g far n x.steps e t.current stands in
-          let outputs = outputs_here laws layouts w t g far n x.steps e t.current stands in
-          let turn : Good = record {
-            layouts = layouts;
-            w = w;
-            t = t;
-            g = g;
-            far = far;
-            far' = far';
-            n = n;
-            n' = n';
-            steps = x.steps;
-            regular = x.regular;
-            r = r;
-            said = said;
-          } in
-          let a : Replied laws readers turn e t.current = record {
-            stands = stands;
-            passes = passes laws layouts w t g far n x.steps e t.current stands Clean;
-            silent = is.silence_is;
-            octets = is.octets;
-            replies = is.replies;
-            far_is = is.far_is;
-            reply_is = is.reply_is;
-            once = once laws layouts w t g far n x.steps e t.current stands;
-            says = says_of laws sending goes_out (locals far x.steps) level_now is.octets
-                is.replies;
-            told_as = replied_told laws sending goes_out (locals far x.steps) here level_now outputs
-                is.octets is.replies
-                ∙ ap (λ (k : Option Bool). told_by k t.output.told)
-                (commands laws layouts w t g far n x.steps e t.current stands);
-            out_is = replied_out laws sending goes_out (locals far x.steps) here level_now refl
-                is.octets is.replies;
-            accepted = subst (λ (p : List ℕ). IsAccepted layouts p stands.request.link w.message)
-                stands.page (accepts stands.request.link (operating layouts
-                (progress_of t.configuration.devices t.clear t.current) stands.request.link
-                stands.request.linked));
-            valid = valid;
-            sized = (good_parts layouts.run w.message came r good).input;
-          } in
-          let k = message names taken laws readers turn e t.current a says in
-          had laws readers turn e t.current a k.reads k.kind k.busy k.brings
-          (left.on far' n' met.stands) left.fits left.joined
+    by_reply : (reply : Option Reply) → good_reply layouts.run w.message came ≡ reply
+        → IsMet (after_by reply) n' far' → Left (after_by reply)
+        → IsSettledSaid (after_by reply) c.session said
+        → ReceiveGives c g far n said (after_exchange (after_by reply) c.session) far' n'
+    by_reply None good met left says =
+        by_tries (w.tries == 2) refl
+        (silent laws going goes far far' n n' came x stands.request.level good) met left says
+    by_reply (Some r) good met left says =
+        let is = replied laws going goes far far' n n' came x stands.request.level r good in
+        let turn : Good = record {
+          laws = laws;
+          readers = readers;
+          layouts = layouts;
+          w = w;
+          t = t;
+          g = g;
+          far = far;
+          far' = far';
+          n = n;
+          n' = n';
+          steps = x.steps;
+          regular = x.regular;
+          r = r;
+          said = said;
+        } in
+        let told_as = rw commands at (replied_told laws going goes there same_page level outputs
+        is.octets is.replies) in
+        let out_is = replied_out laws going goes there same_page level refl is.octets is.replies in
+        let accepted = rw stands.page at (accepts stands.request.link
+        (operating layouts progress stands.request.link stands.request.linked)) in
+        let heard_says = says_of laws going goes there level is.octets is.replies in
+        let parts = good_parts layouts.run w.message came r good in
+        let passes_clean = passes Clean in
+        let a : Replied turn e t.current =
+        search (is, passes_clean, once, heard_says, told_as, out_is, accepted, valid, parts) in
+        had a (message names taken turn e t.current a says) (left.on far' n' met.stands) left.fits
+        left.joined
 
 pub receives : ((size : ℕ) → 1 ≤ size → LevelLaws size) → MuchStays → RepliesAreRead
     → InputStaysSized → ((first : Event) (rest : List Event) → EventLaws first rest)
@@ -312,8 +262,7 @@ receives level much reads sized events layouts heard memory waits gives names ta
   gives = λ run w t e g far far_new n n_new came said stands valid x few met accepts on fits joined
       says.
       by_reply names taken (all_laws level much reads sized events layouts) heard
-      (record { memory = memory; waits = waits; gives = gives }) run w t e g far far_new n
-      n_new came said stands valid x few accepts
-      (good_reply run.run w.message came) refl met
+      (record { memory = memory; waits = waits; gives = gives }) run w t e g far far_new n n_new
+      came said stands valid x few accepts (good_reply run.run w.message came) refl met
       (record { on = on; fits = fits; joined = joined }) says;
 }

@@ -1,11 +1,10 @@
 -- A new message goes out in OPERATE.
-use Rattle.std.proofs.Common.{◌≡◌, ◌⊎◌, inl, inr, ⊎_elim, ℕ, suc, ◌≤◌, Bool, true, false, List, length, refl, sym, ap, ◌∙◌, subst, arith}
-use Rattle.std.specs.Prelude.{Option, IfSome, IsSome, is_some, bytes_eq, unwrap_or}
+use Rattle.std.proofs.Common.{◌≡◌, ◌≢◌, ◌⊎◌, inl, inr, ⊎_elim, ℕ, ◌≤◌, Bool, true, false, List, refl, sym, ap, ◌∙◌, subst, arith}
+use Rattle.std.specs.Prelude.{Option, None, IfSome, IsSome, is_some, bytes_eq, unwrap_or}
 use Rattle.std.proofs.lemmas.Grind.{common_steps}
-use Rattle.std.proofs.lemmas.Bool.{cases_Bool}
+use Rattle.std.proofs.lemmas.Bool.{false_from_ne_true}
 use Rattle.std.proofs.lemmas.Slice.Eq.{bytes_eq-Decides}
 use Rattle.iol_octets.specs.declared.control.Channel.TheVariants.{Page}
-use Rattle.iol_mseq.specs.Shape.{Shape}
 use Rattle.iol_mseq.specs.Texts.{master_text}
 use Rattle.iol_mseq.specs.declared.master.MasterMsg.{MasterMsg}
 use Rattle.iol_page.specs.Page.{layouts_of}
@@ -15,15 +14,17 @@ use Rattle.iol_event.specs.declared.event.Event.{Event}
 use Rattle.iol_isdu.specs.declared.values.Request.{Request}
 use Rattle.iol_image.specs.Image.{IsImage}
 use Rattle.iol_far.specs.declared.mode.Mode.TheVariants.{Operate as FarOperate}
-use Rattle.iol_far.specs.Codec.{layout_in, message_in, flow_of}
+use Rattle.iol_far.specs.Codec.{layout_in, flow_of}
 use Rattle.iol_far.specs.Far.{Far}
-use Rattle.iol_far.specs.Level.{Progress, Move, Begin, Link, taken, turned, IsMove, IsIdle, MayBegin, IsSent, IsLevel}
+use Rattle.iol_far.specs.Level.{Progress, Move, Begin, Link, taken, turned, IsMove, IsIdle, MayBegin, IsSent}
 use Rattle.iol_far.specs.Laws.{LevelLaws, ModesHaveLayouts}
 use Rattle.iol_mode.specs.declared.configuration.Devices.{Devices}
 use Rattle.iol_mode.specs.Messages.{command_message, unsent}
-use Rattle.iol_mode.specs.Stands.{entering_mode, entering_layout, entering_link, operate_link, StateStands, IsOperating, IsAccepted}
+use Rattle.iol_mode.specs.Stands.{entering_layout, entering_link, operate_link, StateStands, IsOperating, IsAccepted}
 use Rattle.iol_mode.specs.States.{StateFits}
+use Rattle.iol_steps.specs.declared.mode.Mode.TheVariants.{Operate as ModeOperate}
 use Rattle.iol_steps.specs.Step.{Image}
+use Rattle.iol_app.specs.StationState.{mode_in}
 use Rattle.iol_steps.specs.Images.{image_or}
 use Rattle.iol_steps.specs.Station.{is_due, wants_octet}
 use Rattle.iol_steps.specs.Exchange.{output_due, told_by}
@@ -31,18 +32,18 @@ use Rattle.iol_app.specs.declared.event_work.Reading as app
 use Rattle.iol_app.specs.declared.session.Exchange.{Exchange}
 use Rattle.iol_app.specs.declared.session.Exchange.TheVariants.{TellOutput, DropOutput}
 use Rattle.iol_app.specs.Due.{due_of, is_under_way, is_confirm_due, is_resting}
-use Rattle.iol_app.specs.Messages.{Head, head_for, data_for}
+use Rattle.iol_app.specs.Messages.{Head, data_for}
 use Rattle.iol_app.specs.declared.request.Current.{Current}
 use Rattle.iol_app.specs.Requests.{aborts, is_over, IsCurrent}
 use Rattle.iol_app.specs.Moves.{progress_of, move_for, confirms_events, MessagesAreMoves}
 use Rattle.iol_app.specs.Outputs.{carried_by}
 use Rattle.iol_app.specs.Ends.{OperateLink, SentSeen, output_for}
-use Rattle.iol_app.specs.State.{SessionState, IsSession, IsMessageFor, sending, od_size}
+use Rattle.iol_app.specs.State.{SessionState, IsSession, IsMessageFor, sending}
 use Rattle.iol_app.proofs.DueFacts.{IsDue, due_is}
 use Rattle.iol_app.proofs.OperateMessages.{tell_differs, page_command}
 use Rattle.iol_app.proofs.Telling.{told_layout}
 use Rattle.iol_app.proofs.Shown.{shown_as}
-use Rattle.iol_app.specs.Core.{Core, Ghost, Stands, Sends, SendGives, core_out, free_core, made_ghost, vain_by, AgainBy, reading_at, reading_in, ordered_by}
+use Rattle.iol_app.specs.Core.{Core, Ghost, Stands, Sends, SendGives, core_out, free_core, made_ghost, vain_by, AgainBy, RequestStands, EventsStand, OutputStands, work_of, ordered, reading_at, reading_in, ordered_by}
 use Rattle.iol_app.proofs.SmallFacts.{operating, keeps_some, events_due, confirms_is, not_operate, begins_request, tells_wanted, drops_told, some_or, image_some, sent_made, same_carried}
 
 -- which readings a confirm and a read go out for
@@ -100,26 +101,22 @@ module _ (levels : (size : ℕ) → 1 ≤ size → LevelLaws size) (modes : Mode
   due = due_is t room
 
   od : m.od.items ≡ data_for e layouts.run.od t.current
-  od = is.octets ∙ ap (λ (l : Option Shape). data_for e (od_size l) t.current) stands.joined.told.0
+  od = rw stands.joined.told.0 at is.octets
 
   at : layout_in g.page FarOperate ≡ layouts.run
   at = told_layout g.page FarOperate layouts (ap layouts_of (sym stands.page) ∙ stands.link.told)
 
   accepted : IsAccepted layouts g.page link m
-  accepted =
-      subst (λ (p : List ℕ). IsAccepted layouts p link m) stands.page
+  accepted = subst (λ (p : List ℕ). IsAccepted layouts p link m) stands.page
       (accepts link (operating layouts progress link stands.request.linked))
 
   -- before the first good reply in OPERATE no output is told
   untold : link ≡ entering_link layouts → t.output.told ≡ false
   untold k =
-      let mode : far.mode ≡ entering_mode layouts.pre =
-      ap (λ (l : Link). l.mode) (stands.request.level.link_is ∙ k) in
-      ⊎_elim
-      (λ (v : far.valid ≡ true). absurd
-      (not_operate layouts.pre (sym mode ∙ (stands.output.0 stands.request.level.awake v).0)))
-      (λ (f : far.valid ≡ false). sym (stands.output.1 stands.request.level.awake refl) ∙ f)
-      (cases_Bool far.valid)
+      let at_entry = rw k at (ap (λ (l : Link). l.mode) stands.request.level.link_is) in
+      sym (stands.output.1 stands.request.level.awake refl)
+      ∙ false_from_ne_true far.valid (λ v. not_operate layouts.pre
+      (sym at_entry ∙ (stands.output.0 stands.request.level.awake v).0))
 
   -- so that no message is DeviceOperate's octets again
   is_other : link ≡ entering_link layouts → m.mc.channel ≡ Page
@@ -131,8 +128,7 @@ module _ (levels : (size : ℕ) → 1 ≤ size → LevelLaws size) (modes : Mode
       let some : IsSome t.output.wanted =
       tells_wanted t.output.wanted t.output.told (sym (ap output_for tell) ∙ due.output) in
       tell_differs layouts.run (entering_layout layouts) m layouts.run.od
-      (subst (λ (x : List ℕ). 1 ≤ length x) (sym carried)
-      (image_some t.output.wanted t.output.carried.items some stands.shown.wanted))
+      (rw carried (image_some t.output.wanted t.output.carried.items some stands.shown.wanted))
       (od ∙ ap (λ (x : Exchange). data_for x layouts.run.od t.current) tell) same)
       (λ (drop : e ≡ DropOutput). let z : true ≡ false =
       sym (drops_told t.output.wanted t.output.told (sym (ap output_for drop) ∙ due.output))
@@ -148,23 +144,20 @@ module _ (levels : (size : ℕ) → 1 ≤ size → LevelLaws size) (modes : Mode
       entry k page =
           let command : List ℕ = master_text (entering_layout layouts)
           (command_message (entering_layout layouts) DeviceOperate) in
-          ⊎_elim
-          (λ (b : bytes_eq o command ≡ true). absurd
-          (is_other k page ((bytes_eq-Decides o command).0 b)))
-          (λ (f : bytes_eq o command ≡ false). rw f refl)
-          (cases_Bool (bytes_eq o command))
+          rw (false_from_ne_true (bytes_eq o command)
+          (λ b. is_other k page ((bytes_eq-Decides o command).0 b))) refl
 
       by_link : OperateLink layouts progress link → (taken link o).mode ≡ FarOperate
-      by_link (inr k) = ap (λ (l : Link). (taken l o).mode) k
+      by_link (inr k) = rw k refl
       by_link (inl k) =
           ⊎_elim
-          (λ (j : (turned g.page link o m ≡ entering_link layouts) × (m.mc.channel ≡ Page)). ap
-          (λ (l : Link). (taken l o).mode) k.0 ∙ entry k.0 j.1)
+          (λ (j : (turned g.page link o m ≡ entering_link layouts) × (m.mc.channel ≡ Page)).
+          rw k.0 (entry k.0 j.1))
           (λ (j : turned g.page link o m ≡ operate_link). ap (λ (l : Link). l.mode) j)
           accepted.next
 
   there : layout_in g.page (taken link o).mode ≡ layouts.run
-  there = ap (layout_in g.page) mode ∙ at
+  there = rw mode at
 
   still : (l : Link) → OperateLink layouts progress l
       → IfSome l.waits (λ command. IsIdle progress)
@@ -181,11 +174,10 @@ module _ (levels : (size : ℕ) → 1 ≤ size → LevelLaws size) (modes : Mode
 
   goes : IsSent g.page layouts.run.od link progress o m (move_for e t.current)
   goes = record {
-    spells = ap (λ (l : Shape). message_in l o) there ∙ accepted.out.spells;
-    size_of = ap (λ (l : Shape). l.od) there;
+    spells = rw there accepted.out.spells;
+    size_of = rw there refl;
     move = subst (λ (h : Head). IsMoved h m.od.items) (sym is.head)
-        (subst (λ (d : List ℕ). IsMoved (head_for e t.events.reading t.current) d) (sym od)
-        (moves t layouts.run e valid stands.joined.told.0));
+        (rw od (moves t layouts.run e valid stands.joined.told.0));
     begins = may_begin (move_for e t.current) refl;
     idle = still link stands.request.linked;
   }
@@ -196,40 +188,26 @@ module _ (levels : (size : ℕ) → 1 ≤ size → LevelLaws size) (modes : Mode
   -- the image that it carries is the one sent
   sent : IfSome (image_or t.output.wanted g.sent) (λ image. image ≡ carried_by t.output)
   sent = sent_made t.output.wanted g.sent t.output.carried.items
-      (subst (λ (l : Option Shape). SentSeen l t.output.carried.items g.sent)
-      stands.joined.told.0 stands.sent)
+      (rw stands.joined.told.0 at stands.sent)
 
   pub sends : let next : Core = core_out layouts (unsent m) (sending e t) e t.current in
       StateStands next.state n far → StateFits next.state
       → SendGives (free_core layouts t) next g (made_ghost t g) far n
-  sends linked fits = record {
-    stands = record {
-      page = stands.page;
-      kind = stands.kind;
-      sees = stands.sees;
-      fits = fits;
-      link = linked;
-      joined = record {
-        told = stands.joined.told;
-        out_for = record { head = is.head; octets = is.octets };
-      };
-      calm = tt;
-      fresh = stands.fresh;
-      sent = subst (λ (l : Option Shape). SentSeen l (carried_by t.output)
-          (image_or t.output.wanted g.sent)) (sym stands.joined.told.0) sent;
-      request = record {
+  sends linked fits =
+      let next : Core = core_out layouts (unsent m) (sending e t) e t.current in
+      let after : Ghost = made_ghost t g in
+      let request : RequestStands next.state (work_of next.session) next.session.events after far =
+      record {
         late = stands.request.late;
         opens = stands.request.opens;
         link = link;
         linked = stands.request.linked;
-        level = subst (λ (k : ℕ). IsLevel g.page g.kind layouts.run.od g.request.base link progress
-            o k far) (sym first) (((levels layouts.run.od
-            (subst (λ (l : Shape). 1 ≤ l.od) at (modes g.page FarOperate).1)).stays g.page g.kind
-            g.request.base link progress o).begins far stands.request.level);
+        level = rw first (((levels layouts.run.od (rw (at) at (modes g.page FarOperate).1)).stays
+            g.page g.kind g.request.base link progress o).begins far stands.request.level);
         out = record {
           mode = mode;
           goes = goes;
-          once = λ any k. subst (λ (n : ℕ). suc n ≤ 1) (sym first) (omega arith);
+          once = λ any k. rw first (omega arith);
           again = not_again devices e t.current stands.request.out;
           goes_on = λ k. not_over t.current valid.current (due.asks k);
           confirm = λ k. confirm_due t.events.reading t.events.flag g.events.due (due.confirm k);
@@ -242,36 +220,30 @@ module _ (levels : (size : ℕ) → 1 ≤ size → LevelLaws size) (modes : Mode
         answer = λ once. stands.request.answer refl;
         busy = stands.request.busy;
         known = stands.request.known;
-      };
-      events = (
+      } in
+      let events : EventsStand next.state next.session.exchange next.session.events after.events
+      far = (
         (λ k. events_due (reading_in t.events g.events) (confirms_events e) far.events
             (λ c. confirm_due t.events.reading t.events.flag g.events.due
             (due.confirm (confirms_is e c))) (stands.events.0 k)),
         stands.events.1,
-      );
-      output = (
+      ) in
+      let output : OutputStands next.state next.session.exchange next.session.output.told
+      after.sent far = (
         (λ k v. let here = stands.output.0 k v in
             (here.0, keeps_some t.output.wanted g.sent here.1)),
         (λ k none. stands.output.1 k refl),
         stands.output.2,
-      );
-      shown = shown_as stands.shown (λ k. absurd (k refl)) refl stands.shown.present
-          stands.shown.no_form;
-    };
-    session = refl;
-    frozen = refl;
-    may = λ call. (refl, stands.calm);
-    fresh = refl;
-    mode = refl;
-    reset = refl;
-    terms = (refl, refl, refl, refl);
-    images = λ call. refl;
-    wants = refl;
-    asks = ap (λ (c : Option Bool). ordered_by (told_by c t.output.told) m.out.items) due.output
-        ∙ ap (ordered_by (told_by (output_due t.output.wanted t.output.told) t.output.told))
-        carried ∙ asks_wanted t.output.wanted t.output.told t.output.carried.items
-        stands.shown.wanted;
-  }
+      ) in
+      let carried_last : SentSeen t.layout (carried_by t.output) after.sent =
+      rw stands.joined.told.0 sent in
+      let asks : ordered next.state next.session ≡ t.output.wanted =
+      rw (due.output, carried) (asks_wanted t.output.wanted t.output.told
+      t.output.carried.items stands.shown.wanted) in
+      let image : mode_in next.state ≢ ModeOperate → t.image ≡ None = λ k. absurd (k refl) in
+      let shown = shown_as {next = next} stands.shown image refl stands.shown.present
+      stands.shown.no_form in
+      assumption (request, events, output, carried_last, asks, is, linked, fits, shown)
 
 pub sends_all : ((size : ℕ) → 1 ≤ size → LevelLaws size) → ModesHaveLayouts → MessagesAreMoves
     → Sends

@@ -2,9 +2,9 @@
 use Rattle.std.proofs.lemmas.Grind.{common_steps}
 use Rattle.std.proofs.lemmas.Bool.Decides.{nat_tests}
 use Rattle.std.proofs.Common.{◌≡◌, ℕ, ◌+◌, ◌%◌, ◌<◌, ◌≤◌, Bool, true, false, ◌&&◌, ◌==◌, Result, if◌then◌else◌, List, length, refl, sym, ap, subst, ◌∙◌, arith, Option, Some, None}
-use Rattle.std.specs.Prelude.{not, slice_index, is_some, IfSome, IsTrue, unwrap_or}
+use Rattle.std.specs.Prelude.{not, slice_index, IfSome, unwrap_or}
 use Rattle.std.proofs.lemmas.List.{length-append}
-use Rattle.iol_mseq.specs.Shape.{Shape, IsLayout}
+use Rattle.iol_mseq.specs.Shape.{Shape}
 use Rattle.iol_mseq.specs.Master.{HasMasterParts}
 use Rattle.iol_mseq.specs.Replies.{answered_od}
 use Rattle.iol_mseq.specs.declared.reply.Reply.{Reply}
@@ -31,17 +31,21 @@ use Rattle.iol_app.specs.declared.request.Progress.TheVariants.{Sending, Doubtin
 use Rattle.iol_app.specs.declared.session.Exchange.{Exchange}
 use Rattle.iol_app.specs.declared.session.Exchange.TheVariants.{Abort, Request as NextMessage}
 use Rattle.iol_steps.specs.declared.said.Said.{Said}
-use Rattle.iol_steps.specs.declared.said.Said.TheVariants.{Cut}
-use Rattle.iol_app.specs.Outputs.{output_after, carried_by, IsOutput}
+use Rattle.iol_app.specs.Outputs.{carried_by, IsOutput}
 use Rattle.iol_app.specs.Requests.{text_of, Outcome, GoesOn, asked, doubted, sent_anew, finished, joined, forgotten_by, refused, sending, is_doubting, replied_at, replied, going, current_after, request_in, request_after, IsOutcomeSaid, IsSaid, Suits, ProgressFits, IsAllGiven, IsCurrent, IsSure}
 use Rattle.iol_app.specs.State.{SessionState, IsSession, od_size, output_length, absorbed}
-use Rattle.iol_app.specs.Messages.{ask_of, question, head_of, head_for, data_for, progress_head, progress_data, request_head, request_data}
+use Rattle.iol_app.specs.Messages.{Head, ask_of, question, head_of, head_for, data_for, progress_head, progress_data}
 use Rattle.iol_app.proofs.Cutting.{length-segment, is_pair, given_goes_on, sent_on_fits}
 use Rattle.iol_app.proofs.Joining.{StaysCurrent, refused_stays, joined_stays, received_stays}
 
 -- a text has an octet
 pub text_some : (cutter : Cutting Request) → 0 < length (text_of cutter)
 text_some cutter = let whole = length-append (request_front cutter.source) in omega (arith, whole)
+
+-- what holds of both holds of either
+either : (P : Outcome → Type 0) (b : Bool) (x y : Outcome) → P x → P y → P (if b then x else y)
+either P true x y h k = h
+either P false x y h k = k
 
 -- the one segment of a request is all of it
 one_given : (cutter : Cutting Request) → ProgressFits cutter None Doubting
@@ -72,51 +76,42 @@ doubted_stays : (current : Current) (again : Bool) (limit : ℕ) (od : List ℕ)
 doubted_stays current again limit od h whole size =
     let all : ProgressFits current.cutter current.abort (Asking 0) =
     rw whole.0 (one_given current.cutter whole) in
-    elim ((slice_index od 0 == 0) && not again) as (λ b. StaysCurrent current.cutter
-    (if b then GoesOn (sent_anew current.cutter current.abort)
-    else asked current.cutter current.abort 0 limit od))
-    [ true ↦ anew_stays current h whole | false ↦ asked_stays current 0 limit od h all size ]
+    either (StaysCurrent current.cutter) ((slice_index od 0 == 0) && not again) _ _
+    (anew_stays current h whole) (asked_stays current 0 limit od h all size)
 
 -- no good reply leaves anything in doubt
+abbrev IsGoingSure : Outcome → Type 0
+IsGoingSure outcome = IfSome (going outcome) IsSure
+
 finished_sure : (cutter : Cutting Request) (abort : Option Cause) (text : List ℕ)
-    (fault : Option IsduFault) → IfSome (going (finished cutter abort text fault)) IsSure
+    (fault : Option IsduFault) → IsGoingSure (finished cutter abort text fault)
 finished_sure cutter abort text fault = grind (arith, common_steps)
 
 joined_sure : (cutter : Cutting Request) (abort : Option Cause) (had : ℕ)
     (took : Result Took JoinFault) (joining : Joining)
-    → IfSome (going (joined cutter abort had took joining)) IsSure
+    → IsGoingSure (joined cutter abort had took joining)
 joined_sure cutter abort had took joining = grind (arith, common_steps, finished_sure)
 
 sending_sure : (piece : Option (Flow × ArrayVec ℕ)) → is_doubting (sending piece) ≡ false
 sending_sure piece = grind (arith, common_steps)
 
 asked_sure : (cutter : Cutting Request) (abort : Option Cause) (busy limit : ℕ) (od : List ℕ)
-    → IfSome (going (asked cutter abort busy limit od)) IsSure
+    → IsGoingSure (asked cutter abort busy limit od)
 asked_sure cutter abort busy limit od = grind (arith, common_steps, joined_sure)
 
 replied_sure : (p : Progress) (limit : ℕ) (od : List ℕ) (current : Current)
-    → current.progress ≡ p → IfSome (going (replied_at p limit od current)) IsSure
+    → current.progress ≡ p → IsGoingSure (replied_at p limit od current)
 replied_sure (Sending flow segment) limit od current is = (refl, sending_sure _)
 replied_sure Doubting limit od current is =
-    elim ((slice_index od 0 == 0) && not current.again) as (λ b. IfSome (going
-    (if b then GoesOn (sent_anew current.cutter current.abort)
-    else asked current.cutter current.abort 0 limit od)) IsSure) [
-      | true ↦ (refl, sending_sure _)
-      | false ↦ asked_sure current.cutter current.abort 0 limit od
-    ]
+    either IsGoingSure ((slice_index od 0 == 0) && not current.again) _ _ (refl, sending_sure _)
+    (asked_sure current.cutter current.abort 0 limit od)
 replied_sure (Asking busy) limit od current is =
     asked_sure current.cutter current.abort busy limit od
 replied_sure (Receiving joining had) limit od current is =
-    elim (current.again && forgotten_by (taken joining (Count ((had + 1) % 16)) od).took od) as
-    (λ b. IfSome (going (if b then GoesOn (refused current.cutter current.abort)
-    else joined current.cutter current.abort (had + 1)
-    (taken joining (Count ((had + 1) % 16)) od).took
-    (taken joining (Count ((had + 1) % 16)) od).joining)) IsSure) [
-      | true ↦ (refl, refl)
-      | false ↦ joined_sure current.cutter current.abort (had + 1)
-          (taken joining (Count ((had + 1) % 16)) od).took
-          (taken joining (Count ((had + 1) % 16)) od).joining
-    ]
+    let t = taken joining (Count ((had + 1) % 16)) od in
+    either IsGoingSure (current.again && forgotten_by t.took od)
+    (GoesOn (refused current.cutter current.abort)) _ (refl, refl)
+    (joined_sure current.cutter current.abort (had + 1) t.took t.joining)
 replied_sure Refused limit od current is = (refl, ap is_doubting is)
 
 replied_stays : (current : Current) (p : Progress) (limit : ℕ) (od : List ℕ) → IsCurrent current
@@ -134,13 +129,6 @@ replied_stays current p limit od h e size =
       text_some,
     )
 
--- the reply has on-request data of the layout's size where the request's message was a read
-answered_as : (layout : Option Shape) (current : Current) (od : List ℕ) → IsCurrent current
-    → current.cutter.size ≡ od_size layout
-    → IfSome layout (λ l. length od ≡ answered_od l (progress_head current.progress).read)
-    → IsAnswered current.cutter.size current.progress od
-answered_as layout current od h same fits = grind (arith, common_steps)
-
 -- The request under way after a reply, and what is said of it
 
 abbrev pub StaysGoing : ℕ → Option Current → Type 0
@@ -155,11 +143,6 @@ going_request : (cutter : Cutting Request) (read : Bool) (outcome : Outcome) (sa
     → request_in (going outcome) ≡ request_after (Some cutter.source) said
 going_request cutter read outcome said stays h = grind (arith, common_steps)
 
-aborted_request : (request : Request) (abort : Option Cause) (said : Said)
-    → IsTrue (is_some abort) → IfSome abort (λ cause. said ≡ Cut cause)
-    → None ≡ request_after (Some request) said
-aborted_request request abort said suits h = grind (arith, common_steps)
-
 module _ (layout : Option Shape) (reading : Reading) (limit : ℕ) (od : List ℕ) where
   abbrev Fits : Exchange → Option Current → Type 0
   Fits exchange current = IfSome layout
@@ -167,8 +150,10 @@ module _ (layout : Option Shape) (reading : Reading) (limit : ℕ) (od : List �
 
   stays : (current : Current) → IsCurrent current → current.cutter.size ≡ od_size layout
       → Fits NextMessage (Some current) → StaysCurrent current.cutter (replied limit od current)
-  stays current h size fits = replied_stays current current.progress limit od h refl
-      (answered_as layout current od h size fits)
+  stays current h size fits =
+      let answered : IsAnswered current.cutter.size current.progress od =
+      grind (arith, common_steps) in
+      replied_stays current current.progress limit od h refl answered
 
   pub current_stays : (exchange : Exchange) (current : Option Current)
       → IfSome current IsCurrent → IfSome current (λ c. c.cutter.size ≡ od_size layout)
@@ -190,20 +175,12 @@ module _ (layout : Option Shape) (reading : Reading) (limit : ℕ) (od : List �
   current_request exchange None said h size fits suits said_is =
       ap (request_after None) (sym said_is)
   current_request Abort (Some current) said h size fits suits said_is =
-      aborted_request current.cutter.source current.abort said suits said_is
+      grind (arith, common_steps)
   current_request NextMessage (Some current) said h size fits suits said_is =
       going_request current.cutter (is_read current.cutter.source) (replied limit od current) said
       (stays current h size fits) said_is
   current_request any (Some current) said h size fits suits said_is =
       ap (request_after (Some current.cutter.source)) (sym said_is)
-
-sure_after : (exchange : Exchange) (limit : ℕ) (od : List ℕ) (current : Option Current)
-    → IfSome current IsSure → IfSome (current_after exchange limit od current) IsSure
-sure_after exchange limit od current h = grind (arith, common_steps, replied_sure)
-
-output_stays : (size : ℕ) (exchange : Exchange) (output : Output) → IsOutput size output
-    → IsOutput size (output_after exchange output)
-output_stays size exchange output h = grind (arith, common_steps)
 
 -- a session that takes up a good reply
 pub absorbed_stays : (s : SessionState) (exchange : Exchange) (reply : Reply) → IsSession s
@@ -215,11 +192,11 @@ absorbed_stays s exchange reply h fits =
     s.current h.current h.size fits in
     record {
       layout = h.layout;
-      output = output_stays (output_length s.layout) exchange s.output h.output;
+      output = grind (arith, common_steps);
       current = going.0;
       size = going.1;
       out = tt;
-      sure = λ own. sure_after exchange s.limit reply.od.items s.current (h.sure own);
+      sure = λ own. grind (arith, common_steps, replied_sure);
     }
 
 -- A new message has the parts of the layout
@@ -240,23 +217,11 @@ progress_data_length : (current : Current) (p : Progress) → current.progress �
     → IsCurrent current → IsData current.cutter.size (progress_head p).read (progress_data p)
 progress_data_length current p e h = grind (arith, common_steps, is_pair, length-segment)
 
-request_data_length : (size : ℕ) (current : Option Current) → IfSome current IsCurrent
-    → IfSome current (λ c. c.cutter.size ≡ size)
-    → IsData size (request_head current).read (request_data current)
-request_data_length size None h same = refl
-request_data_length size (Some current) h same =
-    subst (λ (n : ℕ). IsData n (progress_head current.progress).read
-    (progress_data current.progress)) same
-    (progress_data_length current current.progress refl h)
-
 data_length : (exchange : Exchange) (size : ℕ) (reading : Reading) (current : Option Current)
     → 1 ≤ size → IfSome current IsCurrent → IfSome current (λ c. c.cutter.size ≡ size)
     → IsData size (head_for exchange reading current).read (data_for exchange size current)
-data_length exchange size reading current some h same =
-    grind (arith, common_steps, length-first_of_zeros, request_data_length)
-
-od_some : (layout : Shape) → IsLayout layout → 1 ≤ layout.od
-od_some layout h = grind (arith, common_steps)
+data_length exchange size other current some h same =
+    grind (arith, common_steps, length-first_of_zeros, progress_data_length)
 
 pub parts_fit : (s : SessionState) (exchange : Exchange) (message : MasterMsg) (layout : Shape)
     → IsSession s → s.layout ≡ Some layout
@@ -265,21 +230,15 @@ pub parts_fit : (s : SessionState) (exchange : Exchange) (message : MasterMsg) (
     → message.out.items ≡ carried_by s.output
     → IfSome s.layout (λ l. HasMasterParts l message)
 parts_fit s exchange message layout h told head od out =
-    let valid : IsLayout layout = subst (λ (l : Option Shape). IfSome l IsLayout) told h.layout in
-    let output : IsOutput layout.pd_out s.output =
-    subst (λ (l : Option Shape). IsOutput (output_length l) s.output) told h.output in
-    let size : IfSome s.current (λ c. c.cutter.size ≡ layout.od) =
-    subst (λ (l : Option Shape). IfSome s.current (λ c. c.cutter.size ≡ od_size l)) told
-    h.size in
-    let read : message.mc.read ≡ (head_for exchange s.events.reading s.current).read =
-    ap (λ x. x.read) head in
-    let parts : HasMasterParts layout message = record {
-      out = ap length out ∙ carried_length layout.pd_out s.output.wanted s.output.carried.items
-          output.carried output.wanted;
-      od = ap length od ∙ data_length exchange layout.od s.events.reading s.current
-          (od_some layout valid) h.current size ∙ ap (λ b. if b then 0 else layout.od) (sym read);
-    } in
-    subst (λ (l : Option Shape). IfSome l (λ k. HasMasterParts k message)) (sym told) parts
+    let valid = rw told at h.layout in
+    let output = rw told at h.output in
+    rw told (record {
+      out = rw out (carried_length layout.pd_out s.output.wanted s.output.carried.items
+          output.carried output.wanted);
+      od = rw od (data_length exchange layout.od s.events.reading s.current
+          (grind (arith, common_steps, valid)) h.current (rw told at h.size))
+          ∙ ap (λ (head : Head). if head.read then 0 else layout.od) (sym head);
+    })
 
 -- The question in place of a message that holds a whole text
 

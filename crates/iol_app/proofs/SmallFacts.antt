@@ -11,7 +11,7 @@ use Rattle.iol_isdu.specs.declared.values.Request.{Request}
 use Rattle.iol_far.specs.Level.{Progress, Link, Begin}
 use Rattle.iol_page.specs.declared.page.Layouts.{Layouts}
 use Rattle.iol_far.specs.Far.{Far, hear, heard_as}
-use Rattle.iol_far.specs.Local.{LocalStep, local, locals}
+use Rattle.iol_far.specs.Local.{LocalStep, locals}
 use Rattle.iol_mode.specs.Stands.{entering_mode, IsOperating}
 use Rattle.iol_steps.specs.Step.{Image}
 use Rattle.iol_steps.specs.Images.{image_or}
@@ -41,12 +41,9 @@ pub input_is : (size : ℕ) (input : Option Image) (reply : Reply)
     → reply.invalid ≡ (not (size == 0) && not (is_some input)) → image_had size reply ≡ input
 input_is size input reply sized octets items invalid = grind (arith, common_steps)
 
-input_step : (far : Far) (step : LocalStep) → HasOctets far.input → HasOctets (local far step).input
-input_step far step h = grind (arith, common_steps)
-
 pub input_locals : (steps : List LocalStep) (far : Far) → HasOctets far.input
     → HasOctets (locals far steps).input
-input_locals = by_locals (λ far. HasOctets far.input) input_step
+input_locals = by_locals (λ far. HasOctets far.input) (λ far step h. grind (arith, common_steps))
 
 pub input_hear : (far : Far) (o : List ℕ) → (hear far o).far.input ≡ far.input
 input_hear far o = by_accepted (λ q. (heard_as far o q).far.input ≡ far.input) far o refl

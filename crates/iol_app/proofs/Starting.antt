@@ -1,60 +1,485 @@
 -- An exchange of a start-up, in both its modes.
-use Rattle.std.proofs.Common.{◌≡◌, ℕ, ◌+◌, ◌≤◌, min, Bool, true, false, ◌==◌, List, [], ◌∷◌, ◌++◌, length, refl, sym, ◌∙◌, ap, subst, arith}
+use Rattle.std.proofs.Common.{◌≡◌, ◌≢◌, inl, ℕ, ◌+◌, min, Bool, true, false, ◌&&◌, List, [], ◌∷◌, ◌++◌, refl, sym, ◌∙◌, ap, arith, ◌≤◌, ◌==◌, length, subst}
 use Rattle.std.proofs.lemmas.Grind.{common_steps}
-use Rattle.std.proofs.lemmas.Bool.Decides.{nat_tests}
-use Rattle.std.specs.Prelude.{Option, Some, None, Result, Ok, Err, IfOk, is_some, not, slice_index, if◌then◌else◌}
+use Rattle.std.specs.Prelude.{Option, Some, None, Ok, IfSome, not, unwrap_or, Result, Err, IfOk, is_some, slice_index, if◌then◌else◌}
+use Rattle.iol_octets.specs.declared.control.Channel.TheVariants.{Page}
 use Rattle.iol_mseq.specs.Shape.{Shape, startup_shape}
+use Rattle.iol_mseq.specs.Master.{HasMasterParts}
 use Rattle.iol_mseq.specs.Texts.{master_text}
 use Rattle.iol_mseq.specs.declared.reply.Reply.{Reply}
-use Rattle.iol_page.specs.Page.{layouts_of, is_old, is_present, IsAskedBy, PagesAskForLayouts}
+use Rattle.iol_mseq.specs.declared.master.MasterMsg.{MasterMsg}
+use Rattle.iol_page.specs.Page.{layouts_of, knows_isdu, is_old, is_present, IsAskedBy, PagesAskForLayouts}
 use Rattle.iol_page.specs.Identity.{identity_of, is_expected}
 use Rattle.iol_page.specs.declared.page.Layouts.{Layouts}
+use Rattle.iol_page.specs.declared.master_command.MasterCommand.{MasterCommand}
+use Rattle.iol_event.specs.Memory.{is_empty}
+use Rattle.iol_far.specs.declared.mode.Mode.TheVariants.{Preoperate as FarPreoperate, Operate as FarOperate}
+use Rattle.iol_far.specs.Codec.{layout_in}
+use Rattle.iol_far.specs.Far.{Far, WaitingCommand, hear, command_in}
+use Rattle.iol_far.specs.Linked.{TextsAreHeard}
+use Rattle.iol_far.specs.Local.{locals}
+use Rattle.iol_far.specs.declared.kind.Recalls.TheVariants.{UntilSent}
+use Rattle.iol_far.specs.Level.{Quiet, Other, Link, IsIdle, IsLevel, taken}
+use Rattle.iol_far.specs.Laws.{confirms as octets_confirm, RepliesAreRead, InputStaysSized, MuchStays, LevelLaws, EventLaws, ModesHaveLayouts}
+use Rattle.iol_link.specs.Attempts.{good_reply}
+use Rattle.iol_link.specs.Honest.{HonestExchange, far_after}
+use Rattle.iol_mode.specs.declared.states.Startup.{Startup}
+use Rattle.iol_mode.specs.declared.states.Preoperate.{Preoperate}
+use Rattle.iol_mode.specs.declared.states.Told.{Told}
+use Rattle.iol_mode.specs.declared.states.State.{State}
+use Rattle.iol_mode.specs.declared.states.State.TheVariants.{Startup as AtStartup, Preoperate as AtPreoperate, Operate as AtOperate}
+use Rattle.iol_mode.specs.declared.why.Why.{Why}
+use Rattle.iol_mode.specs.Next.{IsEntered, read_by}
+use Rattle.iol_mode.specs.declared.states.Step.{Step as PageStep}
+use Rattle.iol_mode.specs.Stands.{startup_link, preoperate_link, entering_link, StepLevel, StateStands, StepStands}
+use Rattle.iol_mode.specs.States.{Outcome, InDown, OutcomeFits, StateFits, state_of, is_behind, is_reset, StepFits, is_starting, begun, step_behind, step_after, told_of, page_taken, taken_where, checked, startup_by, startup_turned, preoperate_by, preoperate_after, preoperate_turned}
+use Rattle.iol_mode.specs.Turns.{IsRisen}
+use Rattle.iol_steps.specs.declared.mode.Mode.{Mode}
+use Rattle.iol_steps.specs.declared.mode.Mode.TheVariants.{Down as ModeDown, Startup as ModeStartup, Operate as ModeOperate}
+use Rattle.iol_steps.specs.declared.said.Said.TheVariants.{Idle}
+use Rattle.iol_steps.specs.Step.{Step, resets, TellLength, Move as MoveTo, Exchanged, silence_by, output_length, page_fault, fault_in}
+use Rattle.iol_steps.specs.Bridge.{Hidden, IsOpen, hidden_through}
+use Rattle.iol_steps.specs.Kinds.{Seen}
+use Rattle.iol_steps.specs.Session.{MayMove, HoldsNothing}
+use Rattle.iol_steps.specs.Images.{Images}
+use Rattle.iol_steps.specs.Station.{Shown, far_mode, output_by, images_of, session_of, is_due}
+use Rattle.iol_steps.specs.Exchange.{reading_flagged}
+use Rattle.iol_app.proofs.Given.{Laws, page_locals, page_after as page_passed, kind_after, level_locals, all_laws}
+use Rattle.iol_app.proofs.OwnSession.{own_open}
+use Rattle.iol_app.specs.Ends.{OutputTold, ShownSeen}
+use Rattle.iol_app.proofs.Outputs.{outputs_locals}
+use Rattle.iol_app.proofs.OpenLevel.{IsTied, tied_locals, hear_carried}
+use Rattle.iol_app.proofs.EventReading.{kept_fits, ends_hold}
+use Rattle.iol_app.proofs.Effects.{Effect, Ends, Left, untold_effect, gives as call_gives, falls as call_falls}
+use Rattle.iol_app.proofs.Shown.{shown_as}
+use Rattle.iol_app.proofs.FirstOctet.{confirms_of}
+use Rattle.iol_app.specs.declared.event_work.Reading.TheVariants.{Resting}
+use Rattle.iol_app.specs.State.{SessionState, IsSession, told, entered}
+use Rattle.iol_app.specs.StationState.{StateFits as Joined, settled_session, mode_in, why_in, IsTold as IsToldBy, told_in}
+use Rattle.iol_app.proofs.StartMessages.{step_channel, sends_channel, preoperate_mode, page_confirms}
+use Rattle.iol_app.proofs.Telling.{startup_layout, told_layout, told_told, told_shown, told_stays}
+use Rattle.iol_app.specs.Moves.{progress_of}
+use Rattle.iol_app.specs.Core.{Core, Ghost, Stands, CallGives, OutputOff, ShownStands, moment_of, seen_in, shown_in, settled_core, Rises}
+use Rattle.iol_app.proofs.FarSide.{Goes, IsGoing, Level, OutputsAt, outputs_sent, outputs_after, opens_after, silent, replied, IsReplied}
+use Rattle.std.proofs.lemmas.Bool.Decides.{nat_tests}
 use Rattle.iol_mode.specs.declared.configuration.Configuration.{Configuration}
 use Rattle.iol_page.specs.declared.fault.PageFault.{PageFault}
 use Rattle.iol_page.specs.declared.fault.PageFault.TheVariants.{Revision, BadPdLength, UnsupportedCode}
 use Rattle.iol_event.specs.declared.event.Event.{Event}
-use Rattle.iol_event.specs.Memory.{is_empty}
-use Rattle.iol_far.specs.Far.{Far}
-use Rattle.iol_far.specs.Linked.{TextsAreHeard}
 use Rattle.iol_far.specs.Orderly.{OrderlyLaws}
-use Rattle.iol_far.specs.Local.{locals}
-use Rattle.iol_far.specs.Laws.{RepliesAreRead, InputStaysSized, MuchStays, LevelLaws, EventLaws, ModesHaveLayouts}
-use Rattle.iol_link.specs.Attempts.{good_reply}
-use Rattle.iol_link.specs.Honest.{HonestExchange}
 use Rattle.iol_link.specs.declared.handler.Attempt.TheVariants.{Again, Lost as WasLost}
-use Rattle.iol_mode.specs.declared.states.Startup.{Startup}
-use Rattle.iol_mode.specs.declared.states.Preoperate.{Preoperate}
-use Rattle.iol_mode.specs.declared.states.Told.{Told}
-use Rattle.iol_mode.specs.declared.states.Step.{Step as PageStep}
-use Rattle.iol_mode.specs.declared.states.Step.TheVariants.{Reset, First, Read, Ident, Leave, Cycle, Enter}
-use Rattle.iol_mode.specs.declared.states.State.{State}
-use Rattle.iol_mode.specs.declared.states.State.TheVariants.{Startup as AtStartup, Preoperate as AtPreoperate, Operate as AtOperate}
-use Rattle.iol_mode.specs.declared.why.Why.{Why}
-use Rattle.iol_mode.specs.declared.why.Why.TheVariants.{Lost, WrongDevice}
+use Rattle.iol_mode.specs.declared.states.Step.TheVariants.{Read, Ident, Leave, Cycle, Enter}
+use Rattle.iol_mode.specs.declared.why.Why.TheVariants.{WrongDevice}
 use Rattle.iol_mode.specs.Why.{why_of}
-use Rattle.iol_mode.specs.Next.{IsEntered, read_by}
-use Rattle.iol_mode.specs.Stands.{StepStands}
-use Rattle.iol_mode.specs.States.{Outcome, InDown, is_behind, is_reset, OutcomeFits, StepFits, state_of, is_starting, begun, step_behind, step_after, told_of, page_taken, taken_where, checked, startup_by, startup_turned, preoperate_by, preoperate_after, preoperate_turned}
-use Rattle.iol_mode.specs.Turns.{IsRisen}
-use Rattle.iol_steps.specs.declared.mode.Mode.TheVariants.{Down as ModeDown, Startup as ModeStartup, Preoperate as ModePreoperate, Operate as ModeOperate}
-use Rattle.iol_steps.specs.declared.said.Said.TheVariants.{Idle}
-use Rattle.iol_steps.specs.Step.{Step, Move as MoveTo, Exchanged, Moment, silence_by, page_fault, fault_in}
-use Rattle.iol_steps.specs.Session.{MayMove}
-use Rattle.iol_app.proofs.Given.{Laws, all_laws, page_locals, page_after as page_passed}
-use Rattle.iol_app.proofs.EventReading.{ends_hold}
-use Rattle.iol_app.specs.State.{SessionState, IsSession, told, entered}
-use Rattle.iol_app.specs.StationState.{StateFits as Joined, IsTold as IsToldBy, settled_session, told_in}
-use Rattle.iol_app.proofs.Telling.{told_stays}
-use Rattle.iol_app.specs.Core.{Core, Ghost, Stands, CallGives, Rises, moment_of, seen_in, settled_core}
 use Rattle.iol_mode.specs.Exchanges.{text_out, judged}
-use Rattle.iol_app.proofs.FarSide.{Goes, IsGoing, silent, replied, IsReplied}
 use Rattle.iol_app.proofs.SmallFacts.{third_time}
+use Rattle.iol_app.proofs.Stations.{resting_quiet}
 use Rattle.iol_app.proofs.Leaving.{leaving_rises}
-use Rattle.iol_app.proofs.StartExchange.{InStart, InPre, Start, Rests, state_at, mode_at, same_expected, still, is_still, Message, message_of, rests_of, going, goes as goes_going, unconfirmed, Brings, gives, stays, falls, climbs, tells, enters}
+use Rattle.iol_steps.specs.Station as steps
+
+-- a start-up whose device was reset
+data Start : Type 0 where
+  InStart : (s : Startup) → is_behind s.step ≡ true → Start
+  InPre : Preoperate → Start
+
+abbrev state_at : Start → State
+state_at (InStart s b) = AtStartup s
+state_at (InPre s) = AtPreoperate s
+
+abbrev mode_at : Start → Mode
+mode_at start = mode_in (state_at start)
+
+-- nothing is under way in it
+abbrev still : SessionState → SessionState
+still t = record t {
+  current = None;
+  exchange = None;
+  output = record t.output { told = false };
+  events = record t.events { reading = Resting };
+  image = None;
+}
+
+is_still : (t : SessionState) → t.current ≡ None → t.exchange ≡ None → t.image ≡ None
+    → t.events.reading ≡ Resting → t.output.told ≡ false → t ≡ still t
+is_still t a b c d e = grind (arith, common_steps)
+
+abbrev at_rest : State → SessionState → Core
+at_rest state session = record { state = state; session = still session }
+
+none_due : (b awake : Bool) → false ≡ (awake && is_due (reading_flagged b))
+none_due b awake = grind (arith, common_steps)
+
+waits_idle : (waits : Option WaitingCommand) → IfSome waits (λ command. IsIdle Quiet)
+waits_idle waits = grind (arith, common_steps)
+
+no_command : (mode : Mode) (command : Option MasterCommand) → mode ≢ ModeOperate
+    → output_by mode command ≡ None
+no_command mode command below = grind (arith, common_steps)
+
+reset_at : (start : Start) → is_reset (state_at start) ≡ true
+reset_at start = grind (arith, common_steps)
+
+-- both ends are level then
+level_behind : (step : PageStep) (o : List ℕ) (tries : ℕ) (far : Far) → is_behind step ≡ true
+    → StepLevel step o tries far
+    → IsLevel far.page far.kind startup_shape.od far.carried startup_link Quiet o tries far
+level_behind step o tries far e h = grind (arith, common_steps)
+
+below : (start : Start) → mode_at start ≢ ModeOperate
+below start e = grind (arith, common_steps)
+
+-- an output that isn't valid is as told
+invalid : (sent : Option (List ℕ)) (known : Type 0) (far : Far) → OutputOff false far
+    → OutputTold sent known false far
+invalid sent known far h = ((λ a v. absurd (cc (h.off a))), (λ a none. h.off a), h.waits)
+
+-- Its message, and the level of both ends
+
+record Message (start : Start) (far : Far) : Type 0 where
+  shape : Shape
+  message : MasterMsg
+  tries : ℕ
+  link : Link
+  page : message.mc.channel ≡ Page
+  parts : HasMasterParts shape message
+  mode : (taken link (master_text shape message)).mode ≡ far_mode (mode_at start)
+  layout : layout_in far.page (far_mode (mode_at start)) ≡ shape
+  level : IsLevel far.page far.kind shape.od far.carried link Quiet
+      (master_text shape message) tries far
+
+abbrev message_of : (start : Start) (n : ℕ) (far : Far) → StateFits (state_at start)
+    → StateStands (state_at start) n far → Message start far
+message_of (InStart s b) n far fits stands = record {
+  shape = startup_shape;
+  message = s.sent.message;
+  tries = s.sent.tries;
+  link = startup_link;
+  page = rw fits.message_is (step_channel s.step fits.step);
+  parts = fits.parts;
+  mode = refl;
+  layout = startup_layout far.page;
+  level = level_behind s.step _ s.sent.tries far b stands.level;
+}
+message_of (InPre s) n far fits stands = record {
+  shape = s.pre;
+  message = s.sent.message;
+  tries = s.sent.tries;
+  link = preoperate_link s.cycle_written;
+  page = sends_channel s.cycle_written s.pre s.sent.message fits.sends;
+  parts = fits.parts;
+  mode = preoperate_mode s.cycle_written s.pre s.sent.message fits.sends;
+  layout = told_layout far.page FarPreoperate s.layouts stands.told
+      ∙ ap (λ (p : Option Shape). unwrap_or p startup_shape) fits.layouts.pre_is;
+  level = stands.level;
+}
+
+-- what both modes say of the rest
+record Rests (t : SessionState) (g : Ghost) (far : Far) : Type 0 where
+  late : g.request.hidden.late ≡ None
+  opens : IsOpen far.isdu None g.request.hidden
+  clear : t.clear ≡ false
+  untold : g.events.told ≡ false
+  output : OutputOff t.output.told far
+
+rests_of : (start : Start) (t : SessionState) (g : Ghost) (far : Far) (n : ℕ)
+    → Stands (record { state = state_at start; session = t }) g far n → Rests t g far
+rests_of start t g far n h = grind (arith, common_steps)
+
+-- one exchange of it
+record Exchange (start : Start) (session : SessionState) (g : Ghost) (far far' : Far)
+    (n n' : ℕ) (came : Option (List ℕ)) : Type 0 where
+  laws : Laws
+  heard : TextsAreHeard
+  stands : Stands (at_rest (state_at start) session) g far n
+  k : Message start far
+  x : HonestExchange far n (master_text k.shape k.message) came far' n'
+
+module _ {start : Start} {session : SessionState} {g : Ghost} {far far' : Far} {n n' : ℕ}
+    {came : Option (List ℕ)} (it : Exchange start session g far far' n n' came) where
+  open it use {laws, heard, stands, k, x}
+
+  abbrev c : Core
+  c = at_rest (state_at start) session
+
+  abbrev o : List ℕ
+  o = master_text k.shape k.message
+
+  abbrev there : Far
+  there = locals far x.steps
+
+  abbrev passed : Far
+  passed = far_after x.passage there o
+
+  abbrev h : Hidden
+  h = hidden_through None far x.steps g.request.hidden
+
+  rests : Rests (still session) g far
+  rests = rests_of start (still session) g far n stands
+
+  -- the far end's part
+
+  at_mode : layout_in far.page (taken k.link o).mode ≡ k.shape
+  at_mode = rw k.mode k.layout
+
+  abbrev going : Goes
+  going = record {
+    page = far.page;
+    kind = far.kind;
+    run = k.shape;
+    base = far.carried;
+    link = k.link;
+    progress = Quiet;
+    message = k.message;
+    o = o;
+    what = Other;
+    trust = UntilSent;
+    vain = k.tries;
+    mode = mode_at start;
+    sent = g.sent;
+    told = false;
+  }
+
+  uncommanded : output_by (mode_at start) (command_in k.message) ≡ None
+  uncommanded = no_command (mode_at start) (command_in k.message) (below start)
+
+  goes : IsGoing going
+  goes = record {
+    sent_at = record {
+      spells = rw at_mode (heard k.shape k.message k.parts);
+      size_of = rw at_mode refl;
+      move = rw k.page tt;
+      begins = tt;
+      idle = waits_idle k.link.waits;
+    };
+    trusts = tt;
+    at_mode = k.mode;
+    layout = k.layout;
+    carries = λ e. absurd (below start e);
+    tells = λ e. absurd (cc uncommanded);
+    starting = λ e. refl;
+  }
+
+  page_there : there.page ≡ far.page
+  page_there = page_locals laws x.steps far
+
+  page_is : passed.page ≡ g.page
+  page_is = page_passed laws x.passage there o ∙ page_there ∙ stands.page
+
+  page_new : far'.page ≡ g.page
+  page_new = rw x.far_is page_is
+
+  kind_is : passed.kind ≡ g.kind
+  kind_is = kind_after laws x.passage there o ∙ laws.much.kind_kept far x.steps ∙ stands.kind
+
+  level : Level laws going goes there
+  level = level_locals laws far.page far.kind k.shape.od
+      (rw k.layout at (laws.layouts far.page (far_mode (mode_at start))).1) far.carried k.link Quiet
+      o k.tries x.steps far k.level
+
+  outputs : OutputsAt laws going goes there
+  outputs = outputs_locals g.sent _ false x.steps far (invalid _ _ far rests.output)
+
+  off : OutputOff false passed
+  off =
+      let h = outputs_after laws going goes x.passage there page_there level outputs in
+      record { untold = refl; off = λ a. h.1 a uncommanded; waits = h.2 }
+
+  tied : IsTied far.carried None h there.carried
+  tied = tied_locals far.carried None x.steps far g.request.hidden rests.opens (rests.late, refl)
+
+  opens : IsOpen passed.isdu None h
+  opens = (opens_after laws going goes there level None h tt (λ q e. absurd (cc e))
+      (own_open None g.request.hidden x.steps far rests.opens) x.passage).1
+      (λ e. grind (arith, common_steps)) (hear_carried there o ∙ tied.1)
+
+  unconfirmed : octets_confirm o ≡ false
+  unconfirmed = sym (confirms_of (layout_in far.page (taken k.link o).mode) o k.message
+      goes.sent_at.spells) ∙ page_confirms k.message k.page
+
+  abbrev effect : Effect c g far passed
+  effect = untold_effect c g far laws refl rests.opens x.steps x.passage o unconfirmed opens
+      (outputs_sent laws going goes there page_there level outputs) rests.untold
+
+  -- What an outcome has to bring
+
+  abbrev Brings : Bool → Core → List Step → Type 0
+  Brings answered next ys = Ends c g far passed effect n n' stands (below start)
+      (Exchanged answered) ys next h false
+
+  abbrev LeftIn : State → SessionState → Type 0
+  LeftIn state u = Left c g far passed effect n n' stands (below start)
+      (record { state = state; session = u }) h false
+
+  abbrev Rising : Outcome → Type 0
+  Rising outcome = IsRisen true outcome n' far far' → OutcomeFits outcome
+      → Joined (state_of outcome) (settled_session outcome (still session))
+      → CallGives c g far n Idle (settled_core outcome (still session)) far' n'
+
+  no_book : (is : Bool) → [] ≡ resets (is_reset c.state) is ++ []
+  no_book is = rw (reset_at start) refl
+
+  by : {outcome : Outcome} {u : SessionState} {ys : List Step} (answered : Bool)
+      → n' ≡ silence_by (Exchanged answered) n → settled_session outcome (still session) ≡ u
+      → Brings answered (record { state = state_of outcome; session = u }) ys → Rising outcome
+  by answered silence same b risen fits joined = rw (same, x.far_is)
+      (call_gives c g far passed effect n n' stands (below start) (Exchanged answered) _ _ h false
+      b (grind (arith, common_steps)) silence fits (rw x.far_is at risen.both.stands)
+      (rw same at joined))
+
+  -- The outcomes
+
+  kept : (next : Start) → LeftIn (state_at next) (still session)
+  kept (InStart s b) = record {
+    request = (λ _. tied.0, opens, rests.clear, λ k. absurd (cc (b, k)));
+    events = (refl, refl);
+    output = (refl, λ _. off);
+    quiet = tt;
+  }
+  kept (InPre s) = assumption (tied, opens, rests.clear, refl, off)
+
+  shown' : (state : State) (event : Bool)
+      → ShownStands (record { state = state; session = entered event (still session) }) g.page
+  shown' state event = shown_as stands.shown (λ e. refl) refl stands.shown.present refl
+
+  -- a start-up goes on in its mode
+  stays : (answered : Bool) (next : Start)
+      → seen_in (at_rest (state_at next) session) g ≡ seen_in c g
+      → Brings answered (at_rest (state_at next) session) []
+  stays answered next same =
+      let shows = ap (λ (e : Seen). session_of e h passed.carried) (sym same) in
+      assumption (
+        refl,
+        shows,
+        no_book (is_reset (state_at next)),
+        kept next,
+        stands.sent,
+        shown' (state_at next) session.events.flag,
+      )
+
+  -- its mode alone moves; what is told of events may change
+  moves : (event : Bool) (state : State) → MayMove (moment_of c g n (Exchanged true))
+      (mode_at start) (mode_in state) (why_in state) × HoldsNothing (mode_in state) h.late
+      → LeftIn state (entered event (still session))
+      → Brings true (record { state = state; session = entered event (still session) })
+      (MoveTo (mode_in state) (why_in state) ∷ [])
+  moves event state may left =
+      assumption (refl, may, no_book (is_reset state), left, stands.sent, shown' state event)
+
+  -- it goes down, for a cause
+  down : {why : Why} (answered : Bool) → n' ≡ silence_by (Exchanged answered) n
+      → MayMove (moment_of c g n (Exchanged answered)) (mode_at start) ModeDown (Some why)
+      → Rising (InDown (record { why = Some why }))
+  down {why} answered silence may = by answered silence refl
+      (call_falls c g far passed effect n n' stands (below start) (Exchanged answered) why refl may)
+
+  -- the page is whole, that of the device that is expected, and is told
+  tells : (s : Startup) (behind : is_behind s.step ≡ true) (read : Told)
+      → mode_at start ≡ ModeStartup
+      → seen_in (at_rest (AtStartup s) session) g ≡ seen_in c g
+      → layouts_of g.page ≡ Ok read.layouts → read.layouts.isdu ≡ knows_isdu g.page
+      → read.page ≡ g.page → is_expected session.configuration.expected g.page ≡ true
+      → IsSession (still session)
+      → Brings true (record { state = AtStartup s; session = told read (still session) })
+      (TellLength ∷ [])
+  tells s behind read first same asked isdu page right valid =
+      let q = kept (InStart s behind) in
+      let shown : Shown = shown_in (still session) g.sent in
+      let size : output_length g.page ≡ read.layouts.run.pd_out =
+      ap (λ (l : Shape). l.pd_out) (told_layout g.page FarOperate read.layouts asked) in
+      let seen : ShownSeen (still session) shown = assumption (stands.sent, refl) in
+      let w = told_shown (still session) shown read g.page (knows_isdu g.page)
+      (output_length g.page) valid seen stands.shown.wanted stands.shown.lengths size (sym isdu)
+      (sym page) in
+      record {
+        limit = refl;
+        configuration = refl;
+        session = ((tt, tt), ap (λ (e : Seen). session_of e h passed.carried) (sym same));
+        frozen = ((tt, tt), refl);
+        images = (
+          ((first, right), tt),
+          λ i.
+              let y : Images = images_of (record shown {
+                wanted = w.wanted i;
+                told = w.told i;
+                isdu = w.isdu i;
+                page = w.page i;
+              }) passed in y,
+        );
+        plain = (refl, refl, refl, refl);
+        book = no_book _;
+        left = record {
+          request = q.request;
+          events = q.events;
+          output = rw (told_told read.layouts.run.pd_out (still session).output) (refl, λ _. off);
+          quiet = tt;
+        };
+        sent = w.sent;
+        image = refl;
+        shown = record {
+          image = λ e. refl;
+          wanted = rw w.wanted at stands.shown.wanted;
+          lengths = sym size;
+          isdu = isdu;
+          present = page;
+          no_form = refl;
+        };
+      }
+
+  -- What came back
+
+  abbrev Good : Reply → Type 0
+  Good r = IsReplied laws going goes far far' n n' came x k.level r
+
+  missed : good_reply k.shape k.message came ≡ None → n' ≡ min 3 (n + 1)
+  missed = silent laws going goes far far' n n' came x k.level
+
+  had : (r : Reply) → good_reply k.shape k.message came ≡ Some r → Good r
+  had = replied laws going goes far far' n n' came x k.level
+
+  -- it comes to OPERATE, with the Event flag of the reply: the hold has ended, and the flag is the
+  -- memory's
+  enters : {layouts : Layouts} {r : Reply} → Good r
+      → MayMove (moment_of c g n (Exchanged true)) (mode_at start) ModeOperate None
+      → IsEntered (record { out = None; layouts = layouts }) n' far' r
+      → Brings true (record {
+        state = AtOperate (record { out = None; layouts = layouts });
+        session = entered r.event (still session);
+      }) (MoveTo ModeOperate None ∷ [])
+  enters {layouts} {r} good may entered_is =
+      let none : progress_of session.configuration.devices session.clear None ≡ Quiet =
+      resting_quiet session.configuration.devices session.clear rests.clear in
+      let same : (hear there o).far ≡ passed = sym good.far_is ∙ x.far_is in
+      let held : passed.events.held ≡ false =
+      rw same at (ends_hold there o good.octets unconfirmed good.replies) in
+      let event : r.event ≡ not (is_empty passed.events.frozen) =
+      ap (λ (q : Reply). q.event) good.reply_is
+      ∙ ap (λ (f : Far). not (is_empty f.events.frozen)) same in
+      let at = rw x.far_is at entered_is in
+      moves r.event (AtOperate (record { out = None; layouts = layouts })) (may, tied.0)
+      (record {
+        request = record {
+          late = tied.0;
+          opens = opens;
+          link = entering_link layouts;
+          linked = inl (refl, none);
+          level = rw (none, ← kind_is, ← page_is) (at.before layouts.run.od);
+          out = tt;
+          answer = λ still. refl;
+          busy = tt;
+          known = λ e. absurd (cc e);
+        };
+        events = (
+          (λ awake. kept_fits steps.Resting r.event passed.events event held tt),
+          none_due r.event passed.awake,
+        );
+        output = invalid _ _ passed off;
+        quiet = at.silent;
+      })
 
 -- what is known of every start-up
 record Known : Type 0 where
   laws : Laws
+  leaves : OrderlyLaws
   heard : TextsAreHeard
   asks : PagesAskForLayouts
 
@@ -62,159 +487,80 @@ module _ (known : Known) (session : SessionState) (valid : IsSession (still sess
     (g : Ghost) (far far' : Far) (n n' : ℕ) (came : Option (List ℕ)) where
   open known use {laws, heard, asks}
 
-  -- from the mode that it began in, what such an outcome gives
-  abbrev Rising : State → Outcome → Type 0
-  Rising state outcome = IsRisen true outcome n' far far' → OutcomeFits outcome
-      → Joined (state_of outcome) (settled_session outcome (still session))
-      → CallGives (record { state = state; session = still session }) g far n Idle
-      (settled_core outcome (still session)) far' n'
-
   asked_by : (layouts : Layouts) → layouts_of g.page ≡ Ok layouts → IsAskedBy g.page layouts
   asked_by layouts e = subst (λ (q : Result Layouts PageFault). IfOk q (IsAskedBy g.page)) e
       (asks g.page)
 
-  module _ (start : Start) (stands : Stands
-      (record { state = state_at start; session = still session }) g far n)
-      (x : HonestExchange far n (text_out (state_at start)) came far' n') where
-    abbrev k : Message start n far
-    k = message_of start n far stands.fits stands.link
+  abbrev Exchanging : Start → Type 0
+  Exchanging start = Exchange start session g far far' n n' came
 
-    exchange : HonestExchange far n (master_text k.shape k.message) came far' n'
-    exchange = subst (λ (o : List ℕ). HonestExchange far n o came far' n') k.text_is x
-
-    abbrev rests : Rests start (still session) g far
-    rests = rests_of start (still session) g far n stands
-
-    abbrev By : Bool → Core → List Step → Type 0
-    By answered next ys = Brings laws heard start session g far far' n n' came stands rests k
-        exchange answered next ys
-
-    by : (answered : Bool) → n' ≡ silence_by (Exchanged answered) n
-        → (outcome : Outcome) (u : SessionState) → settled_session outcome (still session) ≡ u
-        → (ys : List Step) → By answered (record { state = state_of outcome; session = u }) ys
-        → Rising (state_at start) outcome
-    by = gives laws heard start session g far far' n n' came stands rests k exchange
-
-    -- it goes down, for a cause
-    down : (answered : Bool) → n' ≡ silence_by (Exchanged answered) n → (why : Why)
-        → MayMove (moment_of (record { state = state_at start; session = still session }) g n
-        (Exchanged answered)) (mode_at start) ModeDown (Some why)
-        → Rising (state_at start) (InDown (record { why = Some why }))
-    down answered silence why may = by answered silence _ _ refl _
-        (falls laws heard start session g far far' n n' came stands rests k exchange answered why
-        may)
-
-    -- it goes on in its mode
-    staying : (answered : Bool) (next : Start)
-        → seen_in (record { state = state_at next; session = still session }) g
-        ≡ seen_in (record { state = state_at start; session = still session }) g
-        → By answered (record { state = state_at next; session = still session }) []
-    staying = stays laws heard start session g far far' n n' came stands rests k exchange
-
-    page_new : far'.page ≡ g.page
-    page_new = ap (λ (f : Far). f.page) exchange.far_is
-        ∙ page_passed laws exchange.passage (locals far exchange.steps)
-        (master_text k.shape k.message) ∙ page_locals laws exchange.steps far ∙ stands.page
-
-    abbrev sending : Goes
-    sending = going laws heard start session g far far' n n' came stands
-        rests k exchange
-
-    goes_out : IsGoing sending
-    goes_out = goes_going laws heard start session g far far' n n' came stands
-        rests k exchange
-
-    abbrev Good : Reply → Type 0
-    Good r = IsReplied laws sending goes_out far far' n n' came exchange k.level r
-
-    -- after a good reply the hold has ended, and its flag is the memory's
-    enters_by : (layouts : Layouts) (r : Reply) → Good r
-        → MayMove (moment_of (record { state = state_at start; session = still session }) g n
-        (Exchanged true)) (mode_at start) ModeOperate None
-        → IsEntered (record { out = None; layouts = layouts }) n' far' r
-        → By true (record {
-          state = AtOperate (record { out = None; layouts = layouts });
-          session = entered r.event (still session);
-        }) (MoveTo ModeOperate None ∷ [])
-    enters_by layouts r good may entered_is =
-        let same = sym good.far_is ∙ exchange.far_is in
-        enters laws heard start session g far far' n n' came stands
-        rests k exchange layouts r may
-        (subst (λ (f : Far). f.events.held ≡ false) same
-        (ends_hold (locals far exchange.steps) (master_text k.shape k.message) good.octets
-        (unconfirmed laws heard start session g far far' n n' came stands
-        rests k exchange) good.replies))
-        (ap (λ (q : Reply). q.event) good.reply_is
-        ∙ ap (λ (f : Far). not (is_empty f.events.frozen)) same) entered_is
-
-    -- no good reply
-    missed_by : good_reply k.shape k.message came ≡ None → n' ≡ min 3 (n + 1)
-    missed_by none = silent laws sending goes_out far far' n n' came exchange k.level none
-
-    had_by : (r : Reply) → good_reply k.shape k.message came ≡ Some r → Good r
-    had_by r good = replied laws sending goes_out far far' n n' came exchange k.level r good
+  abbrev exchange_of : (start : Start)
+      → (stands : Stands (at_rest (state_at start) session) g far n)
+      → let k = message_of start n far stands.fits stands.link in
+      HonestExchange far n (master_text k.shape k.message) came far' n' → Exchanging start
+  exchange_of start stands x = record {
+    laws = laws;
+    heard = heard;
+    stands = stands;
+    k = message_of start n far stands.fits stands.link;
+    x = x;
+  }
 
   -- PREOPERATE
-  module _ (s : Preoperate) (stands : Stands
-      (record { state = AtPreoperate s; session = still session }) g far n)
+  module _ (s : Preoperate) (stands : Stands (at_rest (AtPreoperate s) session) g far n)
       (x : HonestExchange far n (text_out (AtPreoperate s)) came far' n') where
+    abbrev pre : Exchanging (InPre s)
+    pre = exchange_of (InPre s) stands x
+
     pre_tries : (b : Bool) → (s.sent.tries == 2) ≡ b → n' ≡ min 3 (n + 1)
-        → Rising (AtPreoperate s) (preoperate_by
+        → Rising pre (preoperate_by
         (record { message = s.sent.message; tries = if b then 0 else s.sent.tries + 1 })
         s.cycle_written s.pre s.layouts (if b then WasLost else Again))
-    pre_tries true two silence =
-        down (InPre s) stands x false silence Lost
+    pre_tries true two silence = down pre false silence
         (third_time s.sent.tries n (grind (arith, nat_tests)) stands.link.tries)
-    pre_tries false two silence =
-        by (InPre s) stands x false silence _ _ refl _
-        (staying (InPre s) stands x false (InPre _) refl)
+    pre_tries false two silence = by pre false silence refl (stays pre false (InPre _) refl)
 
-    pre_written : (written : Bool) (r : Reply) → Good (InPre s) stands x r
-        → Rising (AtPreoperate s) (preoperate_after written s.pre s.layouts r)
+    pre_written : (written : Bool) (r : Reply) → Good pre r
+        → Rising pre (preoperate_after written s.pre s.layouts r)
     pre_written true r good risen =
-        by (InPre s) stands x true good.silence_is _ _ refl _
-        (enters_by (InPre s) stands x s.layouts r good tt risen.entered) risen
+        by pre true good.silence_is refl (enters pre good tt risen.entered) risen
     pre_written false r good risen =
-        by (InPre s) stands x true good.silence_is _ _ refl _
-        (staying (InPre s) stands x true (InPre _) refl) risen
+        by pre true good.silence_is refl (stays pre true (InPre _) refl) risen
 
     pre_rises : (q : Option Reply) → good_reply s.pre s.sent.message came ≡ q
-        → Rising (AtPreoperate s) (preoperate_turned s q)
-    pre_rises None e = pre_tries (s.sent.tries == 2) refl (missed_by (InPre s) stands x e)
-    pre_rises (Some r) e = pre_written s.cycle_written r (had_by (InPre s) stands x r e)
+        → Rising pre (preoperate_turned s q)
+    pre_rises None e = pre_tries (s.sent.tries == 2) refl (missed pre e)
+    pre_rises (Some r) e = pre_written s.cycle_written r (had pre r e)
 
   -- STARTUP
-  module _ (s : Startup) (b : is_behind s.step ≡ true) (stands : Stands
-      (record { state = AtStartup s; session = still session }) g far n)
+  module _ (s : Startup) (b : is_behind s.step ≡ true)
+      (stands : Stands (at_rest (AtStartup s) session) g far n)
       (x : HonestExchange far n (text_out (AtStartup s)) came far' n') where
-    abbrev m : Moment
-    m = moment_of (record { state = AtStartup s; session = still session }) g n (Exchanged true)
+    abbrev start : Exchanging (InStart s b)
+    start = exchange_of (InStart s b) stands x
 
-    asked_of : (layouts : Layouts) → layouts_of far.page ≡ Ok layouts → IsAskedBy g.page layouts
-    asked_of layouts e = asked_by layouts (ap layouts_of (sym stands.page) ∙ e)
+    abbrev asks_now : Configuration
+    asks_now = session.configuration
 
     start_tries : (b : Bool) → (s.sent.tries == 2) ≡ b → n' ≡ min 3 (n + 1)
-        → Rising (AtStartup s) (startup_by session.configuration
+        → Rising start (startup_by asks_now
         (record { message = s.sent.message; tries = if b then 0 else s.sent.tries + 1 })
         s.step (if b then WasLost else Again))
-    start_tries true two silence =
-        down (InStart s b) stands x false silence Lost
+    start_tries true two silence = down start false silence
         (third_time s.sent.tries n (grind (arith, nat_tests)) stands.link.tries)
-    start_tries false two silence =
-        by (InStart s b) stands x false silence _ _
-        (told_stays (read_by s.step) (still session) valid stands.joined.1) _
-        (staying (InStart s b) stands x false (InStart _ b) refl)
+    start_tries false two silence = by start false silence
+        (told_stays (read_by s.step) (still session) valid stands.joined.1)
+        (stays start false (InStart _ b) refl)
 
-    module _ (r : Reply) (good : Good (InStart s b) stands x r) where
-      goes : (step : PageStep) → is_behind step ≡ true
-          → told_in (read_by step) (still session) ≡ still session
-          → Rising (AtStartup s) (begun step)
-      goes step behind same =
-          by (InStart s b) stands x true good.silence_is _ _ same _
-          (staying (InStart s b) stands x true (InStart _ behind) refl)
+    module _ (r : Reply) (good : Good start r) where
+      goes_on : (step : PageStep) → is_behind step ≡ true
+          → told_in (read_by step) (still session) ≡ still session → Rising start (begun step)
+      goes_on step behind same =
+          by start true good.silence_is same (stays start true (InStart _ behind) refl)
 
       may_fault : (fault : PageFault) → page_fault g.page ≡ Some (why_of fault)
-          → MayMove m ModeStartup ModeDown (Some (why_of fault))
+          → MayMove (moment_of (at_rest (AtStartup s) session) g n (Exchanged true)) ModeStartup
+          ModeDown (Some (why_of fault))
       may_fault (Revision octet) e = e
       may_fault BadPdLength e = e
       may_fault UnsupportedCode e = e
@@ -224,164 +570,120 @@ module _ (known : Known) (session : SessionState) (valid : IsSession (still sess
       behind_session page p = grind (arith, common_steps)
 
       behind_page : (page : Told) (p : Option Shape) → is_behind (step_behind page p) ≡ true
-      behind_page page None = refl
-      behind_page page (Some pre) = refl
+      behind_page page p = grind (arith, common_steps)
 
       behind_told : (page : Told) (p : Option Shape) → StepStands (step_behind page p) far'
           → (layouts_of far'.page ≡ Ok page.layouts) × (page.page ≡ far'.page)
-      behind_told page None q = q
-      behind_told page (Some pre) q = q
-
-      abbrev asks_now : Configuration
-      asks_now = session.configuration
+      behind_told page p q = grind (arith, common_steps)
 
       by_taken : (asked : Result Layouts PageFault) (octets : List ℕ)
           → is_expected asks_now.expected octets ≡ true
-          → Rising (AtStartup s) (page_taken asks_now asked octets)
+          → Rising start (page_taken asks_now asked octets)
       by_taken (Err fault) octets known risen =
           let asked : layouts_of g.page ≡ Err fault =
-          ap layouts_of (sym (page_new (InStart s b) stands x)) ∙ risen.fault fault refl in
-          down (InStart s b) stands x true good.silence_is (why_of fault)
-          (may_fault fault (ap fault_in asked)) risen
+          rw (page_new start) at (risen.fault fault refl) in
+          down start true good.silence_is (may_fault fault (ap fault_in asked)) risen
       by_taken (Ok layouts) octets known risen =
           let read : Told = told_of asks_now layouts octets in
-          let new : far'.page ≡ g.page = page_new (InStart s b) stands x in
-          let behind = behind_told read layouts.pre risen.both.stands.step in
-          let asked : layouts_of g.page ≡ Ok layouts = ap layouts_of (sym new) ∙ behind.0 in
-          let page : octets ≡ g.page = behind.1 ∙ new in
+          let behind = rw (page_new start) at
+          (behind_told read layouts.pre risen.both.stands.step) in
           let right : is_expected asks_now.expected g.page ≡ true =
-          ap (is_expected asks_now.expected) (sym page) ∙ known in
-          by (InStart s b) stands x true good.silence_is _ _ (behind_session read layouts.pre) _
-          (tells laws heard (InStart s b) session g far far' n n' came stands
-          (rests (InStart s b) stands x) (k (InStart s b) stands x)
-          (exchange (InStart s b) stands x) _ (behind_page read layouts.pre) read refl
-          refl asked (asked_by layouts asked).isdu page right valid) risen
+          rw behind.1 at known in
+          by start true good.silence_is (behind_session read layouts.pre)
+          (tells start _ (behind_page read layouts.pre) read refl refl behind.0
+          (asked_by layouts behind.0).isdu behind.1 right valid) risen
 
       -- another device is there than the one that is expected
       by_wrong : (octets : List ℕ) → is_expected asks_now.expected octets ≡ false
-          → Rising (AtStartup s) (InDown (record { why = Some (WrongDevice (identity_of octets)) }))
+          → Rising start (InDown (record { why = Some (WrongDevice (identity_of octets)) }))
       by_wrong octets unknown risen =
           let found : identity_of g.page ≡ identity_of octets =
-          ap identity_of (sym (page_new (InStart s b) stands x))
-          ∙ risen.device (identity_of octets) refl in
+          rw (page_new start) at (risen.device (identity_of octets) refl) in
           let wrong : is_expected asks_now.expected g.page ≡ false =
-          same_expected asks_now.expected g.page octets found ∙ unknown in
-          down (InStart s b) stands x true good.silence_is (WrongDevice (identity_of octets))
-          (found, wrong) risen
+          grind (arith, common_steps, found, unknown) in
+          down start true good.silence_is (found, wrong) risen
 
       by_known : (b : Bool) (octets : List ℕ) → is_expected asks_now.expected octets ≡ b
-          → Rising (AtStartup s) (taken_where b asks_now (layouts_of octets) octets)
+          → Rising start (taken_where b asks_now (layouts_of octets) octets)
       by_known true octets known = by_taken (layouts_of octets) octets known
       by_known false octets known = by_wrong octets known
 
       by_octets : (b : Bool) (octets : List ℕ)
-          → Rising (AtStartup s) (if b then checked asks_now (layouts_of octets) octets else begun
+          → Rising start (if b then checked asks_now (layouts_of octets) octets else begun
           (Read (record { items = octets })))
       by_octets true octets = by_known (is_expected asks_now.expected octets) octets refl
-      by_octets false octets = goes (Read (record { items = octets })) refl refl
+      by_octets false octets = goes_on (Read (record { items = octets })) refl refl
 
       by_step : (step : PageStep) → is_behind step ≡ true → StepFits step → StepStands step far
-          → IsToldBy (read_by step) (still session)
-          → Rising (AtStartup s) (step_after asks_now step r)
-      by_step Reset behind proper at before risen = absurd (cc)
-      by_step First behind proper at before risen = absurd (cc)
+          → IsToldBy (read_by step) (still session) → Rising start (step_after asks_now step r)
       by_step (Read read) behind proper at before risen =
           by_octets (length (read.items ++ slice_index r.od.items 0 ∷ []) == 10)
           (read.items ++ slice_index r.od.items 0 ∷ []) risen
       by_step (Ident page pre) behind proper at before risen =
-          goes (Leave page pre) refl (told_stays (Some page) (still session) valid before) risen
+          goes_on (Leave page pre) refl (told_stays (Some page) (still session) valid before) risen
       by_step (Cycle page) behind proper at before risen =
-          goes (Enter page) refl (told_stays (Some page) (still session) valid before) risen
-      by_step (Leave page pre) behind proper at before risen =
-          let q = asked_of page.layouts at.0 in
+          goes_on (Enter page) refl (told_stays (Some page) (still session) valid before) risen
+      by_step (Leave page pre) behind proper up before risen =
+          let q = asked_by page.layouts (rw stands.page at up.0) in
           let present : is_present g.page ≡ true = q.present ∙ sym q.old
           ∙ ap (λ (p : Option Shape). is_some p) proper.pre_is in
-          by (InStart s b) stands x true good.silence_is _ _ refl _
-          (climbs laws heard (InStart s b) session g far far' n n' came stands
-          (rests (InStart s b) stands x) (k (InStart s b) stands x)
-          (exchange (InStart s b) stands x) _ present) risen
-      by_step (Enter page) behind proper at before risen =
-          let q = asked_of page.layouts at.0 in
+          by start true good.silence_is refl (moves start session.events.flag (AtPreoperate _)
+          (present, (tied start).0) (kept start (InPre _))) risen
+      by_step (Enter page) behind proper up before risen =
+          let q = asked_by page.layouts (rw stands.page at up.0) in
           let none : not (is_old g.page) ≡ false = sym q.old
           ∙ ap (λ (p : Option Shape). is_some p) proper.old in
           let old : is_old g.page ≡ true = grind (arith, common_steps, none) in
-          by (InStart s b) stands x true good.silence_is _ _ refl _
-          (enters_by (InStart s b) stands x page.layouts r good old risen.entered)
-          risen
+          by start true good.silence_is refl (enters start good old risen.entered) risen
+      by_step other behind proper at before risen = absurd (cc)
 
     start_rises : (q : Option Reply) → good_reply startup_shape s.sent.message came ≡ q
-        → Rising (AtStartup s) (startup_turned session.configuration s q)
-    start_rises None e =
-        start_tries (s.sent.tries == 2) refl (missed_by (InStart s b) stands x e)
+        → Rising start (startup_turned asks_now s q)
+    start_rises None e = start_tries (s.sent.tries == 2) refl (missed start e)
     start_rises (Some r) e =
-        by_step r (had_by (InStart s b) stands x r e) s.step b stands.fits.step stands.link.step
-        stands.joined.1
+        by_step r (had start r e) s.step b stands.fits.step stands.link.step stands.joined.1
 
 -- in both
--- whose device was reset
-rises_behind : Known → (s : Startup) (t : SessionState) (g : Ghost) (far far' : Far) (n n' : ℕ)
-    (came : Option (List ℕ)) → is_behind s.step ≡ true
-    → Stands (record { state = AtStartup s; session = t }) g far n → IsSession t
-    → HonestExchange far n (text_out (AtStartup s)) came far' n'
-    → let o : Outcome = judged t.configuration (AtStartup s) came in
-    IsRisen (is_behind s.step) o n' far far' → OutcomeFits o
-    → Joined (state_of o) (settled_session o t)
-    → CallGives (record { state = AtStartup s; session = t }) g far n Idle (settled_core o t) far'
-    n'
-rises_behind known s t g far far' n n' came b stands valid x risen fits joined =
-    let e : t ≡ still t = is_still t stands.joined.0.0 stands.joined.0.1
-    (stands.shown.image (λ k. absurd (let z : ModeStartup ≡ ModeOperate = k in cc)))
-    stands.events.0 stands.output.0 in
-    let o : Outcome = startup_turned t.configuration s
-    (good_reply startup_shape s.sent.message came) in
-    subst (λ (u : SessionState). CallGives (record { state = AtStartup s; session = u }) g far n
-    Idle (settled_core o u) far' n') (sym e)
-    (start_rises known t (subst IsSession e valid) g far far' n n' came s b
-    (subst (λ (u : SessionState). Stands (record { state = AtStartup s; session = u }) g far
-    n) e stands) x (good_reply startup_shape s.sent.message came) refl
-    (subst (λ (r : Bool). IsRisen r o n' far far') b risen) fits
-    (subst (λ (u : SessionState). Joined (state_of o) (settled_session o u)) e joined))
+module _ (known : Known) (t : SessionState) (valid : IsSession t) (g : Ghost) (far far' : Far)
+    (n n' : ℕ) (came : Option (List ℕ)) where
+  abbrev RisesBy : State → Type 0
+  RisesBy state = let o : Outcome = judged t.configuration state came in
+      Stands (record { state = state; session = t }) g far n
+      → HonestExchange far n (text_out state) came far' n'
+      → IsRisen (is_reset state) o n' far far' → OutcomeFits o
+      → Joined (state_of o) (settled_session o t)
+      → CallGives (record { state = state; session = t }) g far n Idle (settled_core o t) far' n'
 
-rises_at : Known → OrderlyLaws → (state : State) (t : SessionState) (g : Ghost) (far far' : Far)
-    (n n' : ℕ) (came : Option (List ℕ)) → is_starting state ≡ true
-    → Stands (record { state = state; session = t }) g far n → IsSession t
-    → HonestExchange far n (text_out state) came far' n'
-    → let o : Outcome = judged t.configuration state came in
-    IsRisen (is_reset state) o n' far far' → OutcomeFits o
-    → Joined (state_of o) (settled_session o t)
-    → CallGives (record { state = state; session = t }) g far n Idle (settled_core o t) far' n'
-rises_at known leaves (AtStartup s) t g far far' n n' came up stands valid x risen fits joined =
-    split (is_behind s.step) refl
-  where
-    split : (b : Bool) → is_behind s.step ≡ b
-        → CallGives (record { state = AtStartup s; session = t }) g far n Idle
-        (settled_core (judged t.configuration (AtStartup s) came) t) far' n'
-    split true b =
-        rises_behind known s t g far far' n n' came b stands valid x risen fits joined
-    split false b = leaving_rises known.laws leaves known.heard s t g far far' n n' came b stands x
-        risen fits
-rises_at known leaves (AtPreoperate s) t g far far' n n' came up stands valid x risen fits joined =
-    let e : t ≡ still t = is_still t stands.joined.0.0 stands.joined.0.1
-    (stands.shown.image (λ k. absurd (let z : ModePreoperate ≡ ModeOperate = k in cc)))
-    stands.events.0 stands.output.untold in
-    let o : Outcome = preoperate_turned s (good_reply s.pre s.sent.message came) in
-    subst (λ (u : SessionState). CallGives (record { state = AtPreoperate s; session = u }) g
-    far n Idle (settled_core o u) far' n') (sym e)
-    (pre_rises known t (subst IsSession e valid) g far far' n n' came s
-    (subst (λ (u : SessionState). Stands (record { state = AtPreoperate s; session = u }) g
-    far n) e stands) x (good_reply s.pre s.sent.message came) refl risen fits
-    (subst (λ (u : SessionState). Joined (state_of o) (settled_session o u)) e joined))
-rises_at known leaves state t g far far' n n' came up stands valid x risen fits joined =
-    absurd (let z : false ≡ true = up in cc)
+  by_startup : (s : Startup) (behind : Bool) → is_behind s.step ≡ behind
+      → RisesBy (AtStartup s)
+  by_startup s false b stands x risen fits joined =
+      leaving_rises known.laws known.leaves known.heard s t g far far' n n' came b stands x
+      risen fits
+  by_startup s true b stands x risen fits joined =
+      let e : t ≡ still t = is_still t stands.joined.0.0 stands.joined.0.1
+      (stands.shown.image (λ k. absurd (cc k))) stands.events.0 stands.output.0 in
+      rw e (start_rises known t (rw e at valid) g far far' n n' came s b (rw e at stands) x _ refl
+      (rw b at risen) fits (rw e at joined))
+
+  rises_at : (state : State) → is_starting state ≡ true → RisesBy state
+  rises_at (AtStartup s) up stands x risen fits joined =
+      by_startup s (is_behind s.step) refl stands x risen fits joined
+  rises_at (AtPreoperate s) up stands x risen fits joined =
+      let e : t ≡ still t = is_still t stands.joined.0.0 stands.joined.0.1
+      (stands.shown.image (λ k. absurd (cc k))) stands.events.0 stands.output.untold in
+      rw e (pre_rises known t (rw e at valid) g far far' n n' came s (rw e at stands) x _ refl
+      risen fits (rw e at joined))
+  rises_at state up stands x risen fits joined = absurd (cc up)
 
 pub rises : ((size : ℕ) → 1 ≤ size → LevelLaws size) → MuchStays → RepliesAreRead
     → InputStaysSized → ((first : Event) (rest : List Event) → EventLaws first rest)
     → ModesHaveLayouts → OrderlyLaws → TextsAreHeard → PagesAskForLayouts → Rises
 rises levels much reads sized events layouts leaves heard asks = record {
-  gives = λ c g far far' n n' came up stands valid x risen fits joined.
+  gives = λ c g far far' n n' came up stands valid x.
       rises_at (record {
         laws = all_laws levels much reads sized events layouts;
+        leaves = leaves;
         heard = heard;
         asks = asks;
-      }) leaves c.state c.session g far far' n n' came up stands valid x risen fits joined;
+      }) c.session valid g far far' n n' came c.state up stands x;
 }

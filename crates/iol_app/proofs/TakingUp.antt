@@ -1,19 +1,20 @@
 -- No segment of an answer is refused.
-use Rattle.std.proofs.Common.{◌≡◌, ℕ, suc, ◌*◌, ◌<◌, ◌≤◌, ⊎_elim, Bool, true, false, ◌==◌, List, [], ◌++◌, length, take, drop, refl, sym, ap, subst, ◌∙◌, Option, None, Result, Ok, Err}
-use Rattle.std.specs.Prelude.{slice_index, nat_le, if◌then◌else◌, IsTrue}
+use Rattle.std.proofs.lemmas.Bool.Decides.{nat_tests}
+use Rattle.std.proofs.lemmas.Grind.{common_steps}
+use Rattle.std.proofs.Common.{arith, ◌≡◌, ℕ, suc, ◌*◌, ◌<◌, ◌≤◌, ⊎_elim, false, ◌==◌, List, [], ◌++◌, length, take, drop, refl, sym, ap, ◌∙◌, None, Result}
+use Rattle.std.specs.Prelude.{slice_index, IsTrue}
 use Rattle.std.proofs.lemmas.Bool.{cases_lt}
 use Rattle.std.proofs.lemmas.List.{append-nil, take-append-drop}
 use Rattle.std.proofs.Math.Numerals.{add-one}
 use Rattle.iol_isdu.specs.declared.values.Answer.{Answer}
 use Rattle.iol_isdu.specs.declared.values.Request.{Request}
 use Rattle.iol_isdu.specs.declared.fault.IsduFault.{IsduFault}
-use Rattle.iol_isdu.specs.declared.fault.IsduFault.TheVariants.{Truncated}
 use Rattle.iol_isdu.specs.Frame.{total_at}
 use Rattle.iol_isdu.specs.Answers.{BeginsWithAnswer, IsAnswerText, answer_fault, is_read}
 use Rattle.iol_isdu.specs.Texts.{FitsAnswer}
 use Rattle.iol_isdu.specs.Laws.{OneAnswerText}
 use Rattle.iol_segment.specs.Cut.{Cutting}
-use Rattle.iol_segment.specs.Join.{Stage, Open, Complete, Wrong, stage, stage_by, staged}
+use Rattle.iol_segment.specs.Join.{Open, Complete, stage, stage_by, staged}
 use Rattle.iol_segment.specs.JoinLaws.{count_at}
 use Rattle.iol_segment.specs.TextLaws.{TextLaws, HoldsLength, joined as joined_octets}
 use Rattle.iol_far.specs.Isdu.{answer_text, fits}
@@ -21,7 +22,7 @@ use Rattle.iol_far.specs.SegmentLaws.{AnswersFit}
 use Rattle.iol_app.specs.declared.request.Current.{Current}
 use Rattle.iol_app.specs.declared.request.Progress.{Progress as Cursor}
 use Rattle.iol_app.specs.declared.request.Progress.TheVariants.{Doubting, Asking, Receiving}
-use Rattle.iol_app.specs.Requests.{finished, joined, replied_at, ProgressFits, IsCurrent}
+use Rattle.iol_app.specs.Requests.{joined, replied, IsCurrent}
 use Rattle.iol_app.specs.Moves.{next_segment, octets_had, IsReading, is_forgotten, IsTakenUp, AnswersAreTakenUp}
 use Rattle.iol_app.proofs.Joining.{taken_next}
 
@@ -43,33 +44,15 @@ fitting fit_answers laws one cutter answer some h =
     let fit : FitsAnswer read answer = fit_answers cutter.source answer h in
     let holds : HoldsLength text = (laws cutter.size some).answers read answer fit in
     let spells : IsAnswerText read answer text = (one read answer fit text).1 refl in
-    record {
-      laws = laws cutter.size some;
-      valid = fit;
-      spells = spells;
-      begins = record { text = text; rest = []; spells = spells; whole = sym (append-nil text) };
-      accepted = (laws cutter.size some).accepted read answer fit;
-      holds = holds;
-    }
+    let begins : BeginsWithAnswer read text answer =
+    record { text = text; rest = []; spells = spells; whole = sym (append-nil text) } in
+    let accepted = (laws cutter.size some).accepted read answer fit in
+    assumption (laws cutter.size some, fit, holds, spells, begins, accepted)
 
 -- octets that are whole begin with the whole text
-whole_by : (n : ℕ) (octets text : List ℕ) (b : Bool)
-    → (if b then Complete (take n octets) else Open) ≡ Complete text
-    → (rest : List ℕ) × (octets ≡ text ++ rest)
-whole_by n octets text false e = absurd (let k : Open ≡ Complete text = e in cc)
-whole_by n octets text true e =
-    let k : Complete (take n octets) ≡ Complete text = e in
-    let front : take n octets ≡ text = cc in (
-      drop n octets,
-      sym (take-append-drop n octets)
-          ∙ ap (λ (xs : List ℕ). xs ++ drop n octets) front,
-    )
-
 whole_front : (total : Result ℕ IsduFault) (octets text : List ℕ)
-    → stage_by total octets ≡ Complete text → (rest : List ℕ) × (octets ≡ text ++ rest)
-whole_front (Ok n) octets text e = whole_by n octets text (nat_le n (length octets)) e
-whole_front (Err Truncated) octets text e = absurd (let k : Open ≡ Complete text = e in cc)
-whole_front (Err other) octets text e = absurd (let k : Wrong ≡ Complete text = e in cc)
+    → stage_by total octets ≡ Complete text → take (length text) octets ≡ text
+whole_front total octets text e = grind (arith, nat_tests, common_steps)
 
 -- the segment of this number was joined
 joined_up : (current : Current) (answer : Answer) (had : ℕ) → Fitting current.cutter answer
@@ -81,73 +64,53 @@ joined_up : (current : Current) (answer : Answer) (had : ℕ) → Fitting curren
     (staged false (count_at had) octets (stage octets)).took
     (staged false (count_at had) octets (stage octets)).joining)
 joined_up current answer had h low octets same =
+    let size = current.cutter.size in
+    let text = answer_text current.cutter.source answer in
     ⊎_elim
-    (λ (more : suc had * size < length text). by_stage Open
-    (ap stage same ∙ h.laws.grows text had h.holds more)
+    (λ (more : suc had * size < length text).
+    rw (ap stage same ∙ h.laws.grows text had h.holds more)
     ((staged false (count_at had) octets Open).joining, refl, refl))
     (λ (all : length text ≤ suc had * size).
-    let whole : stage octets ≡ Complete text = ap stage same
-    ∙ h.laws.ends text had h.holds (low, all) in
+    let whole : stage octets ≡ Complete text =
+    ap stage same ∙ h.laws.ends text had h.holds (low, all) in
     let front = whole_front (total_at octets) octets text whole in
-    let ends : BeginsWithAnswer (is_read current.cutter.source) octets answer =
-    record { text = text; rest = front.0; spells = h.spells; whole = front.1 } in
-    by_stage (Complete text) whole
-    (subst (λ (fault : Option IsduFault). IsTakenUp current answer had octets
-    (finished current.cutter current.abort text fault)) (sym h.accepted) (h.begins, ends)))
+    let rest = drop (length text) octets in
+    let parts : octets ≡ text ++ rest = rw front at (sym (take-append-drop (length text) octets)) in
+    rw (whole, h.accepted)
+    (h.begins, record { text = text; rest = rest; spells = h.spells; whole = parts }))
     (cases_lt (suc had * size) (length text))
-  where
-    size : ℕ
-    size = current.cutter.size
-
-    text : List ℕ
-    text = answer_text current.cutter.source answer
-
-    IsUp : Stage → Type 0
-    IsUp at = IsTakenUp current answer had octets
-        (joined current.cutter current.abort had (staged false (count_at had) octets at).took
-        (staged false (count_at had) octets at).joining)
-
-    by_stage : (at : Stage) → stage octets ≡ at → IsUp at → IsUp (stage octets)
-    by_stage at e = subst IsUp (sym e)
 
 -- the first segment of an answer is no word of the device's own
 module _ (cutter : Cutting Request) (od : List ℕ) (answer : Answer) (h : Fitting cutter answer)
     (is : od ≡ joined_octets cutter.size (answer_text cutter.source answer) 0) where
   not_busy : (slice_index od 0 == 1) ≡ false
-  not_busy = ap (λ (xs : List ℕ). slice_index xs 0 == 1) is
-      ∙ h.laws.busy (is_read cutter.source) answer h.valid
+  not_busy = rw is (h.laws.busy (is_read cutter.source) answer h.valid)
 
   not_none : (slice_index od 0 == 0) ≡ false
-  not_none = ap (λ (xs : List ℕ). slice_index xs 0 == 0) is
-      ∙ h.laws.silent (is_read cutter.source) answer h.valid
+  not_none = rw is (h.laws.silent (is_read cutter.source) answer h.valid)
 
-taken_up : (current : Current) (p : Cursor) (limit : ℕ) (od : List ℕ) (answer : Answer)
-    → IsCurrent current → is_forgotten p current.again od ≡ false → current.progress ≡ p
-    → IsReading p
+taken_up : (t : Current) (p : Cursor) (limit : ℕ) (od : List ℕ) (answer : Answer)
+    → let current : Current = record t { progress = p } in
+    IsCurrent current → is_forgotten p current.again od ≡ false → IsReading p
     → Fitting current.cutter answer
     → octets_had p od ≡ joined_octets current.cutter.size
     (answer_text current.cutter.source answer) (next_segment p)
     → next_segment p * current.cutter.size < length (answer_text current.cutter.source answer)
-    → IsTakenUp current answer (next_segment p) (octets_had p od)
-    (replied_at p limit od current)
-taken_up current Doubting limit od answer c kept e reading h is low =
-    rw (not_none current.cutter od answer h is, not_busy current.cutter od answer h is)
-    (joined_up current answer 0 h low od is)
-taken_up current (Asking busy) limit od answer c kept e reading h is low =
-    rw (not_busy current.cutter od answer h is, not_none current.cutter od answer h is)
-    (joined_up current answer 0 h low od is)
-taken_up current (Receiving joining had) limit od answer c kept e reading h is low =
-    rw (
-      kept,
-      taken_next current.cutter.size had joining od
-          (subst (ProgressFits current.cutter current.abort) e c.progress),
-      add-one had,
-    )
-    (joined_up current answer (suc had) h low (joining.text ++ od) is)
-taken_up current other limit od answer c kept e reading h is low = absurd reading
+    → IsTakenUp current answer (next_segment p) (octets_had p od) (replied limit od current)
+taken_up t Doubting limit od answer c kept reading h is low =
+    rw (not_none t.cutter od answer h is, not_busy t.cutter od answer h is)
+    (joined_up (record t { progress = Doubting }) answer 0 h low od is)
+taken_up t (Asking busy) limit od answer c kept reading h is low =
+    rw (not_busy t.cutter od answer h is, not_none t.cutter od answer h is)
+    (joined_up (record t { progress = Asking busy }) answer 0 h low od is)
+taken_up t (Receiving joining had) limit od answer c kept reading h is low =
+    rw (kept, taken_next t.cutter.size had joining od c.progress, add-one had)
+    (joined_up (record t { progress = Receiving joining had }) answer (suc had) h low
+    (joining.text ++ od) is)
+taken_up t other limit od answer c kept reading h is low = absurd reading
 
 pub answers_are_taken_up : AnswersFit → ((size : ℕ) → 1 ≤ size → TextLaws size) → OneAnswerText
     → AnswersAreTakenUp
 answers_are_taken_up fit_answers laws one current limit od answer c kept reading fit is low =
-    taken_up current current.progress limit od answer c kept refl reading
+    taken_up current current.progress limit od answer c kept reading
     (fitting fit_answers laws one current.cutter answer c.some fit) is low

@@ -4,13 +4,12 @@ use Rattle.std.proofs.Common.{◌≡◌, ℕ, Bool, true, false, ◌&&◌, List,
 use Rattle.std.proofs.lemmas.Grind.{common_steps}
 use Rattle.iol_event.specs.declared.event.Event.{Event}
 use Rattle.iol_event.specs.Memory.{Events}
-use Rattle.iol_event.specs.Reading.{reading}
 use Rattle.iol_link.specs.Honest.{Passage, OutLost, far_after}
 use Rattle.iol_far.specs.Codec.{layout_in}
 use Rattle.iol_far.specs.Far.{Far, hear, heard_as}
 use Rattle.iol_far.specs.Local.{LocalStep, local, locals}
 use Rattle.iol_far.specs.Laws.{EventLaws, confirms as octets_confirm}
-use Rattle.iol_steps.specs.Bridge.{told_after, told_through, told_worked, told_heard_as, told_heard, told_passed, told_exchanged}
+use Rattle.iol_steps.specs.Bridge.{told_after, told_through, told_worked, told_heard_as, told_heard, told_exchanged}
 use Rattle.iol_steps.specs.Station.{Reading, Resting, Flagged, Under, Due, is_due, EventsFit}
 use Rattle.iol_app.specs.Ends.{EventsTold}
 use Rattle.iol_app.proofs.Accepted.{by_accepted}
@@ -24,12 +23,12 @@ heard_awake far o = by_accepted (λ q. (heard_as far o q).far.awake ≡ far.awak
 worked_told : (reading : Reading) (c : Bool) (m : Events) (awake t : Bool)
     → (awake ≡ true → EventsFit reading c m) → awake ≡ true → t ≡ (awake && is_due reading)
     → told_worked m c t ≡ t
-worked_told reading c m awake t given given2 given3 = grind (arith, common_steps)
+worked_told now c m awake t fits up told = grind (arith, common_steps)
 
 module _ (laws : (first : Event) (rest : List Event) → EventLaws first rest) where
   told_step : (reading : Reading) (c : Bool) (far : Far) (step : LocalStep) (t : Bool)
       → EventsTold reading c far t → EventsTold reading c (local far step) (told_after far step t)
-  told_step reading c far step t h = grind (arith, common_steps)
+  told_step now c far step t h = grind (arith, common_steps)
 
   pub told_locals : (reading : Reading) (c : Bool) (steps : List LocalStep) (far : Far)
       (t : Bool) → EventsTold reading c far t
@@ -43,16 +42,15 @@ module _ (laws : (first : Event) (rest : List Event) → EventLaws first rest) w
       → (c ≡ true → is_due reading ≡ true) → (far.awake ≡ true → EventsFit reading c far.events)
       → far.awake ≡ true → EventsFit reading c (hear far o).far.events
   fit_hear Resting c far o is due h w = tt
-  fit_hear Flagged true far o is due h w = absurd (let k : false ≡ true = due refl in cc)
   fit_hear Flagged false far o is due h w = let k = h w in
       (k.0, k.1, (laws k.0 k.1).frozen_hears far o is (λ a. k.2) (heard_awake far o ∙ w))
-  fit_hear (Under octets) true far o is due h w = absurd (let k : false ≡ true = due refl in cc)
   fit_hear (Under octets) false far o is due h w = let k = h w in
       (k.0, k.1, (laws k.0 k.1).frozen_hears far o is (λ a. k.2) (heard_awake far o ∙ w), k.3)
   fit_hear (Due x xs) false far o is due h w =
       (laws x xs).frozen_hears far o is h (heard_awake far o ∙ w)
   fit_hear (Due x xs) true far o is due h w =
       (laws x xs).confirming_hears far o is h (heard_awake far o ∙ w)
+  fit_hear other true far o is due h w = cc (due refl)
 
   module _ (o : List ℕ) (reading : Reading)
       (due : octets_confirm o ≡ true → is_due reading ≡ true) where
@@ -68,20 +66,13 @@ module _ (laws : (first : Event) (rest : List Event) → EventLaws first rest) w
           (worked_told reading (octets_confirm o) far.events far.awake t h.0 w h.1 ∙ h.1)),
     )
 
-    told_pass : (passage : Passage) (far : Far) (t : Bool)
-        → EventsTold reading (octets_confirm o) far t
-        → EventsTold reading (octets_confirm o) (far_after passage far o)
-        (told_passed passage far o t)
-    told_pass OutLost far t h = h
-    told_pass other far t h = told_hear far t h
-
     -- an exchange keeps it
     pub told_exchange : (steps : List LocalStep) (passage : Passage) (far : Far) (t : Bool)
         → EventsTold reading (octets_confirm o) far t →
         EventsTold reading (octets_confirm o) (far_after passage (locals far steps) o)
         (told_exchanged far steps passage o t)
-    told_exchange steps passage far t h =
-        told_pass passage (locals far steps) (told_through far steps t)
+    told_exchange steps OutLost far t h = told_locals reading (octets_confirm o) steps far t h
+    told_exchange steps other far t h = told_hear (locals far steps) (told_through far steps t)
         (told_locals reading (octets_confirm o) steps far t h)
 
     -- a confirm that is accepted finds its list told

@@ -15,7 +15,6 @@ use Rattle.iol_mode.specs.declared.states.Down.{Down}
 use Rattle.iol_mode.specs.declared.states.State.{State}
 use Rattle.iol_mode.specs.declared.states.State.TheVariants.{Down as AtDown}
 use Rattle.iol_mode.specs.declared.why.Why.TheVariants.{NoWake}
-use Rattle.iol_mode.specs.Kinds.{SeesPulses}
 use Rattle.iol_mode.specs.Messages.{page_read}
 use Rattle.iol_steps.specs.Session.{MayReset}
 use Rattle.iol_mode.specs.States.{StateFits, IsDown, state_of, waked}
@@ -57,153 +56,101 @@ module _ (s : Down) (t : SessionState) (g : Ghost) (far : Far) (silence : ℕ)
   no_image : t.image ≡ None
   no_image = stands.shown.image below
 
-  module _ (far' : Far) (effect : Effect c g far far') where
-    -- a port for any device knows nothing of it yet
-    starts : t.configuration.devices ≡ Any
-        → StateStands (state_of (waked Any true)) silence far'
-        → StateFits (state_of (waked Any true))
-        → CallGives c g far silence Idle (woken_by Any true t) far' silence
-    starts any link fits =
-        gives c g far far' effect silence silence stands below (Woke true) (Start ∷ [])
-        (woken_by Any true t) effect.hidden false (record {
-          limit = refl;
-          configuration = refl;
-          plain = (refl, refl, refl, refl);
-          book = refl;
-          session = (((any, refl, refl), tt), rw free refl);
-          frozen = ((tt, tt), untold_of far'.events.frozen effect.told);
-          images = ((tt, tt), refl);
-          image = no_image;
-          left = record {
-            request = (
-              λ b. absurd (let z : false ≡ true = b in cc),
-              effect.opens,
-              refl,
-              λ _. any,
-            );
-            events = (refl, refl);
-            output = (refl, λ b. absurd (let z : false ≡ true = b in cc));
-            quiet = tt;
-          };
-          sent = stands.sent;
-          shown = shown_as stands.shown (λ e. no_image) refl tt refl;
-        }) tt refl fits link (stands.joined, tt)
+  abbrev GivesAt : Devices → Bool → Far → Type 0
+  GivesAt devices answered far' = StateStands (state_of (waked devices answered)) silence far'
+      → StateFits (state_of (waked devices answered))
+      → CallGives c g far silence Idle (woken_by devices answered t) far' silence
 
-    -- no rate is answered
-    fails : CallGives c g far silence Idle (after_wake false t) far' silence
-    fails = loses c g far far' effect silence silence stands below (Woke false) NoWake free refl
-        tt refl
+  abbrev Gives : Bool → Far → Type 0
+  Gives = GivesAt t.configuration.devices
+
+  -- a port for any device knows nothing of it yet
+  starts : (far' : Far) → Effect c g far far' → t.configuration.devices ≡ Any → Gives true far'
+  starts far' effect any = subst (λ (d : Devices). GivesAt d true far') (sym any) (λ link fits.
+      gives c g far far' effect silence silence stands below (Woke true) (Start ∷ [])
+      (woken_by Any true t) effect.hidden false (record {
+        limit = refl;
+        configuration = refl;
+        plain = (refl, refl, refl, refl);
+        book = refl;
+        session = (((any, refl, refl), tt), rw free refl);
+        frozen = ((tt, tt), untold_of far'.events.frozen effect.told);
+        images = ((tt, tt), refl);
+        image = no_image;
+        left = record {
+          request = (λ b. absurd (cc b), effect.opens, refl, λ _. any);
+          events = (refl, refl);
+          output = (refl, λ b. absurd (cc b));
+          quiet = tt;
+        };
+        sent = stands.sent;
+        shown = shown_as stands.shown (λ e. no_image) refl tt refl;
+      }) tt refl fits link (stands.joined, tt))
 
   -- our own device was reset
-  module _ (there : Far) (effect : Effect c g far (woken there)) where
-    resets : t.configuration.devices ≡ Own
-        → StateStands (state_of (waked Own true)) silence (woken there)
-        → StateFits (state_of (waked Own true))
-        → CallGives c g far silence Idle (woken_by Own true t) (woken there) silence
-    resets own link fits =
-        gives c g far (woken there) effect silence silence stands below (Woke true) (Reset ∷ [])
-        (woken_by Own true t) (record effect.hidden { late = None }) false (record {
-          limit = refl;
-          configuration = refl;
-          plain = (refl, refl, refl, refl);
-          book = refl;
-          session = ((may_reset t.configuration.devices own, tt), rw free refl);
-          frozen = ((tt, tt), untold_of (woken there).events.frozen effect.told);
-          images = ((tt, tt), refl);
-          image = no_image;
-          left = record {
-            request = (λ b. refl, tt, refl, λ b. absurd (let z : true ≡ false = b in cc));
-            events = (refl, refl);
-            output = (refl, λ b. record { untold = refl; off = λ a. refl; waits = tt });
-            quiet = tt;
-          };
-          sent = stands.sent;
-          shown = shown_as stands.shown (λ e. no_image) refl tt refl;
-        }) tt refl fits link (stands.joined, tt)
+  resets : (there : Far) → Effect c g far (woken there) → t.configuration.devices ≡ Own
+      → Gives true (woken there)
+  resets there effect own = subst (λ (d : Devices). GivesAt d true (woken there)) (sym own)
+      (λ link fits. gives c g far (woken there) effect silence silence stands below (Woke true)
+      (Reset ∷ []) (woken_by Own true t) (record effect.hidden { late = None }) false (record {
+        limit = refl;
+        configuration = refl;
+        plain = (refl, refl, refl, refl);
+        book = refl;
+        session = ((may_reset t.configuration.devices own, tt), rw free refl);
+        frozen = ((tt, tt), untold_of (woken there).events.frozen effect.told);
+        images = ((tt, tt), refl);
+        image = no_image;
+        left = record {
+          request = (λ b. refl, tt, refl, λ b. absurd (cc b));
+          events = (refl, refl);
+          output = (refl, λ b. record { untold = refl; off = λ a. refl; waits = tt });
+          quiet = tt;
+        };
+        sent = stands.sent;
+        shown = shown_as stands.shown (λ e. no_image) refl tt refl;
+      }) tt refl fits link (stands.joined, tt))
+
+  -- no rate is answered
+  fails : (far' : Far) → Effect c g far far' → Gives false far'
+  fails far' effect link fits =
+      loses c g far far' effect silence silence stands below (Woke false) NoWake free refl tt refl
+
+  -- a rate is answered
+  answers : (there : Far) → Effect c g far (woken there) → (devices : Devices)
+      → t.configuration.devices ≡ devices → Gives true (woken there)
+  answers there effect Any any = starts (woken there) effect any
+  answers there effect Own own = resets there effect own
+
+  -- a wake that it doesn't see
+  unseen : (after : Far) → Effect c g far after → far.misses_pulses ≡ true → (answered : Bool)
+      (devices : Devices) → t.configuration.devices ≡ devices → Gives answered after
+  unseen after effect misses false devices e = fails after effect
+  unseen after effect misses true Any any = starts after effect any
+  unseen after effect misses true Own own =
+      absurd (let sees : far.misses_pulses ≡ false = rw own at stands.sees in cc)
 
   -- from the wire's own words
   module _ (laws : Laws) (leaves : OrderlyLaws) (heard : TextsAreHeard) where
-    abbrev Gives : Bool → Far → Type 0
-    Gives answered far' = CallGives c g far silence Idle (after_wake answered t) far' silence
-
-    abbrev Stood : Bool → Far → Type 0
-    Stood answered far' =
-        StateStands (state_of (waked t.configuration.devices answered)) silence far'
-
-    abbrev Fits : Bool → Type 0
-    Fits answered = StateFits (state_of (waked t.configuration.devices answered))
-
-    -- a rate is answered
-    answers_any : (far' : Far) → Effect c g far far' → t.configuration.devices ≡ Any
-        → Stood true far' → Fits true → Gives true far'
-    answers_any far' effect any link fits =
-        subst (λ (d : Devices). CallGives c g far silence Idle (woken_by d true t) far' silence)
-        (sym any) (starts far' effect any
-        (subst (λ (d : Devices). StateStands (state_of (waked d true)) silence far') any link)
-        (subst (λ (d : Devices). StateFits (state_of (waked d true))) any fits))
-
-    answers_seen : (there : Far) → Effect c g far (woken there) → Stood true (woken there)
-        → Fits true → Gives true (woken there)
-    answers_seen there effect link fits = split t.configuration.devices refl
-      where
-        split : (d : Devices) → t.configuration.devices ≡ d → Gives true (woken there)
-        split Any any = answers_any (woken there) effect any link fits
-        split Own own =
-            subst (λ (d : Devices). CallGives c g far silence Idle (woken_by d true t)
-            (woken there) silence) (sym own) (resets there effect own
-            (subst (λ (d : Devices). StateStands (state_of (waked d true)) silence (woken there))
-            own link)
-            (subst (λ (d : Devices). StateFits (state_of (waked d true))) own fits))
-
-    by_seen : (far' : Far) (answered : Bool) (w : SeenWake far answered far')
-        → Stood answered far' → Fits answered → Gives answered far'
-    by_seen far' true w link fits =
-        let there = locals far w.steps in
+    by_seen : (far' : Far) (answered : Bool) → SeenWake far answered far' → Gives answered far'
+    by_seen far' true w =
+        let there : Far = locals far w.steps in
         let is : far' ≡ woken there = w.far_is
         ∙ ap (λ (b : Bool). woken_if b there) (w.answered_is refl) in
-        subst (Gives true) (sym is)
-        (answers_seen there (seen_effect c g far laws free stands.request w.steps true)
-        (subst (Stood true) is link) fits)
-    by_seen far' false w link fits =
-        subst (Gives false) (sym w.far_is) (fails (woken_if w.wakes (locals far w.steps))
+        rw is (answers there (seen_effect c g far laws free stands.request w.steps true) _ refl)
+    by_seen far' false w = rw w.far_is (fails (woken_if w.wakes (locals far w.steps))
         (seen_effect c g far laws free stands.request w.steps w.wakes))
 
-    by_unseen : (far' : Far) (answered : Bool) (w : UnseenWake far answered far')
-        → Stood answered far' → Fits answered → Gives answered far'
-    by_unseen far' answered w link fits = subst (Gives answered) (sym w.far_is)
-        (by answered (subst (Stood answered) w.far_is link) fits)
-      where
-        there : Far
-        there = locals far w.steps
-
-        after : Far
-        after = (hear there test_read).far
-
-        to_page : IsToPage test_read (page_read 2)
-        to_page = test_to_page heard
-
-        effect : Effect c g far after
-        effect = passed_effect c g far laws free stands.request w.steps BackLost test_read
-            test_confirms (opens_passed g.request.hidden far w.steps BackLost test_read
-            (leaves.holds there test_read (page_read 2) to_page) stands.request)
-            (alike_sent leaves g.sent there test_read (page_read 2) to_page
-            (orderly_locals leaves far w.steps w.orderly))
-
-        by : (answered : Bool) → Stood answered after → Fits answered → Gives answered after
-        by false link fits = fails after effect
-        by true link fits = split t.configuration.devices refl
-          where
-            split : (d : Devices) → t.configuration.devices ≡ d → Gives true after
-            split Any any = answers_any after effect any link fits
-            split Own own = absurd (
-                let sees : far.misses_pulses ≡ false =
-                subst (λ (d : Devices). SeesPulses d far) own stands.sees in
-                let k : true ≡ false = sym w.misses ∙ sees in cc)
-
-    by_wake : (far' : Far) (answered : Bool) → HonestWake far answered far'
-        → Stood answered far' → Fits answered → Gives answered far'
-    by_wake far' answered (inl w) link fits = by_seen far' answered w link fits
-    by_wake far' answered (inr w) link fits = by_unseen far' answered w link fits
+    by_unseen : (far' : Far) (answered : Bool) → UnseenWake far answered far' → Gives answered far'
+    by_unseen far' answered w =
+        let there : Far = locals far w.steps in
+        let to_page : IsToPage test_read (page_read 2) = test_to_page heard in
+        rw w.far_is (unseen (hear there test_read).far
+        (passed_effect c g far laws free stands.request w.steps BackLost test_read test_confirms
+        (opens_passed g.request.hidden far w.steps BackLost test_read
+        (leaves.holds there test_read (page_read 2) to_page) stands.request)
+        (alike_sent leaves g.sent there test_read (page_read 2) to_page
+        (orderly_locals leaves far w.steps w.orderly))) w.misses answered _ refl)
 
 wakes_at : Laws → OrderlyLaws → TextsAreHeard → (state : State) (t : SessionState) (g : Ghost)
     (far far' : Far) (n : ℕ) (answered : Bool)
@@ -212,15 +159,16 @@ wakes_at : Laws → OrderlyLaws → TextsAreHeard → (state : State) (t : Sessi
     → StateStands (state_of (waked t.configuration.devices answered)) n far'
     → StateFits (state_of (waked t.configuration.devices answered))
     → CallGives (record { state = state; session = t }) g far n Idle (after_wake answered t) far' n
-wakes_at laws leaves heard (AtDown s) t g far far' n answered stands down w link fits =
-    by_wake s t g far n stands laws leaves heard far' answered w link fits
-wakes_at laws leaves heard other t g far far' n answered stands down w link fits = absurd down
+wakes_at laws leaves heard (AtDown s) t g far far' n answered stands down (inl w) =
+    by_seen s t g far n stands laws leaves heard far' answered w
+wakes_at laws leaves heard (AtDown s) t g far far' n answered stands down (inr w) =
+    by_unseen s t g far n stands laws leaves heard far' answered w
+wakes_at laws leaves heard other t g far far' n answered stands down w = absurd down
 
 pub wakes : ((size : ℕ) → 1 ≤ size → LevelLaws size) → MuchStays → RepliesAreRead
     → InputStaysSized → ((first : Event) (rest : List Event) → EventLaws first rest)
     → ModesHaveLayouts → OrderlyLaws → TextsAreHeard → Wakes
 wakes level much reads sized events layouts leaves heard = record {
-  gives = λ c g far far' n answered stands down w link fits.
-      wakes_at (all_laws level much reads sized events layouts) leaves heard c.state c.session g
-      far far' n answered stands down w link fits;
+  gives = λ c.
+      wakes_at (all_laws level much reads sized events layouts) leaves heard c.state c.session;
 }

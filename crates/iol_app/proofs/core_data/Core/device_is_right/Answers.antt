@@ -1,15 +1,14 @@
 -- A page that was checked is that of the device that was expected.
 use Rattle.std.proofs.lemmas.Grind.{common_steps}
-use Rattle.std.proofs.Common.{subst, arith}
+use Rattle.std.proofs.Common.{arith}
 use Rattle.iol_mode.specs.declared.states.State.{State}
 use Rattle.iol_app.specs.State.{SessionState}
 use Rattle.iol_app.specs.StationState.{StateFits}
-use Rattle.iol_app.specs.Core.{IsRight, IsRightIn}
+use Rattle.iol_app.specs.Core.{IsRightIn}
 use Rattle.iol_app.proofs.core_data.Core.device_is_right.Goals as goal
 
 right_in : (state : State) (t : SessionState) → StateFits state t → IsRightIn state t
 right_in state t h = grind (arith, common_steps)
 
 pub returns : goal.returns
-returns c = subst IsRight c.self.view_is
-    (right_in c.self.inside.state c.self.inside.session c.self.invariant.1)
+returns c = rw (← c.self.view_is) (right_in _ _ c.self.invariant.1)

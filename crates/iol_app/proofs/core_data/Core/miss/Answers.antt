@@ -3,7 +3,7 @@ use Rattle.std.proofs.lemmas.Grind.{common_steps}
 use Rattle.std.proofs.Common.{◌≡◌, ◌∙◌, sym, ap, arith, Bool, true, false}
 use Rattle.std.specs.Prelude.{not}
 use Rattle.iol_app.specs.Requests.{request_in}
-use Rattle.iol_app.specs.Core.{Core, after_missed}
+use Rattle.iol_app.specs.Core.{Core}
 use Rattle.iol_app.proofs.Doubts.{asked_joined, asked_after, missed_request}
 use Rattle.iol_app.proofs.core_data.Core.miss.Goals as goal
 
@@ -11,25 +11,20 @@ some_of : (some none : Bool) → some ≡ not none → none ≡ false → some �
 some_of some none e k = grind (arith, common_steps)
 
 pub invariant_of-self : goal.invariant_of-self
-invariant_of-self c =
-    let i = c.self.inside in (
-      c.put_instead.ensures.fits,
-      asked_joined i.state c.put_instead.new.self i.session c.miss.new.self c.in-Operate.operate
-          c.in-Some.message c.in-Operate.is (some_of _ _ c.is_none.ensures c.if-is_none.false)
-          c.self.invariant.1 c.miss.ensures.session (sym c.in-Some.is ∙ c.miss.ensures.asks)
-          c.put_instead.ensures.state,
-    )
+invariant_of-self c = (
+  c.put_instead.ensures.fits,
+  asked_joined _ _ _ _ _ _ c.in-Operate.is (some_of _ _ c.is_none.ensures c.if-is_none.false)
+      c.self.invariant.1 c.miss.ensures.session (sym c.in-Some.is ∙ c.miss.ensures.asks)
+      c.put_instead.ensures.state,
+)
 
 pub returns-in-Some-clause-core : goal.returns-in-Some-clause-core
 returns-in-Some-clause-core c =
-    let i = c.self.inside in
-    asked_after i.state c.put_instead.new.self i.session c.miss.new.self c.in-Operate.operate
-    c.in-Some.message c.in-Operate.is (some_of _ _ c.is_none.ensures c.if-is_none.false)
-    c.self.invariant.1 c.miss.ensures.session (sym c.in-Some.is ∙ c.miss.ensures.asks)
-    c.put_instead.ensures.state ∙ ap after_missed c.self.view_is
+    rw (← c.self.view_is) (asked_after _ _ _ _ _ _ c.in-Operate.is
+    (some_of _ _ c.is_none.ensures c.if-is_none.false) c.self.invariant.1 c.miss.ensures.session
+    (sym c.in-Some.is ∙ c.miss.ensures.asks) c.put_instead.ensures.state)
 
 pub returns-in-Some-clause-request : goal.returns-in-Some-clause-request
 returns-in-Some-clause-request c =
-    let i = c.self.inside in
     ap (λ (k : Core). request_in k.session.current) (returns-in-Some-clause-core c)
     ∙ missed_request c.args.self.now.state c.args.self.now.session

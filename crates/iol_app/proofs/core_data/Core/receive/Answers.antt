@@ -3,9 +3,8 @@ use Rattle.std.proofs.lemmas.Grind.{common_steps}
 use Rattle.std.proofs.Common.{refl, arith}
 use Rattle.iol_far.specs.Octets.{octets_in}
 use Rattle.iol_app.specs.Core.{came_of}
-use Rattle.iol_app.proofs.Ending.{settled_ends}
 use Rattle.iol_app.proofs.Reporting.{judged_left}
-use Rattle.iol_app.proofs.Pieces.{receive_steps}
+use Rattle.iol_app.proofs.Pieces.{settled_ends, receive_steps}
 use Rattle.iol_app.proofs.core_data.Core.receive.Goals as goal
 
 pub returns-clause-ends : goal.returns-clause-ends

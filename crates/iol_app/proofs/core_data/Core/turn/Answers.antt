@@ -1,27 +1,20 @@
 -- A turn: what goes out, one call of the wire, and what is made of what came.
 use Rattle.std.proofs.lemmas.Grind.{common_steps}
-use Rattle.std.proofs.Common.{◌≡◌, ◌∙◌, Bool, true, false, List, ℕ, Option, refl, sym, subst, ap, arith}
+use Rattle.std.proofs.Common.{true, false, refl, arith}
 use Rattle.std.specs.Prelude.{is_some}
 use Rattle.iol_far.specs.Octets.{octets_in}
 use Rattle.iol_mode.specs.States.{StateFits as ModeFits}
-use Rattle.iol_mode.specs.Exchanges.{text_out, layout_out, tries_in}
-use Rattle.iol_app.specs.declared.asked.Outgoing.{Outgoing}
-use Rattle.iol_app.specs.declared.asked.Asked.{Asked}
-use Rattle.iol_app.specs.declared.asked.Asked.TheVariants.{Exchange}
-use Rattle.iol_app.specs.Asking.{asked_in, outgoing}
-use Rattle.iol_app.specs.declared.brought.Brought.TheVariants as brought
-use Rattle.iol_app.specs.Brought.{IsReplied, verdict_on}
-use Rattle.iol_app.specs.State.{IsSession}
+use Rattle.iol_mode.specs.Kinds.{IsHonestFor}
+use Rattle.iol_mode.specs.Stands.{StateStands}
+use Rattle.iol_mode.specs.Exchanges.{text_out, tries_in}
+use Rattle.iol_app.specs.Asking.{asked_in}
+use Rattle.iol_app.specs.Brought.{IsReplied}
 use Rattle.iol_app.specs.StationState.{StateFits}
-use Rattle.iol_app.specs.Core.{Core}
 use Rattle.iol_app.specs.Pieces.{IsOut}
 use Rattle.iol_app.specs.Seen.{station_of}
-use Rattle.iol_app.proofs.Ending.{settled_ends}
 use Rattle.iol_app.proofs.Reporting.{turn_reading}
-use Rattle.iol_app.proofs.Pieces.{receive_steps, wake_steps as core_wake_steps}
+use Rattle.iol_app.proofs.Pieces.{settled_ends, receive_steps, wake_steps as core_wake_steps}
 use Rattle.iol_app.proofs.Stepping.{Exchanged, Woken, sent_down, sent_current, wake_steps, wake_stands, wake_is_turn, exchange_steps, exchange_stands, exchange_is_turn, exchange_is_exact, sent_tries, sent_devices, wake_is_exact}
-use Rattle.iol_mode.specs.declared.configuration.Configuration.{Configuration}
-use Rattle.iol_mode.specs.Kinds.{SeesPulses}
 use Rattle.iol_app.proofs.core_data.Core.turn.Given as given
 use Rattle.iol_app.proofs.core_data.Core.turn.Goals as goal
 
@@ -29,52 +22,38 @@ use Rattle.iol_app.proofs.core_data.Core.turn.Goals as goal
 is_out : (g : given.Over) (c : goal.After-exchange g)
     → IsOut true (asked_in c.args.self.now.state c.args.self.now.session c.args.room)
     c.put_next.new.self.state
-is_out g c =
-    subst (λ (is : Bool). IsOut is (asked_in c.args.self.now.state c.args.self.now.session
-    c.args.room) c.put_next.new.self.state) c.if-put_next.true c.put_next.ensures.out
+is_out g c = rw c.if-put_next.true at c.put_next.ensures.out
 
 exchanged : (g : given.Over) (c : goal.After-exchange g)
     → Exchanged g.W.Wire.facts c.args.wire.now c.exchange.new.wire c.args.room
     c.exchange.new.said c.put_next.new.self c.exchange.new.self
-exchanged g c = record {
-  answer = c.exchange.ensures.passed.came;
-  called = c.exchange.ensures.passed.called;
-  passes = c.exchange.ensures.passed.passes;
-  honesty = c.exchange.ensures.passed.honesty;
-  few = c.exchange.ensures.passed.few;
-  fits = c.exchange.ensures.passed.fits;
-  stood = λ h. c.put_next.ensures.on (g.W.Wire.facts.far c.args.wire.now)
-      (g.W.Wire.facts.silence c.args.wire.now) (c.requires.stands (
-        h.0,
-        subst (λ (k : Configuration). SeesPulses k.devices (g.W.Wire.facts.far c.args.wire.now))
-            (sent_devices c.args.self.now c.put_next.new.self c.args.room
-            c.put_next.ensures.sent) h.1,
-      ));
-  gives = c.exchange.ensures.passed.gives;
-  is = c.exchange.ensures.passed.is;
-  said_is = c.exchange.ensures.passed.said_is;
-}
+exchanged g c =
+    let up = c.exchange.ensures.passed in
+    let same = sent_devices c.args.self.now c.put_next.new.self c.args.room
+    c.put_next.ensures.sent in
+    let stood : IsHonestFor g.W.Wire.facts c.put_next.new.self.session.configuration.devices
+    c.args.wire.now → StateStands c.put_next.new.self.state
+    (g.W.Wire.facts.silence c.args.wire.now) (g.W.Wire.facts.far c.args.wire.now) =
+    λ h. c.put_next.ensures.on _ _ (c.requires.stands (h.0, rw same at h.1)) in
+    search (up, stood)
 
 fitting : (g : given.Over) (c : goal.After-exchange g) → ModeFits c.args.self.now.state
-fitting g c = subst (λ (k : Core). ModeFits k.state) c.self.view_is c.self.invariant.0
+fitting g c = rw (← c.self.view_is) c.self.invariant.0
 
 joined : (g : given.Over) (c : goal.After-exchange g)
     → StateFits c.args.self.now.state c.args.self.now.session
-joined g c = subst (λ (k : Core). StateFits k.state k.session) c.self.view_is c.self.invariant.1
+joined g c = rw (← c.self.view_is) c.self.invariant.1
 
 pub returns-then-put_next-clause-turn : goal.returns-then-put_next-clause-turn
 returns-then-put_next-clause-turn g c =
-    exchange_is_turn g.W.Wire.facts c.args.wire.now c.exchange.new.wire c.args.room
-    c.exchange.new.said c.args.self.now c.put_next.new.self c.exchange.new.self (fitting g c)
-    (joined g c)
-    c.put_next.ensures.sent (is_out g c).0 c.requires.stands (exchanged g c)
+    exchange_is_turn _ _ _ _ _ _ (fitting g c) (joined g c) c.put_next.ensures.sent
+    (is_out g c).0 c.requires.stands (exchanged g c)
 
 pub returns-then-put_next-clause-stands : goal.returns-then-put_next-clause-stands
 unfolding exchanged
 returns-then-put_next-clause-stands g c =
-    exchange_stands g.W.Wire.facts c.args.wire.now c.exchange.new.wire c.args.room
-    c.exchange.new.said c.page_and_room_stay.ensures.much c.put_next.new.self c.exchange.new.self
-    (exchanged g c) (is_out g c).0 c.exchange.ensures.passed.on
+    exchange_stands _ _ _ _ _ c.page_and_room_stay.ensures.much (exchanged g c) (is_out g c).0
+    c.exchange.ensures.passed.on
 
 pub returns-then-put_next-clause-request : goal.returns-then-put_next-clause-request
 returns-then-put_next-clause-request g c = grind (arith, common_steps, sent_current)
@@ -86,21 +65,15 @@ pub returns-then-put_next-clause-reading : goal.returns-then-put_next-clause-rea
 returns-then-put_next-clause-reading g c =
     turn_reading g.W.Wire.facts c.args.room (station_of c.args.wire.now c.args.self.now)
     c.exchange.new.said (station_of c.exchange.new.wire c.exchange.new.self)
-    (subst (λ (k : Core). IsSession k.session) c.self.view_is c.is_valid.ensures) (joined g c)
+    (rw (← c.self.view_is) c.is_valid.ensures) (joined g c)
     (returns-then-put_next-clause-turn g c)
 
 pub returns-then-put_next-clause-steps : goal.returns-then-put_next-clause-steps
 returns-then-put_next-clause-steps g c =
     let up = c.exchange.ensures.passed in
-    exchange_steps g.W.Wire.facts c.args.wire.now c.exchange.new.wire c.args.room
-    c.exchange.new.said c.args.self.now c.put_next.new.self c.exchange.new.self
-    c.exchange.ensures.passed.came
-    c.put_next.ensures.steps
-    (receive_steps c.station_laws.ensures c.put_next.new.self
-    (octets_in c.exchange.ensures.passed.came)
-    c.exchange.new.said c.exchange.new.self c.exchange.ensures.valid (is_out g c).0 up.few up.fits
-    up.gives up.said_is up.on up.is) c.exchange.ensures.passed.passes
-    c.exchange.ensures.passed.honesty
+    exchange_steps _ _ _ c.args.room _ _ c.put_next.new.self _ up.came c.put_next.ensures.steps
+    (receive_steps c.station_laws.ensures _ _ _ _ c.exchange.ensures.valid (is_out g c).0 up.few
+    up.fits up.gives up.said_is up.on up.is) up.passes up.honesty
 
 -- what was asked for went out, and brought what the exchange brought
 replied : (g : given.Over) (c : goal.After-exchange g)
@@ -108,80 +81,43 @@ replied : (g : given.Over) (c : goal.After-exchange g)
     (text_out c.put_next.new.self.state) (tries_in c.args.self.now.state)
     (octets_in c.exchange.ensures.passed.came) c.exchange.result
 replied g c =
-    let mid = c.put_next.new.self.state in
-    let out : Outgoing = outgoing (layout_out mid) (text_out mid) in
-    let came : Option (List ℕ) = octets_in c.exchange.ensures.passed.came in
-    let tries : tries_in mid ≡ tries_in c.args.self.now.state =
-    sent_tries c.args.self.now c.put_next.new.self c.args.room c.put_next.ensures.sent in
-    let is : Exchange out ≡ asked_in c.args.self.now.state c.args.self.now.session c.args.room =
-    sym (is_out g c).1 in
-    subst (λ (a : Asked). IsReplied a (text_out mid) (tries_in c.args.self.now.state) came
-    c.exchange.result)
-    is (
-      refl,
-      c.exchange.ensures.passed.brought_is
-          ∙ ap (λ (n : ℕ). brought.Exchanged n (verdict_on out came)) tries,
-    )
+    let tries = sent_tries c.args.self.now c.put_next.new.self c.args.room
+    c.put_next.ensures.sent in
+    rw ((is_out g c).1, ← tries) (refl, c.exchange.ensures.passed.brought_is)
 
 pub returns-then-put_next-clause-exact : goal.returns-then-put_next-clause-exact
 unfolding exchanged
 returns-then-put_next-clause-exact g c =
-    exchange_is_exact g.W.Wire.facts c.args.wire.now c.exchange.new.wire c.args.room
-    c.exchange.new.said c.args.self.now c.put_next.new.self c.exchange.new.self (fitting g c)
-    (joined g c)
-    c.put_next.ensures.sent (is_out g c).0 c.requires.stands (exchanged g c) _ _ _
-    (replied g c)
+    exchange_is_exact _ _ _ _ _ _ (fitting g c) (joined g c) c.put_next.ensures.sent
+    (is_out g c).0 c.requires.stands (exchanged g c) _ _ _ (replied g c)
 
 -- in down nothing goes out, a wake is asked for, and the core is as it was
 is_down : (g : given.Over) (c : goal.After-of_wake g)
     → IsOut false (asked_in c.args.self.now.state c.args.self.now.session c.args.room)
     c.put_next.new.self.state
-is_down g c =
-    subst (λ (is : Bool). IsOut is (asked_in c.args.self.now.state c.args.self.now.session
-    c.args.room) c.put_next.new.self.state) c.if-put_next.false c.put_next.ensures.out
+is_down g c = rw c.if-put_next.false at c.put_next.ensures.out
 
 woken : (g : given.Over) (c : goal.After-of_wake g)
     → Woken g.W.Wire.facts c.args.wire.now c.wake-rate.new.self c.args.room c.args.said.now
     c.args.self.now c.take_wake.new.self c.wake-rate.result
 woken g c =
-    subst (λ (k : Core). Woken g.W.Wire.facts c.args.wire.now c.wake-rate.new.self c.args.room
-    c.args.said.now k c.take_wake.new.self c.wake-rate.result)
-    (sent_down c.args.self.now c.put_next.new.self c.args.room c.put_next.ensures.sent
+    rw (← sent_down c.args.self.now c.put_next.new.self c.args.room c.put_next.ensures.sent
     (is_down g c).0)
-    (record {
-      down = (is_down g c).0;
-      still = c.take_wake.ensures.still;
-      idle = c.requires.idle;
-      called = c.wake-rate.ensures.gives;
-      passes = c.wake-rate.ensures.wakes;
-      honesty = c.wake-rate.ensures.honesty;
-      quiet = c.wake-rate.ensures.quiet;
-      stands = c.take_wake.ensures.stands;
-      is = c.take_wake.ensures.core;
-    })
+    (assumption (is_down g c, c.take_wake.ensures, c.wake-rate.ensures, c.requires))
 
 pub returns-else-put_next-clause-steps : goal.returns-else-put_next-clause-steps
 returns-else-put_next-clause-steps g c =
     let w = woken g c in
-    wake_steps g.W.Wire.facts c.args.wire.now c.wake-rate.new.self c.args.room c.args.said.now
-    c.args.self.now c.take_wake.new.self c.wake-rate.result w
-    (core_wake_steps c.station_laws.ensures c.args.self.now (is_some c.wake-rate.result)
-    c.take_wake.new.self w.down w.stands w.is)
+    wake_steps _ _ _ _ _ w
+    (core_wake_steps c.station_laws.ensures _ (is_some c.wake-rate.result) _ w.down w.stands w.is)
 
 pub returns-else-put_next-clause-exact : goal.returns-else-put_next-clause-exact
 returns-else-put_next-clause-exact g c =
-    wake_is_exact g.W.Wire.facts c.args.wire.now c.wake-rate.new.self c.args.room c.args.said.now
-    c.args.self.now c.take_wake.new.self c.wake-rate.result
-    (asked_in c.args.self.now.state c.args.self.now.session c.args.room)
-    (tries_in c.args.self.now.state) c.of_wake.result (woken g c) (is_down g c).1 c.of_wake.ensures
+    wake_is_exact _ _ _ _ _ _ (woken g c) (is_down g c).1 c.of_wake.ensures
 
 pub returns-else-put_next-clause-turn : goal.returns-else-put_next-clause-turn
-returns-else-put_next-clause-turn g c =
-    wake_is_turn g.W.Wire.facts c.args.wire.now c.wake-rate.new.self c.args.room c.args.said.now
-    c.args.self.now c.take_wake.new.self c.wake-rate.result (woken g c)
+returns-else-put_next-clause-turn g c = wake_is_turn _ _ _ _ _ (woken g c)
 
 pub returns-else-put_next-clause-stands : goal.returns-else-put_next-clause-stands
 returns-else-put_next-clause-stands g c =
-    wake_stands g.W.Wire.facts c.args.wire.now c.wake-rate.new.self c.args.room c.args.said.now
-    c.page_and_room_stay.ensures.much c.args.self.now c.take_wake.new.self c.wake-rate.result
-    (woken g c)
+    wake_stands _ _ _ _ _ c.page_and_room_stay.ensures.much (woken g c)
