@@ -7,22 +7,17 @@ use Rattle.iol_book.specs.declared.entries.Ticket.{Ticket}
 use Rattle.iol_port.specs.Owned.{Owned, AreApart, IsOneOf, IsLastOf, StartsWith}
 
 -- what is said of those of two lists, and of one
-pub all_both : (P : Owned → Type 0) (owned more : List Owned)
+pub all_both : {P : Owned → Type 0} (owned more : List Owned)
     → ((p : Owned) → IsOneOf p owned → P p) → ((p : Owned) → IsOneOf p more → P p)
     → (p : Owned) → IsOneOf p (owned ++ more) → P p
-all_both P [] more first then p i = then p i
-all_both P (o ∷ owned) more first then p (inl same) = first p (inl same)
-all_both P (o ∷ owned) more first then p (inr i) =
-    all_both P owned more (λ q j. first q (inr j)) then p i
+all_both [] more first then p i = then p i
+all_both (o ∷ owned) more first then p (inl same) = first p (inl same)
+all_both (o ∷ owned) more first then p (inr i) =
+    all_both owned more (λ q j. first q (inr j)) then p i
 
 pub all_one : (P : Owned → Type 0) (o : Owned) → P o → (p : Owned) → IsOneOf p (o ∷ []) → P p
 all_one P o this p (inl same) = subst P same this
 all_one P o this p (inr i) = absurd i
-
-pub all_push : (P : Owned → Type 0) (owned : List Owned) (o : Owned)
-    → ((p : Owned) → IsOneOf p owned → P p) → P o
-    → (p : Owned) → IsOneOf p (owned ++ o ∷ []) → P p
-all_push P owned o all this = all_both P owned (o ∷ []) all (all_one P o this)
 
 -- none of them is of that ticket
 abbrev pub NoneOf : Ticket → List Owned → Type 0
@@ -31,8 +26,7 @@ NoneOf t owned = (p : Owned) → IsOneOf p owned → p.ticket ≡ t → ⊥
 pub last_first : (o : Owned) (owned more : List Owned) → NoneOf o.ticket more → IsLastOf o owned
     → IsLastOf o (owned ++ more)
 last_first o [] more none i = absurd i
-last_first o (p ∷ owned) more none (inl (is, behind)) =
-    inl (is, all_both (λ q. q.ticket ≡ o.ticket → ⊥) owned more behind none)
+last_first o (p ∷ owned) more none (inl (is, behind)) = inl (is, all_both owned more behind none)
 last_first o (p ∷ owned) more none (inr i) = inr (last_first o owned more none i)
 
 pub last_push : (o : Owned) (owned : List Owned) → IsLastOf o (owned ++ o ∷ [])
@@ -58,7 +52,7 @@ pub ready_push : (repeats : Request → Bool) (o : Owned) (owned : List Owned)
     → IsReady repeats o.ticket (owned ++ o ∷ [])
 ready_push repeats o [] may ready = (λ is. (may, λ p i. absurd i), tt)
 ready_push repeats o (x ∷ owned) may (mine, ready) = (
-  λ is. ((mine is).0, all_push (λ p. p.ticket ≡ o.ticket) owned o (mine is).1 refl),
+  λ is. ((mine is).0, all_both owned _ (mine is).1 (all_one _ o refl)),
   ready_push repeats o owned may ready,
 )
 
@@ -69,14 +63,13 @@ apart_push repeats low o [] above ready apart = (above, inr (λ p i. absurd i), 
 apart_push repeats low o (x ∷ owned) above (mine, ready) (first, next, apart) =
     (first, by owned mine next, apart_push repeats low o owned above ready apart)
   where
-    Next : List Owned → Type 0
-    Next ps = (IsTrue (repeats x.request) × StartsWith x.ticket ps) ⊎ NoneOf x.ticket ps
-
     by : (ps : List Owned)
         → (x.ticket ≡ o.ticket → IsTrue (repeats x.request)
         × ((p : Owned) → IsOneOf p ps → p.ticket ≡ o.ticket))
-        → Next ps → Next (ps ++ o ∷ [])
+        → (IsTrue (repeats x.request) × StartsWith x.ticket ps) ⊎ NoneOf x.ticket ps
+        → (IsTrue (repeats x.request) × StartsWith x.ticket (ps ++ o ∷ []))
+        ⊎ NoneOf x.ticket (ps ++ o ∷ [])
     by [] mine next = grind (arith, common_steps)
     by (p ∷ ps) mine (inl starts) = inl starts
-    by (p ∷ ps) mine (inr none) = inr (all_push (λ q. q.ticket ≡ x.ticket → ⊥) (p ∷ ps) o none
-        (λ is. none p (inl refl) ((mine (sym is)).1 p (inl refl) ∙ is)))
+    by (p ∷ ps) mine (inr none) = inr (all_both (p ∷ ps) _ none
+        (all_one _ o (λ is. none p (inl refl) ((mine (sym is)).1 p (inl refl) ∙ is))))

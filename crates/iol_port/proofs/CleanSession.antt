@@ -9,37 +9,33 @@ use Rattle.iol_mseq.specs.Texts.{master_text}
 use Rattle.iol_mseq.specs.declared.master.MasterMsg.{MasterMsg}
 use Rattle.iol_mseq.specs.declared.reply.Reply.{Reply}
 use Rattle.iol_page.specs.declared.page.Layouts.{Layouts}
-use Rattle.iol_page.specs.Page.{knows_isdu}
 use Rattle.iol_isdu.specs.declared.values.Request.{Request}
 use Rattle.iol_isdu.specs.declared.values.Answer.{Answer}
 use Rattle.iol_far.specs.declared.carried.Carried.{Carried}
 use Rattle.iol_far.specs.Octets.{octets_in}
 use Rattle.iol_far.specs.declared.kind.Kind.{Kind}
 use Rattle.iol_far.specs.Isdu.{IsduState, Handed, Answered, handed, fits}
-use Rattle.iol_far.specs.Far.{Far, hear}
+use Rattle.iol_far.specs.Far.{Far}
 use Rattle.iol_far.specs.Local.{Carry, local, locals, carried_by, has_room, IsWorkedOff}
 use Rattle.iol_far.specs.Level.{Link, Quiet, Stands, IsBefore, link_of}
-use Rattle.iol_far.specs.Laws.{IsSized, RepliesAreRead, InputStaysSized, MuchStays}
-use Rattle.iol_mode.specs.States.{InOperate as OutOperate, operate_turned}
-use Rattle.iol_mode.specs.Stands.{operate_link, IsOperating, IsAccepted}
+use Rattle.iol_far.specs.Laws.{IsSized, MuchStays}
+use Rattle.iol_mode.specs.States.{InOperate as OutOperate}
+use Rattle.iol_mode.specs.Stands.{operate_link, IsAccepted}
 use Rattle.iol_mode.specs.Kinds.{SeesPulses}
-use Rattle.iol_mode.specs.declared.configuration.Configuration.{Configuration}
 use Rattle.iol_mode.specs.declared.configuration.Devices.{Devices}
-use Rattle.iol_mode.specs.declared.configuration.Devices.TheVariants.{Own, Any}
 use Rattle.iol_steps.specs.declared.said.Said.{Said}
 use Rattle.iol_app.specs.declared.request.Current.{Current}
 use Rattle.iol_app.specs.declared.request.Progress.{Progress}
 use Rattle.iol_app.specs.declared.session.Exchange.{Exchange}
 use Rattle.iol_app.specs.declared.session.Exchange.TheVariants.{Request as NextMessage, Idle}
-use Rattle.iol_mode.specs.Next.{AnyLink}
 use Rattle.iol_app.specs.Requests.{current_after, IsSaid}
 use Rattle.iol_app.specs.Due.{due_of, is_ready, may_follow}
 use Rattle.iol_app.specs.Messages.{Head, head_of, progress_head, head_for, progress_data, request_head, request_data}
-use Rattle.iol_app.specs.State.{SessionState, sending, sent, sent_by, absorbed, IsMessageFor, IsOutFor, IsTaken}
-use Rattle.iol_app.specs.StationState.{StationState, wire_of, IsSettled, IsTurn, IsLinkTurn, IsOperateTurn}
-use Rattle.iol_link.specs.Honest.{Passage, OutLost, far_after, HonestExchange, CleanExchange}
+use Rattle.iol_app.specs.State.{SessionState, sending, sent, absorbed, IsMessageFor, IsTaken}
+use Rattle.iol_app.specs.StationState.{StationState, wire_of, IsSettled, IsTurn, IsOperateTurn}
+use Rattle.iol_link.specs.Honest.{Passage, far_after, HonestExchange}
 use Rattle.iol_link.specs.WireFacts.{WireFacts}
-use Rattle.iol_port.specs.Clean.{ExchangesCleanly, IsQuiet, IsCalm, Stood}
+use Rattle.iol_port.specs.Clean.{CleanLaws, ExchangesCleanly, IsCalm, Stood}
 use Rattle.iol_port.proofs.CleanHearing.{HeardWell, heard_well}
 use Rattle.iol_port.proofs.TieLemmas.{turn_asks}
 
@@ -102,16 +98,7 @@ pub record SameBut (far ready : Far) : Type 0 where
 same_grown : (far : Far) (state : IsduState) (carried more : List Carried)
     → carried ≡ far.carried ++ more
     → SameBut far (record far { isdu = state; carried = carried })
-same_grown far state carried more is = record {
-  awake = refl;
-  events = refl;
-  page = refl;
-  kind = refl;
-  link_is = refl;
-  room = refl;
-  sized = λ h. h;
-  grows = (more, is);
-}
+same_grown far state carried more is = grind (arith, common_steps)
 
 same_far : (far : Far) → SameBut far far
 same_far far = same_grown far far.isdu far.carried [] (sym (append-nil far.carried))
@@ -144,8 +131,7 @@ work_same far ready (Some request) h = by_room (has_room far) h
 
 after_misses : MuchStays → (passage : Passage) (far : Far) (sent : List ℕ)
     → (far_after passage far sent).misses_pulses ≡ far.misses_pulses
-after_misses much OutLost far sent = refl
-after_misses much _ far sent = much.misses_heard far sent
+after_misses much passage far sent = grind (arith, common_steps, much.misses_heard far sent)
 
 exchange_misses : MuchStays → (far next : Far) (n m : ℕ) (sent : List ℕ) (answer : Option (List ℕ))
     → HonestExchange far n sent answer next m → next.misses_pulses ≡ far.misses_pulses
@@ -155,8 +141,7 @@ exchange_misses much far next n m sent answer x =
 
 sees_on : (devices : Devices) (far next : Far) → next.misses_pulses ≡ far.misses_pulses
     → SeesPulses devices far → SeesPulses devices next
-sees_on Own far next same sees = same ∙ sees
-sees_on Any far next same sees = tt
+sees_on devices far next same sees = grind (arith, common_steps)
 
 -- One turn
 
@@ -164,20 +149,13 @@ module _ {W : Type 0} (facts : WireFacts W) where
   open facts use {far}
 
   -- between requests both ends are level
-  pub level_between : (kind : Kind) (layouts : Layouts) (station : StationState W) (wire : W)
+  pub level_between : {kind : Kind} {layouts : Layouts} {station : StationState W} {wire : W}
       → Stood facts kind layouts operate_link station wire
       → Stands kind.hands_over layouts.run.od (far wire).carried Quiet (far wire).isdu
       (far wire).counted (far wire).carried
       → IsBefore (far wire).page kind layouts.run.od (far wire).carried operate_link Quiet
       (far wire)
-  level_between kind layouts station wire stood stands = record {
-    awake = stood.awake;
-    kind_is = stood.kind_is;
-    page_is = refl;
-    link_is = stood.at;
-    isdu = _;
-    stands = stands;
-  }
+  level_between stood stands = grind (arith, common_steps)
 
   -- What a turn gives that sends a message of the ISDU channel
   pub record Exchanged (kind : Kind) (layouts : Layouts) (exchange : Exchange)
@@ -207,121 +185,85 @@ module _ {W : Type 0} (facts : WireFacts W) where
     pub clear : new.session.clear ≡ false
     pub said_is : IsSaid NextMessage old.session.limit turn.reply.od.items (Some c) said
 
-  module _ (cleanly : ExchangesCleanly facts) (read_back : RepliesAreRead)
-      (stays_sized : InputStaysSized) (much : MuchStays) (kind : Kind) where
-    pub exchanged : (layouts : Layouts) (link : Link) (old : StationState W) (wire : W)
-        (room : Bool) (exchange : Exchange) (said : Said) (new : StationState W)
-        → Stood facts kind layouts link old wire → due_of old.session room ≡ exchange
-        → channel_for exchange old.session ≡ Isdu → IsTurn facts room old said new
+  module _ (cleanly : ExchangesCleanly facts) (laws : CleanLaws) {kind : Kind} {layouts : Layouts}
+      {link : Link} {old : StationState W} {wire : W} {said : Said} {new : StationState W}
+      (room : Bool) (stood : Stood facts kind layouts link old wire)
+      (turn : IsTurn facts room old said new) where
+    pub exchanged : (exchange : Exchange) → due_of old.session room ≡ exchange
+        → channel_for exchange old.session ≡ Isdu
         → Exchanged kind layouts exchange old wire said new
-    exchanged layouts link old wire room exchange said new stood due channel_is turn =
-        by_turn (subst (λ (l : AnyLink W). IsLinkTurn facts l old.session room said new)
-        stood.link_is turn)
-      where
-        s : SessionState
-        s = old.session
-
-        sent_is : sent (due_of s room) s ≡ sending exchange s
-        sent_is = ap (λ (e : Option Exchange). sent_by e (due_of s room) s) stood.calm.exchange
-            ∙ ap (λ (e : Exchange). sending e s) due
-
-        by_turn : IsOperateTurn facts wire (record { out = None; layouts = layouts }) s room
-            said new → Exchanged kind layouts exchange old wire said new
-        by_turn t =
-            let message : MasterMsg = t.message in
-            let o : List ℕ = master_text layouts.run message in
-            let for : IsMessageFor exchange (sending exchange s) message =
-            subst (λ (z : SessionState). IsOutFor (Some message) z) sent_is t.is_for in
-            let channel : message.mc.channel ≡ Isdu = ap (λ (h : Head). h.channel) for.head
-            ∙ channel_is in
-            let done = cleanly wire o t.exchange.answer (wire_of new.link) stood.is_clean
-            t.exchange.called in
-            let x : CleanExchange (far wire) o (octets_in t.exchange.answer)
-            (far (wire_of new.link)) = done.0 in
-            let same : SameBut (far wire) x.ready =
-            work_same (far wire) x.ready (handed (far wire).isdu) x.work in
-            let accepted : IsAccepted layouts x.ready.page link message =
-            subst (λ (p : List ℕ). IsAccepted layouts p link message) (sym same.page)
-            (t.accepted stood.is_honest link stood.operating) in
-            let sized : IsSized (hear x.ready o).far =
-            stays_sized.hears x.ready o (same.sized
-            (t.exchange.passes stood.is_honest.0).regular.sized) in
-            let quiet : IsQuiet x.ready.events = subst IsQuiet (sym same.events) stood.quiet in
-            let found = heard_well read_back kind layouts message link x.ready accepted channel
-            (same.awake ∙ stood.awake) (same.kind ∙ stood.kind_is)
-            (ap knows_isdu same.page ∙ stood.isdu)
-            (same.link_is ∙ stood.at) quiet sized in
-            let reply : Reply = found.0 in
-            let well : HeardWell kind layouts message x.ready (far (wire_of new.link))
-            (octets_in t.exchange.answer) reply =
-            rw (x.far_is, x.answer_is) found.1 in
-            let settled : IsSettled (OutOperate (record { out = None; layouts = layouts })
-            (Some reply)) (sending exchange s) said new =
-            subst (λ (z : SessionState). IsSettled
-            (OutOperate (record { out = None; layouts = layouts }) (Some reply)) z said new)
-            sent_is
-            (subst (λ (q : Option Reply). IsSettled
-            (operate_turned (record { out = None; layouts = layouts }) message q)
-            (sent (due_of s room) s) said new) well.good t.exchange.settled) in
-            record {
-              next = wire_of new.link;
-              stood = record {
-                link_is = settled.link;
-                is_honest = (
-                  subst IsTrue (sym t.exchange.both.honesty) stood.is_honest.0,
-                  subst (λ (k : Configuration). SeesPulses k.devices (far (wire_of new.link)))
-                      (sym (turn_asks facts room old said new turn))
-                      (sees_on s.configuration.devices (far wire) (far (wire_of new.link))
-                      (exchange_misses much _ _ _ _ _ _ (t.exchange.passes stood.is_honest.0))
-                      stood.is_honest.1),
-                );
-                is_clean = done.1;
-                calm = subst IsCalm (sym settled.session)
-                    (absorbed_calm exchange s reply stood.calm channel_is well.event);
-                told = ap (λ (z : SessionState). z.isdu) settled.session ∙ stood.told;
-                operating = inr_link;
-                awake = well.awake;
-                kind_is = well.kind_is;
-                at = well.link_is;
-                isdu = ap knows_isdu (well.page ∙ same.page) ∙ stood.isdu;
-                quiet = well.quiet;
-              };
-              message = message;
-              for = for;
-              parts = t.parts refl;
-              ready = x.ready;
-              work = x.work;
-              answer = octets_in t.exchange.answer;
-              reply = reply;
-              heard_as = well;
-              session = settled.session;
-              said_is = settled.said_is;
-            }
-          where
-            inr_link : IsOperating layouts operate_link
-            inr_link = inr refl
-
-    pub turned : (layouts : Layouts) (link : Link) (old : StationState W) (wire : W)
-        (room : Bool) (c : Current) (said : Said) (new : StationState W)
-        → Stood facts kind layouts link old wire → old.session.current ≡ Some c → c.abort ≡ None
-        → IsTurn facts room old said new
-        → Turned kind layouts old wire c said new
-    turned layouts link old wire room c said new stood is abort turn =
+    exchanged exchange due channel_is =
         let s : SessionState = old.session in
-        let x : Exchanged kind layouts NextMessage old wire said new =
-        exchanged layouts link old wire room NextMessage said new stood
-        (request_due s room c stood.calm is abort)
-        (ap (λ (q : Option Current). (request_head q).channel) is ∙ progress_channel c.progress)
-        turn in
+        let sent_is : sent (due_of s room) s ≡ sending exchange s =
+        rw (stood.calm.exchange, due) refl in
+        let t : IsOperateTurn facts wire (record { out = None; layouts = layouts }) s room said
+        new =
+        rw stood.link_is at turn in
+        let for : IsMessageFor exchange (sending exchange s) t.message = rw sent_is at t.is_for in
+        let channel : t.message.mc.channel ≡ Isdu =
+        ap (λ (h : Head). h.channel) for.head ∙ channel_is in
+        let (x, clean) =
+        cleanly wire (master_text layouts.run t.message) t.exchange.answer (wire_of new.link)
+        stood.is_clean t.exchange.called in
+        let same = work_same (far wire) x.ready (handed (far wire).isdu) x.work in
+        let accepted : IsAccepted layouts x.ready.page link t.message =
+        rw same.page (t.accepted stood.is_honest link stood.operating) in
+        let sized = laws.sized.hears x.ready (master_text layouts.run t.message)
+        (same.sized (t.exchange.passes stood.is_honest.0).regular.sized) in
+        let (reply, well) = heard_well laws.read_back kind layouts t.message link x.ready x.far_is
+        x.answer_is accepted channel (same.awake ∙ stood.awake) (same.kind ∙ stood.kind_is)
+        (rw same.page stood.isdu) (same.link_is ∙ stood.at) (rw same.events stood.quiet)
+        (rw x.far_is sized) in
+        let settled : IsSettled (OutOperate (record { out = None; layouts = layouts })
+        (Some reply)) (sending exchange s) said new =
+        rw (sent_is, well.good) at t.exchange.settled in
+        record {
+          next = wire_of new.link;
+          stood = record {
+            link_is = settled.link;
+            is_honest = (
+              rw t.exchange.both.honesty stood.is_honest.0,
+              rw (turn_asks facts room old said new turn)
+                  (sees_on s.configuration.devices (far wire) (far (wire_of new.link))
+                  (exchange_misses laws.much _ _ _ _ _ _ (t.exchange.passes stood.is_honest.0))
+                  stood.is_honest.1),
+            );
+            is_clean = clean;
+            calm = rw settled.session (absorbed_calm exchange s reply stood.calm channel_is
+                well.event);
+            told = rw settled.session stood.told;
+            operating = inr refl;
+            awake = well.awake;
+            kind_is = well.kind_is;
+            at = well.link_is;
+            isdu = rw (well.page, same.page) stood.isdu;
+            quiet = well.quiet;
+          };
+          message = t.message;
+          for = for;
+          parts = t.parts refl;
+          ready = x.ready;
+          work = x.work;
+          answer = octets_in t.exchange.answer;
+          reply = reply;
+          heard_as = well;
+          session = settled.session;
+          said_is = settled.said_is;
+        }
+
+    pub turned : {c : Current} → old.session.current ≡ Some c → c.abort ≡ None
+        → Turned kind layouts old wire c said new
+    turned {c = c} is abort =
+        let x = exchanged NextMessage (request_due old.session room c stood.calm is abort)
+        (rw is (progress_channel c.progress)) in
         record {
           turn = x;
           head = x.for.head ∙ ap request_head is;
           octets = x.for.octets ∙ ap request_data is;
           current = ap (λ (z : SessionState). z.current) x.session
-              ∙ ap (λ (q : Option Current). current_after NextMessage s.limit x.reply.od.items q)
-              is;
+              ∙ ap (current_after NextMessage old.session.limit x.reply.od.items) is;
           limit = ap (λ (z : SessionState). z.limit) x.session;
           clear = ap (λ (z : SessionState). z.clear) x.session;
-          said_is = subst (λ (q : Option Current). IsSaid NextMessage s.limit x.reply.od.items
-              q said) is x.said_is;
+          said_is = subst (λ (q : Option Current). IsSaid NextMessage old.session.limit
+              x.reply.od.items q said) is x.said_is;
         }

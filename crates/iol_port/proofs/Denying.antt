@@ -1,5 +1,5 @@
 -- What a turn denies: a request that waited, and only where the device has no ISDU.
-use Rattle.std.proofs.Common.{◌≡◌, ◌⊎◌, ◌∷◌, ◌++◌, [], List, Bool, true, false, cond, Option, Some, None, refl, ap, sym, ◌∙◌, subst, inl, inr, arith}
+use Rattle.std.proofs.Common.{◌≡◌, ◌⊎◌, ◌∷◌, ◌++◌, [], List, Bool, true, false, cond, Option, Some, None, refl, ◌∙◌, inl, inr, arith}
 use Rattle.std.proofs.lemmas.Bool.Decides.{nat_tests}
 use Rattle.std.proofs.lemmas.Grind.{common_steps}
 use Rattle.std.specs.Map.{lookup}
@@ -19,10 +19,6 @@ use Rattle.iol_port.specs.View.{Parts, Asks}
 use Rattle.iol_port.proofs.OwnedLists.{ticket_is}
 use Rattle.iol_port.proofs.Replaying.{next_is}
 
--- what was told, by the test on it
-pub none_there : (told : Option Bool) → lacks_isdu told ≡ true → told ≡ Some false
-none_there told e = grind arith
-
 -- the outcome of a ticket, once one is entered
 lookup-entered : (outs : List (Ticket × Outcome)) (t k : Ticket) (o : Outcome)
     → lookup (same_ticket k) (insert_entry same_ticket outs t o)
@@ -40,14 +36,6 @@ said_none : (said : Said) (b : BookState) (k : Ticket)
     → HasNoIsdu (book_through (book_said said) b) k → HasNoIsdu b k
 said_none said b k given = grind (arith, common_steps, posted_none)
 
-through_none : (reset : Bool) (said : Said) (b : BookState) (k : Ticket)
-    → HasNoIsdu (book_through (cond reset (Reset ∷ []) [] ++ book_said said) b) k → HasNoIsdu b k
-through_none reset said b k given = grind (arith, common_steps, said_none)
-
--- without a request that is taken it says nothing to the book
-quiet_said : (said : Said) (b : BookState) → Asks said None → book_through (book_said said) b ≡ b
-quiet_said said b given = grind (arith, common_steps)
-
 module _ {W : Type 0} (old next : Parts W) (mid : BookState) (reset : Bool) (said : Said)
     (asks : Asks said mid.standing.taken)
     (book : next.book.state ≡ book_through (cond reset (Reset ∷ []) [] ++ book_said said) mid)
@@ -56,38 +44,29 @@ module _ {W : Type 0} (old next : Parts W) (mid : BookState) (reset : Bool) (sai
   b = old.book.state
 
   had : HasNoIsdu mid k
-  had = through_none reset said mid k (subst (λ (x : BookState). HasNoIsdu x k) book has)
+  had = let now = rw book at has in grind (arith, common_steps, said_none)
 
-  -- this turn's denial
-  denial : (t : Ticket) (q : Request) → next_taken b.standing ≡ Some (t, q)
-      → old.station.session.isdu ≡ Some false → reset ≡ false → mid ≡ denied b t
-      → IsDenied old next t
-  denial t q head told asleep is =
-      let first = next_is b.standing t q head in
-      let none : mid.standing.taken ≡ None = ap (λ (x : BookState). x.standing.taken) is
-      ∙ first.free in
-      let quiet : book_through (book_said said) mid ≡ mid =
-      quiet_said said mid (subst (λ (o : Option (Ticket × Request)). Asks said o) none asks) in
-      record {
-        told = told;
-        waited = first.waits;
-        free = first.free;
-        book = book ∙ ap (λ (w : Bool). book_through (cond w (Reset ∷ []) [] ++ book_said said)
-            mid) asleep ∙ quiet ∙ is;
-      }
-
+  -- where this turn denied one, it is that of the ticket, or another
   denied_one : (t : Ticket) (q : Request) → next_taken b.standing ≡ Some (t, q)
       → old.station.session.isdu ≡ Some false → reset ≡ false → mid ≡ denied b t
       → HasNoIsdu b k ⊎ IsDenied old next k
   denied_one t q head told asleep is = by (same_ticket t k) refl
     where
       by : (c : Bool) → same_ticket t k ≡ c → HasNoIsdu b k ⊎ IsDenied old next k
-      by true e = inr (subst (λ (x : Ticket). IsDenied old next x) (sym (ticket_is t k e))
-          (denial t q head told asleep is))
+      by true e =
+          let first = next_is b.standing t q head in
+          let none : mid.standing.taken ≡ None = rw is first.free in
+          let quiet : book_through (cond reset (Reset ∷ []) [] ++ book_said said) mid ≡ mid =
+          let asks_none = rw none at asks in rw asleep (grind (arith, common_steps)) in
+          inr (rw (ticket_is t k e) (record {
+            told = told;
+            waited = first.waits;
+            free = first.free;
+            book = book ∙ quiet ∙ is;
+          }))
       by false e =
           let apart : same_ticket k t ≡ false = grind (arith, nat_tests) in
-          inl (rw (lookup-entered b.standing.outcomes t k NoIsdu, apart) at
-          (subst (λ (x : BookState). HasNoIsdu x k) is had))
+          inl (rw (lookup-entered b.standing.outcomes t k NoIsdu, apart) at (rw is at had))
 
   pub turn_denies : (ready : Bool)
       → mid ≡ taken_where ready (lacks_isdu old.station.session.isdu) (next_taken b.standing) b
@@ -99,5 +78,5 @@ module _ {W : Type 0} (old next : Parts W) (mid : BookState) (reset : Bool) (sai
           → ready ≡ r → lacks_isdu old.station.session.isdu ≡ lacks
           → mid ≡ taken_where r lacks head b → HasNoIsdu b k ⊎ IsDenied old next k
       by (Some (t, q)) true true head is_ready told is =
-          denied_one t q head (none_there old.station.session.isdu told) (asleep is_ready) is
-      by _ _ _ head is_ready told is = inl (subst (λ (x : BookState). HasNoIsdu x k) is had)
+          denied_one t q head (grind arith) (asleep is_ready) is
+      by _ _ _ head is_ready told is = inl (rw is at had)

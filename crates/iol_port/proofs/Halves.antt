@@ -1,16 +1,15 @@
 -- the two pieces of a turn, with no call between, are a turn
-use Rattle.std.proofs.Common.{◌≡◌, ◌∷◌, ◌++◌, [], List, ℕ, Bool, not, Option, IsTrue, refl, ap, sym, ◌∙◌, subst, arith}
+use Rattle.std.proofs.Common.{◌≡◌, ◌∷◌, ◌++◌, [], List, Bool, not, Option, IsTrue, refl, ap, sym, ◌∙◌, arith}
 use Rattle.std.specs.List.{list_all, list_any}
 use Rattle.std.proofs.lemmas.Grind.{common_steps}
 use Rattle.std.proofs.lemmas.List.Folds.{list_all-append}
 use Rattle.iol_event.specs.declared.event.Event.{Event}
 use Rattle.iol_book.specs.BookModel.{BookState}
-use Rattle.iol_steps.specs.declared.mode.Mode.{Mode}
-use Rattle.iol_steps.specs.Step.{Step, WireCall, Terms, Moment, clash, is_clash_free, CallFits, silence_by}
+use Rattle.iol_steps.specs.Step.{Step, WireCall, Moment, clash, is_clash_free}
 use Rattle.iol_steps.specs.Session.{Session, MaySessionAll, session_after, session_through}
 use Rattle.iol_steps.specs.FrozenEvents.{Frozen, MayFrozenAll, frozen_through}
 use Rattle.iol_steps.specs.Images.{Images, MayImagesAll, images_after, images_through}
-use Rattle.iol_steps.specs.Turn.{ImageIsLast, OutputIsWanted, is_calm}
+use Rattle.iol_steps.specs.Turn.{is_calm}
 use Rattle.iol_port.specs.Steps.{MayBookAll, book_after, book_through, kept_through}
 use Rattle.iol_port.specs.Run.{Pending, is_sending, is_take, moment_by}
 use Rattle.iol_port.specs.Promises.{HalvesAreTurns}
@@ -20,26 +19,21 @@ use Rattle.iol_port.specs.Promises.{HalvesAreTurns}
 module _ (m : Moment) (ys : List Step) where
   book_both : (xs : List Step) (b : BookState) → MayBookAll xs b
       → MayBookAll ys (book_through xs b)
-      → MayBookAll (xs ++ ys) b × (book_through (xs ++ ys) b
-      ≡ book_through ys (book_through xs b))
+      → MayBookAll (xs ++ ys) b × (book_through (xs ++ ys) b ≡ book_through ys (book_through xs b))
   book_both [] b h k = (k, refl)
-  book_both (x ∷ xs) b h k = let r = book_both xs (book_after x b) h.1 k in ((h.0, r.0), r.1)
+  book_both (x ∷ xs) b h k = grind (arith, book_both xs (book_after x b) h.1 k)
 
   session_both : (xs : List Step) (s : Session) → MaySessionAll m xs s
-      → MaySessionAll m ys (session_through xs s)
-      → MaySessionAll m (xs ++ ys) s
+      → MaySessionAll m ys (session_through xs s) → MaySessionAll m (xs ++ ys) s
       × (session_through (xs ++ ys) s ≡ session_through ys (session_through xs s))
   session_both [] s h k = (k, refl)
-  session_both (x ∷ xs) s h k = let r = session_both xs (session_after x s) h.1 k in
-      ((h.0, r.0), r.1)
+  session_both (x ∷ xs) s h k = grind (arith, session_both xs (session_after x s) h.1 k)
 
   images_both : (xs : List Step) (i : Images) → MayImagesAll m xs i
-      → MayImagesAll m ys (images_through m xs i)
-      → MayImagesAll m (xs ++ ys) i ×
-      (images_through m (xs ++ ys) i ≡ images_through m ys (images_through m xs i))
+      → MayImagesAll m ys (images_through m xs i) → MayImagesAll m (xs ++ ys) i
+      × (images_through m (xs ++ ys) i ≡ images_through m ys (images_through m xs i))
   images_both [] i h k = (k, refl)
-  images_both (x ∷ xs) i h k = let r = images_both xs (images_after m x i) h.1 k in
-      ((h.0, r.0), r.1)
+  images_both (x ∷ xs) i h k = grind (arith, images_both xs (images_after m x i) h.1 k)
 
   -- the first leave the mode, the image, the frozen events and the kept ones
   rest_stays : (xs : List Step) (s : Session) (i : Images) (f : Option Frozen)
@@ -57,15 +51,11 @@ module _ (m : Moment) (ys : List Step) where
 abbrev unsent : Step → Bool
 unsent step = not (is_sending step)
 
-beside_one : (x y : Step) → IsTrue (is_sending x) → IsTrue (unsent y)
-    → (IsTrue (is_take x) → IsTrue (is_calm y)) → IsTrue (not (clash x y))
-beside_one x y h k c = grind (arith, common_steps)
-
 beside_all : (x : Step) (ys : List Step) → IsTrue (is_sending x) → IsTrue (list_all unsent ys)
     → (IsTrue (is_take x) → IsTrue (list_all is_calm ys))
     → IsTrue (list_all (λ y. not (clash x y)) ys)
 beside_all x [] h k c = refl
-beside_all x (y ∷ ys) h k c = grind (arith, common_steps, beside_one x y, beside_all x ys)
+beside_all x (y ∷ ys) h k c = grind (arith, common_steps, beside_all x ys)
 
 clash_free_both : (xs ys : List Step) → IsTrue (list_all is_sending xs)
     → IsTrue (is_clash_free xs) → IsTrue (list_all unsent ys)
@@ -91,62 +81,46 @@ halves_are_turns a m b s r =
     let first : Moment = moment_by a call in
     let same = rest_stays first got s.steps a.session a.images a.frozen a.kept s.only in
     let mode : m.session.mode ≡ a.session.mode = ap (λ (x : Session). x.mode) s.session ∙ same.0 in
-    let at : moment_by m call ≡ first =
-    ap (λ (x : Terms). let k : Moment =
-    record { terms = x; began = m.session.mode; silence = m.silence; call = call } in k) s.terms
-    ∙ ap (λ (x : Mode). let k : Moment =
-    record { terms = a.terms; began = x; silence = m.silence; call = call } in k) mode
-    ∙ ap (λ (x : ℕ). let k : Moment =
-    record { terms = a.terms; began = a.session.mode; silence = x; call = call } in k)
-    s.silence in
+    let same_moment : moment_by m call ≡ first = rw (s.terms, mode, s.silence) refl in
     let out : r.out ≡ record { took = list_any is_take s.steps; wanted = a.images.wanted } =
     let both = sym r.was ∙ s.pending in cc in
-    let book = book_both first got s.steps a.book s.may_book
-    (subst (λ (x : BookState). MayBookAll got x) s.book r.work.may_book) in
+    let book = book_both first got s.steps a.book s.may_book (rw s.book at r.work.may_book) in
     let session = session_both first got s.steps a.session (s.may_session call)
-    (subst (λ (x : Session). MaySessionAll first got x) s.session
-    (subst (λ (k : Moment). MaySessionAll k got m.session) at r.work.may_session)) in
+    (rw (same_moment, s.session) at r.work.may_session) in
     let images = images_both first got s.steps a.images (s.may_images call)
-    (subst (λ (i : Images). MayImagesAll first got i) (s.images call)
-    (subst (λ (k : Moment). MayImagesAll k got m.images) at r.may_images)) in
-    let last : ImageIsLast first b.session.mode m.images b.images =
-    subst (λ (k : Moment). ImageIsLast k b.session.mode m.images b.images) at
-    r.image_is_last in (
+    (rw (same_moment, s.images call) at r.may_images) in
+    let last = rw (mode, s.silence) at r.image_is_last in (
       record { call = call; steps = s.steps ++ got },
       record {
-        fits = subst (λ (k : Mode). CallFits k call) mode r.all.fits;
-        silence = r.all.silence ∙ ap (silence_by call) s.silence;
+        fits = rw mode at r.all.fits;
+        silence = rw s.silence at r.all.silence;
         clash_free = clash_free_both s.steps got s.only s.clash_free r.only
             (λ h. r.calm (ap (λ (p : Pending). p.took) out ∙ h)) r.all.clash_free;
         terms = r.all.terms ∙ s.terms;
       },
       record {
         may_book = book.0;
-        book = r.work.book ∙ ap (book_through got) s.book ∙ sym book.1;
+        book = (rw s.book at r.work.book) ∙ sym book.1;
         may_session = session.0;
-        session = r.work.session ∙ ap (session_through got) s.session ∙ sym session.1;
+        session = (rw s.session at r.work.session) ∙ sym session.1;
         base = r.work.base ∙ s.base;
         down = r.work.down;
       },
       record {
-        may_frozen = same.2 (subst (λ (f : Option Frozen). MayFrozenAll got f) s.frozen
-            r.events.may_frozen);
-        frozen = r.events.frozen ∙ ap (frozen_through got) s.frozen ∙ sym same.3;
-        kept = r.events.kept ∙ ap (kept_through got) s.kept ∙ sym same.4;
+        may_frozen = same.2 (rw s.frozen at r.events.may_frozen);
+        frozen = (rw s.frozen at r.events.frozen) ∙ sym same.3;
+        kept = (rw s.kept at r.events.kept) ∙ sym same.4;
       },
       record {
         may_images = images.0;
-        images = r.images ∙ ap (λ (k : Moment). images_through k got m.images) at
-            ∙ ap (images_through first got) (s.images call) ∙ sym images.1;
+        images = (rw (same_moment, s.images call) at r.images) ∙ sym images.1;
         image_is_last = (
           last.0,
           last.1,
-          λ h up. last.2 h up
-              ∙ ap (λ (i : Images). i.image) (s.images call) ∙ same.1,
+          λ h up. last.2 h up ∙ ap (λ (i : Images). i.image) (s.images call) ∙ same.1,
         );
-        output_is_wanted = λ calm. subst
-            (λ (k : Moment). OutputIsWanted k (record m.images { wanted = r.out.wanted })
-            b.images) at r.output_is_wanted calm ∙ ap (λ (p : Pending). p.wanted) out;
+        output_is_wanted = λ calm. (rw (mode, s.silence) at r.output_is_wanted) calm
+            ∙ ap (λ (p : Pending). p.wanted) out;
       },
       (s.free, r.pending),
     )

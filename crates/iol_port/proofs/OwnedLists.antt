@@ -1,30 +1,35 @@
 -- the ledger of a run: what was carried out, what is to come, and what each step does to them
-use Rattle.std.proofs.Common.{◌≡◌, ◌⊎◌, ◌∷◌, ◌++◌, [], List, ℕ, ◌+◌, Bool, true, false, cond, ◌≤◌, nat_eq, nat_lt, Option, Some, None, append_assoc, refl, ap, sym, ◌∙◌, inl, inr, subst, arith, drop, append-nil}
+use Rattle.std.proofs.Common.{◌≡◌, ◌⊎◌, ◌∷◌, ◌++◌, [], List, ℕ, ◌+◌, Bool, true, false, cond, ◌≤◌, nat_eq, nat_lt, Option, Some, None, append_assoc, refl, ap, sym, ◌∙◌, subst, arith, append-nil}
 use Rattle.std.proofs.Math.Nat.{lt_of_not-le}
 use Rattle.std.proofs.lemmas.Bool.{eq-eqb}
 use Rattle.std.proofs.lemmas.Bool.Decides.{nat_tests}
 use Rattle.std.proofs.lemmas.Grind.{common_steps}
 use Rattle.std.proofs.lemmas.List.{map-append}
-use Rattle.std.specs.Prelude.{IsTrue, IsSome}
+use Rattle.std.specs.Prelude.{IsTrue}
 use Rattle.std.specs.Map.{remove_entry, lookup}
 use Rattle.indexmap.specs.IndexMap.{insert_entry}
 use Rattle.iol_isdu.specs.declared.values.Request.{Request}
 use Rattle.iol_far.specs.declared.carried.Carried.{Carried}
 use Rattle.iol_book.specs.declared.entries.Ticket.{Ticket}
-use Rattle.iol_book.specs.Replay.{Standing, same_ticket, without, others_without}
-use Rattle.iol_book.specs.BookModel.{next_taken, others_behind, BookState, took, denied, posted, leaves_unsure, ended_with}
+use Rattle.iol_book.specs.Replay.{Standing, same_ticket, request_waiting, without, without_waiting}
+use Rattle.iol_book.specs.BookModel.{next_taken, BookState, without_first, posted, leaves_unsure, ended_with}
 use Rattle.iol_book.specs.Takings.{Allowance, IsToldAs}
+use Rattle.iol_port.specs.declared.call.Call.TheVariants as call
+use Rattle.iol_port.specs.declared.call.Answered.{Answered}
+use Rattle.iol_port.specs.declared.call.Answered.TheVariants as answered
+use Rattle.iol_port.specs.Run.{Piece, Whole}
+use Rattle.iol_far.specs.Level.{grown_by}
 use Rattle.iol_port.specs.Steps.{ticket_of, MayBook, book_after}
 use Rattle.iol_port.specs.Owned.{Owned, pairs_of, AreApart, IsOneOf, IsLastOf}
-use Rattle.iol_port.proofs.Replaying.{Allows, told_for}
-use Rattle.iol_port.proofs.Apart.{all_both, all_one, all_push, last_first, last_push, IsReady, ready_none, ready_push, apart_push}
+use Rattle.iol_port.proofs.Replaying.{Allows, told_for, next_is, next_ticket_is}
+use Rattle.iol_port.proofs.Apart.{all_both, all_one, last_first, last_push, IsReady, ready_none, ready_push, apart_push}
 use Rattle.iol_isdu.specs.declared.values.Answer.{Answer}
 use Rattle.iol_isdu.specs.declared.values.Cause.{Cause}
 use Rattle.iol_isdu.specs.declared.values.Cause.TheVariants.{LinkLost, Restarted}
 use Rattle.iol_book.specs.declared.entries.Outcome.{Outcome}
 use Rattle.iol_book.specs.declared.entries.Outcome.TheVariants as outcome
-use Rattle.iol_steps.specs.Step.{Step, Take, Deny, Carry, Again, Done, Unknown, LateCarry, Reset, Busy, Terms, Moment}
-use Rattle.iol_steps.specs.Session.{Job, Session, MayTell, MaySession, session_after, carried_out, carried_late, cut_for, left_of, unanswered, taken_back, marked, busy_once_more}
+use Rattle.iol_steps.specs.Step.{Step, Take, Deny, Carry, Again, Done, Unknown, LateCarry, Reset, Busy, Moment}
+use Rattle.iol_steps.specs.Session.{Job, Session, MaySession, session_after, carried_out, carried_late, cut_for, left_of, unanswered}
 
 -- Numbers
 
@@ -40,60 +45,43 @@ counted_itself n = rw (eq-eqb n n refl) refl
 pub ahead : ℕ → ℕ → ℕ
 ahead last n = cond (nat_lt last n) 1 0
 
-pub ahead_once : (last n : ℕ) → ahead last n ≤ 1
+pub ahead_given : (last n : ℕ) → (ahead last n ≤ 1) × (n ≤ last → ahead last n ≡ 0)
 unfolding ahead
-ahead_once last n = grind (arith, nat_tests)
-
-pub ahead_given : (last n : ℕ) → n ≤ last → ahead last n ≡ 0
-unfolding ahead
-ahead_given last n less = grind (arith, nat_tests)
+ahead_given last n = grind (arith, nat_tests)
 
 pub ahead_next : (last n : ℕ) → ahead last n ≡ counted n (last + 1) + ahead (last + 1) n
 unfolding ahead counted
 ahead_next last n = grind (arith, nat_tests)
 
--- how often a number stands in a list
-abbrev pub times : {X : Type 0} → (X → ℕ) → ℕ → List X → ℕ
-times number n [] = 0
-times number n (x ∷ xs) = counted n (number x) + times number n xs
-
-times_both : {X : Type 0} (number : X → ℕ) (n : ℕ) (xs ys : List X)
-    → times number n (xs ++ ys) ≡ times number n xs + times number n ys
-times_both number n [] ys = omega arith
-times_both number n (x ∷ xs) ys = omega (arith, times_both number n xs ys)
-
 -- The requests that wait
 
+-- how often a number stands among them
 abbrev pub waiting_times : ℕ → List (Ticket × Request) → ℕ
-waiting_times n ws = times (λ w. w.0.0) n ws
+waiting_times n [] = 0
+waiting_times n (w ∷ ws) = counted n w.0.0 + waiting_times n ws
 
 pub waiting_push : (n : ℕ) (ws : List (Ticket × Request)) (w : Ticket × Request)
     → waiting_times n (ws ++ w ∷ []) ≡ waiting_times n ws + counted n w.0.0
-waiting_push n ws w = omega (arith, times_both (λ v. v.0.0) n ws (w ∷ []))
+waiting_push n [] w = omega arith
+waiting_push n (v ∷ ws) w = omega (arith, waiting_push n ws w)
 
-waiting_rest : (n : ℕ) (ws : List (Ticket × Request))
-    → waiting_times n (drop 1 ws) ≤ waiting_times n ws
-waiting_rest n ws = grind (arith, common_steps)
-
-waiting_behind : (n : ℕ) (us ws : List (Ticket × Request))
-    → waiting_times n (others_behind us ws) ≤ waiting_times n ws
-waiting_behind n us ws = grind (arith, common_steps)
-
-pub waiting_without : (n : ℕ) (t : Ticket) (ws : List (Ticket × Request))
+waiting_without : (n : ℕ) (t : Ticket) (ws : List (Ticket × Request))
     → waiting_times n (without t ws) ≤ waiting_times n ws
 waiting_without n t [] = omega arith
 waiting_without n t (w ∷ ws) = grind (arith, common_steps, waiting_without n t ws)
 
-pub waiting_others : (n : ℕ) (t : Ticket) (us ws : List (Ticket × Request))
-    → waiting_times n (others_without t us ws) ≤ waiting_times n ws
-waiting_others n t us ws = grind (arith, waiting_without n t ws)
+abbrev waiting_in : ℕ → Standing → ℕ
+waiting_in n s = waiting_times n s.urgent + waiting_times n s.waiting
+
+waiting_left : (n : ℕ) (t : Ticket) (s : Standing)
+    → waiting_in n (without_waiting s t) ≤ waiting_in n s
+waiting_left n t s = grind (arith, waiting_without n t s.urgent, waiting_without n t s.waiting)
 
 -- the request that is taken next leaves the list that it heads
-waiting_next : (n : ℕ) (s : Standing) (p : Ticket × Request) → next_taken s ≡ Some p
-    → waiting_times n s.urgent + waiting_times n s.waiting
-    ≡ counted n p.0.0 + waiting_times n (drop 1 s.urgent) + waiting_times n
-    (others_behind s.urgent s.waiting)
-waiting_next n s p h = grind (arith, common_steps)
+waiting_next : (n : ℕ) (s : Standing) (t : Ticket) (q : Request) → next_taken s ≡ Some (t, q)
+    → waiting_in n s ≡ counted n t.0 + waiting_in n (without_waiting s t)
+waiting_next n s t q next =
+    let is = next_is s t q next in rw (← is.urgent, ← is.others) (grind (arith, common_steps))
 
 -- What is said of each element of a list
 
@@ -106,39 +94,22 @@ pub each_removed : {K X : Type 0} (P : K → X → Type 0) (test : K → Bool) (
 each_removed P test [] each = tt
 each_removed P test (e ∷ es) each = grind (arith, each_removed P test es)
 
-each_more : {K X : Type 0} (P Q : K → X → Type 0) (es : List (K × X))
+each_more : {K X : Type 0} {P Q : K → X → Type 0} (es : List (K × X))
     → ((k : K) (x : X) → P k x → Q k x) → Each P es → Each Q es
-each_more P Q [] more each = tt
-each_more P Q (e ∷ es) more each = (more e.0 e.1 each.0, each_more P Q es more each.1)
+each_more [] more each = tt
+each_more (e ∷ es) more each = (more e.0 e.1 each.0, each_more es more each.1)
 
 pub each_push : {K X : Type 0} (P : K → X → Type 0) (es : List (K × X)) (k : K) (x : X) → P k x
     → Each P es → Each P (es ++ (k, x) ∷ [])
 each_push P [] k x this each = (this, tt)
 each_push P (e ∷ es) k x this each = (each.0, each_push P es k x this each.1)
 
-each_rest : (P : Ticket → Request → Type 0) (es : List (Ticket × Request)) → Each P es
-    → Each P (drop 1 es)
-each_rest P es each = grind (arith, common_steps)
+abbrev pub EachWaits : (Ticket → Request → Type 0) → Standing → Type 0
+EachWaits P s = Each P s.urgent × Each P s.waiting
 
-each_behind : (P : Ticket → Request → Type 0) (us ws : List (Ticket × Request)) → Each P ws
-    → Each P (others_behind us ws)
-each_behind P us ws each = grind (arith, common_steps)
-
-pub each_others : (P : Ticket → Request → Type 0) (t : Ticket) (us ws : List (Ticket × Request))
-    → Each P ws → Each P (others_without t us ws)
-each_others P t us ws each = grind (arith, each_removed P (same_ticket t) ws)
-
-each_next : (P : Ticket → Request → Type 0) (s : Standing) (p : Ticket × Request)
-    → next_taken s ≡ Some p → Each P s.urgent → Each P s.waiting → P p.0 p.1
-each_next P s p h urgent waiting = by s.taken s.urgent s.waiting h urgent waiting
-  where
-    by : (taken : Option (Ticket × Request)) (us ws : List (Ticket × Request))
-        → next_taken (record s { urgent = us; waiting = ws; taken = taken }) ≡ Some p
-        → Each P us → Each P ws → P p.0 p.1
-    by (Some taken) us ws h urgent waiting = absurd (cc)
-    by None [] [] h urgent waiting = absurd (cc)
-    by None [] (w ∷ ws) h urgent waiting = grind (arith, common_steps)
-    by None (u ∷ us) ws h urgent waiting = grind (arith, common_steps)
+each_left : (P : Ticket → Request → Type 0) (t : Ticket) (s : Standing) → EachWaits P s
+    → EachWaits P (without_waiting s t)
+each_left P t s each = grind (arith, each_removed P (same_ticket t))
 
 -- the ticket of that number
 pub ticket_is : (t k : Ticket) → same_ticket t k ≡ true → k ≡ t
@@ -156,13 +127,11 @@ pub each_looked : {X : Type 0} (P : Ticket → X → Type 0) (es : List (Ticket 
 each_looked P [] t x e each = absurd (cc)
 each_looked P (entry ∷ es) t x e each = grind (arith, common_steps, ticket_is, each_looked P es t x)
 
--- What was carried out
-
-record_push : (before carried : List Carried) (owned : List Owned) (o : Owned)
-    → carried ≡ before ++ pairs_of owned
-    → carried ++ record { request = o.request; answer = o.answer } ∷ [] ≡ before
-    ++ pairs_of (owned ++ o ∷ [])
-record_push before carried owned o is = simp (is, map-append, append_assoc)
+each_next : (P : Ticket → Request → Type 0) (s : Standing) (t : Ticket) (q : Request)
+    → next_taken s ≡ Some (t, q) → EachWaits P s → P t q
+each_next P s t q next each =
+    let found : request_waiting s t ≡ Some q = (next_is s t q next).found in
+    grind (arith, common_steps, each_looked P s.urgent t q, each_looked P s.waiting t q)
 
 -- The ledger of a run: what was carried out, and how often a number stands among what is to come,
 -- in it among what was never under way, and as the late request. Each number that the
@@ -185,10 +154,10 @@ pub record Grows (x y : Tally) : Type 0 where
   pub used : (o : Owned) → IsOneOf o added → y.fresh o.ticket.0 ≡ 0
 
 -- where nothing is carried out
-grows_none : (x y : Tally) → y.owned ≡ x.owned → ((n : ℕ) → y.fresh n ≤ x.fresh n)
+grows_none : {x y : Tally} → y.owned ≡ x.owned → ((n : ℕ) → y.fresh n ≤ x.fresh n)
     → ((n : ℕ) → y.coming n ≤ x.coming n)
     → ((n : ℕ) → y.late n + y.coming n ≤ x.late n + x.coming n) → Grows x y
-grows_none x y same fewer less both = record {
+grows_none {x} same fewer less both = record {
   added = [];
   owned_is = same ∙ sym (append-nil x.owned);
   fewer = fewer;
@@ -198,23 +167,19 @@ grows_none x y same fewer less both = record {
   used = λ o i. absurd i;
 }
 
--- as where nothing is to come or late that was not
-grows_less : (x y : Tally) → y.owned ≡ x.owned → ((n : ℕ) → y.fresh n ≤ x.fresh n)
-    → ((n : ℕ) → y.coming n ≤ x.coming n) → ((n : ℕ) → y.late n ≤ x.late n) → Grows x y
-grows_less x y same fewer less late =
-    grows_none x y same fewer less (λ n. omega (arith, less n, late n))
+pub grows_itself : {x : Tally} → Grows x x
+grows_itself = grows_none refl (λ n. omega arith) (λ n. omega arith) (λ n. omega arith)
 
-pub grows_then : (x y z : Tally) → Grows x y → Grows y z → Grows x z
-grows_then x y z one more = record {
+pub grows_then : {x y z : Tally} → Grows x y → Grows y z → Grows x z
+grows_then {x} one more = record {
   added = one.added ++ more.added;
-  owned_is = more.owned_is ∙ ap (λ (os : List Owned). os ++ more.added) one.owned_is
-      ∙ append_assoc x.owned one.added more.added;
+  owned_is = more.owned_is ∙ simp (one.owned_is, append_assoc);
   fewer = λ n. omega (arith, one.fewer n, more.fewer n);
   less = λ n. omega (arith, one.less n, more.less n);
   both = λ n. omega (arith, one.both n, more.both n);
-  was = all_both (λ o. 1 ≤ x.late o.ticket.0 + x.coming o.ticket.0) one.added more.added
-      one.was (λ o i. omega (arith, more.was o i, one.both o.ticket.0));
-  used = all_both (λ o. z.fresh o.ticket.0 ≡ 0) one.added more.added
+  was = all_both one.added more.added one.was
+      (λ o i. omega (arith, more.was o i, one.both o.ticket.0));
+  used = all_both one.added more.added
       (λ o i. omega (arith, one.used o i, more.fewer o.ticket.0)) more.used;
 }
 
@@ -225,12 +190,11 @@ pub record IsOnce (given : ℕ) (x : Tally) : Type 0 where
   pub above : (n : ℕ) → n ≤ given → x.late n + x.coming n ≡ 0
   pub used : (o : Owned) → IsOneOf o x.owned → x.fresh o.ticket.0 ≡ 0
 
-once_then : (given : ℕ) (x y : Tally) → Grows x y → IsOnce given x → IsOnce given y
-once_then given x y grows is = record {
+once_then : {given : ℕ} {x y : Tally} → Grows x y → IsOnce given x → IsOnce given y
+once_then {x = x} grows is = record {
   once = λ n. omega (arith, is.once n, grows.both n);
   above = λ n low. omega (arith, is.above n low, grows.both n);
-  used = subst (λ (os : List Owned). (o : Owned) → IsOneOf o os → y.fresh o.ticket.0 ≡ 0)
-      (sym grows.owned_is) (all_both (λ o. y.fresh o.ticket.0 ≡ 0) x.owned grows.added
+  used = rw grows.owned_is (all_both x.owned grows.added
       (λ o i. omega (arith, is.used o i, grows.fewer o.ticket.0)) grows.used);
 }
 
@@ -248,32 +212,15 @@ OutcomeStands misreads x t (outcome.Unknown cause) = (x.coming t.0 ≡ 0)
 OutcomeStands misreads x t outcome.Withdrawn = Unit {0}
 OutcomeStands misreads x t outcome.NoIsdu = Unit {0}
 
-pub outcome_then : (misreads : Bool) (x y : Tally) → Grows x y → (t : Ticket) (out : Outcome)
+pub outcome_then : (misreads : Bool) {x y : Tally} → Grows x y → (t : Ticket) (out : Outcome)
     → OutcomeStands misreads x t out → OutcomeStands misreads y t out
-outcome_then misreads x y grows t (outcome.Done a) ((o, last, same, answered), none) = (
-  (
-    o,
-    subst (IsLastOf o) (sym grows.owned_is) (last_first o x.owned grows.added
-        (λ p i is. omega (
-          arith,
-          none,
-          subst (λ (k : Ticket). 1 ≤ x.late k.0 + x.coming k.0) (is ∙ same) (grows.was p i),
-        ))
-        last),
-    same,
-    answered,
-  ),
-  omega (arith, none, grows.both t.0),
-)
-outcome_then misreads x y grows t (outcome.Unknown cause) (none, sure) =
+outcome_then misreads {x} grows t (outcome.Done a) ((o, last, same, answered), none) =
+    let later = last_first o x.owned grows.added
+    (λ p i is. omega (arith, none, rw (is ∙ same) at (grows.was p i))) last in
+    ((o, rw grows.owned_is later, same, answered), omega (arith, none, grows.both t.0))
+outcome_then misreads grows t (outcome.Unknown cause) (none, sure) =
     (omega (arith, grows.less t.0, none), λ good. omega (arith, grows.both t.0, sure good, none))
-outcome_then misreads x y grows t _ stands = tt
-
-outcomes_then : (misreads : Bool) (x y : Tally) → Grows x y → (es : List (Ticket × Outcome))
-    → Each (OutcomeStands misreads x) es → Each (OutcomeStands misreads y) es
-outcomes_then misreads x y grows es each =
-    each_more (OutcomeStands misreads x) (OutcomeStands misreads y) es
-    (outcome_then misreads x y grows) each
+outcome_then misreads grows t _ stands = tt
 
 -- The request under way, and the late one
 
@@ -282,471 +229,350 @@ abbrev pub sent_of : Option Job → Option (Request × Option Answer)
 sent_of None = None
 sent_of (Some job) = Some (job.request, job.answer)
 
-busy_sent : (job : Option Job) → sent_of (busy_once_more job) ≡ sent_of job
-busy_sent job = grind (arith, common_steps)
+-- the one that is taken may yet be carried out, for the first time or once more
+abbrev taken_times : ℕ → Option (Ticket × Request) → ℕ
+taken_times n None = 0
+taken_times n (Some p) = counted n p.0.0
 
-pub marked_sent : (job : Option Job) → sent_of (marked job) ≡ sent_of job
-marked_sent job = grind (arith, common_steps)
-
--- it may yet be carried out, for the first time or once more
-abbrev pub open_times : ℕ → Option (Request × Option Answer) → Option (Ticket × Request) → ℕ
+abbrev open_times : ℕ → Option (Request × Option Answer) → Option (Ticket × Request) → ℕ
 open_times n None taken = 0
-open_times n (Some sent) None = 0
-open_times n (Some sent) (Some p) = counted n p.0.0
+open_times n (Some sent) taken = taken_times n taken
 
 -- and so may the late one, under this ticket
-abbrev pub late_times : ℕ → Ticket → Option Request → ℕ
+abbrev late_times : ℕ → Ticket → Option Request → ℕ
 late_times n t None = 0
 late_times n t (Some q) = counted n t.0
 
 -- those that were never under way: they wait, or aren't given yet
 abbrev fresh_times : ℕ → Standing → ℕ → ℕ
-fresh_times n standing last =
-    ahead last n + waiting_times n standing.urgent + waiting_times n standing.waiting
+fresh_times n standing last = ahead last n + waiting_in n standing
 
--- the ledger, where the late request has this ticket
-abbrev pub tally_of : List Owned → Ticket → Option Request → Option (Request × Option Answer)
-    → Standing → ℕ → Tally
-tally_of owned t late sent standing last = record {
-  owned = owned;
-  fresh = λ n. fresh_times n standing last;
-  coming = λ n. fresh_times n standing last + open_times n sent standing.taken;
-  late = λ n. late_times n t late;
+-- What a ledger is of: the record, the late request, the one under way, and what the book has
+pub record Place : Type 0 where
+  pub carried : List Carried
+  pub late : Option Request
+  pub sent : Option (Request × Option Answer)
+  pub standing : Standing
+  pub last : ℕ
+
+abbrev pub place_of : BookState → Session → Place
+place_of b s = record {
+  carried = s.carried;
+  late = s.late;
+  sent = sent_of s.job;
+  standing = b.standing;
+  last = b.last;
 }
 
-abbrev pub tally_in : List Owned → Ticket → BookState → Session → Tally
-tally_in owned t b s = tally_of owned t s.late (sent_of s.job) b.standing b.last
+-- the ledger, where the late request has this ticket
+abbrev pub tally_of : List Owned → Ticket → Place → Tally
+tally_of owned t p = record {
+  owned = owned;
+  fresh = λ n. fresh_times n p.standing p.last;
+  coming = λ n. fresh_times n p.standing p.last + open_times n p.sent p.standing.taken;
+  late = λ n. late_times n t p.late;
+}
 
-late_of_unanswered : (n : ℕ) (answer : Option Answer) (t : Ticket) (q : Request)
-    → late_times n t (unanswered answer q) ≤ counted n t.0
-late_of_unanswered n answer t q = grind (arith, common_steps)
+-- What a run begins with: what its record may have by the device, the last ticket given before, and
+-- the record; and what happens in it
+pub record Origin : Type 1 where
+  pub allowance : Allowance
+  pub given : ℕ
+  pub before : List Carried
+  pub Happened : Piece → Answered → Type 0
 
-module _ (allowance : Allowance) (given : ℕ) (before : List Carried) (Asked : Ticket
-    → Request → Type 0) where
-  -- without an answer it may be carried out next; with one, if it may be so more than once
-  abbrev pub AnswerFits : Request → List Owned → Ticket → Option Answer → Type 0
-  AnswerFits q owned t None = IsReady allowance.repeats t owned
-  AnswerFits q owned t (Some a) = HasAnswer false owned t a
-      × (IsTrue (allowance.repeats q) → IsReady allowance.repeats t owned)
+abbrev pub Asked : Origin → Ticket → Request → Type 0
+Asked r t q = r.Happened (Whole (call.Submit q)) (answered.Ticket t)
+    ⊎ r.Happened (Whole (call.SubmitUrgent q)) (answered.Ticket t)
 
-  pub record UnderWay (q : Request) (answer : Option Answer) (taken : Option (Ticket × Request))
-      (owned : List Owned) : Type 0 where
-    pub ticket : Ticket
-    pub taken_is : taken ≡ Some (ticket, q)
-    pub asked : Asked ticket q
-    pub answered : AnswerFits q owned ticket answer
+-- without an answer it may be carried out next; with one, if it may be so more than once
+abbrev AnswerFits : Allowance → Request → List Owned → Ticket → Option Answer → Type 0
+AnswerFits allowance q owned t None = IsReady allowance.repeats t owned
+AnswerFits allowance q owned t (Some a) = HasAnswer false owned t a
+    × (IsTrue (allowance.repeats q) → IsReady allowance.repeats t owned)
 
-  abbrev pub Fits : Option (Request × Option Answer) → Option (Ticket × Request) → List Owned
-      → Type 0
-  Fits None taken owned = Unit {0}
-  Fits (Some sent) taken owned = UnderWay sent.0 sent.1 taken owned
+pub record UnderWay (r : Origin) (q : Request) (taken : Option (Ticket × Request)) : Type 0 where
+  pub ticket : Ticket
+  pub taken_is : taken ≡ Some (ticket, q)
+  pub asked : Asked r ticket q
 
-  abbrev pub LateFits : List Owned → Ticket → Option Request → Type 0
-  LateFits owned t None = Unit {0}
-  LateFits owned t (Some q) = Asked t q × IsReady allowance.repeats t owned
+-- the request under way, and the late one: where there is the one, there isn't the other
+abbrev pub Open : Origin → List Owned → Ticket → Option (Request × Option Answer) → Option Request
+    → Option (Ticket × Request) → Type 0
+Open r owned u (Some (q, answer)) late taken = (way : UnderWay r q taken)
+    × AnswerFits r.allowance q owned way.ticket answer × (late ≡ None)
+Open r owned u None (Some q) taken = Asked r u q × IsReady r.allowance.repeats u owned
+Open r owned u None None taken = Unit {0}
 
-  -- the ledger is that of the record, the session and the book
-  pub record Owns (owned : List Owned) (ticket : Ticket) (carried : List Carried)
-      (late : Option Request) (sent : Option (Request × Option Answer)) (standing : Standing)
-      (last : ℕ) : Type 0 where
-    pub record_is : carried ≡ before ++ pairs_of owned
-    pub once : IsOnce given (tally_of owned ticket late sent standing last)
-    pub apart : AreApart allowance.repeats given owned
-    pub asked : (o : Owned) → IsOneOf o owned → Asked o.ticket o.request
-    pub urgent : Each Asked standing.urgent
-    pub waiting : Each Asked standing.waiting
-    pub under_way : Fits sent standing.taken owned
-    pub late_fits : LateFits owned ticket late
-    -- where a request is under way, none is late
-    pub one_open : (sent ≡ None) ⊎ (late ≡ None)
-    pub outcomes : Each (OutcomeStands allowance.misreads
-        (tally_of owned ticket late sent standing last))
-        standing.outcomes
+pub record Carries (r : Origin) (owned : List Owned) (carried : List Carried) : Type 0 where
+  pub record_is : carried ≡ r.before ++ pairs_of owned
+  pub apart : AreApart r.allowance.repeats r.given owned
+  pub asked : (o : Owned) → IsOneOf o owned → Asked r o.ticket o.request
 
-  abbrev pub OwnsAll : List Owned → Ticket → BookState → Session → Type 0
-  OwnsAll owned t b s = Owns owned t s.carried s.late (sent_of s.job) b.standing b.last
+-- the ledger is that of the place
+pub record Owns (r : Origin) (p : Place) : Type 0 where
+  pub owned : List Owned
+  pub ticket : Ticket
+  pub carries : Carries r owned p.carried
+  pub once : IsOnce r.given (tally_of owned ticket p)
+  pub waiting : EachWaits (Asked r) p.standing
+  pub opens : Open r owned ticket p.sent p.late p.standing.taken
+  pub outcomes : Each (OutcomeStands r.allowance.misreads (tally_of owned ticket p))
+      p.standing.outcomes
 
-  -- some more is carried out, from a ledger on
-  pub record Goes (x : Tally) (carried : List Carried) (late : Option Request)
-      (sent : Option (Request × Option Answer)) (standing : Standing) (last : ℕ) : Type 0 where
-    pub owned : List Owned
-    pub ticket : Ticket
-    pub owns : Owns owned ticket carried late sent standing last
-    pub grows : Grows x (tally_of owned ticket late sent standing last)
+abbrev pub tally : {r : Origin} {p : Place} → Owns r p → Tally
+tally {r} {p} owns = tally_of owns.owned owns.ticket p
 
-  abbrev pub GoesTo : Tally → BookState → Session → Type 0
-  GoesTo x b s = Goes x s.carried s.late (sent_of s.job) b.standing b.last
+-- some more is carried out, from a ledger on
+pub record Goes (r : Origin) (x : Tally) (p : Place) : Type 0 where
+  pub owns : Owns r p
+  pub grows : Grows x (tally owns)
 
-  -- one after the other
-  unfoldable pub goes_then : (x : Tally) (mid : BookState) (through : Session) (b : BookState)
-      (s : Session) (one : GoesTo x mid through)
-      → GoesTo (tally_in one.owned one.ticket mid through) b s → GoesTo x b s
-  goes_then x mid through b s one more = record {
-    owned = more.owned;
-    ticket = more.ticket;
-    owns = more.owns;
-    grows = grows_then x (tally_in one.owned one.ticket mid through)
-        (tally_in more.owned more.ticket b s) one.grows more.grows;
-  }
+-- one after the other
+abbrev pub goes_then : {r : Origin} {x : Tally} {p q : Place} (one : Goes r x p)
+    → Goes r (tally one.owns) q → Goes r x q
+goes_then one more = record { owns = more.owns; grows = grows_then one.grows more.grows }
 
-  -- a ledger goes on: nothing stands in it twice
-  goes_by : (x : Tally) (owned : List Owned) (u : Ticket) {carried : List Carried}
-      {late : Option Request} {sent : Option (Request × Option Answer)} {standing : Standing}
-      {last : ℕ}
-      → IsOnce given x → Grows x (tally_of owned u late sent standing last)
-      → carried ≡ before ++ pairs_of owned → AreApart allowance.repeats given owned
-      → ((o : Owned) → IsOneOf o owned → Asked o.ticket o.request)
-      → Each Asked standing.urgent → Each Asked standing.waiting
-      → Fits sent standing.taken owned → LateFits owned u late → (sent ≡ None) ⊎ (late ≡ None)
-      → Each (OutcomeStands allowance.misreads (tally_of owned u late sent standing last))
-      standing.outcomes
-      → Goes x carried late sent standing last
-  goes_by x owned u once grows record_is apart asked urgent waiting under_way late_fits
-      one_open outcomes =
-      record {
-        owned = owned;
-        ticket = u;
-        grows = grows;
-        owns = record {
-          record_is = record_is;
-          once = once_then given x _ grows once;
-          apart = apart;
-          asked = asked;
-          urgent = urgent;
-          waiting = waiting;
-          under_way = under_way;
-          late_fits = late_fits;
-          one_open = one_open;
-          outcomes = outcomes;
-        };
-      }
+-- The steps
 
-  -- Where one is carried out that was under way or late, and may be the next
-  module _ (x : Tally) (o : Owned) (once : IsOnce given x)
-      (was : 1 ≤ x.late o.ticket.0 + x.coming o.ticket.0) where
-    grows_one : (y : Tally) → y.owned ≡ x.owned ++ o ∷ [] → ((n : ℕ) → y.fresh n ≤ x.fresh n)
-        → ((n : ℕ) → y.coming n ≤ x.coming n) → ((n : ℕ) → y.late n ≤ x.late n)
-        → y.fresh o.ticket.0 ≡ 0 → Grows x y
-    grows_one y is fewer less late used = record {
-      added = o ∷ [];
-      owned_is = is;
-      fewer = fewer;
-      less = less;
-      both = λ n. omega (arith, less n, late n);
-      was = all_one (λ p. 1 ≤ x.late p.ticket.0 + x.coming p.ticket.0) o was;
-      used = all_one (λ p. y.fresh p.ticket.0 ≡ 0) o used;
-    }
-
-    apart_one : IsReady allowance.repeats o.ticket x.owned
-        → AreApart allowance.repeats given x.owned
-        → AreApart allowance.repeats given (x.owned ++ o ∷ [])
-    apart_one ready apart = apart_push allowance.repeats given o x.owned
-        (lt_of_not-le (λ low. omega (arith, was, once.above o.ticket.0 low))) ready apart
-
-  -- The steps
-
-  module _ (b : BookState) (s : Session) (owned : List Owned) (u : Ticket)
-      (owns : OwnsAll owned u b s) where
-    abbrev ledger : Tally
-    ledger = tally_in owned u b s
-
-    -- nothing more is carried out
-    pub still : GoesTo ledger b s
-    still = record {
+module _ {r : Origin} {p : Place} (owns : Owns r p) where
+  -- nothing stands in the ledger twice
+  goes_by : {q : Place} {owned : List Owned} (u : Ticket) → Carries r owned q.carried
+      → Grows (tally owns) (tally_of owned u q) → EachWaits (Asked r) q.standing
+      → Open r owned u q.sent q.late q.standing.taken
+      → (Grows (tally owns) (tally_of owned u q)
+      → Each (OutcomeStands r.allowance.misreads (tally_of owned u q)) q.standing.outcomes)
+      → Goes r (tally owns) q
+  goes_by {owned = owned} u carries grows waiting opens outcomes = record {
+    grows = grows;
+    owns = record {
       owned = owned;
       ticket = u;
-      owns = owns;
-      grows = grows_less ledger ledger refl (λ n. omega arith) (λ n. omega arith)
-          (λ n. omega arith);
+      carries = carries;
+      once = once_then grows owns.once;
+      waiting = waiting;
+      opens = opens;
+      outcomes = outcomes grows;
+    };
+  }
+
+  outcomes_go : {y : Tally} → Grows (tally owns) y
+      → Each (OutcomeStands r.allowance.misreads y) p.standing.outcomes
+  outcomes_go grows =
+      each_more p.standing.outcomes (outcome_then r.allowance.misreads grows) owns.outcomes
+
+  -- one is carried out that was under way or late, and may be the next
+  module _ (o : Owned)
+      (was : 1 ≤ (tally owns).late o.ticket.0 + (tally owns).coming o.ticket.0) where
+    grows_one : (tally owns).fresh o.ticket.0 ≡ 0
+        → Grows (tally owns) (record (tally owns) { owned = owns.owned ++ o ∷ [] })
+    grows_one used = record {
+      added = o ∷ [];
+      owned_is = refl;
+      fewer = λ n. omega arith;
+      less = λ n. omega arith;
+      both = λ n. omega arith;
+      was = all_one _ o was;
+      used = all_one _ o used;
     }
 
-    take_owns : (t : Ticket) (q : Request) → next_taken b.standing ≡ Some (t, q)
-        → s.late ≡ None → Goes ledger s.carried s.late (Some (q, None)) (took b (t, q)).standing
-        b.last
-    take_owns t q next none_late =
-        let grows : Grows ledger (tally_of owned u s.late (Some (q, None))
-        (took b (t, q)).standing b.last) =
-        grows_less ledger _ refl (λ n. omega (arith, waiting_next n b.standing (t, q) next))
-        (λ n. omega (arith, waiting_next n b.standing (t, q) next)) (λ n. omega arith) in
-        goes_by ledger owned u owns.once grows owns.record_is owns.apart owns.asked
-        (each_rest Asked b.standing.urgent owns.urgent)
-        (each_behind Asked b.standing.urgent b.standing.waiting owns.waiting)
-        (record {
+    carries_one : IsReady r.allowance.repeats o.ticket owns.owned → Asked r o.ticket o.request
+        → Carries r (owns.owned ++ o ∷ []) (grown_by p.carried o.request o.answer)
+    carries_one ready asked = record {
+      record_is = simp (owns.carries.record_is, map-append, append_assoc);
+      apart = apart_push r.allowance.repeats r.given o owns.owned
+          (lt_of_not-le (λ low. omega (arith, was, owns.once.above o.ticket.0 low))) ready
+          owns.carries.apart;
+      asked = all_both owns.owned (o ∷ []) owns.carries.asked (all_one _ o asked);
+    }
+
+  -- nothing more is carried out
+  pub still : Goes r (tally owns) p
+  still = record { owns = owns; grows = grows_itself }
+
+  take_owns : (t : Ticket) (q : Request) → next_taken p.standing ≡ Some (t, q) → p.late ≡ None
+      → Goes r (tally owns) (record p {
+        sent = Some (q, None);
+        standing = record (without_first p.standing) { taken = Some (t, q) };
+      })
+  take_owns t q next none_late =
+      let is = next_is p.standing t q next in
+      let rest = λ (n : ℕ). waiting_next n p.standing t q next in
+      rw (is.urgent, is.others) (goes_by owns.ticket owns.carries
+      (grows_none refl (λ n. omega (arith, rest n)) (λ n. omega (arith, rest n))
+      (λ n. omega (arith, rest n))) (each_left (Asked r) t p.standing owns.waiting) (
+        record {
           ticket = t;
           taken_is = refl;
-          asked = each_next Asked b.standing (t, q) next owns.urgent owns.waiting;
-          answered = ready_none allowance.repeats t owned (λ p i is. omega (
-            arith,
-            waiting_next t.0 b.standing (t, q) next,
-            counted_itself t.0,
-            subst (λ (k : Ticket). fresh_times k.0 b.standing b.last ≡ 0) is (owns.once.used p i),
-          ));
-        })
-        owns.late_fits (inr none_late)
-        (outcomes_then allowance.misreads ledger _ grows b.standing.outcomes owns.outcomes)
+          asked = each_next (Asked r) p.standing t q next owns.waiting;
+        },
+        ready_none r.allowance.repeats t owns.owned
+            (λ o i is. let used = rw is at (owns.once.used o i) in
+            omega (arith, rest t.0, counted_itself t.0, used)),
+        none_late,
+      )
+      outcomes_go)
 
-    -- Where those that wait change, and the outcomes of which no more is said than before
-    pub waits_owns : (urgent waiting : List (Ticket × Request))
-        (outcomes : List (Ticket × Outcome)) (last : ℕ)
-        → ((n : ℕ) → ahead last n + waiting_times n urgent + waiting_times n waiting ≤ ahead
-        b.last n + waiting_times n b.standing.urgent + waiting_times n b.standing.waiting)
-        → Each Asked urgent → Each Asked waiting
-        → Each (OutcomeStands allowance.misreads ledger) outcomes
-        → Goes ledger s.carried s.late (sent_of s.job)
-        (record b.standing { urgent = urgent; waiting = waiting; outcomes = outcomes }) last
-    waits_owns urgent waiting outcomes last less urgent_asked asked stands =
-        let grows : Grows ledger (tally_of owned u s.late (sent_of s.job)
-        (record b.standing { urgent = urgent; waiting = waiting; outcomes = outcomes }) last) =
-        grows_less ledger _ refl less (λ n. omega (arith, less n)) (λ n. omega arith) in
-        goes_by ledger owned u owns.once grows owns.record_is owns.apart owns.asked
-        urgent_asked asked owns.under_way owns.late_fits owns.one_open
-        (outcomes_then allowance.misreads ledger _ grows outcomes stands)
+  -- Where those that wait change, and the outcomes of which no more is said than before
+  pub waits_owns : {urgent waiting : List (Ticket × Request)}
+      {outcomes : List (Ticket × Outcome)} {last : ℕ}
+      → ((n : ℕ) → ahead last n + (waiting_times n urgent + waiting_times n waiting)
+      ≤ fresh_times n p.standing p.last)
+      → Each (Asked r) urgent × Each (Asked r) waiting
+      → Each (OutcomeStands r.allowance.misreads (tally owns)) outcomes
+      → Goes r (tally owns) (record p {
+        standing =
+            record p.standing { urgent = urgent; waiting = waiting; outcomes = outcomes };
+        last = last;
+      })
+  waits_owns {outcomes = outcomes} less asked stands =
+      goes_by owns.ticket owns.carries
+      (grows_none refl less (λ n. omega (arith, less n)) (λ n. omega (arith, less n)))
+      asked owns.opens
+      (λ grows. each_more outcomes (outcome_then r.allowance.misreads grows) stands)
 
-    deny_owns : (t : Ticket) → GoesTo ledger (denied b t) s
-    deny_owns t =
-        waits_owns (drop 1 b.standing.urgent)
-        (others_behind b.standing.urgent b.standing.waiting)
-        (insert_entry same_ticket b.standing.outcomes t outcome.NoIsdu) b.last
-        (λ n. omega (
-          arith,
-          waiting_rest n b.standing.urgent,
-          waiting_behind n b.standing.urgent
-              b.standing.waiting,
-        ))
-        (each_rest Asked b.standing.urgent owns.urgent)
-        (each_behind Asked b.standing.urgent b.standing.waiting owns.waiting)
-        (each_inserted (OutcomeStands allowance.misreads ledger) b.standing.outcomes t
-        outcome.NoIsdu tt owns.outcomes)
+  -- one that waited has its outcome
+  pub ends_waiting : (t : Ticket) (out : Outcome)
+      → OutcomeStands r.allowance.misreads (tally owns) t out
+      → Goes r (tally owns) (record p {
+        standing = record (without_waiting p.standing t) {
+          outcomes = insert_entry same_ticket p.standing.outcomes t out;
+        };
+      })
+  ends_waiting t out stands = waits_owns (λ n. omega (arith, waiting_left n t p.standing))
+      (each_left (Asked r) t p.standing owns.waiting)
+      (each_inserted (OutcomeStands r.allowance.misreads (tally owns)) p.standing.outcomes t out
+      stands owns.outcomes)
 
-    reset_owns : Goes ledger s.carried None (sent_of s.job) b.standing b.last
-    reset_owns =
-        let grows : Grows ledger (tally_of owned u None (sent_of s.job) b.standing b.last) =
-        grows_less ledger _ refl (λ n. omega arith) (λ n. omega arith) (λ n. omega arith) in
-        goes_by ledger owned u owns.once grows owns.record_is owns.apart owns.asked
-        owns.urgent owns.waiting owns.under_way tt (inr refl)
-        (outcomes_then allowance.misreads ledger _ grows b.standing.outcomes owns.outcomes)
+  -- the request under way is the same, with another count of busy replies, or with the mark
+  pub same_sent : {sent : Option (Request × Option Answer)} → sent ≡ p.sent
+      → Goes r (tally owns) (record p { sent = sent })
+  same_sent same = rw same still
 
-    -- the request under way is the same, with another count of busy replies, or with the mark
-    pub same_sent : (job : Option Job) → sent_of job ≡ sent_of s.job
-        → GoesTo ledger b (record s { job = job })
-    same_sent job same = subst (λ (sent : Option (Request × Option Answer)). Goes ledger
-        s.carried s.late sent b.standing b.last) (sym same) still
+-- a request is under way
+module _ {r : Origin} (job : Job) (b : BookState) (s : Session)
+    (owns : Owns r (place_of b (record s { job = Some job }))) where
+  abbrev way : UnderWay r job.request b.standing.taken
+  way = owns.opens.0
 
-  -- a request is under way
-  module _ (job : Job) (b : BookState) (s : Session) (owned : List Owned) (u : Ticket)
-      (owns : OwnsAll owned u b (record s { job = Some job })) where
-    abbrev under : Tally
-    under = tally_of owned u s.late (Some (job.request, job.answer)) b.standing b.last
+  -- its ticket, and no other, is to come as the one under way
+  was : (n : ℕ) → taken_times n b.standing.taken ≡ counted n way.ticket.0
+  was n = ap (taken_times n) way.taken_is
 
-    way : UnderWay job.request job.answer b.standing.taken owned
-    way = owns.under_way
+  -- and it neither waits nor is late
+  ended : late_times way.ticket.0 owns.ticket s.late
+      + fresh_times way.ticket.0 b.standing b.last ≡ 0
+  ended =
+      let t : ℕ = way.ticket.0 in omega (arith, was t, counted_itself t, owns.once.once t)
 
-    -- its ticket, and no other, is to come as the one under way
-    was : (n : ℕ) (answer : Option Answer)
-        → open_times n (Some (job.request, answer)) b.standing.taken ≡ counted n way.ticket.0
-    was n answer = ap (open_times n (Some (job.request, answer))) way.taken_is
-
-    -- and it neither waits nor is late
-    ended : late_times way.ticket.0 u s.late + fresh_times way.ticket.0 b.standing b.last ≡ 0
-    ended = omega (
-      arith,
-      was way.ticket.0 job.answer,
-      counted_itself way.ticket.0,
-      owns.once.once way.ticket.0,
-    )
-
-    none_late : s.late ≡ None
-    none_late = elim owns.one_open [ inl under_way ↦ absurd (cc) | inr none ↦ none ]
-
-    carry_owns : (a : Answer) → job.answer ≡ None → GoesTo under b (carried_out a (Some job) s)
-    carry_owns a none =
-        goes_by under (owned ++ o ∷ []) u owns.once grows
-        (record_push before s.carried owned o owns.record_is)
-        (apart_one under o owns.once here ready owns.apart)
-        (all_push (λ p. Asked p.ticket p.request) owned o owns.asked way.asked) owns.urgent
-        owns.waiting
-        (record {
-          ticket = way.ticket;
-          taken_is = way.taken_is;
-          asked = way.asked;
-          answered = (
-            (o, last_push o owned, refl, refl),
-            λ may. ready_push allowance.repeats o owned may ready,
-          );
-        })
-        (subst (LateFits (owned ++ o ∷ []) u) (sym none_late) tt) (inr none_late)
-        (outcomes_then allowance.misreads under _ grows b.standing.outcomes owns.outcomes)
-      where
-        o : Owned
-        o = record { ticket = way.ticket; request = job.request; answer = a }
-
-        ready : IsReady allowance.repeats way.ticket owned
-        ready = subst (AnswerFits job.request owned way.ticket) none way.answered
-
-        here : 1 ≤ under.late way.ticket.0 + under.coming way.ticket.0
-        here = omega (arith, was way.ticket.0 job.answer, counted_itself way.ticket.0)
-
-        grows : Grows under (tally_of (owned ++ o ∷ []) u s.late (Some (job.request, Some a))
-            b.standing b.last)
-        grows = grows_one under o owns.once here _ refl (λ n. omega arith)
-            (λ n. omega (arith, was n job.answer, was n (Some a))) (λ n. omega arith)
-            (omega (arith, ended))
-
-    -- it has no answer any more
-    again_owns : IsSome job.answer → IsTrue (allowance.repeats job.request)
-        → GoesTo under b (record s { job = taken_back (Some job) })
-    again_owns some may =
-        goes_by under owned u owns.once grows owns.record_is owns.apart owns.asked
-        owns.urgent owns.waiting
-        (record {
-          ticket = way.ticket;
-          taken_is = way.taken_is;
-          asked = way.asked;
-          answered = ready job.answer some way.answered;
-        })
-        owns.late_fits (inr none_late)
-        (outcomes_then allowance.misreads under _ grows b.standing.outcomes owns.outcomes)
-      where
-        ready : (answer : Option Answer) → IsSome answer
-            → AnswerFits job.request owned way.ticket answer
-            → IsReady allowance.repeats way.ticket owned
-        ready (Some a) some fits = fits.1 may
-        ready None some fits = absurd (cc)
-
-        grows : Grows under (tally_of owned u s.late (Some (job.request, None)) b.standing b.last)
-        grows = grows_less under _ refl (λ n. omega arith)
-            (λ n. omega (arith, was n job.answer, was n None)) (λ n. omega arith)
-
-    -- the book has its outcome, and none is under way
-    ended_owns : (out : Outcome) (late : Option Request) (v : Ticket) → LateFits owned v late
-        → ((n : ℕ) → late_times n v late ≤ late_times n u s.late + counted n way.ticket.0)
-        → OutcomeStands allowance.misreads
-        (tally_of owned v late None (record b.standing { taken = None }) b.last)
-        way.ticket out
-        → GoesTo under (posted b out) (record s { job = None; late = late })
-    ended_owns out late v fits less stands =
-        subst (λ (taken : Option (Ticket × Request)). GoesTo under (ended_with b taken out)
-        (record s { job = None; late = late })) (sym way.taken_is)
-        (goes_by under owned v owns.once grows owns.record_is owns.apart owns.asked
-        owns.urgent owns.waiting tt fits (inl refl)
-        (each_inserted (OutcomeStands allowance.misreads after) b.standing.outcomes way.ticket
-        out stands
-        (outcomes_then allowance.misreads under after grows b.standing.outcomes owns.outcomes)))
-      where
-        after : Tally
-        after = tally_of owned v late None (record b.standing { taken = None }) b.last
-
-        grows : Grows under after
-        grows = grows_none under after refl (λ n. omega arith) (λ n. omega arith)
-            (λ n. omega (arith, was n job.answer, less n))
-
-    done_owns : (terms : Terms) (a : Answer) → Allows allowance terms
-        → MayTell terms a job.answer
-        → GoesTo under (posted b (outcome.Done a)) (record s { job = None })
-    done_owns terms a allows may = ended_owns (outcome.Done a) s.late u owns.late_fits
-        (λ n. omega arith) (
-          by (told_for allowance terms a job.answer allows may),
-          omega (arith, ended),
-        )
-      where
-        by : (carried : Answer) × (job.answer ≡ Some carried)
-            × IsToldAs allowance.misreads a carried
-            → HasAnswer allowance.misreads owned way.ticket a
-        by (carried, answered, tells) =
-            let (o, last, same, is) =
-            (subst (AnswerFits job.request owned way.ticket) answered way.answered).0 in
-            (o, last, same, subst (IsToldAs allowance.misreads a) (sym is) tells)
-
-    -- a request that is cut off may be late, or the device has it no more
-    lost_owns : (cause : Cause) → leaves_unsure (outcome.Unknown cause) ≡ true
-        → GoesTo under (posted b (outcome.Unknown cause))
-        (record s { job = None; late = left_of (Some job) })
-    lost_owns cause unsure =
-        ended_owns (outcome.Unknown cause) (unanswered job.answer job.request) way.ticket
-        (fits job.answer way.answered) (λ n. omega
-        (arith, late_of_unanswered n job.answer way.ticket job.request))
-        (omega (arith, ended), λ good. absurd (let k : true ≡ false = sym unsure ∙ good in cc))
-      where
-        fits : (answer : Option Answer) → AnswerFits job.request owned way.ticket answer
-            → LateFits owned way.ticket (unanswered answer job.request)
-        fits None ready = (way.asked, ready)
-        fits (Some a) answered = tt
-
-    stopped_owns : (cause : Cause) → GoesTo under (posted b (outcome.Unknown cause))
-        (record s { job = None })
-    stopped_owns cause = ended_owns (outcome.Unknown cause) s.late u owns.late_fits
-        (λ n. omega arith) (omega (arith, ended), λ good. omega (arith, ended))
-
-    pub cut_owns : (cause : Cause) → GoesTo under (posted b (outcome.Unknown cause))
-        (cut_for cause (record s { job = Some job }))
-    cut_owns LinkLost = lost_owns LinkLost refl
-    cut_owns Restarted = lost_owns Restarted refl
-    cut_owns cause = stopped_owns cause
-
-  late_owns : (a : Answer) (late : Option Request) (b : BookState) (s : Session)
-      (owned : List Owned) (u : Ticket) → OwnsAll owned u b (record s { late = late })
-      → GoesTo (tally_in owned u b (record s { late = late })) b
-      (carried_late a late (record s { late = late }))
-  late_owns a None b s owned u owns = still b (record s { late = None }) owned u owns
-  late_owns a (Some q) b s owned u owns =
-      goes_by old (owned ++ o ∷ []) u owns.once grows
-      (record_push before s.carried owned o owns.record_is)
-      (apart_one old o owns.once here owns.late_fits.1 owns.apart)
-      (all_push (λ p. Asked p.ticket p.request) owned o owns.asked owns.late_fits.0)
-      owns.urgent owns.waiting (rw none_sent tt) tt (inr refl)
-      (outcomes_then allowance.misreads old _ grows b.standing.outcomes owns.outcomes)
+  carry_owns : (a : Answer) → job.answer ≡ None
+      → Goes r (tally owns) (place_of b (carried_out a (Some job) s))
+  carry_owns a none =
+      let ready : IsReady r.allowance.repeats way.ticket owns.owned = rw none at owns.opens.1 in
+      let again = λ (may : IsTrue (r.allowance.repeats job.request)).
+      ready_push r.allowance.repeats o owns.owned may ready in
+      goes_by owns owns.ticket (carries_one owns o here ready way.asked)
+      (grows_one owns o here (omega (arith, ended))) owns.waiting
+      (way, ((o, last_push o owns.owned, refl, refl), again), owns.opens.2) (outcomes_go owns)
     where
-      old : Tally
-      old = tally_in owned u b (record s { late = Some q })
-
       o : Owned
-      o = record { ticket = u; request = q; answer = a }
+      o = record { ticket = way.ticket; request = job.request; answer = a }
 
-      none_sent : sent_of s.job ≡ None
-      none_sent = elim owns.one_open [ inl none ↦ none | inr late ↦ absurd (cc) ]
+      here : 1 ≤ (tally owns).late way.ticket.0 + (tally owns).coming way.ticket.0
+      here = omega (arith, was way.ticket.0, counted_itself way.ticket.0)
 
-      here : 1 ≤ old.late u.0 + old.coming u.0
-      here = omega (arith, counted_itself u.0)
+  -- the book has its outcome, and none is under way
+  ended_owns : (out : Outcome) (late : Option Request) (v : Ticket)
+      → Open r owns.owned v None late None
+      → ((n : ℕ) → late_times n v late ≤ late_times n owns.ticket s.late + counted n way.ticket.0)
+      → OutcomeStands r.allowance.misreads (tally_of owns.owned v
+      (place_of (record b { standing = record b.standing { taken = None } })
+      (record s { job = None; late = late }))) way.ticket out
+      → Goes r (tally owns) (place_of (posted b out) (record s { job = None; late = late }))
+  ended_owns out late v opens less stands =
+      subst (λ (taken : Option (Ticket × Request)). Goes r (tally owns)
+      (place_of (ended_with b taken out) (record s { job = None; late = late })))
+      (sym way.taken_is)
+      (goes_by owns v owns.carries (grows_none refl (λ n. omega arith) (λ n. omega arith)
+      (λ n. omega (arith, was n, less n))) owns.waiting opens
+      (λ grows. each_inserted _ b.standing.outcomes way.ticket out stands
+      (outcomes_go owns grows)))
 
-      grows : Grows old (tally_of (owned ++ o ∷ []) u None (sent_of s.job) b.standing b.last)
-      grows = grows_one old o owns.once here _ refl (λ n. omega arith) (λ n. omega arith)
-          (λ n. omega arith) (omega (arith, counted_itself u.0, owns.once.once u.0))
+  -- a request that is cut off may be late, or the device has it no more
+  lost_owns : (cause : Cause) → leaves_unsure (outcome.Unknown cause) ≡ true
+      → Goes r (tally owns) (place_of (posted b (outcome.Unknown cause))
+      (record s { job = None; late = left_of (Some job) }))
+  lost_owns cause unsure =
+      let (fits, less) = by job.answer owns.opens.1 in
+      ended_owns (outcome.Unknown cause) (unanswered job.answer job.request) way.ticket fits
+      (λ n. omega (arith, less n))
+      (omega (arith, ended), λ good. absurd (let k : true ≡ false = sym unsure ∙ good in cc))
+    where
+      by : (answer : Option Answer)
+          → AnswerFits r.allowance job.request owns.owned way.ticket answer
+          → Open r owns.owned way.ticket None (unanswered answer job.request) None × ((n : ℕ)
+          → late_times n way.ticket (unanswered answer job.request) ≤ counted n way.ticket.0)
+      by None ready = ((way.asked, ready), λ n. omega arith)
+      by (Some a) answered = (tt, λ n. omega arith)
 
-  pub step_owns : (m : Moment) (step : Step) (b : BookState) (s : Session) (job : Option Job)
-      (owned : List Owned) (u : Ticket) → Allows allowance m.terms
-      → MayBook step b → MaySession m step (record s { job = job })
-      → OwnsAll owned u b (record s { job = job })
-      → GoesTo (tally_in owned u b (record s { job = job })) (book_after step b)
-      (session_after step (record s { job = job }))
-  step_owns m (Take t q) b s job owned u only next may owns =
-      take_owns b (record s { job = job }) owned u owns (ticket_of t) q next may.2
-  step_owns m (Deny t) b s job owned u only next may owns =
-      deny_owns b (record s { job = job }) owned u owns (ticket_of t)
-  step_owns m (Carry a) b s (Some job) owned u only next none owns =
-      carry_owns job b s owned u owns a none
-  step_owns m (Carry a) b s None owned u only next may owns = absurd may
-  step_owns m Again b s (Some job) owned u only next may owns =
-      again_owns job b s owned u owns may.0 (only.0 job.request may.1)
-  step_owns m Again b s None owned u only next may owns = absurd may
-  step_owns m (Done a) b s (Some job) owned u only next may owns =
-      done_owns job b s owned u owns m.terms a only may
-  step_owns m (Done a) b s None owned u only next may owns = absurd may
-  step_owns m (Unknown cause) b s (Some job) owned u only next cut owns =
-      cut_owns job b s owned u owns cause
-  step_owns m (Unknown cause) b s None owned u only next may owns = absurd may
-  step_owns m (LateCarry a) b s job owned u only next may owns =
-      late_owns a s.late b (record s { job = job }) owned u owns
-  step_owns m Reset b s job owned u only next may owns =
-      reset_owns b (record s { job = job }) owned u owns
-  step_owns m Busy b s job owned u only next may owns =
-      same_sent b (record s { job = job }) owned u owns (busy_once_more job) (busy_sent job)
-  step_owns m _ b s job owned u only next may owns = still b (record s { job = job }) owned u owns
+  pub cut_owns : (cause : Cause) → Goes r (tally owns)
+      (place_of (posted b (outcome.Unknown cause)) (cut_for cause (record s { job = Some job })))
+  cut_owns LinkLost = lost_owns LinkLost refl
+  cut_owns Restarted = lost_owns Restarted refl
+  cut_owns cause = ended_owns (outcome.Unknown cause) s.late owns.ticket (rw owns.opens.2 tt)
+      (λ n. omega arith) (omega (arith, ended), λ good. omega (arith, ended))
 
-  -- from a ledger on
-  pub goes_step : (x : Tally) (m : Moment) (step : Step) (b : BookState) (s : Session)
-      → Allows allowance m.terms → MayBook step b → MaySession m step s → GoesTo x b s
-      → GoesTo x (book_after step b) (session_after step s)
-  unfolding goes_then
-  goes_step x m step b s only next may g =
-      goes_then x b s (book_after step b) (session_after step s) g
-      (step_owns m step b s s.job g.owned g.ticket only next may g.owns)
+late_owns : {r : Origin} (a : Answer) (late : Option Request) (b : BookState) (s : Session)
+    (owns : Owns r (place_of b (record s { late = late })))
+    → Goes r (tally owns) (place_of b (carried_late a late (record s { late = late })))
+late_owns a None b s owns = still owns
+late_owns {r} a (Some q) b s owns =
+    let opens = owns.opens in
+    let (none, asked, ready) : (sent_of s.job ≡ None) × Asked r owns.ticket q
+    × IsReady r.allowance.repeats owns.ticket owns.owned = grind (arith, common_steps) in
+    goes_by owns owns.ticket (carries_one owns o here ready asked)
+    (grows_then (grows_one owns o here
+    (omega (arith, counted_itself owns.ticket.0, owns.once.once owns.ticket.0)))
+    (grows_none refl (λ n. omega arith) (λ n. omega arith) (λ n. omega arith)))
+    owns.waiting (rw none tt) (outcomes_go owns)
+  where
+    o : Owned
+    o = record { ticket = owns.ticket; request = q; answer = a }
+
+    here : 1 ≤ (tally owns).late owns.ticket.0 + (tally owns).coming owns.ticket.0
+    here = omega (arith, counted_itself owns.ticket.0)
+
+pub step_owns : {r : Origin} (m : Moment) (step : Step) (b : BookState) (s : Session)
+    (job : Option Job) → Allows r.allowance m.terms
+    → MayBook step b → MaySession m step (record s { job = job })
+    → (owns : Owns r (place_of b (record s { job = job })))
+    → Goes r (tally owns)
+    (place_of (book_after step b) (session_after step (record s { job = job })))
+step_owns m (Take t q) b s job only next may owns = take_owns owns (ticket_of t) q next may.2
+step_owns m (Deny t) b s job only head may owns =
+    let (q, next) = next_ticket_is (next_taken b.standing) (ticket_of t) head in
+    let is = next_is b.standing (ticket_of t) q next in
+    rw (is.urgent, is.others) (ends_waiting owns (ticket_of t) outcome.NoIsdu tt)
+step_owns m (Carry a) b s (Some job) only next none owns = carry_owns job b s owns a none
+step_owns m Again b s (Some job) only next may owns =
+    let fits = owns.opens.1 in
+    let repeats = only.0 job.request may.1 in
+    goes_by owns owns.ticket owns.carries grows_itself owns.waiting
+    (owns.opens.0, grind (arith, common_steps), owns.opens.2) (λ grows. owns.outcomes)
+step_owns {r} m (Done a) b s (Some job) only next may owns =
+    let (carried, answered, tells) = told_for r.allowance m.terms a job.answer only may in
+    let (o, last, same, is) = (rw answered at owns.opens.1).0 in
+    ended_owns job b s owns (outcome.Done a) s.late owns.ticket (rw owns.opens.2 tt)
+    (λ n. omega arith) ((o, last, same, rw is tells), omega (arith, ended job b s owns))
+step_owns m (Done a) b s None only next may owns = absurd may
+step_owns m (Unknown cause) b s (Some job) only next cut owns = cut_owns job b s owns cause
+step_owns m (Unknown cause) b s None only next may owns = absurd may
+step_owns m (LateCarry a) b s job only next may owns =
+    late_owns a s.late b (record s { job = job }) owns
+step_owns m Reset b s job only next may owns =
+    let opens = owns.opens in
+    goes_by owns owns.ticket owns.carries
+    (grows_none refl (λ n. omega arith) (λ n. omega arith) (λ n. omega arith)) owns.waiting
+    (grind (arith, common_steps)) (outcomes_go owns)
+step_owns m Busy b s job only next may owns = same_sent owns (grind (arith, common_steps))
+step_owns m _ b s job only next may owns = still owns

@@ -8,12 +8,11 @@ use Rattle.std.proofs.lemmas.List.{take_more, length-append}
 use Rattle.iol_page.specs.declared.page.Layouts.{Layouts}
 use Rattle.iol_isdu.specs.declared.values.Request.{Request}
 use Rattle.iol_isdu.specs.declared.values.Answer.{Answer}
-use Rattle.iol_isdu.specs.Texts.{request_text}
 use Rattle.iol_far.specs.declared.carried.Carried.{Carried}
-use Rattle.iol_far.specs.Isdu.{IsduState, answer_text}
+use Rattle.iol_far.specs.Far.{Far}
 use Rattle.iol_far.specs.Local.{has_room}
 use Rattle.iol_far.specs.Record.{takes_more}
-use Rattle.iol_far.specs.Level.{Quiet, Stands, IsBefore, grown_by}
+use Rattle.iol_far.specs.Level.{Link, Quiet, IsBefore, grown_by}
 use Rattle.iol_link.specs.WireFacts.{WireFacts}
 use Rattle.iol_mode.specs.Stands.{operate_link}
 use Rattle.iol_mode.specs.Next.{AnyLink}
@@ -21,16 +20,16 @@ use Rattle.iol_book.specs.declared.entries.Ticket.{Ticket}
 use Rattle.iol_book.specs.declared.entries.Outcome.TheVariants.{Done}
 use Rattle.iol_book.specs.Replay.{Standing}
 use Rattle.iol_book.specs.BookModel.{BookState, next_taken, others_behind, took, posted}
-use Rattle.iol_app.specs.StationState.{wire_of}
+use Rattle.iol_app.specs.StationState.{StationState, wire_of}
 use Rattle.iol_port.specs.declared.call.Call.{Call}
 use Rattle.iol_port.specs.declared.call.Call.TheVariants as call
 use Rattle.iol_port.specs.View.{Parts}
-use Rattle.iol_port.specs.Turns.{Stage, Written, Waiting, Reading, Ended, turns_at, turns_needed}
-use Rattle.iol_port.specs.Clean.{CleanLaws, IsAt, IsBetween, MayStart, MayServe, IsAfter, CleanTurn, takes_all, turns_between, record_of, kind_of, IsOnTime, IsOnItsWay, AreServed, CleanRuns, CleanServes}
+use Rattle.iol_port.specs.Turns.{Stage, Ended, turns_at, turns_needed}
+use Rattle.iol_port.specs.Clean.{CleanLaws, Stood, IsAt, IsBetween, MayStart, MayServe, IsAfter, CleanTurn, takes_all, turns_between, record_of, kind_of, IsOnTime, IsOnItsWay, AreServed, CleanRuns, CleanServes}
 use Rattle.iol_port.proofs.CleanStages.{segment_within}
 use Rattle.iol_mode.specs.declared.configuration.Configuration.{Configuration}
 use Rattle.iol_mode.specs.declared.configuration.Devices.{Devices}
-use Rattle.iol_mode.specs.declared.configuration.Devices.TheVariants.{Any}
+use Rattle.iol_mode.specs.declared.configuration.Devices.TheVariants.{Own, Any}
 use Rattle.iol_app.specs.Due.{may_follow}
 use Rattle.iol_port.proofs.CleanSession.{calm_ready, level_between}
 use Rattle.iol_far.specs.declared.kind.Kind.{Kind}
@@ -55,15 +54,13 @@ takes_rest room base count request answer h =
 
 -- Requests that wait in a book
 
--- none is taken, and these are the first that wait
-record Queue (book : BookState) (requests : List (Ticket × Request)) : Type 0 where
+-- none is taken, these are the first that wait, and the record has room for all of them
+record Queue (room : Option ℕ) (base : List Carried) (book : BookState)
+    (requests : List (Ticket × Request)) : Type 0 where
   free : is_some book.standing.taken ≡ false
   others : List (Ticket × Request)
   order : book.standing.urgent ++ book.standing.waiting ≡ requests ++ others
-
-queue_next : (book : BookState) (first : Ticket × Request) (rest : List (Ticket × Request))
-    → Queue book (first ∷ rest) → next_taken book.standing ≡ Some first
-queue_next book first rest queue = rw (queue.free, queue.order) refl
+  fits : takes_all room base (length requests) ≡ true
 
 behind : (urgent waiting : List (Ticket × Request)) (first : Ticket × Request)
     (rest : List (Ticket × Request)) → urgent ++ waiting ≡ first ∷ rest
@@ -71,18 +68,21 @@ behind : (urgent waiting : List (Ticket × Request)) (first : Ticket × Request)
 behind urgent waiting first rest given = grind (arith, common_steps)
 
 -- the book once the request that is next was taken, and has this answer
-abbrev pub served : BookState → Ticket × Request → Answer → BookState
+abbrev served : BookState → Ticket × Request → Answer → BookState
 served book next answer = posted (took book next) (Done answer)
 
-queue_rest : (book : BookState) (first : Ticket × Request) (rest : List (Ticket × Request))
-    (answer : Answer) → Queue book (first ∷ rest)
-    → Queue (served book first answer) rest
-queue_rest book first rest answer queue = record {
-  free = refl;
-  others = queue.others;
-  order = behind book.standing.urgent book.standing.waiting first (rest ++ queue.others)
-      queue.order;
-}
+queue_rest : {room : Option ℕ} {base : List Carried} {book : BookState}
+    {first : Ticket × Request} {rest : List (Ticket × Request)} (answer : Answer)
+    → Queue room base book (first ∷ rest)
+    → Queue room (grown_by base first.1 answer) (served book first answer) rest
+queue_rest {room = room} {base = base} {book = book} {first = first} {rest = rest} answer queue =
+    record {
+      free = refl;
+      others = queue.others;
+      order = behind book.standing.urgent book.standing.waiting first (rest ++ queue.others)
+          queue.order;
+      fits = takes_rest room base (length rest) first.1 answer queue.fits;
+    }
 
 headed : (list : List (Ticket × Request)) (first : Ticket × Request)
     → slice_get list 0 ≡ Some first → list ≡ first ∷ drop 1 list
@@ -106,38 +106,36 @@ snoc_turns (d ∷ calls) c (suc n) e = grind (arith, common_steps, snoc_turns ca
 
 -- Numbers of turns
 
-none_left : (needed n : ℕ) → needed ≡ suc n → suc n - needed ≡ 0
-none_left needed n e = omega (arith, e)
+none_left : {needed n : ℕ} → needed ≡ suc n → suc n - needed ≡ 0
+none_left e = omega (arith, e)
 
-one_more : (needed n : ℕ) → needed ≤ suc n → suc (suc n - needed) ≡ suc (suc n) - needed
-one_more needed n few = omega (arith, few)
+one_more : {needed n : ℕ} → needed ≤ suc n → suc (suc n) - needed ≡ suc (suc n - needed)
+one_more few = omega (arith, few)
 
 -- Turns between two requests
-
-any_between : (devices : Devices) (rest : List (Ticket × Request)) → turns_between devices rest ≡ 1
-    → devices ≡ Any
-any_between devices rest given = grind (arith, common_steps)
-
--- where there is none, a request that waits may follow at once
-may_between : (devices : Devices) (rest : List (Ticket × Request)) → turns_between devices rest ≡ 0
-    → 1 ≤ length rest → may_follow devices false ≡ true
-may_between devices rest given some = grind (arith, common_steps)
 
 none_behind : (devices : Devices) → turns_between devices [] ≡ 0
 none_behind devices = grind (arith, common_steps)
 
-at_most_one : (devices : Devices) (rest : List (Ticket × Request))
-    → (turns_between devices rest ≡ 0) ⊎ (turns_between devices rest ≡ 1)
-at_most_one devices rest = grind (arith, common_steps)
+-- where there is none, a request that waits may follow at once
+between : (devices : Devices) (rest : List (Ticket × Request))
+    → ((turns_between devices rest ≡ 0) × (1 ≤ length rest → may_follow devices false ≡ true))
+    ⊎ ((turns_between devices rest ≡ 1) × (devices ≡ Any))
+between Own rest = inl (refl, λ some. refl)
+between Any [] = inl (refl, λ some. absurd (omega (arith, some)))
+between Any (next ∷ rest) = inr (refl, refl)
 
 module _ {W : Type 0} (facts : WireFacts W) where
   open facts use {honest, far}
 
-  record_at : {kind : Kind} {layouts : Layouts} {ticket : Ticket} {request : Request}
-      {base : List Carried} {book : BookState} {stage : Stage} {now : Parts W}
-      (is : IsAt facts kind layouts ticket request base book stage now)
-      → record_of facts now ≡ (far is.wire).carried
-  record_at is = ap (λ (l : AnyLink W). (far (wire_of l)).carried) is.at.stood.link_is
+  far_at : {kind : Kind} {layouts : Layouts} {link : Link} {station : StationState W} {wire : W}
+      → Stood facts kind layouts link station wire → far (wire_of station.link) ≡ far wire
+  far_at stood = ap (λ (l : AnyLink W). far (wire_of l)) stood.link_is
+
+  record_at : {kind : Kind} {layouts : Layouts} {link : Link} {station : StationState W} {wire : W}
+      → Stood facts kind layouts link station wire
+      → (far (wire_of station.link)).carried ≡ (far wire).carried
+  record_at stood = ap (λ (f : Far). f.carried) (far_at stood)
 
   -- the wire is honest, the device's record has this room, and start-ups ask this
   pub record Steady (room : Option ℕ) (asks : Configuration) (now : Parts W) : Type 0 where
@@ -149,20 +147,13 @@ module _ {W : Type 0} (facts : WireFacts W) where
       → Steady room asks mid → CleanTurn facts mid next → Steady room asks next
   steady_more steady turn = grind (arith, common_steps)
 
-  steady_devices : {room : Option ℕ} {asks : Configuration} {now : Parts W} → Steady room asks now
-      → now.station.session.configuration.devices ≡ asks.devices
-  steady_devices steady = ap (λ (k : Configuration). k.devices) steady.asks_is
-
-  module _ (kind : Kind) (layouts : Layouts) (devices : Devices) where
-    abbrev pub needed : Request → Answer → ℕ
+  module _ (kind : Kind) (layouts : Layouts) (asks : Configuration) where
+    abbrev needed : Request → Answer → ℕ
     needed request answer = turns_needed kind.hands_over layouts.run.od request answer
 
     -- with the turns between it and those behind it
-    abbrev pub spent : Request → List (Ticket × Request) → Answer → ℕ
-    spent request rest answer = needed request answer + turns_between devices rest
-
-    abbrev pub After : ℕ → Ticket × Request → List Carried → BookState → Parts W → Type 0
-    After n next base book now = IsAfter facts kind layouts next.0 next.1 base book n now
+    abbrev spent : Request → List (Ticket × Request) → Answer → ℕ
+    spent request rest answer = needed request answer + turns_between asks.devices rest
 
     -- between requests: the next one may start, if there is one and the record has room
     pub record Idle (rest : List (Ticket × Request)) (base : List Carried) (book : BookState)
@@ -175,22 +166,20 @@ module _ {W : Type 0} (facts : WireFacts W) where
           → IsTrue (has_room (far (wire_of now.station.link)))
           → MayStart facts layouts ticket request now
 
-    -- right behind a request, where IDLE 1 comes before those behind it
-    abbrev pub Rests : ℕ → Request → List (Ticket × Request) → Answer → List Carried → BookState
-        → Parts W → Type 0
-    Rests n request rest answer base book now =
-        (turns_between devices rest ≡ 1) × (needed request answer ≡ n)
-        × IsBetween facts kind layouts (grown_by base request answer) book false now
-
-    -- where the port stands after so many turns
-    abbrev pub Going : ℕ → List (Ticket × Request) → List Carried → BookState → Parts W → Type 0
+    -- where the port stands after so many turns. Right behind a request IDLE 1 may come before
+    -- those behind it
+    abbrev Going : ℕ → List (Ticket × Request) → List Carried → BookState → Parts W → Type 0
     Going zero requests base book now = Idle requests base book now
     Going (suc n) [] base book now = (more : List Carried) × (record_of facts now ≡ base ++ more)
     Going (suc n) (next ∷ rest) base book now =
-        ((after : After (suc n) next base book now)
+        ((after : IsAfter facts kind layouts next.0 next.1 base book (suc n) now)
         × ((answer : Answer) → after.stage ≡ Ended answer → ⊥))
         ⊎ ((answer : Answer)
-        × (Rests (suc n) next.1 rest answer base (served book next answer) now
+        × (((turns_between asks.devices rest ≡ 1) × (asks.devices ≡ Any)
+        × (needed next.1 answer ≡ suc n)
+        × IsBetween facts kind layouts (grown_by base next.1 answer)
+        (served book next answer) false
+        now)
         ⊎ ((spent next.1 rest answer ≤ suc n)
         × Going (suc n - spent next.1 rest answer) rest (grown_by base next.1 answer)
         (served book next answer) now)))
@@ -201,33 +190,24 @@ module _ {W : Type 0} (facts : WireFacts W) where
         → IsAt facts kind layouts ticket request base book (Ended answer) now
         → IsBetween facts kind layouts (grown_by base request answer)
         (served book (ticket, request) answer) false now
-    between_at {now = now} is = record {
+    between_at is = record {
       wire = is.wire;
       stood = is.at.stood;
       free = is.at.fits.0;
       clear_is = is.at.after;
-      level = level_between facts kind layouts now.station is.wire is.at.stood
-          (subst (λ (s : IsduState). Stands kind.hands_over layouts.run.od
-          (far is.wire).carried Quiet s (far is.wire).counted (far is.wire).carried)
-          (sym is.at.fits.3.1) refl);
+      level = level_between facts is.at.stood (rw is.at.fits.3.1 refl);
       record_is = is.at.fits.1;
       book_is = is.book_is;
     }
 
-    between_record : {base : List Carried} {book : BookState} {clear : Bool} {now : Parts W}
-        → IsBetween facts kind layouts base book clear now → record_of facts now ≡ base
-    between_record is =
-        ap (λ (l : AnyLink W). (far (wire_of l)).carried) is.stood.link_is ∙ is.record_is
-
     -- where a request may follow the next one may start
     idle_between : {rest : List (Ticket × Request)} {base : List Carried} {book : BookState}
-        {clear : Bool} {now : Parts W} → now.station.session.configuration.devices ≡ devices
-        → (1 ≤ length rest → may_follow devices clear ≡ true)
+        {clear : Bool} {now : Parts W} → now.station.session.configuration ≡ asks
+        → (1 ≤ length rest → may_follow asks.devices clear ≡ true)
         → IsBetween facts kind layouts base book clear now → Idle rest base book now
-    idle_between {now = now} devices_are follows is = record {
-      kind_is = ap (λ (l : AnyLink W). (far (wire_of l)).kind) is.stood.link_is
-          ∙ is.stood.kind_is;
-      record_is = between_record is;
+    idle_between {now = now} asks_is follows is = record {
+      kind_is = ap (λ (f : Far). f.kind) (far_at is.stood) ∙ is.stood.kind_is;
+      record_is = record_at is.stood ∙ is.record_is;
       book_is = is.book_is;
       may = λ more next other is_next room. record {
         wire = is.wire;
@@ -235,8 +215,7 @@ module _ {W : Type 0} (facts : WireFacts W) where
         is_honest = is.stood.is_honest;
         is_clean = is.stood.is_clean;
         ready = calm_ready now.station.session true is.stood.calm is.free
-            (ap (λ (d : Devices). may_follow d now.station.session.clear) devices_are
-            ∙ ap (may_follow devices) is.clear_is ∙ follows more);
+            (rw (asks_is, is.clear_is) (follows more));
         link = operate_link;
         operating = is.stood.operating;
         level = subst (λ (k : Kind). IsBefore (far is.wire).page k layouts.run.od
@@ -244,8 +223,7 @@ module _ {W : Type 0} (facts : WireFacts W) where
         isdu = is.stood.isdu;
         told = is.stood.told;
         quiet = is.stood.quiet;
-        room = subst (λ (l : AnyLink W). IsTrue (has_room (far (wire_of l)))) is.stood.link_is
-            room;
+        room = rw (far_at is.stood) at room;
         next = is_next;
       };
     }
@@ -253,287 +231,197 @@ module _ {W : Type 0} (facts : WireFacts W) where
     -- a request after one more turn
     went : (n : ℕ) (next : Ticket × Request) (rest : List (Ticket × Request))
         (base : List Carried) (book : BookState) (now : Parts W)
-        → now.station.session.configuration.devices ≡ devices
-        → After (suc n) next base book now → Going (suc n) (next ∷ rest) base book now
-    went n next rest base book now devices_are after = by after.stage after.is_at after.turns_are
-      where
-        by : (stage : Stage) → IsAt facts kind layouts next.0 next.1 base book stage now
-            → turns_at kind.hands_over layouts.run.od next.1 stage ≡ suc n
-            → Going (suc n) (next ∷ rest) base book now
-        by (Ended answer) is turns =
-            let behind = between_at is in
-            inr (
-              answer,
-              elim (at_most_one devices rest) [
-                | inl none ↦ inr (
-                  omega (arith, turns, none),
-                  subst (λ (k : ℕ). Going k rest (grown_by base next.1 answer)
-                      (served book next answer) now)
-                      (sym (none_left (spent next.1 rest answer) n (omega (arith, turns, none))))
-                      (idle_between devices_are (may_between devices rest none) behind),
-                )
-                | inr one ↦ inl (one, turns, behind)
-              ],
-            )
-        by stage is turns =
-            inl (record { stage = stage; is_at = is; turns_are = turns }, λ answer e. cc)
-
-    same_devices : {room : Option ℕ} {asks : Configuration} {mid next : Parts W}
-        → Steady room asks mid → CleanTurn facts mid next → asks.devices ≡ devices
-        → next.station.session.configuration.devices ≡ devices
-    same_devices steady turn same = steady_devices (steady_more steady turn) ∙ same
-
-    -- one turn more
-    going_more : (room : Option ℕ) (asks : Configuration) (n : ℕ)
-        (requests : List (Ticket × Request)) (base : List Carried) (book : BookState)
-        (mid next : Parts W) → Queue book requests
-        → takes_all room base (length requests) ≡ true → Steady room asks mid
-        → asks.devices ≡ devices → CleanTurn facts mid next
-        → Going n requests base book mid → Going (suc n) requests base book next
-    going_more room asks zero [] base book mid next queue fits steady same turn idle =
-        let grown = turn.grows steady.is_honest in
-        (grown.0, grown.1 ∙ ap (λ (xs : List Carried). xs ++ grown.0) idle.record_is)
-    going_more room asks (suc n) [] base book mid next queue fits steady same turn (more, is) =
-        let grown = turn.grows steady.is_honest in (
-          more ++ grown.0,
-          grown.1 ∙ ap (λ (xs : List Carried). xs ++ grown.0) is
-              ∙ append_assoc base more grown.0,
-        )
-    going_more room asks zero (first ∷ rest) base book mid next queue fits steady same turn idle =
-        let some : has_room (far (wire_of mid.station.link)) ≡ true =
-        rw (steady.room_is, idle.record_is) (takes_first room base (length rest) fits) in
-        let is_next : next_taken mid.book.state.standing ≡ Some first =
-        ap (λ (b : BookState). next_taken b.standing) idle.book_is
-        ∙ queue_next book first rest queue in
-        let after : After 1 first (record_of facts mid) mid.book.state next =
-        subst (λ (k : Kind). IsAfter facts k layouts first.0 first.1 (record_of facts mid)
-        mid.book.state 1 next) idle.kind_is
-        (turn.starts layouts first.0 first.1
-        (idle.may (omega arith) first.0 first.1 is_next some)) in
-        went 0 first rest base book next (same_devices steady turn same)
-        (subst (λ (b : BookState). After 1 first base b next) idle.book_is
-        (subst (λ (xs : List Carried). After 1 first xs mid.book.state next) idle.record_is
-        after))
-    going_more room asks (suc n) (first ∷ rest) base book mid next queue fits steady same turn
-        (inl (after, goes)) =
-        went (suc n) first rest base book next (same_devices steady turn same)
-        (subst (λ (k : ℕ). After (suc k) first base book next) after.turns_are
-        (turn.goes_on kind layouts first.0 first.1 base book after.stage after.is_at goes))
-    going_more room asks (suc n) (first ∷ rest) base book mid next queue fits steady same turn
-        (inr (answer, inl (one, needs, rests))) = inr (
-          answer,
-          inr (
-            omega (arith, one, needs),
-            subst (λ (k : ℕ). Going k rest (grown_by base first.1 answer)
-                (served book first answer) next)
-                (sym (none_left (spent first.1 rest answer) (suc n) (omega (arith, one, needs))))
-                (let any : devices ≡ Any = any_between devices rest one in
-                idle_between (same_devices steady turn same)
-                (λ more. ap (λ (d : Devices). may_follow d true) any)
-                (turn.rests (steady_devices steady ∙ same ∙ any) kind layouts
-                (grown_by base first.1 answer) (served book first answer) rests)),
-          ),
-        )
-    going_more room asks (suc n) (first ∷ rest) base book mid next queue fits steady same turn
-        (inr (answer, inr (few, going))) = inr (
-          answer,
-          inr (
-            omega (arith, few),
-            subst (λ (k : ℕ). Going k rest (grown_by base first.1 answer)
-                (served book first answer) next)
-                (one_more (spent first.1 rest answer) n few)
-                (going_more room asks (suc n - spent first.1 rest answer) rest
-                (grown_by base first.1 answer) (served book first answer) mid next
-                (queue_rest book first rest answer queue)
-                (takes_rest room base (length rest) first.1 answer fits) steady same turn going),
-          ),
-        )
-
-    -- what that says of the record and of the book
-    on_its_way : CleanLaws → (stage : Stage) (n : ℕ) (next : Ticket × Request)
-        (base : List Carried) (book : BookState) (now : Parts W)
+        → now.station.session.configuration ≡ asks → (stage : Stage)
         → IsAt facts kind layouts next.0 next.1 base book stage now
-        → turns_at kind.hands_over layouts.run.od next.1 stage ≡ n
-        → ((answer : Answer) → stage ≡ Ended answer → ⊥)
-        → IsOnItsWay facts kind.hands_over layouts n next base book now
-    on_its_way laws (Written zero) n next base book now is turns goes = absurd is.at.fits
-    on_its_way laws (Written (suc i)) n next base book now is turns goes =
-        let few = segment_within layouts.run.od (laws.texts layouts.run.od is.low)
-        (request_text next.1) i is.at.fits.0 in (
-          is.book_is,
-          inl (omega (arith, few, turns), record_at is ∙ is.at.fits.3),
-        )
-    on_its_way laws Waiting n next base book now is turns goes =
-        (is.book_is, inl (omega (arith, turns), record_at is ∙ is.at.fits.3))
-    on_its_way laws (Reading answer zero) n next base book now is turns goes = absurd is.at.fits
-    on_its_way laws (Reading answer (suc j)) n next base book now is turns goes =
-        let few = segment_within layouts.run.od (laws.texts layouts.run.od is.low)
-        (answer_text next.1 answer) (suc j) is.at.fits.5 in (
-          is.book_is,
-          inr (answer, omega (arith, few, turns), record_at is ∙ is.at.fits.3),
-        )
-    on_its_way laws (Ended answer) n next base book now is turns goes = absurd (goes answer refl)
+        → turns_at kind.hands_over layouts.run.od next.1 stage ≡ suc n
+        → Going (suc n) (next ∷ rest) base book now
+    went n next rest base book now asks_is (Ended answer) is turns = inr (
+      answer,
+      elim (between asks.devices rest) [
+        | inl h ↦
+            let all : spent next.1 rest answer ≡ suc n = omega (arith, turns, h.0) in
+            inr (omega (arith, all), rw (none_left all) (idle_between asks_is h.1 (between_at is)))
+        | inr h ↦ inl (h.0, h.1, turns, between_at is)
+      ],
+    )
+    went n next rest base book now asks_is stage is turns =
+        inl (record { stage = stage; is_at = is; turns_are = turns }, λ answer e. cc)
 
-    are_served : CleanLaws → (n : ℕ) (requests : List (Ticket × Request)) (base : List Carried)
-        (book : BookState) (now : Parts W) → Going n requests base book now
-        → AreServed facts devices kind.hands_over layouts n requests base book now
-    are_served laws zero requests base book now idle = (idle.record_is, idle.book_is)
-    are_served laws (suc n) [] base book now grown = grown
-    are_served laws (suc n) (next ∷ rest) base book now (inl (after, goes)) =
-        inl (on_its_way laws after.stage (suc n) next base book now after.is_at after.turns_are
-        goes)
-    are_served laws (suc n) (next ∷ rest) base book now (inr (answer, inl (one, needs, rests))) =
-        let after : BookState = served book next answer in
-        let none : suc n - spent next.1 rest answer ≡ 0 = omega (arith, one, needs) in
+    module _ {room : Option ℕ} {mid next : Parts W} (steady : Steady room asks mid)
+        (turn : CleanTurn facts mid next) where
+      -- one turn more
+      going_more : (n : ℕ) (requests : List (Ticket × Request)) (base : List Carried)
+          (book : BookState) → Queue room base book requests → Going n requests base book mid
+          → Going (suc n) requests base book next
+      going_more zero [] base book queue idle =
+          let grown = turn.grows steady.is_honest in
+          (grown.0, grown.1 ∙ (rw idle.record_is refl))
+      going_more (suc n) [] base book queue (more, is) =
+          let grown = turn.grows steady.is_honest in
+          (more ++ grown.0, grown.1 ∙ (rw (is, append_assoc) refl))
+      going_more zero (first ∷ rest) base book queue idle =
+          let some : has_room (far (wire_of mid.station.link)) ≡ true =
+          rw (steady.room_is, idle.record_is) (takes_first room base (length rest) queue.fits) in
+          let is_next : next_taken mid.book.state.standing ≡ Some first =
+          rw (idle.book_is, queue.free, queue.order) refl in
+          let after = rw (idle.kind_is, idle.record_is, idle.book_is) at (turn.starts layouts
+          first.0 first.1 (idle.may (omega arith) first.0 first.1 is_next some)) in
+          went 0 first rest base book next (steady_more steady turn).asks_is after.stage after.is_at
+          after.turns_are
+      going_more (suc n) (first ∷ rest) base book queue (inl (after, goes)) =
+          let later = turn.goes_on kind layouts first.0 first.1 base book after.stage after.is_at
+          goes in
+          went (suc n) first rest base book next (steady_more steady turn).asks_is later.stage
+          later.is_at (later.turns_are ∙ ap suc after.turns_are)
+      going_more (suc n) (first ∷ rest) base book queue
+          (inr (answer, inl (one, any, needs, rests))) =
+          let all : spent first.1 rest answer ≡ suc (suc n) = omega (arith, one, needs) in
+          inr (
+            answer,
+            inr (
+              omega (arith, all),
+              rw (none_left all)
+                  (idle_between (steady_more steady turn).asks_is (λ more. rw any refl)
+                  (turn.rests (rw steady.asks_is any) kind layouts _ _ rests)),
+            ),
+          )
+      going_more (suc n) (first ∷ rest) base book queue (inr (answer, inr (few, going))) = inr (
+        answer,
         inr (
-          answer,
-          omega (arith, needs),
-          subst (λ (k : ℕ). AreServed facts devices kind.hands_over layouts k rest
-              (grown_by base next.1 answer)
-              after now) (sym none)
-              (between_record rests, rests.book_is),
-        )
-    are_served laws (suc n) (next ∷ rest) base book now (inr (answer, inr (few, going))) =
-        inr (
-          answer,
           omega (arith, few),
-          are_served laws (suc n - spent next.1 rest answer) rest
-              (grown_by base next.1 answer) (served book next answer) now going,
-        )
+          rw (one_more few)
+              (going_more (suc n - spent first.1 rest answer) rest (grown_by base first.1 answer)
+              (served book first answer) (queue_rest answer queue) going),
+        ),
+      )
 
-  module _ (layouts : Layouts) (devices : Devices) where
-    -- of one request alone
-    on_time : (ticket : Ticket) (request : Request) (p : Parts W) (n : ℕ) (now : Parts W)
-        → AreServed facts devices (kind_of facts p).hands_over layouts (suc n)
-        ((ticket, request) ∷ []) (record_of facts p) p.book.state now
-        → IsOnTime facts layouts ticket request p (suc n) now
-    on_time ticket request p n now (inl given) = grind (arith, common_steps)
-    on_time ticket request p n now (inr (answer, few, rest)) =
-        by (suc n - (needed + turns_between devices [])) refl rest
-      where
-        needed : ℕ
-        needed = turns_needed (kind_of facts p).hands_over layouts.run.od request answer
+    module _ (laws : CleanLaws) where
+      -- what that says of the record and of the book
+      on_its_way : (n : ℕ) (next : Ticket × Request) (base : List Carried) (book : BookState)
+          (now : Parts W) (stage : Stage)
+          → IsAt facts kind layouts next.0 next.1 base book stage now
+          → turns_at kind.hands_over layouts.run.od next.1 stage ≡ n
+          → ((answer : Answer) → stage ≡ Ended answer → ⊥)
+          → IsOnItsWay facts kind.hands_over layouts n next base book now
+      on_its_way n next base book now stage is turns goes = grind (
+        arith,
+        common_steps,
+        segment_within (laws.texts layouts.run.od is.low),
+        record_at is.at.stood,
+        is.at.fits,
+      )
 
-        none : turns_between devices [] ≡ 0
-        none = none_behind devices
+      are_served : (n : ℕ) (requests : List (Ticket × Request)) (base : List Carried)
+          (book : BookState) (now : Parts W) → Going n requests base book now
+          → AreServed facts asks.devices kind.hands_over layouts n requests base book now
+      are_served zero requests base book now idle = (idle.record_is, idle.book_is)
+      are_served (suc n) [] base book now grown = grown
+      are_served (suc n) (next ∷ rest) base book now (inl (after, goes)) =
+          inl (on_its_way (suc n) next base book now after.stage after.is_at after.turns_are goes)
+      are_served (suc n) (next ∷ rest) base book now (inr (answer, inl (one, any, needs, is))) =
+          let none : suc n - spent next.1 rest answer ≡ 0 = omega (arith, one, needs) in inr (
+            answer,
+            omega (arith, needs),
+            rw none (record_at is.stood ∙ is.record_is, is.book_is),
+          )
+      are_served (suc n) (next ∷ rest) base book now (inr (answer, inr (few, going))) = inr (
+        answer,
+        omega (arith, few),
+        are_served (suc n - spent next.1 rest answer) rest (grown_by base next.1 answer)
+            (served book next answer) now going,
+      )
 
-        by : (left : ℕ) → suc n - (needed + turns_between devices []) ≡ left
-            → AreServed facts devices (kind_of facts p).hands_over layouts left []
-            (grown_by (record_of facts p) request answer)
-            (served p.book.state (ticket, request) answer) now
-            → IsOnTime facts layouts ticket request p (suc n) now
-        by zero left (is, book) =
-            inr (inr (inl (answer, is, omega (arith, few, left, none), book)))
-        by (suc k) left (more, is) =
-            inr (inr (inr (answer, more, is, omega (arith, few, left, none))))
+  -- of one request alone
+  on_time : (layouts : Layouts) (devices : Devices) (ticket : Ticket) (request : Request)
+      (p : Parts W) (n : ℕ) (now : Parts W)
+      → AreServed facts devices (kind_of facts p).hands_over layouts (suc n)
+      ((ticket, request) ∷ []) (record_of facts p) p.book.state now
+      → IsOnTime facts layouts ticket request p (suc n) now
+  on_time layouts devices ticket request p n now (inl given) = grind (arith, common_steps)
+  on_time layouts devices ticket request p n now (inr (answer, few, rest)) =
+      by (suc n - (needed + turns_between devices [])) (none_behind devices) refl rest
+    where
+      needed : ℕ
+      needed = turns_needed (kind_of facts p).hands_over layouts.run.od request answer
 
-    -- where it begins
-    begins : (first : Ticket × Request) (rest : List (Ticket × Request)) (p : Parts W)
-        → MayServe facts layouts first rest p
-        → Going (kind_of facts p) layouts devices zero (first ∷ rest) (record_of facts p)
-        p.book.state p
-    begins first rest p may = record {
-      kind_is = refl;
-      record_is = refl;
-      book_is = refl;
-      may = λ more ticket request is_next room.
-          let found : Some first ≡ Some (ticket, request) = sym may.starts.next ∙ is_next in
-          let same : first ≡ (ticket, request) = cc in
-          subst (λ (next : Ticket × Request). MayStart facts layouts next.0 next.1 p) same
-          may.starts;
-    }
-
-    steady_first : (ticket : Ticket) (request : Request) (p : Parts W)
-        → MayStart facts layouts ticket request p
-        → Steady (far (wire_of p.station.link)).room p.station.session.configuration p
-    steady_first ticket request p may = record {
-      is_honest = subst (λ (l : AnyLink W). IsTrue (honest (wire_of l))) (sym may.link_is)
-          may.is_honest.0;
-      room_is = refl;
-      asks_is = refl;
-    }
-
-    queue_first : (first : Ticket × Request) (rest : List (Ticket × Request)) (p : Parts W)
-        → MayServe facts layouts first rest p → Queue p.book.state (first ∷ rest)
-    queue_first first rest p may = record {
-      free = (next_heads p.book.state.standing first may.starts.next).0;
-      others = may.others;
-      order = may.in_order;
-    }
-
-    -- one request may be served where it may start
-    may_serve : (ticket : Ticket) (request : Request) (p : Parts W)
-        → MayStart facts layouts ticket request p → MayServe facts layouts (ticket, request) [] p
-    may_serve ticket request p may =
-        let s = p.book.state.standing in
-        let some : has_room (far (wire_of p.station.link)) ≡ true =
-        subst (λ (l : AnyLink W). IsTrue (has_room (far (wire_of l)))) (sym may.link_is)
-        may.room in
-        record {
-          starts = may;
-          others = drop 1 (s.urgent ++ s.waiting);
-          in_order = (next_heads s (ticket, request) may.next).1;
-          room = takes_one (far (wire_of p.station.link)).room (record_of facts p) some;
-        }
+      by : (left : ℕ) → turns_between devices [] ≡ 0
+          → suc n - (needed + turns_between devices []) ≡ left
+          → AreServed facts devices (kind_of facts p).hands_over layouts left []
+          (grown_by (record_of facts p) request answer)
+          (served p.book.state (ticket, request) answer) now
+          → IsOnTime facts layouts ticket request p (suc n) now
+      by zero none left (is, book) = inr (inr (inl (answer, is, omega (arith, few), book)))
+      by (suc k) none left (more, is) = inr (inr (inr (answer, more, is, omega (arith, few))))
 
   -- Whole runs
 
-  -- where the port stands after so many turns and no other call
-  abbrev pub SoFar : Parts W → List Call → Parts W → Type 0
-  SoFar p calls now =
-      (n : ℕ) → calls ≡ replicate n call.Turn
-      → (layouts : Layouts) (first : Ticket × Request) (rest : List (Ticket × Request))
-      → MayServe facts layouts first rest p
-      → Steady (far (wire_of p.station.link)).room p.station.session.configuration now
-      × Going (kind_of facts p) layouts p.station.session.configuration.devices n
-      (first ∷ rest) (record_of facts p) p.book.state now
+  module _ (p : Parts W) where
+    abbrev asked : Configuration
+    asked = p.station.session.configuration
 
-  pub so_far_none : (p : Parts W) → SoFar p [] p
-  so_far_none p zero e layouts first rest may =
-      let devices : Devices = p.station.session.configuration.devices in (
-        steady_first layouts devices first.0 first.1 p may.starts,
-        begins layouts devices first rest p may,
-      )
-  so_far_none p (suc n) e layouts first rest may = absurd (cc)
+    abbrev ready : Option ℕ
+    ready = (far (wire_of p.station.link)).room
 
-  so_far_snoc : (p mid next : Parts W) (calls : List Call) (c : Call) → SoFar p calls mid
-      → (c ≡ call.Turn → CleanTurn facts mid next) → SoFar p (calls ++ c ∷ []) next
-  so_far_snoc p mid next calls c so_far turn n e layouts first rest may =
-      let found : (n ≡ suc (length calls)) × (calls ≡ replicate (length calls) call.Turn)
-      × (c ≡ call.Turn) = snoc_turns calls c n e in
-      let mid_is = so_far (length calls) found.1 layouts first rest may in
-      let t : CleanTurn facts mid next = turn found.2 in
-      let room : Option ℕ = (far (wire_of p.station.link)).room in
-      let devices : Devices = p.station.session.configuration.devices in (
-        steady_more mid_is.0 t,
-        subst (λ (k : ℕ). Going (kind_of facts p) layouts devices k (first ∷ rest)
-            (record_of facts p) p.book.state next) (sym found.0)
-            (going_more (kind_of facts p) layouts devices room p.station.session.configuration
-            (length calls)
-            (first ∷ rest) (record_of facts p) p.book.state mid next
-            (queue_first layouts devices first rest p may) may.room mid_is.0 refl t mid_is.1),
-      )
+    -- where the port stands after so many turns and no other call
+    abbrev pub SoFar : List Call → Parts W → Type 0
+    SoFar calls now =
+        (n : ℕ) → calls ≡ replicate n call.Turn
+        → (layouts : Layouts) (first : Ticket × Request) (rest : List (Ticket × Request))
+        → MayServe facts layouts first rest p → Steady ready asked now
+        × Going (kind_of facts p) layouts asked n (first ∷ rest) (record_of facts p) p.book.state
+        now
 
-  pub so_far_more : (p mid next : Parts W) (calls : List Call) (i : ℕ) (d : Call)
-      → i < length calls → SoFar p (take i calls) mid
-      → (get_or calls i d ≡ call.Turn → CleanTurn facts mid next)
-      → SoFar p (take (i + 1) calls) next
-  so_far_more p mid next calls i d below so_far turn =
-      rw (take_more calls i d below) (so_far_snoc p mid next (take i calls) (get_or calls i d)
-      so_far turn)
+    pub so_far_none : SoFar [] p
+    so_far_none zero e layouts first rest may = (
+      grind (arith, common_steps, may.starts.link_is, may.starts.is_honest),
+      record {
+        kind_is = refl;
+        record_is = refl;
+        book_is = refl;
+        may = λ more ticket request is_next room.
+            let found : Some first ≡ Some (ticket, request) = sym may.starts.next ∙ is_next in
+            let same : first ≡ (ticket, request) = cc in
+            rw same at may.starts;
+      },
+    )
+    so_far_none (suc n) e layouts first rest may = absurd (cc)
 
-  pub clean_serves : CleanLaws → (p next : Parts W) (calls : List Call) (i : ℕ)
-      → length calls ≤ i → SoFar p (take i calls) next → CleanServes facts p calls next
-  clean_serves laws p next calls i all so_far n e layouts first rest may =
-      are_served (kind_of facts p) layouts p.station.session.configuration.devices laws n
-      (first ∷ rest)
-      (record_of facts p) p.book.state next
-      (so_far n (take_all i calls all ∙ e) layouts first rest may).1
+    pub so_far_more : (mid next : Parts W) (calls : List Call) (i : ℕ) (d : Call)
+        → i < length calls → SoFar (take i calls) mid
+        → (get_or calls i d ≡ call.Turn → CleanTurn facts mid next)
+        → SoFar (take (i + 1) calls) next
+    so_far_more mid next calls i d below so_far turn = rw (take_more calls i d below)
+        (λ n e layouts first rest may.
+        let found = snoc_turns (take i calls) (get_or calls i d) n e in
+        let t = turn found.2 in
+        let (steady, going) = so_far (length (take i calls)) found.1 layouts first rest may in
+        let queue : Queue ready (record_of facts p) p.book.state (first ∷ rest) = record {
+          free = (next_heads p.book.state.standing first may.starts.next).0;
+          others = may.others;
+          order = may.in_order;
+          fits = may.room;
+        } in (
+          steady_more steady t,
+          rw found.0 (going_more (kind_of facts p) layouts asked steady t (length (take i calls))
+              (first ∷ rest) (record_of facts p) p.book.state queue going),
+        ))
 
-  pub clean_runs : (p next : Parts W) (calls : List Call) → CleanServes facts p calls next
-      → CleanRuns facts p calls next
-  clean_runs p next calls serves n e layouts ticket request may =
-      let devices : Devices = p.station.session.configuration.devices in
-      on_time layouts devices ticket request p n next
-      (serves (suc n) e layouts (ticket, request) []
-      (may_serve layouts devices ticket request p may))
+    pub clean_serves : CleanLaws → (next : Parts W) (calls : List Call) (i : ℕ)
+        → length calls ≤ i → SoFar (take i calls) next → CleanServes facts p calls next
+    clean_serves laws next calls i all so_far n e layouts first rest may =
+        are_served (kind_of facts p) layouts asked laws n (first ∷ rest) (record_of facts p)
+        p.book.state next (so_far n (take_all i calls all ∙ e) layouts first rest may).1
+
+    -- one request may be served where it may start
+    pub clean_runs : (next : Parts W) (calls : List Call) → CleanServes facts p calls next
+        → CleanRuns facts p calls next
+    clean_runs next calls serves n e layouts ticket request may =
+        let s = p.book.state.standing in
+        let some : has_room (far (wire_of p.station.link)) ≡ true = rw may.link_is may.room in
+        on_time layouts asked.devices ticket request p n next
+        (serves (suc n) e layouts (ticket, request) [] (record {
+          starts = may;
+          others = drop 1 (s.urgent ++ s.waiting);
+          in_order = (next_heads s (ticket, request) may.next).1;
+          room = takes_one ready (record_of facts p) some;
+        }))

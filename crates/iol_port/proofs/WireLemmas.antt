@@ -1,11 +1,10 @@
 -- on every wire a run is its calls, one after another, and its wire comes from the first by calls
 -- alone
-use Rattle.std.proofs.Common.{ap, OnOk, OnErr, ◌<◌, ◌+◌, ◌∷◌, ◌++◌, [], List, ℕ, Result, false, ◌≡◌, ◌∙◌, length, take, get_or, refl, subst, arith}
+use Rattle.std.proofs.Common.{ap, OnOk, OnErr, ◌<◌, ◌+◌, ◌∷◌, ◌++◌, [], List, ℕ, Result, false, ◌≡◌, ◌∙◌, length, take, get_or, refl, arith}
 use Rattle.std.proofs.lemmas.Grind.{common_steps}
 use Rattle.std.proofs.lemmas.List.{take_more}
 use Rattle.std.specs.Prelude.{◌⊎◌}
 use Rattle.iol_far.specs.Far.{Far}
-use Rattle.iol_mode.specs.Next.{AnyLink}
 use Rattle.iol_mode.specs.Kinds.{IsHonestFor}
 use Rattle.iol_mode.specs.Stands.{StateStands}
 use Rattle.iol_mode.specs.declared.configuration.Devices.{Devices}
@@ -24,18 +23,13 @@ use Rattle.iol_port.specs.Asks.{asks_of}
 use Rattle.iol_book.specs.BookModel as book
 use Rattle.iol_book.specs.BookModel.{BookState}
 use Rattle.iol_port.specs.Run.{opened}
-use Rattle.iol_port.specs.WireCalls.{ComesFrom, AreCalls}
-use Rattle.iol_port.specs.View.{Parts, Opening, OpensWell, StandsFor, Does, IsPort, KeepsLimits}
-use Rattle.iol_port.specs.EveryWire.{CallGives, RunGives}
+use Rattle.iol_port.specs.WireCalls.{AreCalls}
+use Rattle.iol_port.specs.View.{Parts, Opening, OpensWell, StandsFor, Does, IsPort}
+use Rattle.iol_port.specs.EveryWire.{CallGives, RestartGives, RunGives}
 use Rattle.iol_port.specs.CorePort.{CoreDoes, parts_over}
 use Rattle.iol_port.proofs.CorePorts.{call_over}
 use Rattle.iol_port.proofs.RunLemmas.{run_kept, run_new}
 use Rattle.iol_port.proofs.TurnLemmas.{book_limits}
-
--- the limits of the opening stay, call by call
-limits_on : (first b next : BookState) → KeepsLimits b next → KeepsLimits first b
-    → KeepsLimits first next
-limits_on first b next now before = (now.0 ∙ before.0, now.1 ∙ before.1)
 
 abbrev pub devices_of : {W : Type 0} → Parts W → Devices
 devices_of p = p.station.session.configuration.devices
@@ -57,57 +51,39 @@ pub stays_by : {p next : Parts (Unit {0})} (mid : Parts (Unit {0}))
     → Leaves p next
 stays_by mid r changed same sent link devices = grind (arith, common_steps)
 
+pub stays_down : {p next : Parts (Unit {0})} → RestartGives p next → Leaves p next
+stays_down gives = grind (arith, common_steps)
+
 module _ {W : Type 0} (facts : WireFacts W) where
   open facts use {far, silence}
 
-  abbrev Called : Parts W → Call → Answered → Parts W → Type 0
-  Called p c reply next = CallGives facts p c reply next
-
-  abbrev Ran : Parts W → List Call → List Answered → Parts W → Type 0
-  Ran p calls replies next = RunGives facts p calls replies next
-
   -- a run goes on by one call
-  pub run_none : (p : Parts W) → Ran p [] [] p
+  pub run_none : (p : Parts W) → RunGives facts p [] [] p
   run_none p = refl
 
   run_snoc : (p mid next : Parts W) (calls : List Call) (replies : List Answered) (c : Call)
-      (reply : Answered) → Ran p calls replies mid → Called mid c reply next
-      → Ran p (calls ++ c ∷ []) (replies ++ reply ∷ []) next
-  run_snoc p mid next [] [] c reply run one =
-      (next, subst (λ (q : Parts W). Called q c reply next) run one, refl)
+      (reply : Answered) → RunGives facts p calls replies mid → CallGives facts mid c reply next
+      → RunGives facts p (calls ++ c ∷ []) (replies ++ reply ∷ []) next
+  run_snoc p mid next [] [] c reply run one = (next, rw run at one, refl)
   run_snoc p mid next (d ∷ calls) (r ∷ replies) c reply (following, first, rest) one =
       (following, first, run_snoc following mid next calls replies c reply rest one)
   run_snoc p mid next _ _ c reply run one = absurd run
 
   pub run_more : (p mid next : Parts W) (calls : List Call) (i : ℕ) (d : Call)
       (replies : List Answered) (reply : Answered) → i < length calls
-      → Ran p (take i calls) replies mid
-      → Called mid (get_or calls i d) reply next
-      → Ran p (take (i + 1) calls) (replies ++ reply ∷ []) next
-  run_more p mid next calls i d replies reply below run one =
-      rw (take_more calls i d below) (run_snoc p mid next (take i calls) replies
-      (get_or calls i d) reply run one)
-
-  abbrev Comes : W → Parts W → Type 0
-  Comes first p = ComesFrom facts first (wire_of p.station.link)
+      → RunGives facts p (take i calls) replies mid
+      → CallGives facts mid (get_or calls i d) reply next
+      → RunGives facts p (take (i + 1) calls) (replies ++ reply ∷ []) next
+  run_more p mid next calls i d replies reply below run one = rw (take_more calls i d below)
+      (run_snoc p mid next (take i calls) replies (get_or calls i d) reply run one)
 
   -- one call of the wire more
   calls_snoc : (first old new : W) (calls : List Asked) (asked : Asked)
       → AreCalls facts calls first old → IsCall facts asked old new
       → AreCalls facts (calls ++ asked ∷ []) first new
-  calls_snoc first old new [] asked is one =
-      (new, subst (λ (w : W). IsCall facts asked w new) is one, refl)
+  calls_snoc first old new [] asked is one = (new, rw is at one, refl)
   calls_snoc first old new (c ∷ calls) asked (mid, this, rest) one =
       (mid, this, calls_snoc mid old new calls asked rest one)
-
-  comes_more : (first old new : W) (asked : Asked) → IsCall facts asked old new
-      → ComesFrom facts first old → ComesFrom facts first new
-  comes_more first old new asked one (calls, are) =
-      (calls ++ asked ∷ [], calls_snoc first old new calls asked are one)
-
-  abbrev Stands : Devices → AnyLink W → Type 0
-  Stands devices link = IsHonestFor facts devices link.wire
-      → StateStands link.state (silence link.wire) (far link.wire)
 
   down_stands : (state : State) (n : ℕ) (f : Far) → mode_in state ≡ Down → StateStands state n f
   down_stands state n f down = grind (arith, common_steps)
@@ -122,28 +98,29 @@ module _ {W : Type 0} (facts : WireFacts W) where
   pub call_kept : {o : Opening W} {wire : W} {p next : Parts (Unit {0})} {c : Call}
       {reply : Answered} → IsPort facts o (parts_over wire p) → CoreDoes p c reply next
       → Leaves p next → IsPort facts o (parts_over wire next)
-  call_kept {o = o} {wire = wire} {p = p} {next = next} {c = c} {reply = reply} is does leaves =
-      let does_over : Does facts (parts_over wire p) c reply (parts_over wire next) =
-      call_over facts wire p next c reply does in
+  call_kept {wire = wire} {p = p} {next = next} {c = c} {reply = reply} is does leaves =
+      let over = call_over facts wire p next c reply does in
+      let same = book_limits c reply p.book.state next.book.state over.book in
       record {
-        run = run_kept facts _ _ _ _ _ is.run does_over;
+        run = run_kept facts _ _ _ _ _ is.run over;
         wire = is.wire;
-        limits = limits_on (book.opened o.limits) p.book.state next.book.state
-            (book_limits c reply p.book.state next.book.state does_over.book) is.limits;
+        limits = (same.0 ∙ is.limits.0, same.1 ∙ is.limits.1);
         free = leaves.sent ∙ is.free;
-        stands = λ h. stands_on wire p next leaves.link
-            (is.stands (subst (λ (d : Devices). IsHonestFor facts d wire) leaves.devices h));
+        stands = λ h. stands_on wire p next leaves.link (is.stands (rw leaves.devices at h));
       }
 
   pub port_turned : (o : Opening W) (p next : Parts W) → IsPort facts o p
       → Does facts p call.Turn answered.Nothing next
       → IsCall facts (asks_of p) (wire_of p.station.link) (wire_of next.station.link)
-      → next.sent ≡ false → Stands (devices_of next) next.station.link
+      → next.sent ≡ false
+      → (IsHonestFor facts (devices_of next) next.station.link.wire
+      → StateStands next.station.link.state (silence next.station.link.wire)
+      (far next.station.link.wire))
       → IsPort facts o next
   port_turned o p next is does one free stands = record {
     run = run_kept facts o p next call.Turn answered.Nothing is.run does;
-    wire = comes_more o.wire _ _ (asks_of p) one is.wire;
-    limits = limits_on (book.opened o.limits) p.book.state next.book.state does.book.1 is.limits;
+    wire = (is.wire.0 ++ asks_of p ∷ [], calls_snoc o.wire _ _ is.wire.0 (asks_of p) is.wire.1 one);
+    limits = (does.book.1.0 ∙ is.limits.0, does.book.1.1 ∙ is.limits.1);
     free = free;
     stands = stands;
   }
@@ -154,11 +131,10 @@ module _ {W : Type 0} (facts : WireFacts W) where
       → wire_of p.station.link ≡ o.wire → p.book.state ≡ book.opened o.limits → p.sent ≡ false
       → mode_of p.station.link ≡ Down
       → IsPort facts o p
-  port_new o p stands same is free down =
-      record {
-        run = run_new facts o p stands;
-        wire = ([], same);
-        limits = (ap (λ (b : BookState). b.limit) is, ap (λ (b : BookState). b.queue) is);
-        free = free;
-        stands = λ h. down_stands p.station.link.state _ _ down;
-      }
+  port_new o p stands same is free down = record {
+    run = run_new facts o p stands;
+    wire = ([], same);
+    limits = (ap (λ (b : BookState). b.limit) is, ap (λ (b : BookState). b.queue) is);
+    free = free;
+    stands = λ h. down_stands p.station.link.state _ _ down;
+  }

@@ -7,8 +7,7 @@ pub invariant_of-result : goal.invariant_of-result
 invariant_of-result g c =
     let facts = g.W.Wire.facts in
     let limits = c.args.limits.now in
-    let new = new_over facts c.args.wire c.args.devices limits c.in-Ok.core
-    c.in-Ok.ensures.parts in
+    let new = new_over facts c.args.wire c.in-Ok.ensures.parts in
     rw (c.of.ensures, c.of-in-Ok.ensures, c.of-wire_then.ensures)
     (port_new facts (opening_for facts c.args.devices limits c.args.wire) _
     (opens_over facts c.args.wire c.args.devices limits c.in-Ok.core c.in-Ok.ensures.opens)
@@ -17,8 +16,7 @@ invariant_of-result g c =
 pub returns-in-Ok-clause-parts : goal.returns-in-Ok-clause-parts
 returns-in-Ok-clause-parts g c =
     rw (c.of.ensures, c.of-in-Ok.ensures, c.of-wire_then.ensures)
-    (new_over g.W.Wire.facts c.args.wire c.args.devices c.args.limits.now c.in-Ok.core
-    c.in-Ok.ensures.parts)
+    (new_over g.W.Wire.facts c.args.wire c.in-Ok.ensures.parts)
 
 pub returns-in-Ok-clause-stands : goal.returns-in-Ok-clause-stands
 returns-in-Ok-clause-stands g c =

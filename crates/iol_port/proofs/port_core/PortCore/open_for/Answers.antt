@@ -1,6 +1,6 @@
 -- A port that is new stands for the abstract port that is opened, with every far end.
-use Rattle.std.proofs.Common.{false, refl, sym, subst, ap}
-use Rattle.iol_app.specs.StationState.{mode_in, why_in}
+use Rattle.std.proofs.Common.{false, sym, subst, arith}
+use Rattle.std.proofs.lemmas.Grind.{common_steps}
 use Rattle.iol_app.specs.Core.{Core, IsAttempted}
 use Rattle.iol_port.specs.CorePort.{at_end, bare}
 use Rattle.iol_port.proofs.RunLemmas.{opened_stands}
@@ -17,16 +17,5 @@ returns-in-Ok-clause-opens g c far n well =
       sent = false;
       counters = c.zero.result;
     })
-    (record {
-      wire_is = refl;
-      mode = ap (λ (k : Core). mode_in k.state) core;
-      why = ap (λ (k : Core). why_in k.state) core;
-      session_is = ap (λ (k : Core). k.session) core;
-      book = c.in-Ok.ensures.opened;
-      places = c.in-Ok.ensures.places;
-      entries = c.in-Ok.ensures.memory;
-      kept = c.new-in-Ok.ensures;
-      sent = refl;
-      counters = c.zero.ensures;
-    })
+    (grind (arith, common_steps, core, c.in-Ok.ensures, c.new-in-Ok.ensures, c.zero.ensures))
     (subst (λ (k : Core). IsAttempted k.state) (sym core) tt) c.new.ensures.steps well

@@ -1,15 +1,13 @@
 -- What comes back goes to the book and to the kept events, and is one piece of a run.
-use Rattle.std.proofs.Common.{◌≡◌, ◌∙◌, ◌++◌, List, true, false, refl, ap, inl}
+use Rattle.std.proofs.Common.{◌≡◌, ◌∙◌, ◌++◌, true, false, refl, ap, inl}
 use Rattle.iol_far.specs.Octets.{octets_in}
-use Rattle.iol_app.specs.declared.brought.Brought.{Brought}
 use Rattle.iol_app.specs.Core.{Core, came_of}
 use Rattle.iol_mode.specs.States.{is_reset}
-use Rattle.iol_steps.specs.Step.{Step, resets, book_said}
-use Rattle.iol_port.specs.Counters.{call_counted, said_counted}
+use Rattle.iol_steps.specs.Step.{resets, book_said}
 use Rattle.iol_port.specs.Steps.{book_through}
 use Rattle.iol_port.specs.View.{Parts}
 use Rattle.iol_port.specs.CorePort.{awaited, bare}
-use Rattle.iol_port.proofs.CorePorts.{parts_in, reply_out, receive_does, reset_told}
+use Rattle.iol_port.proofs.CorePorts.{parts_in, reply_out, receive_does, heard_reset}
 use Rattle.iol_port.proofs.TieLemmas.{turn_tied, settled_limit}
 use Rattle.iol_port.proofs.port_core.PortCore.receive.Given as given
 use Rattle.iol_port.proofs.port_core.PortCore.receive.Goals as goal
@@ -32,12 +30,8 @@ book_is : (g : given.Over) (c : goal.After-settle g) → c.settle.new.book.state
     ≡ book_through
     (resets (is_reset c.self.inside.core.state) (is_reset c.receive-brought.new.self.state)
     ++ book_said c.receive-brought.new.said) c.self.inside.book.state
-book_is g c = c.settle.ensures.book
-    ∙ ap (λ (l : List Step). book_through (l ++ book_said c.receive-brought.new.said)
-    c.self.inside.book.state)
-    (reset_told c.resets-reset.result c.is_reset-began.result c.is_reset.result
-    c.self.inside.core.state c.receive-brought.new.self.state c.is_reset-began.ensures
-    c.is_reset.ensures c.resets-reset.ensures)
+book_is g c = heard_reset _ _ _ _ c.is_reset-began.ensures c.is_reset.ensures
+    c.resets-reset.ensures c.settle.ensures.book
 
 pub returns-clause-gives : goal.returns-clause-gives
 returns-clause-gives g c =
@@ -50,10 +44,7 @@ returns-clause-gives g c =
       memory = c.settle.ensures.memory;
       kept = c.settle.ensures.kept;
       sent = refl;
-      counters = c.turned.ensures ∙ ap
-          (λ (b : Brought). said_counted c.receive-brought.new.said
-          (call_counted b c.self.inside.counters))
-          c.receive-brought.ensures.brought;
+      counters = c.turned.ensures ∙ (rw c.receive-brought.ensures.brought refl);
     })
 
 pub returns-clause-does : goal.returns-clause-does
@@ -61,5 +52,5 @@ returns-clause-does g c =
     let p : Parts (Unit {0}) = parts_in c.self.inside in
     let out = reply_out p c.self.invariant (ap awaited c.self.view_is ∙ c.requires) in
     rw (← c.self.view_is) (receive_does p _ (octets_in c.args.came.now)
-    c.receive-brought.new.said out.0 c.receive-brought.ensures.steps refl (book_is g c)
-    c.settle.ensures.kept)
+    c.receive-brought.new.said out.0 c.receive-brought.ensures.steps refl
+    (record { posts = book_is g c; keeps = c.settle.ensures.kept }))

@@ -1,16 +1,14 @@
 -- What a wake brought is one piece of a run.
-use Rattle.std.proofs.Common.{◌≡◌, ◌∙◌, true, false, List, [], refl, ap, inl, append-nil, cond, ◌∷◌}
+use Rattle.std.proofs.Common.{◌≡◌, ◌∙◌, ◌++◌, true, false, refl, ap, inl, append-nil}
 use Rattle.std.specs.Prelude.{is_some}
 use Rattle.iol_mode.specs.States.{is_reset}
-use Rattle.iol_steps.specs.Step.{Step, Reset, resets}
+use Rattle.iol_steps.specs.Step.{resets, book_said}
 use Rattle.iol_steps.specs.declared.said.Said.TheVariants.{Idle}
-use Rattle.iol_app.specs.declared.brought.Brought.{Brought}
 use Rattle.iol_app.specs.Core.{Core}
-use Rattle.iol_port.specs.Counters.{call_counted}
 use Rattle.iol_port.specs.Steps.{book_through}
 use Rattle.iol_port.specs.View.{Parts}
 use Rattle.iol_port.specs.CorePort.{awaited, bare}
-use Rattle.iol_port.proofs.CorePorts.{parts_in, wake_out, wake_does, reset_told}
+use Rattle.iol_port.proofs.CorePorts.{parts_in, wake_out, wake_does, heard_reset}
 use Rattle.iol_port.proofs.TieLemmas.{turn_tied, woken_limit}
 use Rattle.iol_port.proofs.port_core.PortCore.receive_wake.Given as given
 use Rattle.iol_port.proofs.port_core.PortCore.receive_wake.Goals as goal
@@ -29,26 +27,22 @@ invariant_of-self g c =
 -- the book heard of a reset where both cores say so
 book_is : (g : given.Over) (c : goal.After-settle g) → c.settle.new.book.state
     ≡ book_through
-    (resets (is_reset c.self.inside.core.state) (is_reset c.receive_wake.new.self.state))
-    c.self.inside.book.state
-book_is g c = c.settle.ensures.book
-    ∙ ap (λ (l : List Step). book_through l c.self.inside.book.state)
-    (append-nil (cond c.resets-reset.result (Reset ∷ []) [])
-    ∙ reset_told c.resets-reset.result c.is_reset-began.result c.is_reset.result
-    c.self.inside.core.state c.receive_wake.new.self.state c.is_reset-began.ensures
-    c.is_reset.ensures c.resets-reset.ensures)
+    (resets (is_reset c.self.inside.core.state) (is_reset c.receive_wake.new.self.state)
+    ++ book_said Idle) c.self.inside.book.state
+book_is g c = heard_reset _ _ Idle c.self.inside.book.state c.is_reset-began.ensures
+    c.is_reset.ensures
+    c.resets-reset.ensures c.settle.ensures.book
 
 pub returns-clause-gives : goal.returns-clause-gives
 returns-clause-gives g c =
     rw (← c.self.view_is)
     (record {
       core = c.receive_wake.ensures.core;
-      book = book_is g c;
+      book = rw append-nil at (book_is g c);
       memory = c.settle.ensures.memory;
       kept = c.settle.ensures.kept;
       sent = refl;
-      counters = c.turned.ensures
-          ∙ ap (λ (b : Brought). call_counted b c.self.inside.counters) c.of_wake.ensures;
+      counters = c.turned.ensures ∙ (rw c.of_wake.ensures refl);
     })
 
 pub returns-clause-does : goal.returns-clause-does
@@ -56,4 +50,5 @@ returns-clause-does g c =
     let p : Parts (Unit {0}) = parts_in c.self.inside in
     let out = wake_out p (ap awaited c.self.view_is ∙ c.requires) in
     rw (← c.self.view_is) (wake_does p _ (is_some c.args.rate) out.0
-    c.receive_wake.ensures.steps refl (book_is g c) c.settle.ensures.kept)
+    c.receive_wake.ensures.steps refl
+    (record { posts = book_is g c; keeps = c.settle.ensures.kept }))

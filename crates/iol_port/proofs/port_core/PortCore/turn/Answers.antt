@@ -1,20 +1,16 @@
 -- A turn of a port: what goes out, one call of the wire, and what is made of what came.
-use Rattle.std.proofs.Common.{◌≡◌, Bool, ◌&&◌, Option, false, ap, sym, ◌∙◌, cond, ◌∷◌, [], ◌++◌, arith}
+use Rattle.std.proofs.Common.{◌≡◌, ◌&&◌, Option, true, false, refl, ap, sym, ◌∙◌, cond, ◌∷◌, [], ◌++◌, arith}
 use Rattle.std.proofs.lemmas.Grind.{common_steps}
-use Rattle.iol_steps.specs.Step.{Reset, resets, book_said}
-use Rattle.iol_mode.specs.States.{is_reset}
-use Rattle.iol_app.specs.Core.{Core}
+use Rattle.iol_steps.specs.Step.{Reset, book_said}
 use Rattle.iol_app.specs.Due.{is_ready}
-use Rattle.iol_app.specs.StationState.{StationState, is_operating, operates}
+use Rattle.iol_app.specs.StationState.{StationState, is_operating}
 use Rattle.iol_app.specs.Asking.{prepared}
 use Rattle.iol_app.specs.Seen.{station_of}
 use Rattle.iol_isdu.specs.declared.values.Request.{Request}
-use Rattle.iol_book.specs.BookModel.{BookState, next_taken}
+use Rattle.iol_book.specs.BookModel.{next_taken}
 use Rattle.iol_port.specs.Asks.{has_room, lacks_isdu, to_begin}
 use Rattle.iol_port.specs.View.{Parts, BeginsNext}
 use Rattle.iol_port.specs.CorePort.{bare, parts_over}
-use Rattle.iol_port.specs.EveryWire.{taken_where}
-use Rattle.iol_port.specs.Steps.{book_through}
 use Rattle.iol_port.proofs.AskLemmas.{book_told, turn_begun_asked}
 use Rattle.iol_port.proofs.CorePorts.{parts_in, begins_over, takes_over}
 use Rattle.iol_port.proofs.Denying.{turn_denies}
@@ -65,13 +61,19 @@ begins : (g : given.Over) (c : goal.After-settle g)
 begins g c = begins_over c.args.wire.now c.self.inside.core c.begin_next.new.core
     c.self.inside.book.state c.begin_next.new.book.state c.begin_next.ensures.next
 
+-- in a turn that begins in OPERATE the device isn't reset
+unreset : (g : given.Over) (c : goal.After-settle g) → is_operating (mid g c).link ≡ true
+    → c.resets-reset.result ≡ false
+unreset g c = none_reset g.W.Wire.facts (mid g c).link _ _ c.resets-reset.result
+    c.is_reset-began.ensures c.resets-reset.ensures
+
 pub returns-clause-does : goal.returns-clause-does
 returns-clause-does g c =
     rw (← c.self.view_is)
     (record {
       follows = turn_does g.W.Wire.facts (before g c) (after g c) c.turn-brought.new.said
           (mid g c) c.begin_next.new.book.state (free g c) (free g c) (begins g c)
-          c.turn-brought.ensures.steps (cc) c.settle.ensures.kept;
+          c.turn-brought.ensures.steps (record { posts = cc; keeps = c.settle.ensures.kept });
       book = turn_gives_none _ _ _ _ _
           (cond c.resets-reset.result (Reset ∷ []) [] ++ book_said c.turn-brought.new.said)
           (begins g c) c.settle.ensures.book;
@@ -86,52 +88,39 @@ returns-clause-clean g c =
     (begins g c)
     (takes_over c.args.wire.now c.has_room-room.result c.self.inside.core c.begin_next.new.core
     c.self.inside.book.state c.begin_next.new.book.state c.begin_next.ensures.takes)
-    c.turn-brought.ensures.turn c.self.invariant.busy
-    (none_reset g.W.Wire.facts (mid g c).link _ _ c.resets-reset.result
-    c.is_reset-began.ensures c.resets-reset.ensures)
-    c.settle.ensures.book)
+    c.turn-brought.ensures.turn c.self.invariant.busy (unreset g c) c.settle.ensures.book)
 
 pub returns-clause-gives : goal.returns-clause-gives
 returns-clause-gives g c =
-    let facts = g.W.Wire.facts in
     let p : Parts g.row.W.Denot = before g c in
+    let said = c.turn-brought.new.said in
     let next : Option Request = to_begin (lacks_isdu p.station.session.isdu)
     (next_taken p.book.state.standing) in
     let room : c.has_room-room.result ≡ has_room p.kept = c.has_room-room.ensures
     ∙ ap (λ (q : Parts (Unit {0})). has_room q.kept) (sym c.self.view_is) in
     let exact : mid g c ≡ prepared next p.station c.has_room-room.result =
-    ap (λ (k : Core). station_of c.args.wire.now k) c.begin_next.ensures.exact in
+    rw c.begin_next.ensures.exact refl in
     rw (← c.self.view_is)
     (record {
-      said = c.turn-brought.new.said;
+      said = said;
       brought = c.turn-brought.result;
-      turn = turn_begun_asked facts p.station (mid g c) (after g c).station next
-          c.has_room-room.result _ c.turn-brought.new.said c.turn-brought.result room exact
+      turn = turn_begun_asked g.W.Wire.facts p.station (mid g c) (after g c).station next
+          c.has_room-room.result _ said c.turn-brought.result room exact
           c.turn-brought.ensures.exact;
       book = c.settle.ensures.book
-          ∙ book_told p.station (mid g c) (after g c).station next c.has_room-room.result
-          c.resets-reset.result c.is_reset-began.result c.is_reset.result
-          c.turn-brought.new.said c.begin_next.new.book.state
-          exact c.is_reset-began.ensures c.is_reset.ensures c.resets-reset.ensures
-          ∙ ap (λ (b : BookState). book_through
-          (resets (is_reset p.station.link.state) (is_reset (after g c).station.link.state)
-          ++ book_said c.turn-brought.new.said) b)
-          (c.begin_next.ensures.taken ∙ ap
-          (λ (r : Bool). taken_where (operates p.station.link.state
-          && is_ready p.station.session r) (lacks_isdu p.station.session.isdu)
-          (next_taken p.book.state.standing) p.book.state) room);
+          ∙ book_told p.station (mid g c) (after g c).station next c.has_room-room.result _ _ _ said
+          c.begin_next.new.book.state exact c.is_reset-began.ensures c.is_reset.ensures
+          c.resets-reset.ensures ∙ (rw (c.begin_next.ensures.taken, room) refl);
       memory = c.settle.ensures.memory ∙ c.begin_next.ensures.memory;
       kept = c.settle.ensures.kept;
       counters = c.turned.ensures;
-      denies = λ ticket has. turn_denies p (after g c)
-          c.begin_next.new.book.state c.resets-reset.result c.turn-brought.new.said
+      denies = λ ticket has. turn_denies p (after g c) c.begin_next.new.book.state
+          c.resets-reset.result said
           (ends_ask _ _ _ (begun_same _ _ _ _ c.begin_next.ensures.next c.self.invariant.same)
           c.turn-brought.ensures.ends)
           c.settle.ensures.book ticket has
           (is_operating p.station.link && is_ready p.station.session c.has_room-room.result)
           c.begin_next.ensures.taken
-          (λ ready. none_reset facts (mid g c).link _ _ c.resets-reset.result
-          c.is_reset-began.ensures c.resets-reset.ensures
-          (ap (λ (s : StationState g.row.W.Denot). is_operating s.link) exact
+          (λ ready. unreset g c (ap (λ (s : StationState g.row.W.Denot). is_operating s.link) exact
           ∙ (grind (arith, common_steps))));
     })
