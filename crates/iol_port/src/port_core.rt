@@ -1,28 +1,29 @@
 //! A port without the wire: it gives the octets to send, and takes what came.
-ghost use Rattle.std.specs.Prelude.{◌≡◌, ◌≢◌, ◌<◌, ◌≤◌, None, true, false, IfOk, IfErr, IsTrue, length, is_some};
+ghost use Rattle.std.specs.Prelude.{◌≡◌, ◌<◌, ◌≤◌, None, true, false, IfOk, IfErr, IsTrue, length, is_some};
 ghost use Rattle.std.specs.Option.{option_copied};
 ghost use Rattle.std.specs.Result.{result_map_both};
 ghost use Rattle.iol_far.specs.Octets.{octets_in};
 ghost use Rattle.iol_mode.specs.Kinds.{IsHonestFor};
 ghost use Rattle.iol_mode.specs.Stands.{StateStands};
 ghost use Rattle.iol_book.specs.declared.fault.BookFault.TheVariants.{OutOfMemory};
-ghost use Rattle.iol_book.specs.BookModel.{AreLimits, IsReplayed, submitted, submitted_urgent};
+ghost use Rattle.iol_book.specs.BookModel.{AreLimits, IsReplayed, submitted};
 ghost use Rattle.iol_app.specs.Asking.{IsCall};
 ghost use Rattle.iol_app.specs.Pieces.{IsAskedOut};
 ghost use Rattle.iol_port.specs.declared.fault.PortFault.TheVariants as fault;
 ghost use Rattle.iol_port.specs.declared.call.Call.TheVariants as call;
 ghost use Rattle.iol_port.specs.declared.call.Answered.TheVariants as answered;
 ghost use Rattle.iol_port.specs.declared.awaited.Awaited.{Awaited};
-ghost use Rattle.iol_port.specs.View.{Does, OpensWell, IsOpened, opening_of, status_of};
+ghost use Rattle.iol_port.specs.View.{Does};
 ghost use Rattle.iol_port.specs.Asks.{asks_of, has_room};
-ghost use Rattle.iol_port.specs.EveryWire.{SubmitGives, CollectGives, WithdrawGives, CancelGives, ArchiveGives};
-ghost use Rattle.iol_port.specs.EveryWire.{TakeEventGives, SetOutputGives, ClearOutputGives, RestartGives, TurnGives};
-ghost use Rattle.iol_port.specs.EveryWire.{ExpectGives, SetCycleGives, page_shown};
+ghost use Rattle.iol_port.specs.EveryWire.{TurnGives};
+ghost use Rattle.iol_port.specs.EveryWire.{page_shown};
 ghost use Rattle.iol_port.specs.RightDevice.{IsForRightDevice};
 ghost use Rattle.iol_port.specs.Run.{counting};
 ghost use Rattle.iol_port.specs.Clean.{CleanTurn};
-ghost use Rattle.iol_port.specs.CorePort.{CoreDoes, CoreOpens, CoreOpensFor, CoreKeeps, IsNew, IsNewFor, awaited, parts_over, SendGives, SendDoes, ReceiveGives, ReceiveDoes, WakeGives, WakeDoes};
-ghost use Rattle.iol_port.specs.Replies.{ticket_reply, outcome_reply, nothing_reply, event_reply, reply_of};
+ghost use Rattle.iol_port.specs.CorePort.{CoreOpens, CoreOpensFor, CoreKeeps, IsNew, IsNewFor, awaited, parts_over, SendGives, SendDoes, ReceiveGives, ReceiveDoes, WakeGives, WakeDoes};
+ghost use Rattle.iol_port.specs.Called.{Submits, SubmitsUrgent, Collects, Withdraws, Cancels, Restarts, SetsOutput};
+ghost use Rattle.iol_port.specs.Called.{ClearsOutput, Expects, SetsCycle, TakesEvent, Archives, CoreCalled};
+ghost use Rattle.iol_port.specs.Called.{ShowsPage, ShowsCounters, ShowsImage, ShowsStatus};
 
 use crate::PortFault;
 use crate::awaited::Awaited;
@@ -153,10 +154,9 @@ impl<A: Allocator + Copy> PortCore<A> {
     ///
     /// Rule PORT-7.
     pub fn submit(&mut self, request: Request) -> Result<Ticket, PortFault>
-        ensures does { CoreDoes self.old (call.Submit request) (ticket_reply result) self.new }
+        ensures is { Submits (CoreCalled self.old self.new) self.old self.new
+            request result }
         ensures lacks { IfErr result (λ e. e ≡ fault.Book OutOfMemory → self.old.book.room ≡ 0) }
-        ensures gives { SubmitGives self.old (submitted self.old.book.state request) result
-            self.new }
     {
         by_book(self.book.submit(request))
     }
@@ -168,11 +168,9 @@ impl<A: Allocator + Copy> PortCore<A> {
     ///
     /// Rule PORT-7.
     pub fn submit_urgent(&mut self, request: Request) -> Result<Ticket, PortFault>
-        ensures does { CoreDoes
-            self.old (call.SubmitUrgent request) (ticket_reply result) self.new }
+        ensures is { SubmitsUrgent (CoreCalled self.old self.new) self.old self.new
+            request result }
         ensures lacks { IfErr result (λ e. e ≡ fault.Book OutOfMemory → self.old.book.room ≡ 0) }
-        ensures gives { SubmitGives self.old (submitted_urgent self.old.book.state request) result
-            self.new }
     {
         by_book(self.book.submit_urgent(request))
     }
@@ -184,8 +182,8 @@ impl<A: Allocator + Copy> PortCore<A> {
     ///
     /// Rule PORT-7.
     pub fn collect(&mut self, ticket: Ticket) -> Result<Outcome, PortFault>
-        ensures does { CoreDoes self.old (call.Collect ticket) (outcome_reply result) self.new }
-        ensures gives { CollectGives self.old ticket result self.new }
+        ensures { Collects (CoreCalled self.old self.new) self.old self.new
+            ticket result }
     {
         by_book(self.book.collect(ticket))
     }
@@ -194,10 +192,8 @@ impl<A: Allocator + Copy> PortCore<A> {
     /// caller, which a refusal leaves as it was. Most asks come before the outcome, and cost
     /// little.
     pub fn collect_into(&mut self, ticket: Ticket, into: &mut Outcome) -> Result<(), PortFault>
-        ensures does { CoreDoes self.old (call.Collect ticket)
-            (outcome_reply (result_map_both (λ _. into.new) (λ why. why) result)) self.new }
-        ensures gives { CollectGives self.old ticket
-            (result_map_both (λ _. into.new) (λ why. why) result) self.new }
+        ensures is { Collects (CoreCalled self.old self.new) self.old self.new
+            ticket (result_map_both (λ _. into.new) (λ why. why) result) }
         ensures kept { IfErr result (λ _. into.new ≡ into.old) }
     {
         by_book(self.book.collect_into(ticket, into))
@@ -210,9 +206,8 @@ impl<A: Allocator + Copy> PortCore<A> {
     ///
     /// Rule PORT-7.
     pub fn withdraw(&mut self, ticket: Ticket) -> Result<(), PortFault>
-        ensures does { CoreDoes self.old (call.Withdraw ticket)
-            (nothing_reply result) self.new }
-        ensures gives { WithdrawGives self.old ticket result self.new }
+        ensures { Withdraws (CoreCalled self.old self.new) self.old self.new
+            ticket result }
     {
         by_book(self.book.withdraw(ticket))
     }
@@ -229,8 +224,8 @@ impl<A: Allocator + Copy> PortCore<A> {
     ///
     /// Rules PORT-7, REQ-8.
     pub fn cancel(&mut self, ticket: Ticket) -> Result<(), PortFault>
-        ensures does { CoreDoes self.old (call.Cancel ticket) (nothing_reply result) self.new }
-        ensures gives { CancelGives self.old ticket result self.new }
+        ensures { Cancels (CoreCalled self.old self.new) self.old self.new
+            ticket result }
     {
         match self.book.in_flight(ticket) {
             Ok(()) => {
@@ -252,8 +247,7 @@ impl<A: Allocator + Copy> PortCore<A> {
     /// Rules PORT-6, PORT-9, REQ-11.
     pub fn restart(&mut self)
         requires { awaited self.old ≡ Awaited.Nothing }
-        ensures does { CoreDoes self.old call.Restart answered.Nothing self.new }
-        ensures gives { RestartGives self.old self.new }
+        ensures { Restarts (CoreCalled self.old self.new) self.old self.new }
     {
         if self.core.restart() {
             self.counters.unknown.cut(Cause::Restarted);
@@ -268,17 +262,15 @@ impl<A: Allocator + Copy> PortCore<A> {
     ///
     /// Rule PORT-7.
     pub fn set_output(&mut self, image: &Image) -> Result<(), PortFault>
-        ensures does { CoreDoes
-            self.old (call.SetOutput image.now) (nothing_reply result) self.new }
-        ensures gives { SetOutputGives self.old image.now result self.new }
+        ensures { SetsOutput (CoreCalled self.old self.new) self.old self.new
+            image.now result }
     {
         by_output(self.core.set_output(image))
     }
 
     /// Wants no output of the device.
     pub fn clear_output(&mut self)
-        ensures does { CoreDoes self.old call.ClearOutput answered.Nothing self.new }
-        ensures gives { ClearOutputGives self.old self.new }
+        ensures { ClearsOutput (CoreCalled self.old self.new) self.old self.new }
     {
         self.core.clear_output();
     }
@@ -292,9 +284,8 @@ impl<A: Allocator + Copy> PortCore<A> {
     ///
     /// Rules PORT-10, LINK-11.
     pub fn expect(&mut self, identity: Identity) -> Counting
-        ensures does { CoreDoes
-            self.old (call.Expect (Some identity)) (answered.Counts result) self.new }
-        ensures gives { ExpectGives self.old (Some identity) result self.new }
+        ensures { Expects (CoreCalled self.old self.new) self.old self.new
+            (Some identity) result }
     {
         let counting = self.counting();
         self.core.expect(Some(identity));
@@ -305,8 +296,8 @@ impl<A: Allocator + Copy> PortCore<A> {
     ///
     /// Rules PORT-10, LINK-11.
     pub fn expect_any(&mut self) -> Counting
-        ensures does { CoreDoes self.old (call.Expect None) (answered.Counts result) self.new }
-        ensures gives { ExpectGives self.old None result self.new }
+        ensures { Expects (CoreCalled self.old self.new) self.old self.new
+            None result }
     {
         let counting = self.counting();
         self.core.expect(None);
@@ -318,8 +309,8 @@ impl<A: Allocator + Copy> PortCore<A> {
     ///
     /// Rules PORT-10, LINK-12.
     pub fn set_cycle(&mut self, cycle: Option<CycleTime>) -> Counting
-        ensures does { CoreDoes self.old (call.Cycle cycle) (answered.Counts result) self.new }
-        ensures gives { SetCycleGives self.old cycle result self.new }
+        ensures { SetsCycle (CoreCalled self.old self.new) self.old self.new
+            cycle result }
     {
         let counting = self.counting();
         self.core.set_cycle(cycle);
@@ -331,8 +322,7 @@ impl<A: Allocator + Copy> PortCore<A> {
     ///
     /// Rule PORT-11.
     pub fn page(&self) -> Option<Page>
-        ensures does { CoreDoes self.now call.Page (answered.Page result) self.now }
-        ensures value { result ≡ page_shown self.now }
+        ensures { ShowsPage (CoreCalled self.now self.now) self.now result }
     {
         self.core.page().copied()
     }
@@ -341,9 +331,7 @@ impl<A: Allocator + Copy> PortCore<A> {
     ///
     /// Rule PORT-12.
     pub fn counters(&self) -> &Counters
-        ensures does { CoreDoes
-            self.now call.Counters (answered.Counters result.now) self.now }
-        ensures value { result.now ≡ self.now.counters }
+        ensures { ShowsCounters (CoreCalled self.now self.now) self.now result.now }
     {
         &self.counters
     }
@@ -363,9 +351,7 @@ impl<A: Allocator + Copy> PortCore<A> {
     /// The device's input by the last good reply in OPERATE: one whole image, or
     /// none where it was not valid. None in every other mode.
     pub fn image(&self) -> Option<&Image>
-        ensures does { CoreDoes
-            self.now call.Look (answered.Image (option_copied result)) self.now }
-        ensures value { option_copied result ≡ self.now.station.session.image }
+        ensures { ShowsImage (CoreCalled self.now self.now) self.now (option_copied result) }
     {
         self.core.image()
     }
@@ -374,16 +360,15 @@ impl<A: Allocator + Copy> PortCore<A> {
     ///
     /// Rules PORT-5, PORT-7.
     pub fn take_event(&mut self) -> Result<Event, PortFault>
-        ensures does { CoreDoes self.old call.TakeEvent (event_reply result) self.new }
-        ensures gives { TakeEventGives self.old result self.new }
+        ensures { TakesEvent (CoreCalled self.old self.new) self.old self.new
+            result }
     {
         self.kept.pop_at(0).ok_or(PortFault::NoEvent)
     }
 
     /// The mode of the link, and why it is down.
     pub fn status(&self) -> Status
-        ensures does { CoreDoes self.now call.Status (answered.Status result) self.now }
-        ensures value { result ≡ status_of self.now.station }
+        ensures { ShowsStatus (CoreCalled self.now self.now) self.now result }
     {
         self.core.status()
     }
@@ -397,11 +382,9 @@ impl<A: Allocator + Copy> PortCore<A> {
     ///
     /// Rule PORT-7.
     pub fn archive(&mut self) -> Result<Vec<Entry, A>, PortFault>
-        ensures does { CoreDoes self.old call.Archive
-            (reply_of (λ entries. answered.Archived (length entries.items)) result) self.new }
+        ensures is { Archives (CoreCalled self.old self.new) self.old self.new
+            (λ entries. entries.items) result }
         ensures within { IfOk result (λ entries. length entries.items ≤ 1000000) }
-        ensures gives { ArchiveGives self.old
-            (result_map_both (λ entries. entries.items) (λ why. why) result) self.new }
     {
         by_book(self.book.archive())
     }

@@ -1,14 +1,17 @@
-use Rattle.std.proofs.Common.{refl, ap}
+use Rattle.std.proofs.Common.{refl, ap, rules}
 use Rattle.iol_port.proofs.CallLemmas.{clear_output_does}
 use Rattle.iol_port.specs.CorePort.{at_end, bare}
 use Rattle.iol_port.proofs.port_core.PortCore.clear_output.Goals as goal
 
-pub returns-clause-does : goal.returns-clause-does
-returns-clause-does g c =
+pub returns : goal.returns
+returns g c =
     rw (← c.self.view_is)
-    (λ far n. record {
-      follows = clear_output_does (at_end far n) _ (bare c.clear_output.new.self)
-          c.self.invariant (ap bare c.clear_output.ensures.core)
-          c.clear_output.ensures.steps;
-      book = refl;
+    (record {
+      does = λ far n. record {
+        follows = clear_output_does (at_end far n) _ (bare c.clear_output.new.self)
+            c.self.invariant (ap bare c.clear_output.ensures.core)
+            c.clear_output.ensures.steps;
+        book = refl;
+      };
+      gives = search rules;
     })

@@ -1,19 +1,23 @@
+use Rattle.std.proofs.Common.{rules}
 use Rattle.std.specs.Result.{result_map_both}
 use Rattle.iol_port.proofs.CallLemmas.{collect_does, by_book_put}
 use Rattle.iol_port.specs.CorePort.{at_end}
 use Rattle.iol_port.proofs.port_core.PortCore.collect_into.Goals as goal
 
-pub returns-clause-does : goal.returns-clause-does
-returns-clause-does g c =
+pub returns-clause-is : goal.returns-clause-is
+returns-clause-is g c =
     rw (
       ← c.self.view_is,
       c.by_book.ensures,
       by_book_put c.collect_into.result
           c.collect_into.new.into,
     )
-    (λ far n. record {
-      follows = collect_does (at_end far n) _ c.args.ticket
-          (result_map_both (λ _. c.collect_into.new.into) (λ why. why) c.collect_into.result)
-          c.collect_into.new.self c.collect_into.ensures.answer c.collect_into.ensures.state;
-      book = c.collect_into.ensures.state;
+    (record {
+      does = λ far n. record {
+        follows = collect_does (at_end far n) _ c.args.ticket
+            (result_map_both (λ _. c.collect_into.new.into) (λ why. why) c.collect_into.result)
+            c.collect_into.new.self c.collect_into.ensures.answer c.collect_into.ensures.state;
+        book = c.collect_into.ensures.state;
+      };
+      gives = search rules;
     })
