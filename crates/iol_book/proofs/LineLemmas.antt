@@ -1,117 +1,123 @@
--- The lines of a journal that a book keeps, after one more entry and after edits of its lists, and
--- what they say: the part `lines` of `IsSound`, and the clauses that look a ticket up (`answer` of
--- `collect_into` and of `withdraw`).
-use Rattle.std.proofs.Common.{◌≡◌, ℕ, Bool, true, false, List, [], ◌∷◌, ◌++◌, length, Option, None, Some, is_some, refl, ap, cond, drop, suc, zero}
-use Rattle.std.specs.Prelude.{slice_get}
+-- What one more entry says: one more step (the part `replayed` of `IsSound`, the clauses `state`
+-- and
+-- `replayed` of each call). The lines of a journal that a book keeps, and what they say, after one
+-- more entry and after edits of its lists: the part `lines`, and the clauses that look a ticket up
+-- (`answer` of `collect_into` and of `withdraw`). Last the place of a key in a list of pairs, and
+-- the list without it: the clauses of `place_in` and `outcome_at`.
+use Rattle.std.proofs.Common.{◌≡◌, ℕ, Bool, true, false, List, [], ◌∷◌, ◌++◌, length, Option, None, Some, is_some, refl, ap, cond, drop, suc, zero, arith, ◌+◌, sym, nat_lt, add-one, add_comm, get_or}
+use Rattle.std.specs.Prelude.{slice_get, not, IfSome, IfNone}
 use Rattle.std.specs.Option.{option_map, option_to_list}
 use Rattle.std.specs.Map.{lookup, remove_entry}
+use Rattle.std.proofs.lemmas.Grind.{common_steps}
 use Rattle.iol_book.specs.declared.entries.Ticket.{Ticket}
 use Rattle.iol_book.specs.declared.entries.Entry.{Entry}
-use Rattle.iol_book.specs.Replay.{same_ticket}
+use Rattle.iol_book.specs.Replay.{Standing, nothing, step, replay_from, replay, same_ticket, is_among, without, others_without}
 use Rattle.iol_book.specs.BookModel.{others_behind}
 use Rattle.iol_book.specs.Lines.{Lines, values_at, AllPass, has_request, taken_at}
+use Rattle.std.specs.List.{remove, position, position_or_len}
+
+replay_from-push : (s : Standing) (es : List Entry) (e : Entry)
+    → replay_from s (es ++ e ∷ []) ≡ step (replay_from s es) e
+replay_from-push s [] e = refl
+replay_from-push s (x ∷ es) e = replay_from-push (step s x) es e
+
+pub replay-push : (es : List Entry) (e : Entry) → replay (es ++ e ∷ []) ≡ step (replay es) e
+replay-push es e = replay_from-push nothing es e
+
+-- the usual lemmas and it, for the state that a call leaves
+pub ruleset entry_steps = (arith, common_steps, replay-push)
 
 -- the line of the entry that is new
-pub get-new : (es : List Entry) (e : Entry) → slice_get (es ++ e ∷ []) (length es) ≡ Some e
+get-new : (es : List Entry) (e : Entry) → slice_get (es ++ e ∷ []) (length es) ≡ Some e
 get-new [] e = refl
 get-new (x ∷ es) e = get-new es e
 
-module _ (test : Option Entry → Bool) (none : test None ≡ false) (e : Entry) where
-  -- a line that passes stays what it is
-  pub get-more : (es : List Entry) (i : ℕ) → test (slice_get es i) ≡ true
-      → slice_get (es ++ e ∷ []) i ≡ slice_get es i
-  get-more [] i passes = absurd (cc)
-  get-more (x ∷ es) zero passes = refl
-  get-more (x ∷ es) (suc i) passes = get-more es i passes
+-- a line that passes stays what it is
+get-more : (test : Option Entry → Bool) (none : test None ≡ false) (e : Entry) (es : List Entry)
+    (i : ℕ) → test (slice_get es i) ≡ true → slice_get (es ++ e ∷ []) i ≡ slice_get es i
+get-more test none e [] i passes = absurd (cc)
+get-more test none e (x ∷ es) zero passes = refl
+get-more test none e (x ∷ es) (suc i) passes = get-more test none e es i passes
 
-  pub pass-more : (es : List Entry) (ls : Lines) → AllPass test es ls
-      → AllPass test (es ++ e ∷ []) ls
-  pass-more es [] h = tt
-  pass-more es (l ∷ ls) h = (rw (get-more es l.1 h.0) h.0, pass-more es ls h.1)
+-- lines that pass, and what they say
+pub record Says {X : Type 0} (test : Option Entry → Bool) (value : Option Entry → X)
+    (es : List Entry) (ls : Lines) (xs : List (Ticket × X)) : Type 0 where
+  pub pass : AllPass test es ls
+  pub said : values_at value es ls ≡ xs
 
-  -- and one more that passes is that of the new entry
-  pub pass-new : (es : List Entry) (ls : Lines) (t : Ticket) → test (Some e) ≡ true
-      → AllPass test es ls → AllPass test (es ++ e ∷ []) (ls ++ (t, length es) ∷ [])
-  pass-new es [] t new h = (rw (get-new es e) new, tt)
-  pass-new es (l ∷ ls) t new h = (rw (get-more es l.1 h.0) h.0, pass-new es ls t new h.1)
+module _ {X : Type 0} {test : Option Entry → Bool} {value : Option Entry → X} where
+  says-cons : {es : List Entry} {ls : Lines} {xs : List (Ticket × X)} (l : Ticket × ℕ) {x : X}
+      → test (slice_get es l.1) ≡ true → value (slice_get es l.1) ≡ x
+      → Says test value es ls xs → Says test value es (l ∷ ls) ((l.0, x) ∷ xs)
+  says-cons l passes is h = record { pass = (passes, h.pass); said = rw (is, h.said) refl }
 
-  module _ {X : Type 0} (value : Option Entry → X) where
-    pub values-more : (es : List Entry) (ls : Lines) → AllPass test es ls
-        → values_at value (es ++ e ∷ []) ls ≡ values_at value es ls
-    values-more es [] h = refl
-    values-more es (l ∷ ls) h = rw (get-more es l.1 h.0, values-more es ls h.1) refl
+  -- after one more entry the lines say what they said
+  pub says-more : (es : List Entry) (e : Entry) (ls : Lines) → test None ≡ false
+      → AllPass test es ls → Says test value (es ++ e ∷ []) ls (values_at value es ls)
+  says-more es e [] none h = record { pass = tt; said = refl }
+  says-more es e (l ∷ ls) none h = let same = get-more test none e es l.1 h.0 in
+      says-cons l (rw same h.0) (ap value same) (says-more es e ls none h.1)
 
-    pub values-new : (es : List Entry) (ls : Lines) (t : Ticket) → AllPass test es ls
-        → values_at value (es ++ e ∷ []) (ls ++ (t, length es) ∷ [])
-        ≡ values_at value es ls ++ (t, value (Some e)) ∷ []
-    values-new es [] t h = rw (get-new es e) refl
-    values-new es (l ∷ ls) t h = rw (get-more es l.1 h.0, values-new es ls t h.1) refl
+  -- and one line more says that entry
+  pub says-new : (es : List Entry) (e : Entry) (ls : Lines) (t : Ticket) → test None ≡ false
+      → test (Some e) ≡ true → AllPass test es ls
+      → Says test value (es ++ e ∷ []) (ls ++ (t, length es) ∷ [])
+      (values_at value es ls ++ (t, value (Some e)) ∷ [])
+  says-new es e [] t none new h = let same = get-new es e in
+      says-cons (t, length es) (rw same new) (ap value same) (record { pass = tt; said = refl })
+  says-new es e (l ∷ ls) t none new h = let same = get-more test none e es l.1 h.0 in
+      says-cons l (rw same h.0) (ap value same) (says-new es e ls t none new h.1)
 
--- lines that pass, of a list without one
-module _ (test : Option Entry → Bool) (es : List Entry) where
-  pub pass-drop : (ls : Lines) → AllPass test es ls → AllPass test es (drop 1 ls)
-  pass-drop [] h = tt
-  pass-drop (l ∷ ls) h = h.1
+module _ {X : Type 0} {test : Option Entry → Bool} {value : Option Entry → X} {es : List Entry}
+  where
+    -- so it is of a list without one
+    pub says-drop : {ls : Lines} {xs : List (Ticket × X)} → Says test value es ls xs
+        → Says test value es (drop 1 ls) (drop 1 xs)
+    says-drop {ls = []} h = rw (← h.said) (record { pass = tt; said = refl })
+    says-drop {ls = l ∷ ls} h = rw (← h.said) (record { pass = h.pass.1; said = refl })
 
-  pub pass-behind : (us ws : Lines) → AllPass test es ws → AllPass test es (others_behind us ws)
-  pass-behind [] ws h = pass-drop ws h
-  pass-behind (u ∷ us) ws h = h
+    pub says-behind : {us ws : Lines} {ys xs : List (Ticket × X)} → Says test value es us ys
+        → Says test value es ws xs → Says test value es (others_behind us ws) (others_behind ys xs)
+    says-behind {us = []} u h = rw (← u.said) (says-drop h)
+    says-behind {us = l ∷ us} u h = rw (← u.said) h
 
-  pub pass-without : (t : Ticket) (ls : Lines) → AllPass test es ls
-      → AllPass test es (remove_entry (same_ticket t) ls)
-  pass-without t [] h = tt
-  pass-without t (l ∷ ls) h =
-      elim (same_ticket t l.0) as (λ b. AllPass test es
-      (cond b ls (l ∷ remove_entry (same_ticket t) ls)))
-      [ true ↦ h.1 | false ↦ (h.0, pass-without t ls h.1) ]
+    pub says-without : {ls : Lines} {xs : List (Ticket × X)} (t : Ticket) → Says test value es ls xs
+        → Says test value es (without t ls) (without t xs)
+    says-without {ls = []} t h = rw (← h.said) (record { pass = tt; said = refl })
+    says-without {ls = l ∷ ls} t h =
+        let rest : Says test value es ls (values_at value es ls) =
+        record { pass = h.pass.1; said = refl } in
+        rw (← h.said) (elim (same_ticket t l.0) as (λ b.
+        Says test value es (cond b ls (l ∷ without t ls))
+        (cond b (values_at value es ls)
+        ((l.0, value (slice_get es l.1)) ∷ without t (values_at value es ls))))
+        [ true ↦ rest | false ↦ says-cons l h.pass.0 refl (says-without {ls = ls} t rest) ])
 
--- what the lines say, of a list without one
-module _ {X : Type 0} (value : Option Entry → X) (es : List Entry) where
-  pub values-drop : (ls : Lines) → values_at value es (drop 1 ls) ≡ drop 1 (values_at value es ls)
-  values-drop [] = refl
-  values-drop (l ∷ ls) = refl
+-- what the lines say of a ticket
+pub lookup-values : {X : Type 0} (value : Option Entry → X) (es : List Entry) (t : Ticket)
+    (ls : Lines) → lookup (same_ticket t) (values_at value es ls)
+    ≡ option_map (λ i. value (slice_get es i)) (lookup (same_ticket t) ls)
+lookup-values value es t [] = refl
+lookup-values value es t (l ∷ ls) = grind (arith, common_steps, lookup-values value es t ls)
 
-  pub values-behind : (us ws : Lines) → values_at value es (others_behind us ws)
-      ≡ others_behind (values_at value es us) (values_at value es ws)
-  values-behind [] ws = values-drop ws
-  values-behind (u ∷ us) ws = refl
+pub among-values : {X : Type 0} (value : Option Entry → X) (es : List Entry) (t : Ticket)
+    (ls : Lines) → is_among t (values_at value es ls) ≡ is_among t ls
+among-values value es t ls = grind (arith, common_steps, lookup-values value es t ls)
 
-  pub values-without : (t : Ticket) (ls : Lines)
-      → values_at value es (remove_entry (same_ticket t) ls)
-      ≡ remove_entry (same_ticket t) (values_at value es ls)
-  values-without t [] = refl
-  values-without t (l ∷ ls) =
-      elim (same_ticket t l.0) as (λ b.
-      values_at value es (cond b ls (l ∷ remove_entry (same_ticket t) ls))
-      ≡ cond b (values_at value es ls)
-      ((l.0, value (slice_get es l.1)) ∷ remove_entry (same_ticket t) (values_at value es ls))) [
-        | true ↦ refl
-        | false ↦ ap (λ rest. (l.0, value (slice_get es l.1)) ∷ rest) (values-without t ls)
-      ]
+-- what the checks of a book's calls need beside the usual lemmas
+pub ruleset line_steps = (replay-push, lookup-values, among-values)
 
-  pub lookup-values : (t : Ticket) (ls : Lines) → lookup (same_ticket t) (values_at value es ls)
-      ≡ option_map (λ i. value (slice_get es i)) (lookup (same_ticket t) ls)
-  lookup-values t [] = refl
-  lookup-values t (l ∷ ls) =
-      elim (same_ticket t l.0) as (λ b.
-      cond b (Some (value (slice_get es l.1))) (lookup (same_ticket t) (values_at value es ls))
-      ≡ option_map (λ i. value (slice_get es i)) (cond b (Some l.1) (lookup (same_ticket t) ls)))
-      [ true ↦ refl | false ↦ lookup-values t ls ]
+-- the others without a ticket, by their lines
+pub says-others : {X : Type 0} {test : Option Entry → Bool} {value : Option Entry → X}
+    {es : List Entry} {us ws : Lines} {ys xs : List (Ticket × X)} (t : Ticket)
+    → Says test value es us ys → Says test value es ws xs
+    → Says test value es (others_without t us ws) (others_without t ys xs)
+says-others {test} {value} {es} {us} {ws} {xs} t u h = rw (← u.said, among-values value es t us)
+    (elim (is_among t us) as (λ b. Says test value es (cond b ws (without t ws))
+    (cond b xs (without t xs)))
+    [ true ↦ h | false ↦ says-without t h ])
 
-  pub among-values : (t : Ticket) (ls : Lines)
-      → is_some (lookup (same_ticket t) (values_at value es ls))
-      ≡ is_some (lookup (same_ticket t) ls)
-  among-values t ls = rw (lookup-values t ls) (by (lookup (same_ticket t) ls))
-    where
-      by : (found : Option ℕ) → is_some (option_map (λ i. value (slice_get es i)) found)
-          ≡ is_some found
-      by None = refl
-      by (Some i) = refl
-
--- what the checks of a book's calls need of it
-pub ruleset line_steps = (lookup-values, among-values)
-
--- the first of two lists
+-- the first of two lists has a line that passes, and what it says is the first of what they say
 pub head-passes : (test : Option Entry → Bool) (es : List Entry) (us ws : Lines) (p : Ticket × ℕ)
     → slice_get (us ++ ws) 0 ≡ Some p → AllPass test es us → AllPass test es ws
     → test (slice_get es p.1) ≡ true
@@ -119,22 +125,75 @@ head-passes test es [] [] p head hu hw = absurd (cc)
 head-passes test es [] (w ∷ ws) p head hu hw = let e : w ≡ p = cc in rw (← e) hw.0
 head-passes test es (u ∷ us) ws p head hu hw = let e : u ≡ p = cc in rw (← e) hu.0
 
--- the one that is taken
+pub head-at : {X : Type 0} (value : Option Entry → X) (es : List Entry) (us ws : Lines)
+    {p : Ticket × ℕ} → slice_get (us ++ ws) 0 ≡ Some p
+    → slice_get (values_at value es us ++ values_at value es ws) 0
+    ≡ Some (p.0, value (slice_get es p.1))
+head-at value es [] [] head = absurd (cc)
+head-at value es [] (w ∷ ws) {p} head = let e : w ≡ p = cc in rw e refl
+head-at value es (u ∷ us) ws {p} head = let e : u ≡ p = cc in rw e refl
+
+-- the one that is taken stays in the journal, and is the same
 pub taken-more : (e : Entry) (es : List Entry) (taken : Option (Ticket × ℕ))
     → AllPass is_some es (option_to_list taken)
-    → taken_at (es ++ e ∷ []) taken ≡ taken_at es taken
-taken-more e es None h = refl
-taken-more e es (Some line) h = rw (get-more is_some refl e es line.1 h.0) refl
+    → AllPass is_some (es ++ e ∷ []) (option_to_list taken)
+    × (taken_at (es ++ e ∷ []) taken ≡ taken_at es taken)
+taken-more e es None h = (tt, refl)
+taken-more e es (Some line) h = let same = get-more is_some refl e es line.1 h.0 in
+    ((rw same h.0, tt), rw same refl)
 
 pub request-within : (found : Option Entry) → has_request found ≡ true → is_some found ≡ true
 request-within None h = absurd (cc)
 request-within (Some e) h = refl
 
--- the first that waits, by its line
-pub head-at : {X : Type 0} (value : Option Entry → X) (es : List Entry) (us ws : Lines)
-    (p : Ticket × ℕ) → slice_get (us ++ ws) 0 ≡ Some p
-    → slice_get (values_at value es us ++ values_at value es ws) 0
-    ≡ Some (p.0, value (slice_get es p.1))
-head-at value es [] [] p head = absurd (cc)
-head-at value es [] (w ∷ ws) p head = let e : w ≡ p = cc in rw e refl
-head-at value es (u ∷ us) ws p head = let e : u ≡ p = cc in rw e refl
+module _ {K X : Type 0} (test : K → Bool) where
+  -- without the first pair whose key passes
+  pub remove-position_or_len : (ws : List (K × X))
+      → remove ws (position_or_len (λ w. test w.0) ws) ≡ remove_entry test ws
+  remove-position_or_len [] = grind (arith, common_steps)
+  remove-position_or_len (w ∷ ws) =
+      by (test w.0) (position_or_len (λ w. test w.0) ws) (remove_entry test ws)
+      (remove-position_or_len ws)
+    where
+      by : (b : Bool) (i : ℕ) (rest : List (K × X)) → remove ws i ≡ rest
+          → remove (w ∷ ws) (cond (not b) (1 + i) 0) ≡ cond b ws (w ∷ rest)
+      by true i rest e = refl
+      by false i rest e = rw (add_comm 1 i, add-one) (ap (λ xs. w ∷ xs) e)
+
+  -- there is such a pair where its place is in the list
+  pub found-position_or_len : (ws : List (K × X))
+      → nat_lt (position_or_len (λ w. test w.0) ws) (length ws) ≡ is_some (lookup test ws)
+  found-position_or_len [] = grind (arith, common_steps)
+  found-position_or_len (w ∷ ws) = grind (arith, common_steps, found-position_or_len ws)
+
+  pub is_some-position : (ws : List (K × X)) (r : Option ℕ) → r ≡ position (λ w. test w.0) ws
+      → is_some r ≡ is_some (lookup test ws)
+  is_some-position ws r e = grind (arith, common_steps, found-position_or_len ws)
+
+  -- without such a pair it is the same list
+  pub remove-absent : (ws : List (K × X)) → is_some (lookup test ws) ≡ false
+      → remove_entry test ws ≡ ws
+  remove-absent [] none = refl
+  remove-absent (w ∷ ws) none = grind (arith, common_steps, remove-absent ws)
+
+  pub none-position : (ws : List (K × X)) (r : Option ℕ) → r ≡ position (λ w. test w.0) ws
+      → IfNone r (remove_entry test ws ≡ ws)
+  none-position ws None e = remove-absent ws (sym (is_some-position ws None e))
+  none-position ws (Some i) e = tt
+
+  pub remove-position : (ws : List (K × X)) (r : Option ℕ) → r ≡ position (λ w. test w.0) ws
+      → IfSome r (λ i. remove ws i ≡ remove_entry test ws)
+  remove-position ws None e = tt
+  remove-position ws (Some i) e = grind (arith, common_steps, remove-position_or_len ws)
+
+  -- its value is the one that is found
+  lookup-position_or_len : (ws : List (K × X)) (d : K × X) → is_some (lookup test ws) ≡ true
+      → lookup test ws ≡ Some (get_or ws (position_or_len (λ w. test w.0) ws) d).1
+  lookup-position_or_len [] d found = grind (arith, common_steps)
+  lookup-position_or_len (w ∷ ws) d found = grind (arith, common_steps, lookup-position_or_len ws d)
+
+  pub lookup-position : (ws : List (K × X)) (r : Option ℕ) → r ≡ position (λ w. test w.0) ws
+      → IfSome r (λ i. (d : K × X) → lookup test ws ≡ Some (get_or ws i d).1)
+  lookup-position ws None e = tt
+  lookup-position ws (Some i) e = λ d. grind
+      (arith, common_steps, lookup-position_or_len ws d, is_some-position ws (Some i) e)

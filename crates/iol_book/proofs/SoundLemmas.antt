@@ -1,39 +1,226 @@
--- A book is sound after each of its calls: the invariant of `Book`. Each lemma is of one call, from
--- what the call did to the fields.
-use Rattle.std.proofs.Common.{◌≡◌, ℕ, ◌+◌, true, [], ◌∷◌, ◌++◌, length, Option, None, Some, is_some, refl, sym, ap, ◌∙◌, drop, Bool, arith}
-use Rattle.std.specs.Prelude.{slice_get}
-use Rattle.std.specs.Option.{option_to_list}
-use Rattle.std.specs.Map.{lookup}
-use Rattle.std.specs.VecDeque.{deque_capacity}
-use Rattle.std.specs.declared.collections.VecDeque.{VecDeque}
-use Rattle.std.specs.declared.vec.Vec.{Vec}
+-- A book is sound after each of its calls: the invariant of `Book`. First how often a number stands
+-- among the outstanding tickets, before and after an entry: why each ticket still names one
+-- request (`numbered` of `IsSound`), and which have no outcome (the clause `answer` of
+-- `collect_into`). Then that the step of an entry is what its call does to the standing (the clause
+-- `state` of each call), and last a lemma of each call, from what the call did to the fields.
+use Rattle.std.proofs.Common.{◌≡◌, ℕ, ◌+◌, ◌≤◌, Bool, true, false, ◌||◌, refl, cond, List, [], ◌∷◌, ◌++◌, Option, Some, None, ap, arith, is_some, nat_eq, drop, length, ◌∙◌}
+use Rattle.std.specs.Prelude.{slice_get, if◌then◌else◌}
+use Rattle.std.specs.Option.{option_map_or, option_to_list}
 use Rattle.std.proofs.lemmas.Grind.{common_steps}
+use Rattle.std.specs.Map.{lookup, remove_entry}
 use Rattle.indexmap.specs.IndexMap.{insert_entry}
 use Rattle.iol_isdu.specs.declared.values.Request.{Request}
 use Rattle.iol_book.specs.declared.entries.Ticket.{Ticket}
 use Rattle.iol_book.specs.declared.entries.Outcome.{Outcome}
-use Rattle.iol_book.specs.declared.entries.Outcome.TheVariants.{NoIsdu}
+use Rattle.iol_book.specs.declared.entries.Outcome.TheVariants.{Done, Unknown, Withdrawn, NoIsdu}
+use Rattle.iol_book.specs.declared.entries.Entry.TheVariants.{Submitted, Urgent, Taken, Answered, Collected}
+use Rattle.iol_book.specs.Replay.{Standing, step, same_ticket, waiting_after, is_among, without, others_without, without_waiting}
+use Rattle.iol_book.specs.BookModel.{waits, is_taken, others_behind, without_first}
+use Rattle.iol_book.specs.Numbers.{times, times_in, IsNumbered}
+use Rattle.std.specs.VecDeque.{deque_capacity}
+use Rattle.std.specs.declared.collections.VecDeque.{VecDeque}
+use Rattle.std.specs.declared.vec.Vec.{Vec}
 use Rattle.iol_book.specs.declared.entries.Entry.{Entry}
-use Rattle.iol_book.specs.declared.entries.Entry.TheVariants.{Submitted, Urgent, Taken, Answered, Withdrawn, Collected}
 use Rattle.iol_book.specs.declared.book.Book.TheInside.{Inside}
-use Rattle.iol_book.specs.Replay.{Standing, same_ticket, without, others_without, step, replay}
-use Rattle.iol_book.specs.BookModel.{others_behind, without_first, waits}
 use Rattle.iol_book.specs.BookInside.{IsSound, HasRoom, standing_of}
-use Rattle.iol_book.specs.Numbers.{IsNumbered}
-use Rattle.iol_book.specs.Lines.{Lines, AllPass, has_request, request_in, outcome_in, taken_at, values_at}
-use Rattle.iol_book.proofs.ReplayLemmas.{replay-push}
-use Rattle.iol_book.proofs.LineLemmas.{pass-drop, pass-behind, pass-without, values-drop, values-behind, values-without, head-passes, head-at, pass-more, taken-more, request-within}
-use Rattle.iol_book.proofs.NumberLemmas.{insert_entry-none, numbered-fewer, numbered-more, taken-unanswered, waiting-unanswered, times-submitted, times-urgent, times-taken, times-denied, times-posted, times-withdrawn, times-collected}
-use Rattle.iol_book.proofs.StandingLemmas.{Says, says-more, says-new, others-values, pass-others, taken-step, denied-step, posted-step, head-waits}
+use Rattle.iol_book.specs.Lines.{Lines, AllPass, has_request, request_in, outcome_in, taken_at}
+use Rattle.iol_book.proofs.LineLemmas.{remove-absent, replay-push, Says, says-more, says-new, says-drop, says-behind, says-without, says-others, among-values, head-passes, head-at, taken-more, request-within}
+
+abbrev pub one_if : Bool → ℕ
+one_if b = cond b 1 0
+
+module _ {X : Type 0} (n : ℕ) (t : Ticket) where
+  pub times_in-push : (x : X) (ws : List (Ticket × X))
+      → times_in n (ws ++ (t, x) ∷ []) ≡ times_in n ws + one_if (nat_eq n t.0)
+  times_in-push x [] = grind (arith, common_steps)
+  times_in-push x (w ∷ ws) = grind (arith, common_steps, times_in-push x ws)
+
+  pub times_in-insert_entry : (x : X) (ws : List (Ticket × X))
+      → times_in n (insert_entry same_ticket ws t x) ≤ times_in n ws + one_if (nat_eq n t.0)
+  times_in-insert_entry x [] = grind (arith, common_steps)
+  times_in-insert_entry x (w ∷ ws) = grind (arith, common_steps, times_in-insert_entry x ws)
+
+  pub times_in-remove_entry : (ws : List (Ticket × X))
+      → times_in n (remove_entry (same_ticket t) ws) ≤ times_in n ws
+  times_in-remove_entry [] = grind (arith, common_steps)
+  times_in-remove_entry (w ∷ ws) = grind (arith, common_steps, times_in-remove_entry ws)
+
+  pub times_in-removed : (ws : List (Ticket × X)) → is_some (lookup (same_ticket t) ws) ≡ true
+      → times_in n (remove_entry (same_ticket t) ws) + one_if (nat_eq n t.0) ≤ times_in n ws
+  times_in-removed [] found = grind (arith, common_steps)
+  times_in-removed (w ∷ ws) found = grind (arith, common_steps, times_in-removed ws)
+
+  -- without such a pair there is no value to find
+  pub lookup-none : (ws : List (Ticket × X)) → times_in t.0 ws ≡ 0
+      → lookup (same_ticket t) ws ≡ None
+  lookup-none [] none = refl
+  lookup-none (w ∷ ws) none = grind (arith, common_steps, lookup-none ws)
+
+  -- and none to remove
+  pub remove_entry-none : (ws : List (Ticket × X)) → times_in t.0 ws ≡ 0
+      → remove_entry (same_ticket t) ws ≡ ws
+  remove_entry-none ws none = remove-absent (same_ticket t) ws (ap is_some (lookup-none ws none))
+
+  -- so a new one comes behind the others
+  pub insert_entry-none : (x : X) (ws : List (Ticket × X)) → lookup (same_ticket t) ws ≡ None
+      → insert_entry same_ticket ws t x ≡ ws ++ (t, x) ∷ []
+  insert_entry-none x [] none = refl
+  insert_entry-none x (w ∷ ws) none = grind (arith, common_steps, insert_entry-none x ws)
+
+-- a request that waits leaves its list
+pub times_in-leaves : (n : ℕ) (t : Ticket) (us ws : List (Ticket × Request))
+    → (is_among t us || is_among t ws) ≡ true
+    → times_in n (without t us) + times_in n (others_without t us ws) + one_if (nat_eq n t.0)
+    ≤ times_in n us + times_in n ws
+times_in-leaves n t us ws found = grind (
+  arith,
+  common_steps,
+  times_in-removed n t us,
+  times_in-removed n t ws,
+  times_in-remove_entry n t us,
+)
+
+-- a standing in which no number stands more often than in one that is numbered is numbered too
+pub numbered-fewer : {last : ℕ} {s next : Standing} → ((n : ℕ) → times n next ≤ times n s)
+    → IsNumbered last s → IsNumbered last next
+numbered-fewer fewer h = record {
+  once = λ n. omega (arith, fewer n, h.once n);
+  given = λ n above. omega (arith, fewer n, h.given n above);
+}
+
+-- and so is one in which the next number stands as well
+pub numbered-more : {last : ℕ} {s next : Standing}
+    → ((n : ℕ) → times n next ≡ times n s + one_if (nat_eq n (last + 1)))
+    → IsNumbered last s → IsNumbered (last + 1) next
+numbered-more more h = record {
+  once = λ n. grind (arith, common_steps, more n, h.once n, h.given n);
+  given = λ n above. grind (arith, common_steps, more n, h.given n);
+}
+
+-- a ticket that is taken is there once
+taken-once : (t : Ticket) (taken : Option (Ticket × Request))
+    → option_map_or (λ p. same_ticket t p.0) taken false ≡ true
+    → 1 ≤ times_in t.0 (option_to_list taken)
+taken-once t None found = absurd (cc)
+taken-once t (Some p) found = grind (arith, common_steps)
+
+module _ {last : ℕ} {s : Standing} (h : IsNumbered last s) where
+  -- the requests that wait and the one that is taken have no outcome yet
+  pub taken-unanswered : (t : Ticket) → is_taken s t ≡ true
+      → lookup (same_ticket t) s.outcomes ≡ None
+  taken-unanswered t found = lookup-none t.0 t s.outcomes
+      (grind (arith, common_steps, h.once t.0, taken-once t s.taken found))
+
+  pub waiting-unanswered : (t : Ticket) → waits s t ≡ true
+      → lookup (same_ticket t) s.outcomes ≡ None
+  waiting-unanswered t found = lookup-none t.0 t s.outcomes
+      (grind (arith, common_steps, h.once t.0, times_in-leaves t.0 t s.urgent s.waiting found))
+
+  -- the request that is taken waits no longer
+  pub taken-waits : (p : Ticket × Request) (o : Outcome) → s.taken ≡ Some p
+      → waiting_after p.0 o s ≡ s
+  taken-waits p NoIsdu e = grind (
+    arith,
+    common_steps,
+    e,
+    h.once p.0.0,
+    remove_entry-none p.0.0 p.0 s.urgent,
+    remove_entry-none p.0.0 p.0 s.waiting,
+  )
+  taken-waits p (Done a) e = refl
+  taken-waits p (Unknown c) e = refl
+  taken-waits p Withdrawn e = refl
+
+-- the first of two lists leaves them, as a ticket does that is looked for
+pub record HeadLeaves {X : Type 0} (us ws : List (Ticket × X)) (p : Ticket × X) : Type 0 where
+  pub urgent : drop 1 us ≡ without p.0 us
+  pub waiting : others_behind us ws ≡ others_without p.0 us ws
+  pub request : Some p.1 ≡ (if is_among p.0 us then lookup (same_ticket p.0) us
+      else lookup (same_ticket p.0) ws)
+  pub waits : (is_among p.0 us || is_among p.0 ws) ≡ true
+
+pub head-leaves : {X : Type 0} (us ws : List (Ticket × X)) (p : Ticket × X)
+    → slice_get (us ++ ws) 0 ≡ Some p → HeadLeaves us ws p
+head-leaves [] [] p head = absurd (cc)
+head-leaves [] (w ∷ ws) p head = let e : w ≡ p = cc in rw (← e) (record {
+  urgent = refl;
+  waiting = grind (arith, common_steps);
+  request = grind (arith, common_steps);
+  waits = grind (arith, common_steps);
+})
+head-leaves (u ∷ us) ws p head = let e : u ≡ p = cc in rw (← e) (record {
+  urgent = grind (arith, common_steps);
+  waiting = grind (arith, common_steps);
+  request = grind (arith, common_steps);
+  waits = grind (arith, common_steps);
+})
+
+-- how often a number stands after each step
+module _ (n : ℕ) (s : Standing) where
+  pub times-submitted : (t : Ticket) (r : Request)
+      → times n (step s (Submitted t r)) ≡ times n s + one_if (nat_eq n t.0)
+  times-submitted t r = grind (arith, common_steps, times_in-push n t r s.waiting)
+
+  pub times-urgent : (t : Ticket) (r : Request)
+      → times n (step s (Urgent t r)) ≡ times n s + one_if (nat_eq n t.0)
+  times-urgent t r = grind (arith, common_steps, times_in-push n t r s.urgent)
+
+  pub times-posted : (p : Ticket × Request) (o : Outcome) → s.taken ≡ Some p
+      → times n (record s {
+        taken = None;
+        outcomes = insert_entry same_ticket s.outcomes p.0 o;
+      }) ≤ times n s
+  times-posted p o e = grind (arith, common_steps, e, times_in-insert_entry n p.0 o s.outcomes)
+
+  pub times-taken : (p : Ticket × Request) → s.taken ≡ None
+      → slice_get (s.urgent ++ s.waiting) 0 ≡ Some p
+      → times n (record (without_first s) { taken = Some p }) ≤ times n s
+  times-taken p none head = let leaves = head-leaves s.urgent s.waiting p head in
+      let fewer = times_in-leaves n p.0 s.urgent s.waiting leaves.waits in
+      rw (leaves.urgent, leaves.waiting) (grind (arith, common_steps, none, fewer))
+
+  -- a request that waited has an outcome
+  pub times-left : (t : Ticket) (o : Outcome) → waits s t ≡ true
+      → times n (record (without_waiting s t) {
+        outcomes = insert_entry same_ticket s.outcomes t o;
+      }) ≤ times n s
+  times-left t o found = grind (
+    arith,
+    common_steps,
+    times_in-leaves n t s.urgent s.waiting found,
+    times_in-insert_entry n t o s.outcomes,
+  )
+
+  pub times-collected : (t : Ticket) → times n (step s (Collected t)) ≤ times n s
+  times-collected t = grind (arith, common_steps, times_in-remove_entry n t s.outcomes)
+
+-- what is taken, denied and posted is what the step of the entry says
+module _ (s : Standing) (p : Ticket × Request) where
+  pub taken-step : slice_get (s.urgent ++ s.waiting) 0 ≡ Some p
+      → record (without_first s) { taken = Some p } ≡ step s (Taken p.0)
+  taken-step head = let leaves = head-leaves s.urgent s.waiting p head in
+      rw (leaves.urgent, leaves.waiting, ← leaves.request) refl
+
+  pub denied-step : s.taken ≡ None → slice_get (s.urgent ++ s.waiting) 0 ≡ Some p
+      → record (without_first s) {
+        outcomes = insert_entry same_ticket s.outcomes p.0 NoIsdu;
+      } ≡ step s (Answered p.0 NoIsdu)
+  denied-step none head = let leaves = head-leaves s.urgent s.waiting p head in
+      rw (leaves.urgent, leaves.waiting, none) refl
+
+  pub posted-step : {last : ℕ} (o : Outcome) → s.taken ≡ Some p → IsNumbered last s
+      → record s { taken = None; outcomes = insert_entry same_ticket s.outcomes p.0 o }
+      ≡ step s (Answered p.0 o)
+  posted-step o e h = rw (taken-waits h p o e) refl
 
 -- where none waits nothing leaves its queue
-pub sound-same_queues : {A : Type 0} (fields : Inside A)
-    (urgent waiting : VecDeque (Ticket × ℕ) A)
-    → urgent.items ≡ fields.urgent.items → waiting.items ≡ fields.waiting.items
+pub sound-same_queues : {A : Type 0} {fields : Inside A} → IsSound fields
+    → (urgent waiting : VecDeque (Ticket × ℕ) A) → urgent.items ≡ fields.urgent.items
+    → waiting.items ≡ fields.waiting.items
     → deque_capacity urgent ≡ deque_capacity fields.urgent
     → deque_capacity waiting ≡ deque_capacity fields.waiting
-    → IsSound fields → IsSound (record fields { urgent = urgent; waiting = waiting })
-sound-same_queues fields urgent waiting us ws urgent_room waiting_room sound = record {
+    → IsSound (record fields { urgent = urgent; waiting = waiting })
+sound-same_queues sound urgent waiting us ws urgent_room waiting_room = record {
   lines = rw (us, ws) sound.lines;
   replayed = rw (us, ws) sound.replayed;
   numbered = rw (us, ws) sound.numbered;
@@ -51,245 +238,177 @@ sound-same_queues fields urgent waiting us ws urgent_room waiting_room sound = r
 abbrev IsSoundWithRoom : {A : Type 0} → Inside A → Type 0
 IsSoundWithRoom fields = HasRoom fields → IsSound fields
 
--- the lines of a book are in its journal, and say this standing
-record Tells {A : Type 0} (fields : Inside A) (next : Standing) : Type 0 where
-  pub urgent : Says has_request request_in fields.journal.items fields.urgent.items next.urgent
-  pub waiting : Says has_request request_in fields.journal.items fields.waiting.items next.waiting
-  pub taken_within : AllPass is_some fields.journal.items (option_to_list fields.taken)
-  pub taken : taken_at fields.journal.items fields.taken ≡ next.taken
-  pub outcomes : Says is_some outcome_in fields.journal.items fields.outcomes.items next.outcomes
+-- the lines of a book are in this journal, and say this standing
+record Tells {A : Type 0} (entries : List Entry) (fields : Inside A) (next : Standing)
+    : Type 0 where
+  pub urgent : Says has_request request_in entries fields.urgent.items next.urgent
+  pub waiting : Says has_request request_in entries fields.waiting.items next.waiting
+  pub taken : AllPass is_some entries (option_to_list fields.taken)
+      × (taken_at entries fields.taken ≡ next.taken)
+  pub outcomes : Says is_some outcome_in entries fields.outcomes.items next.outcomes
 
--- one more entry is one more step
-one_more-step : {A : Type 0} (old new : Inside A) (e : Entry)
-    → new.journal.items ≡ old.journal.items ++ e ∷ [] → IsSound old
-    → replay new.journal.items ≡ step (standing_of old) e
-one_more-step old new e n sound =
-    rw (n, replay-push old.journal.items e) (ap (λ s. step s e) (sym sound.replayed))
+module _ {A : Type 0} {old : Inside A} (sound : IsSound old) where
+  module _ {entries : List Entry} (e : Entry) (n : entries ≡ old.journal.items ++ e ∷ []) where
+    -- a book whose lines say what one more entry leaves is sound
+    sound-entered : (new : Inside A) (next : Standing) → new.journal.items ≡ entries
+        → next ≡ step (standing_of old) e → IsNumbered new.last next → HasRoom new
+        → Tells new.journal.items new next → IsSound new
+    sound-entered new next same steps numbered room tells = record {
+      lines = record {
+        urgent_requests = tells.urgent.pass;
+        waiting_requests = tells.waiting.pass;
+        taken_within = tells.taken.0;
+        outcomes_within = tells.outcomes.pass;
+      };
+      replayed = stands ∙ steps ∙ rw (same, n, replay-push old.journal.items e)
+          (ap (λ s. step s e) sound.replayed);
+      numbered = rw stands numbered;
+      room = room;
+    }
+      where
+        stands : standing_of new ≡ next
+        stands = rw (tells.urgent.said, tells.waiting.said, tells.taken.1, tells.outcomes.said) refl
 
-module _ {A : Type 0} (old : Inside A) (sound : IsSound old) (journal : Vec Entry A) (e : Entry)
-    (n : journal.items ≡ old.journal.items ++ e ∷ []) where
-  sound-entered : (new : Inside A) (next : Standing) → new.journal.items ≡ journal.items
-      → Tells new next → next ≡ step (standing_of old) e → IsNumbered new.last next
-      → IsSoundWithRoom new
-  sound-entered new next same tells steps numbered room = record {
-    lines = record {
-      urgent_requests = tells.urgent.pass;
-      waiting_requests = tells.waiting.pass;
-      taken_within = tells.taken_within;
-      outcomes_within = tells.outcomes.pass;
-    };
-    replayed = stands ∙ steps ∙ sym (one_more-step old new e (same ∙ n) sound);
-    numbered = rw stands numbered;
-    room = room;
-  }
-    where
-      stands : standing_of new ≡ next
-      stands = rw (tells.urgent.said, tells.waiting.said, tells.taken, tells.outcomes.said) refl
+    -- after one more entry the lines say what they said
+    kept : Tells entries old (standing_of old)
+    kept = rw n (record {
+      urgent = says-more _ e _ refl sound.lines.urgent_requests;
+      waiting = says-more _ e _ refl sound.lines.waiting_requests;
+      taken = taken-more e _ old.taken sound.lines.taken_within;
+      outcomes = says-more _ e _ refl sound.lines.outcomes_within;
+    })
 
-  -- what stays
-  urgent-same : Says has_request request_in journal.items old.urgent.items (standing_of old).urgent
-  urgent-same = says-more has_request refl request_in _ _ e n sound.lines.urgent_requests refl
+    -- one more outcome, of a ticket that has none
+    outcomes-new : {os : Lines} (t : Ticket)
+        → os ≡ old.outcomes.items ++ (t, length old.journal.items) ∷ []
+        → lookup (same_ticket t) (standing_of old).outcomes ≡ None
+        → Says is_some outcome_in entries os
+        (insert_entry same_ticket (standing_of old).outcomes t (outcome_in (Some e)))
+    outcomes-new t o free = rw (insert_entry-none 0 t (outcome_in (Some e)) _ free, n, o)
+        (says-new _ e _ t refl refl sound.lines.outcomes_within)
 
-  waiting-same : Says has_request request_in journal.items old.waiting.items
-      (standing_of old).waiting
-  waiting-same = says-more has_request refl request_in _ _ e n sound.lines.waiting_requests refl
-
-  outcomes-same : Says is_some outcome_in journal.items old.outcomes.items
-      (standing_of old).outcomes
-  outcomes-same = says-more is_some refl outcome_in _ _ e n sound.lines.outcomes_within refl
-
-  within-same : AllPass is_some journal.items (option_to_list old.taken)
-  within-same = rw n (pass-more is_some refl e _ (option_to_list old.taken)
-      sound.lines.taken_within)
-
-  taken-same : taken_at journal.items old.taken ≡ (standing_of old).taken
-  taken-same = rw n (taken-more e _ old.taken sound.lines.taken_within)
-
-  -- the first that waits leaves its queue
-  urgent-behind : (us : Lines) → us ≡ drop 1 old.urgent.items
-      → Says has_request request_in journal.items us (drop 1 (standing_of old).urgent)
-  urgent-behind us u = rw u (says-more has_request refl request_in _ _ e n
-      (pass-drop has_request _ _ sound.lines.urgent_requests) (values-drop request_in _ _))
-
-  waiting-behind : (ws : Lines) → ws ≡ others_behind old.urgent.items old.waiting.items
-      → Says has_request request_in journal.items ws
-      (others_behind (standing_of old).urgent (standing_of old).waiting)
-  waiting-behind ws w = rw w (says-more has_request refl request_in _ _ e n
-      (pass-behind has_request _ old.urgent.items _ sound.lines.waiting_requests)
-      (values-behind request_in _ old.urgent.items _))
-
-  -- one more request
-  requests-new : (ls ps : Lines) (t : Ticket) (line : ℕ) (r : Request)
-      → request_in (Some e) ≡ r → has_request (Some e) ≡ true
-      → AllPass has_request old.journal.items ls → ps ≡ ls ++ (t, line) ∷ []
-      → line ≡ length old.journal.items
-      → Says has_request request_in journal.items ps
-      (values_at request_in old.journal.items ls ++ (t, r) ∷ [])
-  requests-new ls ps t line r own new h p l = rw (← own)
-      (says-new has_request refl request_in _ _ e n ls ps t line new h p l)
-
-  -- one more outcome, of a ticket that has none
-  outcomes-new : (os : Lines) (t : Ticket) (line : ℕ) → os ≡ old.outcomes.items ++ (t, line) ∷ []
-      → line ≡ length old.journal.items → lookup (same_ticket t) (standing_of old).outcomes ≡ None
-      → Says is_some outcome_in journal.items os
-      (insert_entry same_ticket (standing_of old).outcomes t (outcome_in (Some e)))
-  outcomes-new os t line o l free = rw (insert_entry-none 0 t (outcome_in (Some e)) _ free)
-      (says-new is_some refl outcome_in _ _ e n _ os t line refl sound.lines.outcomes_within o l)
-
-  pub sound-submitted : (last : ℕ) (waiting : VecDeque (Ticket × ℕ) A) (t : Ticket) (r : Request)
-      (line : ℕ) → e ≡ Submitted t r → last ≡ old.last + 1 → t.0 ≡ old.last + 1
-      → waiting.items ≡ old.waiting.items ++ (t, line) ∷ [] → line ≡ length old.journal.items
+  pub sound-submitted : (journal : Vec Entry A) (last : ℕ) (waiting : VecDeque (Ticket × ℕ) A)
+      (t : Ticket) (r : Request) → journal.items ≡ old.journal.items ++ Submitted t r ∷ []
+      → last ≡ old.last + 1 → t.0 ≡ old.last + 1
+      → waiting.items ≡ old.waiting.items ++ (t, length old.journal.items) ∷ []
       → IsSoundWithRoom (record old { journal = journal; last = last; waiting = waiting })
-  sound-submitted last waiting t r line is later number w l room =
-      sound-entered _ (step (standing_of old) (Submitted t r)) refl (record {
-        urgent = urgent-same;
-        waiting = requests-new old.waiting.items waiting.items t line r (rw is refl) (rw is refl)
-            sound.lines.waiting_requests w l;
-        taken_within = within-same;
-        taken = taken-same;
-        outcomes = outcomes-same;
-      }) (rw is refl)
-      (rw later (numbered-more (λ n. rw (← number) (times-submitted n (standing_of old) t r))
-      sound.numbered)) room
+  sound-submitted journal last waiting t r n later number w room =
+      let same = kept (Submitted t r) n in
+      sound-entered (Submitted t r) n _ _ refl refl (rw later (numbered-more
+      (λ i. rw (← number) (times-submitted i (standing_of old) t r)) sound.numbered)) room (record {
+        urgent = same.urgent;
+        waiting = rw (n, w) (says-new _ (Submitted t r) _ t refl refl sound.lines.waiting_requests);
+        taken = same.taken;
+        outcomes = same.outcomes;
+      })
 
-  pub sound-urgent : (last : ℕ) (urgent : VecDeque (Ticket × ℕ) A) (t : Ticket) (r : Request)
-      (line : ℕ) → e ≡ Urgent t r → last ≡ old.last + 1 → t.0 ≡ old.last + 1
-      → urgent.items ≡ old.urgent.items ++ (t, line) ∷ [] → line ≡ length old.journal.items
+  pub sound-urgent : (journal : Vec Entry A) (last : ℕ) (urgent : VecDeque (Ticket × ℕ) A)
+      (t : Ticket) (r : Request) → journal.items ≡ old.journal.items ++ Urgent t r ∷ []
+      → last ≡ old.last + 1 → t.0 ≡ old.last + 1
+      → urgent.items ≡ old.urgent.items ++ (t, length old.journal.items) ∷ []
       → IsSoundWithRoom (record old { journal = journal; last = last; urgent = urgent })
-  sound-urgent last urgent t r line is later number u l room =
-      sound-entered _ (step (standing_of old) (Urgent t r)) refl (record {
-        urgent = requests-new old.urgent.items urgent.items t line r (rw is refl) (rw is refl)
-            sound.lines.urgent_requests u l;
-        waiting = waiting-same;
-        taken_within = within-same;
-        taken = taken-same;
-        outcomes = outcomes-same;
-      }) (rw is refl)
-      (rw later (numbered-more (λ n. rw (← number) (times-urgent n (standing_of old) t r))
-      sound.numbered)) room
-
-  pub sound-taken : (urgent waiting : VecDeque (Ticket × ℕ) A) (p : Ticket × ℕ) → e ≡ Taken p.0
-      → old.taken ≡ None → slice_get (old.urgent.items ++ old.waiting.items) 0 ≡ Some p
-      → urgent.items ≡ drop 1 old.urgent.items
-      → waiting.items ≡ others_behind old.urgent.items old.waiting.items
-      → IsSoundWithRoom (record old {
-        journal = journal;
-        urgent = urgent;
-        waiting = waiting;
-        taken = Some p;
+  sound-urgent journal last urgent t r n later number u room =
+      let same = kept (Urgent t r) n in
+      sound-entered (Urgent t r) n _ _ refl refl (rw later (numbered-more
+      (λ i. rw (← number) (times-urgent i (standing_of old) t r)) sound.numbered)) room (record {
+        urgent = rw (n, u) (says-new _ (Urgent t r) _ t refl refl sound.lines.urgent_requests);
+        waiting = same.waiting;
+        taken = same.taken;
+        outcomes = same.outcomes;
       })
-  sound-taken urgent waiting p is none head u w room =
-      let taken : Ticket × Request = (p.0, request_in (slice_get old.journal.items p.1)) in
-      let next = head-at request_in old.journal.items old.urgent.items old.waiting.items p head in
-      let within : AllPass is_some old.journal.items (p ∷ []) = (
-        request-within _ (head-passes has_request old.journal.items old.urgent.items
-            old.waiting.items p head sound.lines.urgent_requests sound.lines.waiting_requests),
-        tt,
-      ) in
-      let after = record (without_first (standing_of old)) { taken = Some taken } in
-      sound-entered _ after refl (record {
-        urgent = urgent-behind urgent.items u;
-        waiting = waiting-behind waiting.items w;
-        taken_within = rw n (pass-more is_some refl e _ (p ∷ []) within);
-        taken = rw n (taken-more e _ (Some p) within);
-        outcomes = outcomes-same;
-      }) (rw is (taken-step (standing_of old) taken next))
-      (numbered-fewer (λ n. times-taken n (standing_of old) taken
-      (ap (λ found. taken_at old.journal.items found) none) next) sound.numbered) room
 
-  pub sound-denied : (urgent waiting : VecDeque (Ticket × ℕ) A) (outcomes : Vec (Ticket × ℕ) A)
-      (p : Ticket × ℕ) (line : ℕ) → e ≡ Answered p.0 NoIsdu
-      → old.taken ≡ None → slice_get (old.urgent.items ++ old.waiting.items) 0 ≡ Some p
-      → urgent.items ≡ drop 1 old.urgent.items
-      → waiting.items ≡ others_behind old.urgent.items old.waiting.items
-      → outcomes.items ≡ old.outcomes.items ++ (p.0, line) ∷ [] → line ≡ length old.journal.items
-      → IsSoundWithRoom (record old {
-        journal = journal;
-        urgent = urgent;
-        waiting = waiting;
-        outcomes = outcomes;
+  pub sound-collected : (journal : Vec Entry A) (outcomes : Vec (Ticket × ℕ) A) (t : Ticket)
+      → journal.items ≡ old.journal.items ++ Collected t ∷ []
+      → outcomes.items ≡ without t old.outcomes.items
+      → IsSoundWithRoom (record old { journal = journal; outcomes = outcomes })
+  sound-collected journal outcomes t n o room = let same = kept (Collected t) n in
+      sound-entered (Collected t) n _ _ refl refl
+      (numbered-fewer (λ i. times-collected i (standing_of old) t) sound.numbered) room (record {
+        urgent = same.urgent;
+        waiting = same.waiting;
+        taken = same.taken;
+        outcomes = rw o (says-without t same.outcomes);
       })
-  sound-denied urgent waiting outcomes p line is none head u w o l room =
-      let denied : Ticket × Request = (p.0, request_in (slice_get old.journal.items p.1)) in
-      let next = head-at request_in old.journal.items old.urgent.items old.waiting.items p head in
-      let free = waiting-unanswered sound.numbered p.0
-      (head-waits (standing_of old) denied next) in
-      sound-entered _ (record (without_first (standing_of old)) {
-        outcomes = insert_entry same_ticket (standing_of old).outcomes p.0 NoIsdu;
-      }) refl (record {
-        urgent = urgent-behind urgent.items u;
-        waiting = waiting-behind waiting.items w;
-        taken_within = within-same;
-        taken = taken-same;
-        outcomes = rw is at outcomes-new outcomes.items p.0 line o l free;
-      }) (rw is (denied-step (standing_of old) denied
-      (ap (λ found. taken_at old.journal.items found) none) next))
-      (numbered-fewer (λ n. times-denied n (standing_of old) denied NoIsdu next)
-      sound.numbered) room
 
-  pub sound-posted : (taken : Option (Ticket × ℕ)) (outcomes : Vec (Ticket × ℕ) A) (unsure : Bool)
-      (p : Ticket × ℕ) (o : Outcome) (line : ℕ) → e ≡ Answered p.0 o → old.taken ≡ Some p
-      → taken ≡ None
-      → outcomes.items ≡ old.outcomes.items ++ (p.0, line) ∷ [] → line ≡ length old.journal.items
+  pub sound-posted : (journal : Vec Entry A) (taken : Option (Ticket × ℕ))
+      (outcomes : Vec (Ticket × ℕ) A) (unsure : Bool) (p : Ticket × ℕ) (o : Outcome)
+      → journal.items ≡ old.journal.items ++ Answered p.0 o ∷ []
+      → old.taken ≡ Some p → taken ≡ None
+      → outcomes.items ≡ old.outcomes.items ++ (p.0, length old.journal.items) ∷ []
       → IsSoundWithRoom (record old {
         journal = journal;
         taken = taken;
         outcomes = outcomes;
         unsure = unsure;
       })
-  sound-posted taken outcomes unsure p o line is held none add l room =
-      let ended : Ticket × Request = (p.0, request_in (slice_get old.journal.items p.1)) in
+  sound-posted journal taken outcomes unsure p o n held none add room =
+      let same = kept (Answered p.0 o) n in
       let was = ap (λ found. taken_at old.journal.items found) held in
       let free = taken-unanswered sound.numbered p.0 (grind (arith, common_steps, held)) in
-      sound-entered _ (record (standing_of old) {
-        taken = None;
-        outcomes = insert_entry same_ticket (standing_of old).outcomes p.0 o;
-      }) refl (record {
-        urgent = urgent-same;
-        waiting = waiting-same;
-        taken_within = rw none tt;
-        taken = rw none refl;
-        outcomes = rw is at outcomes-new outcomes.items p.0 line add l free;
-      }) (rw is (posted-step (standing_of old) ended o was sound.numbered))
-      (numbered-fewer (λ n. times-posted n (standing_of old) ended o was) sound.numbered) room
+      sound-entered (Answered p.0 o) n _ _ refl
+      (posted-step (standing_of old) _ o was sound.numbered)
+      (numbered-fewer (λ i. times-posted i (standing_of old) _ o was) sound.numbered) room (record {
+        urgent = same.urgent;
+        waiting = same.waiting;
+        taken = rw none (tt, refl);
+        outcomes = outcomes-new (Answered p.0 o) n p.0 add free;
+      })
 
-  pub sound-withdrawn : (urgent waiting : VecDeque (Ticket × ℕ) A)
-      (outcomes : Vec (Ticket × ℕ) A) (t : Ticket) (line : ℕ) → e ≡ Withdrawn t
-      → waits (standing_of old) t ≡ true → urgent.items ≡ without t old.urgent.items
+  -- the first that waits leaves its queue
+  pub sound-taken : (journal : Vec Entry A) (urgent waiting : VecDeque (Ticket × ℕ) A)
+      {p : Ticket × ℕ} → slice_get (old.urgent.items ++ old.waiting.items) 0 ≡ Some p
+      → old.taken ≡ None → urgent.items ≡ drop 1 old.urgent.items
+      → waiting.items ≡ others_behind old.urgent.items old.waiting.items
+      → journal.items ≡ old.journal.items ++ Taken p.0 ∷ []
+      → IsSoundWithRoom (record old {
+        journal = journal;
+        urgent = urgent;
+        waiting = waiting;
+        taken = Some p;
+      })
+  sound-taken journal urgent waiting {p} head none u w n room =
+      let same = kept (Taken p.0) n in
+      let next = head-at request_in old.journal.items old.urgent.items old.waiting.items head in
+      let within : AllPass is_some old.journal.items (p ∷ []) = (
+        request-within _ (head-passes has_request old.journal.items old.urgent.items
+            old.waiting.items p head sound.lines.urgent_requests sound.lines.waiting_requests),
+        tt,
+      ) in
+      sound-entered (Taken p.0) n _ _ refl (taken-step (standing_of old) _ next)
+      (numbered-fewer (λ i. times-taken i (standing_of old) _
+      (ap (λ found. taken_at old.journal.items found) none) next) sound.numbered) room (record {
+        urgent = rw u (says-drop same.urgent);
+        waiting = rw w (says-behind same.urgent same.waiting);
+        taken = rw n (taken-more (Taken p.0) _ (Some p) within);
+        outcomes = same.outcomes;
+      })
+
+  -- a request that waited leaves its queue, and has an outcome: it was withdrawn, or denied
+  pub sound-left : (journal : Vec Entry A) (urgent waiting : VecDeque (Ticket × ℕ) A)
+      (outcomes : Vec (Ticket × ℕ) A) (e : Entry) (t : Ticket)
+      → journal.items ≡ old.journal.items ++ e ∷ []
+      → (is_among t old.urgent.items || is_among t old.waiting.items) ≡ true
+      → record (without_waiting (standing_of old) t) {
+        outcomes = insert_entry same_ticket (standing_of old).outcomes t (outcome_in (Some e));
+      } ≡ step (standing_of old) e → urgent.items ≡ without t old.urgent.items
       → waiting.items ≡ others_without t old.urgent.items old.waiting.items
-      → outcomes.items ≡ old.outcomes.items ++ (t, line) ∷ [] → line ≡ length old.journal.items
+      → outcomes.items ≡ old.outcomes.items ++ (t, length old.journal.items) ∷ []
       → IsSoundWithRoom (record old {
         journal = journal;
         urgent = urgent;
         waiting = waiting;
         outcomes = outcomes;
       })
-  sound-withdrawn urgent waiting outcomes t line is found u w o l room =
-      let free = waiting-unanswered sound.numbered t found in
-      sound-entered _ (step (standing_of old) (Withdrawn t)) refl (record {
-        urgent = rw u (says-more has_request refl request_in _ _ e n
-            (pass-without has_request _ t _ sound.lines.urgent_requests)
-            (values-without request_in _ t _));
-        waiting = rw w (says-more has_request refl request_in _ _ e n
-            (pass-others has_request _ t old.urgent.items _ sound.lines.waiting_requests)
-            (others-values request_in _ t old.urgent.items _));
-        taken_within = within-same;
-        taken = taken-same;
-        outcomes = rw is at outcomes-new outcomes.items t line o l free;
-      }) (rw is refl)
-      (numbered-fewer (λ n. times-withdrawn n (standing_of old) t found) sound.numbered) room
-
-  pub sound-collected : (outcomes : Vec (Ticket × ℕ) A) (t : Ticket) → e ≡ Collected t
-      → outcomes.items ≡ without t old.outcomes.items
-      → IsSoundWithRoom (record old { journal = journal; outcomes = outcomes })
-  sound-collected outcomes t is o room =
-      sound-entered _ (step (standing_of old) (Collected t)) refl (record {
-        urgent = urgent-same;
-        waiting = waiting-same;
-        taken_within = within-same;
-        taken = taken-same;
-        outcomes = rw o (says-more is_some refl outcome_in _ _ e n
-            (pass-without is_some _ t _ sound.lines.outcomes_within)
-            (values-without outcome_in _ t _));
-      }) (rw is refl)
-      (numbered-fewer (λ n. times-collected n (standing_of old) t) sound.numbered) room
+  sound-left journal urgent waiting outcomes e t n found is u w o room =
+      let same = kept e n in
+      let waited : waits (standing_of old) t ≡ true = rw (
+        among-values request_in old.journal.items t old.urgent.items,
+        among-values request_in old.journal.items t old.waiting.items,
+      ) found in
+      sound-entered e n _ _ refl is (numbered-fewer (λ i.
+      times-left i (standing_of old) t (outcome_in (Some e)) waited) sound.numbered) room (record {
+        urgent = rw u (says-without t same.urgent);
+        waiting = rw w (says-others t same.urgent same.waiting);
+        taken = same.taken;
+        outcomes = outcomes-new e n t o (waiting-unanswered sound.numbered t waited);
+      })

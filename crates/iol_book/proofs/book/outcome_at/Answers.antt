@@ -1,15 +1,12 @@
 use Rattle.iol_book.specs.Replay.{same_ticket}
-use Rattle.iol_book.proofs.QueueLemmas.{is_some-position, lookup-position, remove-position}
+use Rattle.iol_book.proofs.LineLemmas.{is_some-position, lookup-position, remove-position}
 use Rattle.iol_book.proofs.book.outcome_at.Goals as goal
 
 pub returns-clause-found : goal.returns-clause-found
-returns-clause-found c = is_some-position (same_ticket c.args.ticket) c.args.outcomes.now _
-    c.place_of.ensures
+returns-clause-found c = is_some-position (same_ticket c.args.ticket) _ _ c.place_of.ensures
 
 pub returns-clause-its_own : goal.returns-clause-its_own
-returns-clause-its_own c = lookup-position (same_ticket c.args.ticket) c.args.outcomes.now _
-    c.place_of.ensures
+returns-clause-its_own c = lookup-position (same_ticket c.args.ticket) _ _ c.place_of.ensures
 
 pub returns-clause-rest : goal.returns-clause-rest
-returns-clause-rest c = remove-position (same_ticket c.args.ticket) c.args.outcomes.now _
-    c.place_of.ensures
+returns-clause-rest c = remove-position (same_ticket c.args.ticket) _ _ c.place_of.ensures

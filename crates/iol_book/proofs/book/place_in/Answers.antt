@@ -1,15 +1,12 @@
 use Rattle.iol_book.specs.Replay.{same_ticket}
-use Rattle.iol_book.proofs.QueueLemmas.{is_some-position, none-position, remove-position}
+use Rattle.iol_book.proofs.LineLemmas.{is_some-position, none-position, remove-position}
 use Rattle.iol_book.proofs.book.place_in.Goals as goal
 
 pub returns-clause-found : goal.returns-clause-found
-returns-clause-found g c = is_some-position (same_ticket c.args.ticket) c.args.queue.now.items _
-    c.first_at.ensures
+returns-clause-found g c = is_some-position (same_ticket c.args.ticket) _ _ c.first_at.ensures
 
 pub returns-clause-rest : goal.returns-clause-rest
-returns-clause-rest g c = remove-position (same_ticket c.args.ticket) c.args.queue.now.items _
-    c.first_at.ensures
+returns-clause-rest g c = remove-position (same_ticket c.args.ticket) _ _ c.first_at.ensures
 
 pub returns-clause-none : goal.returns-clause-none
-returns-clause-none g c = none-position (same_ticket c.args.ticket) c.args.queue.now.items _
-    c.first_at.ensures
+returns-clause-none g c = none-position (same_ticket c.args.ticket) _ _ c.first_at.ensures
