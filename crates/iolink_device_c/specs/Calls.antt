@@ -1,5 +1,5 @@
 -- The calls of a device, as C sees them: by a handle, and with numbers in place of answers.
-use Rattle.std.specs.Prelude.{◌≡◌, ℕ, Bool, List, Option, Some, None}
+use Rattle.std.specs.Prelude.{◌≡◌, ℕ, IsFalse, Bool, List, Option, Some, None}
 use Rattle.iol_isdu.specs.declared.values.Answer.{Answer}
 use Rattle.iol_isdu.specs.declared.values.Answer.TheVariants.{Read}
 use Rattle.iol_far.specs.Far.{Far}
@@ -30,6 +30,17 @@ silent_of handle = (device_of handle).silent
 -- a call of a closed handle: refused, with nothing changed
 abbrev pub IsRefused : ℕ → IolDevice → IolDevice → Type 0
 IsRefused result old new = (result ≡ 252) × (new ≡ old)
+
+-- a closed handle is refused, and an open one stays open
+pub record Guards (result : ℕ) (old new : IolDevice) : Type 0 where
+  pub closed : IsFalse old.is_open → IsRefused result old new
+  pub stays : new.is_open ≡ old.is_open
+
+-- and nothing but its end of the line may change
+pub record GuardsFar (result : ℕ) (old new : IolDevice) : Type 0 where
+  pub guards : Guards result old new
+  pub number : number_of new ≡ number_of old
+  pub silent : silent_of new ≡ silent_of old
 
 -- the answer to a read, by its octets
 abbrev pub read_of : List ℕ → Answer

@@ -5,7 +5,7 @@ ghost use Rattle.iol_page.specs.Fault.{fault_number};
 ghost use Rattle.iol_page.specs.Page.{layouts_of};
 ghost use Rattle.iol_far.specs.Far.{opened};
 ghost use Rattle.iol_far.specs.Local.{local, woken, LocalStep};
-ghost use Rattle.iolink_device_c.specs.Calls.{device_of, far_of, number_of, silent_of, IsRefused};
+ghost use Rattle.iolink_device_c.specs.Calls.{device_of, far_of, number_of, silent_of, IsRefused, Guards, GuardsFar};
 
 use crate::held::{IolDevice, Sensor};
 use core::mem::replace_with;
@@ -70,10 +70,7 @@ pub extern "C" fn iol_device_close(alloc: Global, handle: &mut IolDevice) -> u8
 /// A wake-up request came: 0, or 252 where the handle is closed.
 #[unsafe(no_mangle)]
 pub extern "C" fn iol_device_wake(alloc: Global, handle: &mut IolDevice) -> u8
-    ensures closed { IsFalse handle.old.is_open → IsRefused result handle.old handle.new }
-    ensures stays { handle.new.is_open ≡ handle.old.is_open }
-    ensures number { number_of handle.new ≡ number_of handle.old }
-    ensures silent { silent_of handle.new ≡ silent_of handle.old }
+    ensures guards { GuardsFar result handle.old handle.new }
     ensures far { IsTrue handle.old.is_open → (result ≡ 0)
         × (far_of handle.new ≡ woken (far_of handle.old)) }
 {
@@ -91,10 +88,7 @@ pub extern "C" fn iol_device_wake(alloc: Global, handle: &mut IolDevice) -> u8
 /// The power failed and came back: 0, or 252 where the handle is closed.
 #[unsafe(no_mangle)]
 pub extern "C" fn iol_device_power_cycle(alloc: Global, handle: &mut IolDevice) -> u8
-    ensures closed { IsFalse handle.old.is_open → IsRefused result handle.old handle.new }
-    ensures stays { handle.new.is_open ≡ handle.old.is_open }
-    ensures number { number_of handle.new ≡ number_of handle.old }
-    ensures silent { silent_of handle.new ≡ silent_of handle.old }
+    ensures guards { GuardsFar result handle.old handle.new }
     ensures far { IsTrue handle.old.is_open →
         (result ≡ 0) × (far_of handle.new ≡ local (far_of handle.old) LocalStep.Power) }
 {
@@ -113,8 +107,7 @@ pub extern "C" fn iol_device_power_cycle(alloc: Global, handle: &mut IolDevice) 
 /// ProcessDataOutputOperate is accepted in OPERATE. 0, or 252 where the handle is closed.
 #[unsafe(no_mangle)]
 pub extern "C" fn iol_device_silence(alloc: Global, handle: &mut IolDevice) -> u8
-    ensures closed { IsFalse handle.old.is_open → IsRefused result handle.old handle.new }
-    ensures stays { handle.new.is_open ≡ handle.old.is_open }
+    ensures guards { Guards result handle.old handle.new }
     ensures silent { IsTrue handle.old.is_open → (result ≡ 0)
         × (device_of handle.new ≡ record (device_of handle.old) { silent = true }) }
 {
@@ -138,10 +131,7 @@ pub extern "C" fn iol_device_raise(
     qualifier: u8,
     code: u16,
 ) -> u8
-    ensures closed { IsFalse handle.old.is_open → IsRefused result handle.old handle.new }
-    ensures stays { handle.new.is_open ≡ handle.old.is_open }
-    ensures number { number_of handle.new ≡ number_of handle.old }
-    ensures silent { silent_of handle.new ≡ silent_of handle.old }
+    ensures guards { GuardsFar result handle.old handle.new }
     ensures far { IsTrue handle.old.is_open → far_of handle.new ≡ local (far_of handle.old)
         (LocalStep.Raise (record { qualifier = qualifier; code = code })) }
     ensures full { IsTrue handle.old.is_open → IsTrue (is_full (far_of handle.old).events) →

@@ -3,7 +3,7 @@ ghost use Rattle.std.specs.Prelude.{◌≡◌, length, take, unwrap_or, [], IsTr
 ghost use Rattle.iol_far.specs.Far.{hear};
 ghost use Rattle.iol_device.specs.Number.{number_after};
 ghost use Rattle.iol_device.specs.Silence.{silent_after};
-ghost use Rattle.iolink_device_c.specs.Calls.{far_of, number_of, silent_of, IsRefused};
+ghost use Rattle.iolink_device_c.specs.Calls.{far_of, number_of, silent_of, Guards};
 
 use crate::held::IolDevice;
 use core::mem::replace_with;
@@ -26,9 +26,8 @@ pub extern "C" fn iol_device_hear(
     octets: &[u8],
     out: &mut IolReply,
 ) -> u8
-    ensures closed { IsFalse handle.old.is_open → IsRefused result handle.old handle.new }
+    ensures guards { Guards result handle.old handle.new }
     ensures untouched { IsFalse handle.old.is_open → out.new ≡ out.old }
-    ensures stays { handle.new.is_open ≡ handle.old.is_open }
     ensures far { IsTrue handle.old.is_open →
         (result ≡ 0) × (far_of handle.new ≡ (hear (far_of handle.old) octets.now).far) }
     ensures number { IsTrue handle.old.is_open → number_of handle.new

@@ -3,7 +3,7 @@ ghost use Rattle.std.specs.Prelude.{◌≡◌, length, take, unwrap_or, [], IsTr
 ghost use Rattle.iol_image.specs.Image.{IsImage};
 ghost use Rattle.iol_far.specs.Local.{local, is_input, LocalStep};
 ghost use Rattle.iol_device.specs.Silence.{device_output};
-ghost use Rattle.iolink_device_c.specs.Calls.{device_of, far_of, number_of, silent_of, IsRefused};
+ghost use Rattle.iolink_device_c.specs.Calls.{device_of, far_of, Guards, GuardsFar};
 
 use crate::held::IolDevice;
 use core::mem::replace_with;
@@ -15,10 +15,7 @@ use std::alloc::Global;
 /// nothing changed, for another number of octets than the page has, or where it has none.
 #[unsafe(no_mangle)]
 pub extern "C" fn iol_device_set_input(alloc: Global, handle: &mut IolDevice, octets: &[u8]) -> u8
-    ensures closed { IsFalse handle.old.is_open → IsRefused result handle.old handle.new }
-    ensures stays { handle.new.is_open ≡ handle.old.is_open }
-    ensures number { number_of handle.new ≡ number_of handle.old }
-    ensures silent { silent_of handle.new ≡ silent_of handle.old }
+    ensures guards { GuardsFar result handle.old handle.new }
     ensures far { IsTrue handle.old.is_open → IsImage octets.now →
         far_of handle.new ≡ local (far_of handle.old) (LocalStep.Input octets.now) }
     ensures done { IsTrue handle.old.is_open → IsImage octets.now →
@@ -49,10 +46,7 @@ pub extern "C" fn iol_device_set_input(alloc: Global, handle: &mut IolDevice, oc
 /// No valid process data in from now on: 0, or 252 where the handle is closed.
 #[unsafe(no_mangle)]
 pub extern "C" fn iol_device_clear_input(alloc: Global, handle: &mut IolDevice) -> u8
-    ensures closed { IsFalse handle.old.is_open → IsRefused result handle.old handle.new }
-    ensures stays { handle.new.is_open ≡ handle.old.is_open }
-    ensures number { number_of handle.new ≡ number_of handle.old }
-    ensures silent { silent_of handle.new ≡ silent_of handle.old }
+    ensures guards { GuardsFar result handle.old handle.new }
     ensures far { IsTrue handle.old.is_open →
         (result ≡ 0) × (far_of handle.new ≡ local (far_of handle.old) LocalStep.NoInput) }
 {
@@ -71,8 +65,7 @@ pub extern "C" fn iol_device_clear_input(alloc: Global, handle: &mut IolDevice) 
 /// where the handle is closed, with `out` as it was.
 #[unsafe(no_mangle)]
 pub extern "C" fn iol_device_output(alloc: Global, handle: &mut IolDevice, out: &mut IolImage) -> u8
-    ensures closed { IsFalse handle.old.is_open → IsRefused result handle.old handle.new }
-    ensures stays { handle.new.is_open ≡ handle.old.is_open }
+    ensures guards { Guards result handle.old handle.new }
     ensures untouched { IsFalse handle.old.is_open → out.new ≡ out.old }
     ensures same { handle.new.held.value ≡ handle.old.held.value }
     ensures length { IsTrue handle.old.is_open → out.new.length

@@ -3,7 +3,7 @@ ghost use Rattle.std.specs.Prelude.{◌≡◌, ◌≤◌, ◌<◌, length, unwra
 ghost use Rattle.iol_far.specs.Isdu.{handed};
 ghost use Rattle.iol_isdu.specs.declared.values.Answer.TheVariants as answer;
 ghost use Rattle.iol_device.specs.Number.{handed_number};
-ghost use Rattle.iolink_device_c.specs.Calls.{device_of, far_of, number_of, silent_of, IsRefused, Answers, read_of};
+ghost use Rattle.iolink_device_c.specs.Calls.{device_of, far_of, number_of, silent_of, Answers, read_of, Guards};
 ghost use Rattle.iolink_device_c.specs.Shown.{IsShown};
 
 use crate::held::IolDevice;
@@ -26,8 +26,7 @@ pub extern "C" fn iol_device_handed(
     number: &mut u64,
     out: &mut IolRequest,
 ) -> u8
-    ensures closed { IsFalse handle.old.is_open → IsRefused result handle.old handle.new }
-    ensures stays { handle.new.is_open ≡ handle.old.is_open }
+    ensures guards { Guards result handle.old handle.new }
     ensures untouched { IsFalse handle.old.is_open →
         (number.new ≡ number.old) × (out.new ≡ out.old) }
     ensures same { handle.new.held.value ≡ handle.old.held.value }
@@ -88,8 +87,7 @@ pub extern "C" fn iol_device_answer_read(
     number: u64,
     octets: &[u8],
 ) -> u8
-    ensures closed { IsFalse handle.old.is_open → IsRefused result handle.old handle.new }
-    ensures stays { handle.new.is_open ≡ handle.old.is_open }
+    ensures guards { Guards result handle.old handle.new }
     ensures long { IsTrue handle.old.is_open → 232 < length octets.now → (result ≡ 9)
         × (handle.new ≡ handle.old) }
     ensures answer { IsTrue handle.old.is_open → length octets.now ≤ 232 →
@@ -116,8 +114,7 @@ pub extern "C" fn iol_device_answer_written(
     handle: &mut IolDevice,
     number: u64,
 ) -> u8
-    ensures closed { IsFalse handle.old.is_open → IsRefused result handle.old handle.new }
-    ensures stays { handle.new.is_open ≡ handle.old.is_open }
+    ensures guards { Guards result handle.old handle.new }
     ensures answer { IsTrue handle.old.is_open
         → Answers number answer.Written handle.old result handle.new }
     ensures number { number_of handle.new ≡ number_of handle.old }
@@ -142,8 +139,7 @@ pub extern "C" fn iol_device_answer_refused(
     code: u8,
     additional: u8,
 ) -> u8
-    ensures closed { IsFalse handle.old.is_open → IsRefused result handle.old handle.new }
-    ensures stays { handle.new.is_open ≡ handle.old.is_open }
+    ensures guards { Guards result handle.old handle.new }
     ensures answer { IsTrue handle.old.is_open →
         Answers number (answer.Refused code additional) handle.old result handle.new }
     ensures number { number_of handle.new ≡ number_of handle.old }

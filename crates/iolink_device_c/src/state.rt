@@ -1,6 +1,6 @@
 //! How a device stands.
 ghost use Rattle.std.specs.Prelude.{◌≡◌, IsTrue, IsFalse};
-ghost use Rattle.iolink_device_c.specs.Calls.{far_of, IsRefused};
+ghost use Rattle.iolink_device_c.specs.Calls.{far_of, Guards};
 ghost use Rattle.iolink_device_c.specs.Shown.{shown_mode};
 
 use crate::held::IolDevice;
@@ -15,8 +15,7 @@ const ASLEEP: u8 = 1;
 /// closed, with `out` as it was. It changes nothing.
 #[unsafe(no_mangle)]
 pub extern "C" fn iol_device_mode(alloc: Global, handle: &mut IolDevice, out: &mut u8) -> u8
-    ensures closed { IsFalse handle.old.is_open → IsRefused result handle.old handle.new }
-    ensures stays { handle.new.is_open ≡ handle.old.is_open }
+    ensures guards { Guards result handle.old handle.new }
     ensures untouched { IsFalse handle.old.is_open → out.new ≡ out.old }
     ensures same { handle.new.held.value ≡ handle.old.held.value }
     ensures mode { IsTrue handle.old.is_open → (result ≡ 0)
@@ -51,8 +50,7 @@ fn shown_mode(device: &Device<Apart, Unkept>) -> u8
 /// 252 where the handle is closed, with `out` as it was. It changes nothing.
 #[unsafe(no_mangle)]
 pub extern "C" fn iol_device_cycle_time(alloc: Global, handle: &mut IolDevice, out: &mut u8) -> u8
-    ensures closed { IsFalse handle.old.is_open → IsRefused result handle.old handle.new }
-    ensures stays { handle.new.is_open ≡ handle.old.is_open }
+    ensures guards { Guards result handle.old handle.new }
     ensures untouched { IsFalse handle.old.is_open → out.new ≡ out.old }
     ensures same { handle.new.held.value ≡ handle.old.held.value }
     ensures octet { IsTrue handle.old.is_open → (result ≡ 0)

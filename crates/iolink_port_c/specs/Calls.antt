@@ -1,5 +1,5 @@
 -- The calls of a port, as C sees them: by a handle, and with numbers in place of answers.
-use Rattle.std.specs.Prelude.{◌≡◌, ℕ, nat_eq, if◌then◌else◌, List, length, Option, Some, None, Result, Ok, Err}
+use Rattle.std.specs.Prelude.{◌≡◌, ℕ, IsFalse, nat_eq, if◌then◌else◌, List, length, Option, Some, None, Result, Ok, Err}
 use Rattle.iol_link.specs.declared.wire.Rate.{Rate}
 use Rattle.iol_link.specs.declared.wire.Rate.TheVariants.{Com1, Com2, Com3}
 use Rattle.iol_port.specs.declared.call.Call.{Call}
@@ -28,6 +28,11 @@ abbrev pub Stays : IolPort → IolPort → Type 0
 Stays old new =
     (new.is_open ≡ old.is_open)
     × (new.held.value ≡ record old.held.value { port = parts_of new })
+
+-- a closed handle is refused, and an open one stays open, with the archived journal
+pub record Guards (result : ℕ) (old new : IolPort) : Type 0 where
+  pub closed : IsFalse old.is_open → IsRefused result old new
+  pub stays : Stays old new
 
 -- the call of C is this call of the abstract port, with this answer
 abbrev pub CallDoes : IolPort → Call → Answered → IolPort → Type 0

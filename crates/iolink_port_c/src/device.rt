@@ -6,7 +6,7 @@ ghost use Rattle.iol_port.specs.declared.call.Call.TheVariants as call;
 ghost use Rattle.iol_port.specs.declared.call.Answered.TheVariants as answered;
 ghost use Rattle.iol_port.specs.EveryWire.{page_shown};
 ghost use Rattle.iolink_handle.specs.Shown.{AreShown};
-ghost use Rattle.iolink_port_c.specs.Calls.{parts_of, IsRefused, Stays, CallDoes};
+ghost use Rattle.iolink_port_c.specs.Calls.{parts_of, IsRefused, CallDoes, Guards};
 ghost use Rattle.iolink_port_c.specs.DeviceCalls.{identity_at, largest_device, counting_number};
 ghost use Rattle.iolink_port_c.specs.DeviceCalls.{IsCycleOf, Expects, Paces};
 
@@ -37,9 +37,8 @@ pub extern "C" fn iol_port_expect(
     device: u32,
     counts: &mut u8,
 ) -> u8
-    ensures closed { IsFalse handle.old.is_open → IsRefused result handle.old handle.new }
+    ensures guards { Guards result handle.old handle.new }
     ensures unwritten { ¬ (result ≡ 0) → counts.new ≡ counts.old }
-    ensures stays { Stays handle.old handle.new }
     ensures range { IsTrue handle.old.is_open → largest_device < device →
         (result ≡ 254) × (handle.new ≡ handle.old) }
     ensures expects { IsTrue handle.old.is_open → device ≤ largest_device →
@@ -57,9 +56,8 @@ pub extern "C" fn iol_port_expect(
 /// is. With 0 `counts` is as of `iol_port_expect`.
 #[unsafe(no_mangle)]
 pub extern "C" fn iol_port_expect_any(alloc: Global, handle: &mut IolPort, counts: &mut u8) -> u8
-    ensures closed { IsFalse handle.old.is_open → IsRefused result handle.old handle.new }
+    ensures guards { Guards result handle.old handle.new }
     ensures unwritten { IsFalse handle.old.is_open → counts.new ≡ counts.old }
-    ensures stays { Stays handle.old handle.new }
     ensures expects { IsTrue handle.old.is_open →
         Expects None handle.old result counts.new handle.new }
 {
@@ -79,9 +77,8 @@ pub extern "C" fn iol_port_set_cycle(
     micros: u32,
     counts: &mut u8,
 ) -> u8
-    ensures closed { IsFalse handle.old.is_open → IsRefused result handle.old handle.new }
+    ensures guards { Guards result handle.old handle.new }
     ensures unwritten { ¬ (result ≡ 0) → counts.new ≡ counts.old }
-    ensures stays { Stays handle.old handle.new }
     ensures range { IsTrue handle.old.is_open → longest_cycle < micros →
         (result ≡ 39) × (handle.new ≡ handle.old) }
     ensures paces { IsTrue handle.old.is_open → micros ≤ longest_cycle →

@@ -2,7 +2,7 @@
 ghost use Rattle.std.specs.Prelude.{◌≡◌, ◌≤◌, ◌<◌, length, IsTrue, IsFalse};
 ghost use Rattle.iol_port.specs.declared.awaited.Awaited.{Awaited};
 ghost use Rattle.iol_port.specs.CorePort.{awaited};
-ghost use Rattle.iolink_port_c.specs.Calls.{parts_of, IsRefused, IsNotAsked, Stays};
+ghost use Rattle.iolink_port_c.specs.Calls.{parts_of, IsNotAsked, Guards};
 ghost use Rattle.iolink_port_c.specs.Calls.{rate_of, answer_of};
 ghost use Rattle.iolink_port_c.specs.LineCalls.{Sends, Receives, Wakes};
 
@@ -35,9 +35,8 @@ pub struct IolMessage {
 /// further call gives the same again and changes nothing, whatever other calls came between.
 #[unsafe(no_mangle)]
 pub extern "C" fn iol_port_asks(alloc: Global, handle: &mut IolPort, out: &mut IolMessage) -> u8
-    ensures closed { IsFalse handle.old.is_open → IsRefused result handle.old handle.new }
+    ensures guards { Guards result handle.old handle.new }
     ensures unwritten { IsFalse handle.old.is_open → out.new ≡ out.old }
-    ensures stays { Stays handle.old handle.new }
     ensures sends { IsTrue handle.old.is_open → Sends handle.old result out.new handle.new }
 {
     match handle.with(alloc, |master| master.port.send()) {
@@ -63,8 +62,7 @@ pub extern "C" fn iol_port_asks(alloc: Global, handle: &mut IolPort, out: &mut I
 /// wake waits for its answer; nothing changed then.
 #[unsafe(no_mangle)]
 pub extern "C" fn iol_port_turn_woken(alloc: Global, handle: &mut IolPort, rate: u8) -> u8
-    ensures closed { IsFalse handle.old.is_open → IsRefused result handle.old handle.new }
-    ensures stays { Stays handle.old handle.new }
+    ensures guards { Guards result handle.old handle.new }
     ensures range { IsTrue handle.old.is_open → 3 < rate →
         (result ≡ 254) × (handle.new ≡ handle.old) }
     ensures refused { IsTrue handle.old.is_open → rate ≤ 3 →
@@ -110,8 +108,7 @@ fn rate_named(number: u8) -> Option<Rate>
 /// no message waits for its answer; nothing changed then.
 #[unsafe(no_mangle)]
 pub extern "C" fn iol_port_turn_answered(alloc: Global, handle: &mut IolPort, octets: &[u8]) -> u8
-    ensures closed { IsFalse handle.old.is_open → IsRefused result handle.old handle.new }
-    ensures stays { Stays handle.old handle.new }
+    ensures guards { Guards result handle.old handle.new }
     ensures long { IsTrue handle.old.is_open → 66 < length octets.now →
         (result ≡ 254) × (handle.new ≡ handle.old) }
     ensures refused { IsTrue handle.old.is_open → length octets.now ≤ 66 →

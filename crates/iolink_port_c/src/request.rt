@@ -5,7 +5,7 @@ ghost use Rattle.iol_isdu.specs.Fault.{fault_number as isdu_number};
 ghost use Rattle.iolink_port_c.specs.declared.request.Urgency.{Urgency};
 ghost use Rattle.iolink_port_c.specs.RequestCalls.{Enters, Collects, Withdraws, Cancels};
 ghost use Rattle.iolink_port_c.specs.RequestCalls.{read_at, write_at};
-ghost use Rattle.iolink_port_c.specs.Calls.{IsRefused, Stays, number_of};
+ghost use Rattle.iolink_port_c.specs.Calls.{number_of, Guards};
 
 use crate::held::IolPort;
 use crate::outcome::{IolOutcome, show_outcome};
@@ -31,9 +31,8 @@ fn enter(
     urgency: Urgency,
     ticket: &mut u64,
 ) -> u8
-    ensures closed { IsFalse handle.old.is_open → IsRefused result handle.old handle.new }
+    ensures guards { Guards result handle.old handle.new }
     ensures unwritten { IsFalse handle.old.is_open → ticket.new ≡ ticket.old }
-    ensures stays { Stays handle.old handle.new }
     ensures refused { IsTrue handle.old.is_open → IfErr request (λ why.
         (result ≡ isdu_number why) × (ticket.new ≡ 0) × (handle.new ≡ handle.old)) }
     ensures enters { IsTrue handle.old.is_open → IfOk request (λ request.
@@ -84,9 +83,8 @@ pub extern "C" fn iol_port_read(
     sub: u8,
     ticket: &mut u64,
 ) -> u8
-    ensures closed { IsFalse handle.old.is_open → IsRefused result handle.old handle.new }
+    ensures guards { Guards result handle.old handle.new }
     ensures unwritten { IsFalse handle.old.is_open → ticket.new ≡ ticket.old }
-    ensures stays { Stays handle.old handle.new }
     ensures enters { IsTrue handle.old.is_open →
         Enters Urgency.Ordinary (read_at index sub) handle.old result ticket.new handle.new }
 {
@@ -104,9 +102,8 @@ pub extern "C" fn iol_port_read_urgent(
     sub: u8,
     ticket: &mut u64,
 ) -> u8
-    ensures closed { IsFalse handle.old.is_open → IsRefused result handle.old handle.new }
+    ensures guards { Guards result handle.old handle.new }
     ensures unwritten { IsFalse handle.old.is_open → ticket.new ≡ ticket.old }
-    ensures stays { Stays handle.old handle.new }
     ensures enters { IsTrue handle.old.is_open →
         Enters Urgency.Urgent (read_at index sub) handle.old result ticket.new handle.new }
 {
@@ -126,9 +123,8 @@ pub extern "C" fn iol_port_write(
     octets: &[u8],
     ticket: &mut u64,
 ) -> u8
-    ensures closed { IsFalse handle.old.is_open → IsRefused result handle.old handle.new }
+    ensures guards { Guards result handle.old handle.new }
     ensures unwritten { IsFalse handle.old.is_open → ticket.new ≡ ticket.old }
-    ensures stays { Stays handle.old handle.new }
     ensures long { IsTrue handle.old.is_open → 232 < length octets.now →
         (result ≡ 9) × (ticket.new ≡ 0) × (handle.new ≡ handle.old) }
     ensures enters { IsTrue handle.old.is_open → length octets.now ≤ 232 →
@@ -150,9 +146,8 @@ pub extern "C" fn iol_port_write_urgent(
     octets: &[u8],
     ticket: &mut u64,
 ) -> u8
-    ensures closed { IsFalse handle.old.is_open → IsRefused result handle.old handle.new }
+    ensures guards { Guards result handle.old handle.new }
     ensures unwritten { IsFalse handle.old.is_open → ticket.new ≡ ticket.old }
-    ensures stays { Stays handle.old handle.new }
     ensures long { IsTrue handle.old.is_open → 232 < length octets.now →
         (result ≡ 9) × (ticket.new ≡ 0) × (handle.new ≡ handle.old) }
     ensures enters { IsTrue handle.old.is_open → length octets.now ≤ 232 →
@@ -173,9 +168,8 @@ pub extern "C" fn iol_port_collect(
     ticket: u64,
     out: &mut IolOutcome,
 ) -> u8
-    ensures closed { IsFalse handle.old.is_open → IsRefused result handle.old handle.new }
+    ensures guards { Guards result handle.old handle.new }
     ensures unwritten { IsFalse handle.old.is_open → out.new ≡ out.old }
-    ensures stays { Stays handle.old handle.new }
     ensures collects { IsTrue handle.old.is_open →
         Collects ticket handle.old result out.old out.new handle.new }
 {
@@ -195,8 +189,7 @@ pub extern "C" fn iol_port_collect(
 /// outstanding, and 27 where it waits no longer.
 #[unsafe(no_mangle)]
 pub extern "C" fn iol_port_withdraw(alloc: Global, handle: &mut IolPort, ticket: u64) -> u8
-    ensures closed { IsFalse handle.old.is_open → IsRefused result handle.old handle.new }
-    ensures stays { Stays handle.old handle.new }
+    ensures guards { Guards result handle.old handle.new }
     ensures withdraws { IsTrue handle.old.is_open →
         Withdraws ticket handle.old result handle.new }
 {
@@ -207,8 +200,7 @@ pub extern "C" fn iol_port_withdraw(alloc: Global, handle: &mut IolPort, ticket:
 /// closed, 25 where no such ticket is outstanding, and 36 where it waits or has an outcome.
 #[unsafe(no_mangle)]
 pub extern "C" fn iol_port_cancel(alloc: Global, handle: &mut IolPort, ticket: u64) -> u8
-    ensures closed { IsFalse handle.old.is_open → IsRefused result handle.old handle.new }
-    ensures stays { Stays handle.old handle.new }
+    ensures guards { Guards result handle.old handle.new }
     ensures cancels { IsTrue handle.old.is_open →
         Cancels ticket handle.old result handle.new }
 {

@@ -8,7 +8,7 @@ ghost use Rattle.iol_port.specs.CorePort.{awaited};
 ghost use Rattle.iol_port.specs.View.{status_of};
 ghost use Rattle.iolink_handle.specs.Shown.{AreShown};
 ghost use Rattle.iolink_port_c.specs.Shown.{IsShown};
-ghost use Rattle.iolink_port_c.specs.Calls.{parts_of, IsRefused, IsNotAsked, Stays, CallDoes};
+ghost use Rattle.iolink_port_c.specs.Calls.{parts_of, IsRefused, IsNotAsked, CallDoes, Guards};
 ghost use Rattle.iolink_port_c.specs.StateCalls.{Restarts, SetsOutput, ClearsOutput, TakesEvent};
 
 use crate::held::IolPort;
@@ -25,8 +25,7 @@ use std::alloc::Global;
 /// its answer; nothing changed then. Bring the answer first: it may be that nothing came.
 #[unsafe(no_mangle)]
 pub extern "C" fn iol_port_restart(alloc: Global, handle: &mut IolPort) -> u8
-    ensures closed { IsFalse handle.old.is_open → IsRefused result handle.old handle.new }
-    ensures stays { Stays handle.old handle.new }
+    ensures guards { Guards result handle.old handle.new }
     ensures refused { IsTrue handle.old.is_open →
         ¬ (awaited (parts_of handle.old) ≡ Awaited.Nothing) →
         IsNotAsked result handle.old handle.new }
@@ -50,8 +49,7 @@ pub extern "C" fn iol_port_restart(alloc: Global, handle: &mut IolPort) -> u8
 /// no start-up has told the lengths yet, and 29 for another number of octets than the device has.
 #[unsafe(no_mangle)]
 pub extern "C" fn iol_port_set_output(alloc: Global, handle: &mut IolPort, octets: &[u8]) -> u8
-    ensures closed { IsFalse handle.old.is_open → IsRefused result handle.old handle.new }
-    ensures stays { Stays handle.old handle.new }
+    ensures guards { Guards result handle.old handle.new }
     ensures sized { IsTrue handle.old.is_open → ¬ IsImage octets.now →
         (result ≡ 29) × (handle.new ≡ handle.old) }
     ensures sets { IsTrue handle.old.is_open → IsImage octets.now →
@@ -70,8 +68,7 @@ pub extern "C" fn iol_port_set_output(alloc: Global, handle: &mut IolPort, octet
 /// Wants no output of the device: 0, or 252 where the handle is closed.
 #[unsafe(no_mangle)]
 pub extern "C" fn iol_port_clear_output(alloc: Global, handle: &mut IolPort) -> u8
-    ensures closed { IsFalse handle.old.is_open → IsRefused result handle.old handle.new }
-    ensures stays { Stays handle.old handle.new }
+    ensures guards { Guards result handle.old handle.new }
     ensures clears { IsTrue handle.old.is_open → ClearsOutput handle.old result handle.new }
 {
     match handle.with(alloc, |master| master.port.clear_output()) {
@@ -115,9 +112,8 @@ pub struct IolEvent {
 /// is closed, and 30 where none is kept. Where it is refused, `out` stays as it is.
 #[unsafe(no_mangle)]
 pub extern "C" fn iol_port_take_event(alloc: Global, handle: &mut IolPort, out: &mut IolEvent) -> u8
-    ensures closed { IsFalse handle.old.is_open → IsRefused result handle.old handle.new }
+    ensures guards { Guards result handle.old handle.new }
     ensures unwritten { IsFalse handle.old.is_open → out.new ≡ out.old }
-    ensures stays { Stays handle.old handle.new }
     ensures takes { IsTrue handle.old.is_open →
         TakesEvent handle.old result out.old out.new handle.new }
 {
