@@ -46,13 +46,13 @@ use Rattle.iol_app.proofs.Exchanging.{words}
 use Rattle.iol_app.proofs.Clash.{beside_again, calm_exchange}
 use Rattle.iol_app.proofs.CaseFacts.{aborted_session, busy_unanswered, had_answer, grown_answered, first_idle, busy_waits, hands_none, any_again, refused_waits, anew_busy, anew_clear, vain_again, vain_some, forgotten_none, EndsText, none_ends, trusts_none, doubts_of, asked_nothing, not_zero, not_both, other_once}
 
-module _ (names : TextNamesAnswer) (taken : AnswersAreTakenUp) (turn : Good) where
-  open turn use {layouts, w, t, g, far, n, steps, r, said, r.{od.{items as od}}}
-  open (words layouts w t g far steps Clean) use {o, passed as far', told, R, devices}
-  open (words layouts w t g far steps Clean) use {trust, doubts}
+module _ (names : TextNamesAnswer) (taken : AnswersAreTakenUp) (good : Good) where
+  open good use {turn, r, said, r.{od.{items as od}}}
+  open turn use {layouts, w, t, g, far, n, steps}
+  open (words turn Clean) use {o, passed as far', told, R, devices, trust, doubts}
 
   abbrev For : Exchange → Option Current → Type 0
-  For e current = Replied turn e current
+  For e current = Replied good e current
 
   abbrev cursor : Cutting Request → Cursor → Bool → Option Cause → Current
   cursor cutter p again abort =

@@ -1,6 +1,7 @@
 -- The steps of the far end stand beside each other, and say nothing to the book nor of reports.
 use Rattle.std.proofs.Common.{◌≡◌, ℕ, Bool, true, false, not, List, [], ◌∷◌, ◌++◌, filter, refl, arith}
 use Rattle.std.proofs.lemmas.Grind.{common_steps}
+use Rattle.std.proofs.lemmas.List.Folds.{list_all-append}
 use Rattle.std.specs.Prelude.{Option, Some, None, IsTrue, ⊤}
 use Rattle.std.specs.List.{list_all}
 use Rattle.iol_mseq.specs.declared.master.MasterMsg.{MasterMsg}
@@ -25,9 +26,17 @@ is_own OutputOn = true
 is_own OutputOff = true
 is_own step = false
 
-abbrev pub AllOwn : List Step → Type 0
-AllOwn [] = ⊤
-AllOwn (x ∷ xs) = (is_own x ≡ true) × AllOwn xs
+abbrev IsOwn : Step → Type 0
+IsOwn x = is_own x ≡ true
+
+abbrev pub Each : (Step → Type 0) → List Step → Type 0
+Each P [] = ⊤
+Each P (x ∷ xs) = P x × Each P xs
+
+pub each-append : (P : Step → Type 0) (xs ys : List Step) → Each P xs → Each P ys
+    → Each P (xs ++ ys)
+each-append P [] ys h k = k
+each-append P (x ∷ xs) ys h k = (h.0, each-append P xs ys h.1 k)
 
 abbrev pub no_busy : List Step → Bool
 no_busy [] = true
@@ -39,21 +48,17 @@ no_confirm [] = true
 no_confirm (Confirm ∷ xs) = false
 no_confirm (x ∷ xs) = no_confirm xs
 
-all_own-append : (xs ys : List Step) → AllOwn xs → AllOwn ys → AllOwn (xs ++ ys)
-all_own-append [] ys h k = k
-all_own-append (x ∷ xs) ys h k = (h.0, all_own-append xs ys h.1 k)
-
 own_all_step : (request : Option Request) (far : Far) (step : LocalStep)
-    → AllOwn (own_step request far step)
+    → Each IsOwn (own_step request far step)
 own_all_step request far step = grind (arith, common_steps)
 
 pub own_all : (request : Option Request) (steps : List LocalStep) (far : Far)
-    → AllOwn (own_steps request far steps)
+    → Each IsOwn (own_steps request far steps)
 own_all request [] far = tt
 own_all request (step ∷ steps) far =
-    all_own-append _ _ (own_all_step request far step) (own_all request steps (local far step))
+    each-append IsOwn _ _ (own_all_step request far step) (own_all request steps (local far step))
 
-release_own : (e : Events) → AllOwn (release_steps e)
+release_own : (e : Events) → Each IsOwn (release_steps e)
 release_own e = grind (arith, common_steps)
 
 -- a step stands beside those that leave no step that it clashes with
@@ -105,7 +110,7 @@ before_calm : (x : Step) (xs ys : List Step) → is_own x ≡ true
 before_calm x xs ys own calm h = before_own x xs ys own (plain_apart x calm (xs ++ ys)) h
 
 -- own steps stand before what stands before no busy reply
-own_before : (xs ys zs : List Step) → AllOwn xs → no_busy zs ≡ true → Before ys zs
+own_before : (xs ys zs : List Step) → Each IsOwn xs → no_busy zs ≡ true → Before ys zs
     → Before (xs ++ ys) zs
 own_before [] ys zs h calm k = k
 own_before (x ∷ xs) ys zs h calm k =
@@ -182,31 +187,27 @@ wake_before far steps wakes ys calm free =
 
 -- While the answer is none nothing was carried out, so the own steps clash with nothing at all
 
-abbrev pub AllCalm : List Step → Type 0
-AllCalm [] = ⊤
-AllCalm (x ∷ xs) = (is_own x ≡ true) × ((y : Step) → clash x y ≡ false) × AllCalm xs
+abbrev pub IsCalm : Step → Type 0
+IsCalm x = (is_own x ≡ true) × ((y : Step) → clash x y ≡ false)
 
-pub calm-append : (xs ys : List Step) → AllCalm xs → AllCalm ys → AllCalm (xs ++ ys)
-calm-append [] ys h k = k
-calm-append (x ∷ xs) ys h k = (h.0, h.1, calm-append xs ys h.2 k)
-
-pub calm_before : (xs ys zs : List Step) → AllCalm xs → Before ys zs → Before (xs ++ ys) zs
+pub calm_before : (xs ys zs : List Step) → Each IsCalm xs → Before ys zs → Before (xs ++ ys) zs
 calm_before [] ys zs h k = k
-calm_before (x ∷ xs) ys zs h k = before_calm x (xs ++ ys) zs h.0 h.1 (calm_before xs ys zs h.2 k)
+calm_before (x ∷ xs) ys zs h k =
+    before_calm x (xs ++ ys) zs h.0.0 h.0.1 (calm_before xs ys zs h.1 k)
 
 calm_step : (r : Request) (far : Far) (step : LocalStep) (h : Hidden)
     → (hidden_after (Some r) far step h).answer ≡ None
-    → (h.answer ≡ None) × AllCalm (own_step (Some r) far step)
+    → (h.answer ≡ None) × Each IsCalm (own_step (Some r) far step)
 calm_step r far step h none = grind (arith, common_steps)
 
 pub own_calm : (r : Request) (steps : List LocalStep) (far : Far) (h : Hidden)
     → (hidden_through (Some r) far steps h).answer ≡ None
-    → (h.answer ≡ None) × AllCalm (own_steps (Some r) far steps)
+    → (h.answer ≡ None) × Each IsCalm (own_steps (Some r) far steps)
 own_calm r [] far h none = (none, tt)
 own_calm r (step ∷ steps) far h none =
     let rest = own_calm r steps (local far step) (hidden_after (Some r) far step h) none in
     let first = calm_step r far step h rest.0 in
-    (first.0, calm-append _ _ first.1 rest.1)
+    (first.0, each-append IsCalm _ _ first.1 rest.1)
 
 -- an exchange before a busy reply
 pub calm_exchange : (r : Request) (far : Far) (steps : List LocalStep) (passage : Passage)
@@ -221,8 +222,7 @@ calm_exchange r far steps passage o h ys n once free =
 -- In the turn of a fresh request nothing stands that a busy reply or a taking would clash with
 
 pub no_clash-append : (xs ys : List Step) → no_clash xs → no_clash ys → no_clash (xs ++ ys)
-no_clash-append [] ys h k = k
-no_clash-append (x ∷ xs) ys h k = grind (arith, common_steps, no_clash-append xs ys)
+no_clash-append xs ys h k = rw (list_all-append, h) k
 
 last_calm : (x : Step) (xs : List Step)
     → list_all (λ other. not (clash x other)) (xs ++ Busy ∷ []) ≡ true → clash Busy x ≡ false
@@ -234,7 +234,7 @@ free_calm [] h = refl
 free_calm (x ∷ xs) h = grind (arith, common_steps, free_calm xs, last_calm x xs)
 
 -- an exchange whose own steps are calm
-pub calm_passed : (xs : List Step) (passage : Passage) (far : Far) (o : List ℕ) → AllCalm xs
+pub calm_passed : (xs : List Step) (passage : Passage) (far : Far) (o : List ℕ) → Each IsCalm xs
     → no_clash (xs ++ passed_steps passage far o)
 calm_passed xs passage far o h =
     free_calm (xs ++ passed_steps passage far o)

@@ -17,13 +17,15 @@ use Rattle.iol_steps.specs.declared.mode.Mode.TheVariants.{Down as ModeDown, Ope
 use Rattle.iol_steps.specs.declared.said.Said.TheVariants.{Idle}
 use Rattle.iol_steps.specs.Step.{Step, Move as MoveTo, WireCall, Moment, silence_by, CallFits, is_clash_free, is_for_book, is_report, resets}
 use Rattle.iol_steps.specs.Bridge.{Hidden, IsOpen, hidden_through, told_through, wake_steps, told_wake, exchange_steps, told_exchanged}
-use Rattle.iol_steps.specs.Session.{MayMove}
-use Rattle.iol_steps.specs.FrozenEvents.{untold}
+use Rattle.iol_steps.specs.Session.{MayMove, MaySession, session_after}
+use Rattle.iol_steps.specs.FrozenEvents.{untold, MayFrozen, frozen_after}
+use Rattle.iol_steps.specs.Images.{MayImages, images_after}
 use Rattle.iol_steps.specs.Station.{Resting, frozen_of, images_of}
 use Rattle.iol_app.proofs.Given.{Laws, page_locals, page_after, kind_after, sees_kept, misses_passed}
-use Rattle.iol_app.proofs.OwnSession.{SessionRuns, session_runs-append, wake_session, exchange_session, own_open, woken_if, woken_as}
-use Rattle.iol_app.proofs.FrozenPart.{FrozenRuns, ConfirmsTold, frozen_runs-append, wake_frozen, exchange_frozen}
-use Rattle.iol_app.proofs.ImagesPart.{ImagesRuns, OutputsSent, images_runs-append, wake_images, exchange_images}
+use Rattle.iol_app.proofs.Parts.{runs-append}
+use Rattle.iol_app.proofs.OwnSession.{SessionRuns, wake_session, exchange_session, own_open, woken_if, woken_as}
+use Rattle.iol_app.proofs.FrozenPart.{FrozenRuns, ConfirmsTold, wake_frozen, exchange_frozen}
+use Rattle.iol_app.proofs.ImagesPart.{ImagesRuns, OutputsSent, wake_images, exchange_images}
 use Rattle.iol_app.proofs.Clash.{Before, no_busy, no_confirm, wake_before, exchange_before}
 use Rattle.iol_app.specs.Requests.{request_in}
 use Rattle.iol_app.proofs.Told.{told_exchange}
@@ -216,14 +218,9 @@ module _ (c : Core) (g : Ghost) (far : Far) where
           fresh = λ k. absurd (stale c.state (work_of c.session) far below (stands.fresh k));
           said_book = before.book ∙ e.book;
           said_reports = before.reports ∙ e.plain.3;
-          session = session_runs-append m (seen_in c g) (seen_in c g) (seen_in next after)
-              g.request.hidden effect.hidden hidden far.carried far'.carried
-              far'.carried effect.steps ys (effect.session m) e.session;
-          frozen = frozen_runs-append far.events.frozen far'.events.frozen far'.events.frozen
-              g.events.told effect.told told effect.steps ys effect.frozen e.frozen;
-          images = images_runs-append m (images_in c g far)
-              (images_of (shown_in c.session g.sent) far') (images_in next after far')
-              effect.steps ys (effect.images m) e.images;
+          session = runs-append (MaySession m) session_after _ _ _ (effect.session m) e.session;
+          frozen = runs-append MayFrozen frozen_after _ _ _ effect.frozen e.frozen;
+          images = runs-append (MayImages m) (images_after m) _ _ _ (effect.images m) e.images;
           image_is_last = ((λ k. absurd (below k.0)), (λ k. e.image), (λ k f. e.image ∙ sym was));
           output_is_wanted = λ k. absurd (below k.0);
           stands = assumption (effect.page ∙ stands.page, effect.kind ∙ stands.kind, sees, never);

@@ -7,10 +7,11 @@ use Rattle.iol_mseq.specs.Texts.{master_text}
 use Rattle.iol_page.specs.Page.{layouts_of}
 use Rattle.iol_page.specs.declared.page.Layouts.{Layouts}
 use Rattle.iol_isdu.specs.declared.values.Request.{Request}
+use Rattle.iol_event.specs.declared.event.Event.{Event}
+use Rattle.iol_far.specs.declared.carried.Carried.{Carried}
 use Rattle.iol_far.specs.declared.mode.Mode.TheVariants.{Operate as FarOperate}
 use Rattle.iol_far.specs.declared.kind.HandsOver.{HandsOver}
 use Rattle.iol_far.specs.Codec.{layout_in}
-use Rattle.iol_far.specs.Isdu.{IsduState}
 use Rattle.iol_far.specs.Far.{Far, output_of}
 use Rattle.iol_far.specs.Local.{LocalStep, locals}
 use Rattle.iol_mseq.specs.Master.{HasMasterParts}
@@ -26,18 +27,22 @@ use Rattle.iol_mode.specs.declared.why.Why.TheVariants.{Lost}
 use Rattle.iol_steps.specs.declared.mode.Mode.TheVariants.{Down as ModeDown, Operate as ModeOperate}
 use Rattle.iol_steps.specs.declared.said.Said.{Said}
 use Rattle.iol_steps.specs.declared.said.Said.TheVariants.{Busy as SaidBusy, Answered, Cut as SaidCut, Reported}
-use Rattle.iol_steps.specs.Step.{Step, repeats_at, doubts_at, is_clash_free, WireCall, Exchanged, silence_by, CallFits, is_for_book, is_report, book_said, reports_said, no_make}
+use Rattle.iol_steps.specs.Step.{Step, Moment, silence_left, repeats_at, doubts_at, is_clash_free, WireCall, Exchanged, silence_by, CallFits, is_for_book, is_report, book_said, reports_said, no_make}
 use Rattle.iol_steps.specs.Bridge.{Hidden, IsOpen, hidden_through, hidden_again, again_steps, told_through, exchange_steps, told_exchanged}
-use Rattle.iol_steps.specs.Kinds.{Brought, Missed, Gone, WasBusy, WasAnswered, WasAborted, WasReported, Had, lost_steps, brought_steps, quiet_said, lost_said}
+use Rattle.iol_steps.specs.Kinds.{Brought, Missed, Gone, WasBusy, WasAnswered, WasAborted, WasReported, Had, lost_steps, Seen, brought_steps, quiet_said, lost_said}
 use Rattle.iol_steps.specs.Station.{Reading, AnswerFits, is_due, images_of}
 use Rattle.iol_steps.specs.Exchange.{hidden_lost, told_by}
 use Rattle.iol_steps.specs.Turn.{ImageIsLast}
 use Rattle.iol_app.proofs.Given.{Laws, page_locals, page_after, kind_after, level_locals, level_after, sees_kept, misses_passed}
-use Rattle.iol_app.proofs.OwnSession.{SessionRuns, MayAgain, session_runs-append, exchange_session, again_session}
-use Rattle.iol_app.proofs.FrozenPart.{FrozenRuns, frozen_runs-append, exchange_frozen, again_frozen}
-use Rattle.iol_app.proofs.ImagesPart.{ImagesRuns, OutputsSent, images_runs-append, exchange_images, again_images}
+use Rattle.iol_steps.specs.Session.{MaySession, session_after}
+use Rattle.iol_steps.specs.FrozenEvents.{MayFrozen, frozen_after}
+use Rattle.iol_steps.specs.Images.{Images, MayImages, images_after}
+use Rattle.iol_app.proofs.Parts.{runs-append}
+use Rattle.iol_app.proofs.OwnSession.{SessionRuns, MayAgain, exchange_session, again_session}
+use Rattle.iol_app.proofs.FrozenPart.{FrozenRuns, exchange_frozen, again_frozen}
+use Rattle.iol_app.proofs.ImagesPart.{ImagesRuns, OutputsSent, exchange_images, again_images}
 use Rattle.iol_app.specs.Ends.{OutputTold, EventsTold, output_for, SentSeen}
-use Rattle.iol_app.proofs.OpenLevel.{lost_opens, tied_locals, late_locals, again_late, carried_after}
+use Rattle.iol_app.proofs.OpenLevel.{lost_opens, IsTied, tied_locals, again_late, carried_after}
 use Rattle.iol_app.proofs.Clash.{Before, exchange_before, beside_again, no_busy, no_confirm, no_clash}
 use Rattle.iol_app.proofs.Fresh.{fresh_turn}
 use Rattle.iol_app.proofs.Told.{told_locals, told_exchange, confirms_told}
@@ -85,18 +90,20 @@ said_of : (kind : Brought) (request : Option Request) (said : Said) → Says kin
     × (no_make (brought_steps kind request) ≡ true)
 said_of kind request said says = grind (arith, common_steps)
 
--- whether the message hands the device its request with each hearing
-abbrev pub repeats_out : Layouts → SessionState → Ghost → Exchange → Option Current → Bool
-repeats_out layouts t g e current =
-    repeats_at t.configuration.devices g.kind.hands_over layouts.run.od (move_for e current)
+-- a loss, with a request under way or none
+lost_parts : (m : Moment) (f : List Event) (told : Bool) (i : Images) (r : Option Request)
+    → (no_busy (lost_steps r) ≡ true) × (no_confirm (lost_steps r) ≡ true)
+    × IsTrue (is_clash_free (lost_steps r)) × no_clash (lost_steps r)
+    × FrozenRuns f told (lost_steps r) f told
+    × ImagesRuns m i (lost_steps r) (record i { image = None })
+lost_parts m f told i r = grind (arith, common_steps)
 
--- the ISDU state that it leaves, and what is hidden of the request behind the device's own steps
-abbrev pub state_passed : Layouts → Sending → Far → List LocalStep → Passage → IsduState
-state_passed layouts w far steps passage =
-    (far_after passage (locals far steps) (master_text layouts.run w.message)).isdu
-
-abbrev pub hidden_own : Ghost → Far → List LocalStep → Option Current → Hidden
-hidden_own g far steps current = hidden_through (request_in current) far steps g.request.hidden
+lost_session : (m : Moment) (seen : Seen) (h : Hidden) (c : List Carried)
+    → seen.mode ≡ ModeOperate → 3 ≤ silence_left m
+    → SessionRuns m seen h c (lost_steps seen.request)
+    (record seen { request = None; mode = ModeDown; why = Some Lost }) (hidden_lost seen.request h)
+    c
+lost_session m seen h c runs third = grind (arith, common_steps)
 
 -- of an exchange, however far its message came: the octets out, the far end behind it, whether the
 -- frozen list is told then, and the reading that the message is sent in
@@ -114,6 +121,7 @@ pub record Words : Type 0 where
 pub record RequestWords : Type 0 where
   pub c : Core
   pub request : Option Request
+  -- what is hidden of it behind the device's own steps
   pub own : Hidden
   -- where the device is handed the request again, it has no answer any more
   pub hidden : Hidden
@@ -121,12 +129,25 @@ pub record RequestWords : Type 0 where
   pub xs : List Step
   pub back : List Step
   pub what : Move
+  -- whether the message hands the device its request with each hearing
   pub repeats : Bool
   pub progress : Progress
   pub vain : ℕ
 
-module _ (layouts : Layouts) (w : Sending) (t : SessionState) (g : Ghost) (far : Far)
-    (steps : List LocalStep) (passage : Passage) where
+-- an exchange under way: the message out, and the far end's own steps before it
+pub record Turn : Type 0 where
+  pub laws : Laws
+  pub layouts : Layouts
+  pub w : Sending
+  pub t : SessionState
+  pub g : Ghost
+  pub far : Far
+  pub n : ℕ
+  pub steps : List LocalStep
+
+module _ (turn : Turn) (passage : Passage) where
+  open turn use {layouts, w, t, g, far, steps}
+
   abbrev pub words : Words
   words =
       let o : List ℕ = master_text layouts.run w.message in
@@ -144,7 +165,7 @@ module _ (layouts : Layouts) (w : Sending) (t : SessionState) (g : Ghost) (far :
     abbrev pub request_words : RequestWords
     request_words =
         let request : Option Request = request_in current in
-        let own : Hidden = hidden_own g far steps current in
+        let own : Hidden = hidden_through request far steps g.request.hidden in
         record {
           c = core_out layouts w t e current;
           request = request;
@@ -153,7 +174,8 @@ module _ (layouts : Layouts) (w : Sending) (t : SessionState) (g : Ghost) (far :
           xs = exchange_steps request far steps passage words.o;
           back = again_steps request words.passed.isdu own;
           what = move_for e current;
-          repeats = repeats_out layouts t g e current;
+          repeats = repeats_at words.devices g.kind.hands_over layouts.run.od
+              (move_for e current);
           progress = progress_of words.devices t.clear current;
           vain = vain_by words.devices e current w.tries;
         }
@@ -171,13 +193,12 @@ module _ (layouts : Layouts) (w : Sending) (t : SessionState) (g : Ghost) (far :
       pub outputs : OutputTold g.sent (output_for e ≡ None) t.output.told passed
       pub sends : OutputsSent g.sent (locals far steps) o
 
-module _ (laws : Laws) (layouts : Layouts) (w : Sending) (t : SessionState) (g : Ghost)
-    (far : Far) (n : ℕ) (steps : List LocalStep) (passage : Passage) (e : Exchange)
-    (current : Option Current) (stands : Stands (core_out layouts w t e current) g far n) where
-  open (words layouts w t g far steps passage) use {o, passed, told, R, devices, doubts as in_doubt}
-  open (request_words layouts w t g far steps passage e current) use {c, request, own as h}
-  open (request_words layouts w t g far steps passage e current) use {hidden as h', xs, back}
-  open (request_words layouts w t g far steps passage e current) use {repeats, progress, vain}
+module _ (turn : Turn) (passage : Passage) (e : Exchange) (current : Option Current)
+    (stands : Stands (core_out turn.layouts turn.w turn.t e current) turn.g turn.far turn.n) where
+  open turn use {laws, layouts, w, t, g, far, n, steps}
+  open (words turn passage) use {o, passed, told, R, devices, doubts as in_doubt}
+  open (request_words turn passage e current) use {c, request, own as h, hidden as h', xs, back}
+  open (request_words turn passage e current) use {repeats, progress, vain}
   open stands use {request as up}
 
   -- the far end's part, that of the level by the request's own fields
@@ -197,14 +218,15 @@ module _ (laws : Laws) (layouts : Layouts) (w : Sending) (t : SessionState) (g :
   level' = level_after laws g.page g.kind layouts.run.od some_od g.request.base up.link
       progress o vain passage (locals far steps) level_here
 
+  own_tied : IsTied (repeats ≡ false) g.request.base request h (locals far steps).carried
+  own_tied = tied_locals (repeats ≡ false) g.request.base request steps far g.request.hidden
+      up.opens (up.late, up.answer)
+
   pub late' : h'.late ≡ None
-  late' = again_late request passed.isdu h
-      ∙ late_locals request steps far g.request.hidden up.late
+  late' = again_late request passed.isdu h ∙ own_tied.0
 
   pub tied' : repeats ≡ false → AnswerFits g.request.base request h passed.carried
-  tied' once = rw (carried_after passage (locals far steps) o)
-      (tied_locals g.request.base request steps far g.request.hidden up.opens
-      (up.late, up.answer once)).1
+  tied' once = rw (carried_after passage (locals far steps) o) (own_tied.1 once)
 
   -- the steps stand before those of an outcome
   pub before_ends : (ys : List Step) → no_busy ys ≡ true → no_confirm ys ≡ true
@@ -228,47 +250,48 @@ module _ (laws : Laws) (layouts : Layouts) (w : Sending) (t : SessionState) (g :
   pub told' : EventsTold R (octets_confirm o) passed told
   told' = told_exchange laws.events o R due steps passage far g.events.told told_before
 
-  module _ (far' : Far) (n' : ℕ) (far_is : far' ≡ passed) (said : Said)
-      (p : Passes layouts w t g far steps passage e current) where
-    abbrev pub ended : OfRequest → OfEvents → Ghost
-    ended of_request of_events =
-        record g { request = of_request; events = of_events; fresh = false }
+  abbrev pub ended : OfRequest → OfEvents → Ghost
+  ended of_request of_events =
+      record g { request = of_request; events = of_events; fresh = false }
 
-    -- what an outcome has to bring
-    pub record Ends (call : WireCall) (next : Core) (of_request : OfRequest)
-        (of_events : OfEvents) (kind : Brought) : Type 0 where
-      pub terms : (next.session.limit ≡ t.limit)
-          × (next.session.configuration ≡ t.configuration)
-      pub session : SessionRuns (moment_of c g n call) (seen_in c g) h' passed.carried
-          (brought_steps kind request) (seen_in next (ended of_request of_events))
-          of_request.hidden passed.carried
-      pub frozen : FrozenRuns passed.events.frozen told (brought_steps kind request)
-          passed.events.frozen of_events.told
-      pub images : ImagesRuns (moment_of c g n call) (images_of (shown_in t g.sent) passed)
-          (brought_steps kind request) (images_in next (ended of_request of_events) passed)
-      pub apart : Before xs (back ++ brought_steps kind request)
-      pub calm : IsTrue g.fresh → no_clash (brought_steps kind request)
-      pub says : Says kind request said
-      pub last : ImageIsLast (moment_of c g n call) (mode_in next.state) (images_in c g far)
-          (images_in next (ended of_request of_events) passed)
-      pub wanted : silence_by call n ≡ 0
-          → output_of passed ≡ ordered_by (told_by (output_for e) t.output.told)
-          w.message.out.items
-      pub request_is : RequestStands next.state (work_of next.session) next.session.events
-          (ended of_request of_events) passed
-      pub events : EventsStand next.state next.session.exchange next.session.events
-          of_events passed
-      pub output : OutputStands next.state next.session.exchange next.session.output.told
-          g.sent passed
-      pub sent : SentSeen next.session.layout next.session.output.carried.items g.sent
-      pub shown : ShownStands next g.page
+  -- what an outcome has to bring
+  pub record Ends (said : Said) (call : WireCall) (next : Core) (of_request : OfRequest)
+      (of_events : OfEvents) (kind : Brought) : Type 0 where
+    pub terms : (next.session.limit ≡ t.limit)
+        × (next.session.configuration ≡ t.configuration)
+    pub session : SessionRuns (moment_of c g n call) (seen_in c g) h' passed.carried
+        (brought_steps kind request) (seen_in next (ended of_request of_events))
+        of_request.hidden passed.carried
+    pub frozen : FrozenRuns passed.events.frozen told (brought_steps kind request)
+        passed.events.frozen of_events.told
+    pub images : ImagesRuns (moment_of c g n call) (images_of (shown_in t g.sent) passed)
+        (brought_steps kind request) (images_in next (ended of_request of_events) passed)
+    pub apart : Before xs (back ++ brought_steps kind request)
+    pub calm : IsTrue g.fresh → no_clash (brought_steps kind request)
+    pub says : Says kind request said
+    pub last : ImageIsLast (moment_of c g n call) (mode_in next.state) (images_in c g far)
+        (images_in next (ended of_request of_events) passed)
+    pub wanted : silence_by call n ≡ 0
+        → output_of passed ≡ ordered_by (told_by (output_for e) t.output.told)
+        w.message.out.items
+    pub request_is : RequestStands next.state (work_of next.session) next.session.events
+        (ended of_request of_events) passed
+    pub events : EventsStand next.state next.session.exchange next.session.events
+        of_events passed
+    pub output : OutputStands next.state next.session.exchange next.session.output.told
+        g.sent passed
+    pub sent : SentSeen next.session.layout next.session.output.carried.items g.sent
+    pub shown : ShownStands next g.page
 
-    pub gives : (call : WireCall) (next : Core) (of_request : OfRequest) (of_events : OfEvents)
-        (kind : Brought) → Ends call next of_request of_events kind → CallFits ModeOperate call
+  module _ (p : Passes turn passage e current) where
+    pub gives : {far' : Far} {n' : ℕ} {said : Said} {call : WireCall} {next : Core}
+        {of_request : OfRequest} {of_events : OfEvents} {kind : Brought} → far' ≡ passed
+        → Ends said call next of_request of_events kind → CallFits ModeOperate call
         → n' ≡ silence_by call n → StateStands next.state n' far' → StateFits next.state
         → Joined next.state next.session → CalmAt next.state n'
         → ReceiveGives c g far n said next far' n'
-    gives call next of_request of_events kind b fits silent link state_fits joined calm =
+    gives {n'} {said} {call} {next} {of_request} {of_events} {kind} far_is b fits silent link
+        state_fits joined calm =
         let ys : List Step = brought_steps kind request in
         let said_is = said_of kind request said b.says in
         let m = moment_of c g n call in
@@ -288,27 +311,19 @@ module _ (laws : Laws) (layouts : Layouts) (w : Sending) (t : SessionState) (g :
                 (stands.fresh k).1 (beside.calm (b.calm k));
             said_book = b.apart.book ∙ beside.book ∙ said_is.0;
             said_reports = b.apart.reports ∙ beside.reports ∙ said_is.1;
-            session = session_runs-append m (seen_in c g) (seen_in c g) (seen_in next after)
-                g.request.hidden h after.request.hidden far.carried passed.carried
-                passed.carried xs (back ++ ys) (exchange_session m (seen_in c g)
-                g.request.hidden far steps passage o up.opens)
-                (session_runs-append m (seen_in c g) (seen_in c g) (seen_in next after) h h'
-                after.request.hidden passed.carried passed.carried passed.carried back ys
+            session = runs-append (MaySession m) session_after _ _ _
+                (exchange_session m (seen_in c g) g.request.hidden far steps passage o up.opens)
+                (runs-append (MaySession m) session_after back ys _
                 (again_session m (seen_in c g) h passed.isdu passed.carried p.again) b.session);
-            frozen = frozen_runs-append far.events.frozen passed.events.frozen
-                passed.events.frozen g.events.told told after.events.told xs (back ++ ys)
+            frozen = runs-append MayFrozen frozen_after _ _ _
                 (exchange_frozen request far steps passage o g.events.told
                 (confirms_told laws.events o R due (locals far steps)
                 (told_through far steps g.events.told)
-                (told_locals laws.events R (octets_confirm o) steps far
-                g.events.told told_before))) (again_frozen request passed.isdu h
-                passed.events.frozen passed.events.frozen told after.events.told ys b.frozen);
-            images = images_runs-append m (images_in c g far)
-                (images_of (shown_in t g.sent) passed) (images_in next after passed) xs
-                (back ++ ys) (exchange_images m request (shown_in t g.sent) far steps passage o
-                p.sends) (again_images m request passed.isdu h
-                (images_of (shown_in t g.sent) passed) (images_in next after passed) ys
-                b.images);
+                (told_locals laws.events R (octets_confirm o) steps far g.events.told told_before)))
+                (again_frozen request passed.isdu h _ _ _ _ ys b.frozen);
+            images = runs-append (MayImages m) (images_after m) _ _ _
+                (exchange_images m request (shown_in t g.sent) far steps passage o p.sends)
+                (again_images m request passed.isdu h _ _ ys b.images);
             image_is_last = b.last;
             output_is_wanted = λ k. b.wanted k.2;
             stands = record {
@@ -348,9 +363,6 @@ module _ (laws : Laws) (layouts : Layouts) (w : Sending) (t : SessionState) (g :
     missed_core = after_missed (core_out layouts again t e current)
 
     module _ (heard : TextsAreHeard) (valid : IsSession c.session) where
-      abbrev s : SessionState
-      s = c.session
-
       abbrev carried : List ℕ
       carried = t.output.carried.items
 
@@ -396,7 +408,7 @@ module _ (laws : Laws) (layouts : Layouts) (w : Sending) (t : SessionState) (g :
         known = rw same_request up.known;
       }
 
-      request_by : (b : Bool) → doubts s ≡ b
+      request_by : (b : Bool) → doubts c.session ≡ b
           → Requests (if b then record again { message = question carried } else again)
       request_by true is = request_out (question carried)
           (asked_for laws heard g.page g.kind layouts g.request.base up.link w R g.sent
@@ -407,8 +419,8 @@ module _ (laws : Laws) (layouts : Layouts) (w : Sending) (t : SessionState) (g :
           t.clear t.limit carried at some_od parts carries passed t.configuration.devices e
           current valid.current sized is up.out up.linked level')
 
-      pub misses : said ≡ quiet_said request
-          → Ends (Exchanged false) missed_core unheard away Missed
+      pub misses : {said : Said} → said ≡ quiet_said request
+          → Ends said (Exchanged false) missed_core unheard away Missed
       misses says = record {
         terms = (refl, refl);
         session = (tt, rw same_request refl);
@@ -419,7 +431,7 @@ module _ (laws : Laws) (layouts : Layouts) (w : Sending) (t : SessionState) (g :
         says = says;
         last = ((λ k. absurd (more_silence n k.1)), (λ k. absurd (k refl)), (λ k l. refl));
         wanted = λ k. absurd (more_silence n k);
-        request_is = request_by (doubts s) refl;
+        request_is = request_by (doubts c.session) refl;
         events = rw confirms at told';
         output = p.outputs;
         sent = stands.sent;
@@ -427,18 +439,20 @@ module _ (laws : Laws) (layouts : Layouts) (w : Sending) (t : SessionState) (g :
             stands.shown.no_form;
       }
 
-    pub loses : said ≡ lost_said request → 3 ≤ min 3 (n + 1)
-        → Ends (Exchanged false) (settled_core (InDown (record { why = Some Lost }))
+    pub loses : {said : Said} → said ≡ lost_said request → 3 ≤ min 3 (n + 1)
+        → Ends said (Exchanged false) (settled_core (InDown (record { why = Some Lost }))
         c.session) (record g.request { hidden = hidden_lost request h' }) away Gone
     loses says third =
-        let f = fit request in
+        let m = moment_of c g n (Exchanged false) in
+        let parts = lost_parts m passed.events.frozen told (images_of (shown_in t g.sent) passed)
+        request in
         record {
           terms = (refl, refl);
-          session = f.3;
-          frozen = f.1.0;
-          images = f.1.1;
-          apart = f.0;
-          calm = λ k. f.2;
+          session = lost_session m (seen_in c g) h' passed.carried refl third;
+          frozen = parts.4;
+          images = parts.5;
+          apart = before_ends (lost_steps request) parts.0 parts.1 parts.2;
+          calm = λ k. parts.3;
           says = says;
           last = ((λ k. absurd (more_silence n k.1)), (λ k. refl), (λ k l. cc));
           wanted = λ k. absurd (more_silence n k);
@@ -449,26 +463,3 @@ module _ (laws : Laws) (layouts : Layouts) (w : Sending) (t : SessionState) (g :
           shown = shown_as stands.shown (λ k. refl) refl stands.shown.present
               stands.shown.no_form;
         }
-      where
-        fit : (r : Option Request) → Before xs (back ++ lost_steps r)
-            × (FrozenRuns passed.events.frozen told (lost_steps r) passed.events.frozen told
-            × ImagesRuns (moment_of c g n (Exchanged false))
-            (images_of (shown_in t g.sent) passed) (lost_steps r)
-            (images_of (record (shown_in t g.sent) { image = None }) passed))
-            × no_clash (lost_steps r)
-            × SessionRuns (moment_of c g n (Exchanged false))
-            (record (seen_in c g) { request = r }) h' passed.carried (lost_steps r)
-            (record (seen_in c g) { request = None; mode = ModeDown; why = Some Lost })
-            (hidden_lost r h') passed.carried
-        fit None = (
-          before_ends (lost_steps None) refl refl refl,
-          (((tt, (tt, tt)), refl), ((tt, (tt, tt)), refl)),
-          refl,
-          ((tt, ((third, tt), tt)), refl),
-        )
-        fit (Some r) = (
-          before_ends (lost_steps (Some r)) refl refl refl,
-          (((tt, (tt, (tt, tt))), refl), ((tt, (tt, (tt, tt))), refl)),
-          refl,
-          ((third, (tt, ((third, tt), tt))), refl),
-        )

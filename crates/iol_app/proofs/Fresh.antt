@@ -12,21 +12,21 @@ use Rattle.iol_far.specs.Local.{LocalStep, local, locals}
 use Rattle.iol_steps.specs.Step.{Step}
 use Rattle.iol_steps.specs.Bridge.{own_step, own_steps, exchange_steps}
 use Rattle.iol_steps.specs.Turn.{is_calm}
-use Rattle.iol_app.proofs.Clash.{AllCalm, calm-append, no_clash, no_clash-append, calm_passed}
+use Rattle.iol_app.proofs.Clash.{IsCalm, Each, each-append, no_clash, no_clash-append, calm_passed}
 
 step_unhanded : (far : Far) (step : LocalStep) → handed far.isdu ≡ None
     → handed (local far step).isdu ≡ None
 step_unhanded far step given = grind (arith, common_steps)
 
 calm_own : (request : Option Request) (far : Far) (step : LocalStep) → handed far.isdu ≡ None
-    → AllCalm (own_step request far step)
+    → Each IsCalm (own_step request far step)
 calm_own request far step h = grind (arith, common_steps)
 
 calm_owns : (request : Option Request) (steps : List LocalStep) (far : Far)
-    → handed far.isdu ≡ None → AllCalm (own_steps request far steps)
+    → handed far.isdu ≡ None → Each IsCalm (own_steps request far steps)
 calm_owns request [] far h = tt
 calm_owns request (step ∷ steps) far h =
-    calm-append _ _ (calm_own request far step h)
+    each-append IsCalm _ _ (calm_own request far step h)
     (calm_owns request steps (local far step) (step_unhanded far step h))
 
 pub fresh_turn : (request : Option Request) (far : Far) (steps : List LocalStep)

@@ -11,12 +11,12 @@ use Rattle.iol_link.specs.Honest.{Passage, OutLost, far_after}
 use Rattle.iol_far.specs.Codec.{layout_in}
 use Rattle.iol_far.specs.Isdu.{IsduState}
 use Rattle.iol_far.specs.Far.{Far, moved, hear, heard_as, worked, events_after}
-use Rattle.iol_far.specs.Local.{LocalStep, local, locals}
+use Rattle.iol_far.specs.Local.{LocalStep, locals}
 use Rattle.iol_far.specs.Laws.{confirms as octets_confirm}
 use Rattle.iol_steps.specs.Step.{Step, Image}
 use Rattle.iol_steps.specs.FrozenEvents.{frozen_through, frozen_after, MayFrozen, MayFrozenAll}
 use Rattle.iol_app.proofs.Parts.{runs-append, own_runs}
-use Rattle.iol_steps.specs.Bridge.{Hidden, again_steps, own_step, own_steps, told_after, told_through, event_steps, output_steps, confirms_by, worked_steps, heard_steps_as, heard_steps, told_worked, told_heard_as, told_heard, passed_steps, told_passed, exchange_steps, told_exchanged, woken_steps, told_woken, wake_steps, told_wake}
+use Rattle.iol_steps.specs.Bridge.{Hidden, again_steps, own_steps, told_after, told_through, event_steps, output_steps, confirms_by, worked_steps, heard_steps_as, heard_steps, told_worked, told_heard_as, told_heard, passed_steps, told_passed, exchange_steps, told_exchanged, wake_steps, told_wake}
 use Rattle.iol_steps.specs.Station.{frozen_of}
 use Rattle.iol_app.proofs.Accepted.{by_accepted}
 use Rattle.iol_app.proofs.FirstOctet.{confirms_of}
@@ -27,26 +27,17 @@ abbrev pub FrozenRuns : List Event → Bool → List Step → List Event → Boo
 FrozenRuns f told steps f' told' = MayFrozenAll steps (frozen_of f told)
     × (frozen_through steps (frozen_of f told) ≡ frozen_of f' told')
 
-pub frozen_runs-append : (f f1 f2 : List Event) (t t1 t2 : Bool) (xs ys : List Step)
-    → FrozenRuns f t xs f1 t1 → FrozenRuns f1 t1 ys f2 t2 → FrozenRuns f t (xs ++ ys) f2 t2
-frozen_runs-append f f1 f2 t t1 t2 xs ys =
-    runs-append MayFrozen frozen_after xs ys (frozen_of f t)
-
 -- they leave the memory of this far end
 abbrev Leaves : Far → Bool → List Step → Far → Bool → Type 0
 Leaves far t steps far' t' = FrozenRuns far.events.frozen t steps far'.events.frozen t'
 
 -- Own steps
 
-own_step_runs : (request : Option Request) (far : Far) (step : LocalStep) (t : Bool)
-    → Leaves far t (own_step request far step) (local far step) (told_after far step t)
-own_step_runs request far step t = grind (arith, common_steps)
-
 own_frozen : (request : Option Request) (steps : List LocalStep) (far : Far) (t : Bool)
     → Leaves far t (own_steps request far steps) (locals far steps) (told_through far steps t)
 own_frozen request steps far t = own_runs MayFrozen frozen_after request
     (λ f t. frozen_of f.events.frozen t) (λ f t. ⊤) told_after (λ f step t any. tt)
-    (λ f step t any. own_step_runs request f step t) far steps t tt
+    (λ f step t any. grind (arith, common_steps)) far steps t tt
 
 -- What is heard
 
@@ -62,8 +53,8 @@ output_frozen f t output = grind (arith, common_steps)
 worked_frozen : (there : Far) (o : List ℕ) (m : MasterMsg) (t : Bool)
     → (confirms_by m.mc ≡ true → t ≡ true) → Leaves there t (worked_steps there o m)
     (worked there o m) (told_worked there.events (confirms_by m.mc) t)
-worked_frozen there o m t told =
-    grind (arith, common_steps, event_frozen, output_frozen, frozen_runs-append)
+worked_frozen there o m t told = runs-append MayFrozen frozen_after _ _ _
+    (event_frozen there.events (confirms_by m.mc) t told) (output_frozen _ _ _)
 
 -- a confirm that is accepted finds its list told
 abbrev pub ConfirmsTold : List ℕ → Far → Bool → Type 0
@@ -95,16 +86,12 @@ exchange_frozen request far steps passage o t told =
     runs-append MayFrozen frozen_after _ _ _ (own_frozen request steps far t)
     (passed_frozen passage (locals far steps) o (told_through far steps t) told)
 
-woken_frozen : (wakes : Bool) (far : Far) (t : Bool)
-    → Leaves far t (woken_steps wakes far) (woken_if wakes far) (told_woken wakes far t)
-woken_frozen wakes far t = grind (arith, common_steps)
-
 -- the far end's part of a wake
 pub wake_frozen : (far : Far) (steps : List LocalStep) (wakes : Bool) (t : Bool)
     → Leaves far t (wake_steps far steps wakes) (woken_if wakes (locals far steps))
     (told_wake far steps wakes t)
 wake_frozen far steps wakes t = runs-append MayFrozen frozen_after _ _ _
-    (own_frozen None steps far t) (woken_frozen wakes (locals far steps) (told_through far steps t))
+    (own_frozen None steps far t) (grind (arith, common_steps))
 
 -- a request that is handed over again is no event's business
 pub again_frozen : (request : Option Request) (state : IsduState) (h : Hidden)

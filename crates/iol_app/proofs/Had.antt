@@ -6,7 +6,6 @@ use Rattle.std.specs.Prelude.{Option, Some, None, IsTrue, IsSome, IfSome, if◌t
 use Rattle.iol_mseq.specs.Shape.{Shape}
 use Rattle.iol_mseq.specs.declared.reply.Reply.{Reply}
 use Rattle.iol_octets.specs.declared.control.Channel.TheVariants.{Diagnosis}
-use Rattle.iol_page.specs.declared.page.Layouts.{Layouts}
 use Rattle.iol_isdu.specs.declared.values.Request.{Request}
 use Rattle.iol_event.specs.declared.event.Event.{Event}
 use Rattle.iol_event.specs.Memory.{is_empty, event_octet}
@@ -17,12 +16,11 @@ use Rattle.iol_far.specs.Codec.{layout_in}
 use Rattle.iol_far.specs.declared.kind.HandsOver.{HandsOver}
 use Rattle.iol_far.specs.Isdu.{IsduState, Handed, isdu_data, fits}
 use Rattle.iol_far.specs.Far.{Far, hear, data_of, reply_to, output_of}
-use Rattle.iol_far.specs.Local.{LocalStep, locals, input_size}
+use Rattle.iol_far.specs.Local.{locals, input_size}
 use Rattle.iol_far.specs.declared.kind.Recalls.{Recalls}
 use Rattle.iol_far.specs.Level.{Progress, Quiet, Clear, Written, Stands as FarStands, Move, Begin, Leave, IsOutOnce, after, base_after, turned, IsIdle, IsSettled, IsBefore}
 use Rattle.iol_far.specs.Laws.{IsRegular, ReplySays, confirms as octets_confirm}
 use Rattle.iol_segment.specs.TextLaws.{joined}
-use Rattle.iol_link.specs.Attempts.{Sending}
 use Rattle.iol_link.specs.Honest.{Clean}
 use Rattle.iol_mode.specs.Stands.{StateStands, operate_link, IsAccepted}
 use Rattle.iol_mode.specs.States.{Outcome, InOperate, StateFits, state_of}
@@ -31,7 +29,7 @@ use Rattle.iol_steps.specs.Step.{Step, repeats_at, is_clash_free, ShowImage, Exc
 use Rattle.iol_steps.specs.Kinds.{Brought, Had, brought_steps, quiet_said}
 use Rattle.iol_steps.specs.Station.{Reading, Due, is_due, wants_octet, images_of, frozen_of, AnswerFits, ProgressFits, EventsFit}
 use Rattle.iol_steps.specs.Exchange.{reading_kept, told_by}
-use Rattle.iol_app.proofs.Given.{Laws, sized_locals}
+use Rattle.iol_app.proofs.Given.{sized_locals}
 use Rattle.iol_app.proofs.EventReading.{ReaderLaws, memory_locals, memory_hear, kept_fits, kept_due, ends_hold}
 use Rattle.iol_app.specs.Ends.{BusySeen, output_for}
 use Rattle.iol_app.proofs.Told.{told_locals}
@@ -50,13 +48,13 @@ use Rattle.iol_app.specs.Messages.{Head, head_of, read_of}
 use Rattle.iol_app.specs.Requests.{request_in, current_after}
 use Rattle.iol_app.specs.Moves.{progress_of, confirms_events}
 use Rattle.iol_mode.specs.declared.configuration.Devices.{Devices}
-use Rattle.iol_app.specs.State.{SessionState, IsSession, absorbed, clear_after, image_in}
+use Rattle.iol_app.specs.State.{IsSession, absorbed, clear_after, image_in}
 use Rattle.iol_app.specs.StationState.{StateFits as Joined}
 use Rattle.iol_app.specs.declared.output.Output.{Output}
-use Rattle.iol_app.specs.Core.{Ghost, Stands, ReceiveGives, reading_at, moment_of, seen_in, shown_in, settled_core}
+use Rattle.iol_app.specs.Core.{Stands, ReceiveGives, reading_at, moment_of, seen_in, shown_in, settled_core}
 use Rattle.iol_app.proofs.ReadingOn.{Took, reads_next}
 use Rattle.iol_app.proofs.SmallFacts.{begins_request, confirms_is, same_output, input_is, input_hear, input_locals, image_octets}
-use Rattle.iol_app.proofs.Exchanging.{Says, Passes, RequestWords, words, request_words, before_ends, gives, at, some_od, late', tied', confirms, told'}
+use Rattle.iol_app.proofs.Exchanging.{Says, Passes, RequestWords, Turn, words, request_words, before_ends, gives, at, some_od, late', tied', confirms, told'}
 use Rattle.iol_app.proofs.CaseFacts.{more_grown}
 use Rattle.iol_app.proofs.Shown.{shown_as}
 
@@ -85,30 +83,23 @@ kept_at other flag event due h = grind (arith, common_steps)
 
 -- one exchange that brought this reply, and what is said of it
 pub record Good : Type 0 where
-  pub laws : Laws
+  pub turn : Turn
   pub readers : ReaderLaws
-  pub layouts : Layouts
-  pub w : Sending
-  pub t : SessionState
-  pub g : Ghost
-  pub far : Far
   pub far' : Far
-  pub n : ℕ
   pub n' : ℕ
-  pub steps : List LocalStep
-  pub regular : IsRegular far
+  pub regular : IsRegular turn.far
   pub r : Reply
   pub said : Said
 
-module _ (turn : Good) (e : Exchange) (current : Option Current) where
-  open turn use {layouts, w, t, g, far, far', n, n', steps, r}
-  open (words layouts w t g far steps Clean) use {o, passed as there, trust, devices}
-  open (request_words layouts w t g far steps Clean e current) use {c, what, repeats}
-  open (request_words layouts w t g far steps Clean e current) use {progress, vain}
+module _ (good : Good) (e : Exchange) (current : Option Current) where
+  open good use {turn, far', n', r}
+  open turn use {layouts, w, t, g, far, n, steps}
+  open (words turn Clean) use {o, passed as there, trust, devices}
+  open (request_words turn Clean e current) use {c, what, repeats, progress, vain}
 
   pub record Replied : Type 0 where
     pub stands : Stands c g far n
-    pub passes : Passes layouts w t g far steps Clean e current
+    pub passes : Passes turn Clean e current
     pub silent : n' ≡ 0
     pub octets : List ℕ
     pub replies : (hear (locals far steps) o).reply ≡ Some octets
@@ -123,15 +114,14 @@ module _ (turn : Good) (e : Exchange) (current : Option Current) where
     pub valid : IsSession c.session
     pub sized : length r.input.items ≡ layouts.run.pd_in
 
-module _ {turn : Good} {e : Exchange} {current : Option Current} (a : Replied turn e current) where
-  open turn use {laws, readers, layouts, w, t, g, far, far', n, n', steps, regular, r, said}
-  open turn use {r.{od.{items as od}}}
-  open (words layouts w t g far steps Clean) use {o, passed as there, told, R, devices}
-  open (words layouts w t g far steps Clean) use {trust, doubts}
+module _ {good : Good} {e : Exchange} {current : Option Current} (a : Replied good e current) where
+  open good use {turn, readers, far', n', regular, r, said, r.{od.{items as od}}}
+  open turn use {laws, layouts, w, t, g, far, n, steps}
+  open (words turn Clean) use {o, passed as there, told, R, devices, trust, doubts}
   open a use {stands, passes, stands.{request as up}}
 
   abbrev pub its : RequestWords
-  its = request_words layouts w t g far steps Clean e current
+  its = request_words turn Clean e current
 
   open its use {c, request, own as h0, hidden as h, xs, back, what, repeats, progress, vain}
 
@@ -168,7 +158,7 @@ module _ {turn : Good} {e : Exchange} {current : Option Current} (a : Replied tu
   -- a request that is over leaves none under way, with the record as it is
   pub settled : (p : Progress) → IsSettled p → Follows p → LevelBy there.carried Quiet
   settled p over is =
-      let some = some_od laws layouts w t g far n steps Clean e current stands in
+      let some = some_od turn Clean e current stands in
       (laws.level layouts.run.od some).settles g.page g.kind base_now operate_link p there over
       (before is)
 
@@ -192,7 +182,7 @@ module _ {turn : Good} {e : Exchange} {current : Option Current} (a : Replied tu
 
   pub tied : repeats ≡ false → AnswerFits g.request.base request h there.carried
   tied once = rw (passes.kept once)
-      (tied' laws layouts w t g far n steps Clean e current stands once)
+      (tied' turn Clean e current stands once)
 
   quiet_base : repeats ≡ false → IsIdle progress → there.carried ≡ g.request.base
   quiet_base once idle = idle_base g.request.base there.carried progress idle
@@ -201,7 +191,7 @@ module _ {turn : Good} {e : Exchange} {current : Option Current} (a : Replied tu
   -- the steps of the exchange stand before those of what it brought
   pub before_brought : (ys : List Step) → no_busy ys ≡ true → no_confirm ys ≡ true
       → IsTrue (is_clash_free ys) → Before xs (back ++ ys)
-  before_brought = before_ends laws layouts w t g far n steps Clean e current stands
+  before_brought = before_ends turn Clean e current stands
 
   -- The events
 
@@ -209,15 +199,15 @@ module _ {turn : Good} {e : Exchange} {current : Option Current} (a : Replied tu
   event_is = ap (λ (q : Reply). q.event) a.reply_is
 
   pub told_now : told ≡ is_due R
-  told_now = (told' laws layouts w t g far n steps Clean e current stands).1
+  told_now = (told' turn Clean e current stands).1
       ∙ ap (λ (b : Bool). b && is_due R) a.says.before.awake
 
   confirms_by : octets_confirm o ≡ confirms_events e
-  confirms_by = confirms laws layouts w t g far n steps Clean e current stands
+  confirms_by = confirms turn Clean e current stands
 
   fit_now : EventsFit R (confirms_events e) there.events
   fit_now = rw confirms_by at
-      ((told' laws layouts w t g far n steps Clean e current stands).0 a.says.before.awake)
+      ((told' turn Clean e current stands).0 a.says.before.awake)
 
   abbrev reading_then : Event × List Event → Reading
   reading_then due = reading_at (read_on e od t.events.reading) r.event due
@@ -287,7 +277,7 @@ module _ {turn : Good} {e : Exchange} {current : Option Current} (a : Replied tu
   image : image_in r ≡ there.input
   image =
       let same : layouts.run.pd_in ≡ input_size there =
-      ap (λ (l : Shape). l.pd_in) (sym (at laws layouts w t g far n steps Clean e current stands))
+      ap (λ (l : Shape). l.pd_in) (sym (at turn Clean e current stands))
       ∙ sym (ap (λ (p : List ℕ). (layout_in p FarOperate).pd_in) a.says.before.page_is) in
       let sized = laws.sized.hears (locals far steps) o
       (sized_locals laws steps far regular.sized) in
@@ -330,11 +320,10 @@ module _ {turn : Good} {e : Exchange} {current : Option Current} (a : Replied tu
       → ReceiveGives c g far n said (settled_core outcome c.session) far' n'
   had b link fits joined =
       let next = current_after e t.limit od current in
-      gives laws layouts w t g far n steps Clean e current stands far' n' a.far_is said
-      passes (Exchanged true) (settled_core outcome c.session)
-      (record { hidden = h; busy = b.busy; asked = g.request.asked; base = b.base })
-      (record { told = is_due (reading_then b.reads.due); due = b.reads.due })
-      b.kind (record {
+      gives turn Clean e current stands passes {call = Exchanged true}
+      {of_request = record { hidden = h; busy = b.busy; asked = g.request.asked; base = b.base }}
+      {of_events = record { told = is_due (reading_then b.reads.due); due = b.reads.due }}
+      {kind = b.kind} a.far_is (record {
         terms = (refl, refl);
         session = b.session;
         frozen = b.frozen;
@@ -349,7 +338,7 @@ module _ {turn : Good} {e : Exchange} {current : Option Current} (a : Replied tu
         );
         wanted = λ k. ordered_now;
         request_is = record {
-          late = late' laws layouts w t g far n steps Clean e current stands;
+          late = late' turn Clean e current stands;
           opens = stands_open g.kind.hands_over layouts.run.od b.base
               (progress_of devices clear next) there.counted there.carried there.isdu
               (request_in next) h b.level.stands (progress_fits devices clear next) b.answer;

@@ -13,7 +13,7 @@ use Rattle.iol_far.specs.Local.{LocalStep, local, locals, carried_by}
 use Rattle.iol_steps.specs.Step.{Step, Image, Moment}
 use Rattle.iol_steps.specs.Images.{Images, images_through, images_after, MayImages, MayImagesAll}
 use Rattle.iol_app.proofs.Parts.{runs-append, own_runs}
-use Rattle.iol_steps.specs.Bridge.{Hidden, again_steps, carry_steps, own_step, own_steps, worked_steps, heard_steps_as, heard_steps, passed_steps, exchange_steps, woken_steps, wake_steps}
+use Rattle.iol_steps.specs.Bridge.{Hidden, again_steps, carry_steps, own_step, own_steps, worked_steps, heard_steps_as, heard_steps, passed_steps, exchange_steps, wake_steps}
 use Rattle.iol_steps.specs.Station.{Shown, images_of}
 use Rattle.iol_app.proofs.Accepted.{by_accepted}
 use Rattle.iol_app.proofs.OwnSession.{woken_if}
@@ -21,10 +21,6 @@ use Rattle.iol_app.proofs.OwnSession.{woken_if}
 -- these steps are allowed in the part of the images, and leave these
 abbrev pub ImagesRuns : Moment → Images → List Step → Images → Type 0
 ImagesRuns m i steps i' = MayImagesAll m steps i × (images_through m steps i ≡ i')
-
-pub images_runs-append : (m : Moment) (i i1 i2 : Images) (xs ys : List Step)
-    → ImagesRuns m i xs i1 → ImagesRuns m i1 ys i2 → ImagesRuns m i (xs ++ ys) i2
-images_runs-append m i i1 i2 xs ys = runs-append (MayImages m) (images_after m) xs ys i
 
 -- they leave what this far end has
 abbrev Leaves : Moment → Shown → Far → List Step → Far → Type 0
@@ -91,15 +87,11 @@ exchange_images m request s far steps passage o fits =
     runs-append (MayImages m) (images_after m) _ _ _ (own_images m request s steps far)
     (passed_images m s passage (locals far steps) o fits)
 
-woken_images : (m : Moment) (s : Shown) (wakes : Bool) (far : Far)
-    → Leaves m s far (woken_steps wakes far) (woken_if wakes far)
-woken_images m s wakes far = grind (arith, common_steps)
-
 -- the far end's part of a wake
 pub wake_images : (m : Moment) (s : Shown) (far : Far) (steps : List LocalStep) (wakes : Bool)
     → Leaves m s far (wake_steps far steps wakes) (woken_if wakes (locals far steps))
 wake_images m s far steps wakes = runs-append (MayImages m) (images_after m) _ _ _
-    (own_images m None s steps far) (woken_images m s wakes (locals far steps))
+    (own_images m None s steps far) (grind (arith, common_steps))
 
 -- nor an image's
 pub again_images : (m : Moment) (request : Option Request) (state : IsduState) (h : Hidden)

@@ -22,7 +22,7 @@ use Rattle.iol_far.specs.declared.kind.HandsOver.{HandsOver}
 use Rattle.iol_far.specs.declared.mode.Mode.TheVariants.{Operate as FarOperate}
 use Rattle.iol_far.specs.Codec.{layout_in, flow_of}
 use Rattle.iol_far.specs.Far.{Far}
-use Rattle.iol_far.specs.Level.{Progress, Clear, Perhaps, Ask, Link, taken, hands_whole, IsMove, IsLevel}
+use Rattle.iol_far.specs.Level.{Progress, Clear, Perhaps, Ask, Link, taken, hands_whole, IsMove, IsLevel, IsOutOnce}
 use Rattle.iol_far.specs.Linked.{TextsAreHeard}
 use Rattle.iol_link.specs.Attempts.{Sending}
 use Rattle.iol_mode.specs.declared.configuration.Devices.{Devices}
@@ -138,22 +138,17 @@ module _ (laws : Laws) (heard : TextsAreHeard) (page : List ℕ) (kind : Kind) (
       → Leaves false w.message d e current
   sent_again d e current valid same sure out linked level =
       let is = sent_as_was d e current sure in
+      let next : Option Current = missed_by d (Some e) current in
+      let goes = rw (← is.progress clear, ← is.move) at out.goes in
+      let once : d ≡ Any → IsOutOnce kind.hands_over run.od (move_for e next)
+      (suc (vain_by d e next (w.tries + 1))) = λ any hands.
+      let none = none_handed kind run.od e current valid same (rw any at sure) in
+      absurd (false≢true (sym none ∙ (rw is.move at hands))) in
+      let goes_on = λ (k : e ≡ NextMessage). is.goes_on (out.goes_on k) in
       record {
         level = rw (is.progress clear) (level_more laws page kind run.od some base link _ _ _ _ far
             (is.vain w.tries) level);
-        out = record {
-          mode = out.mode;
-          goes = rw (is.progress clear, is.move) out.goes;
-          once = λ any hands.
-              let none = none_handed kind run.od e current valid same (rw any at sure) in
-              absurd (false≢true (sym none ∙ (rw is.move at hands)));
-          again = is.noted w.tries out.again;
-          goes_on = λ k. is.goes_on (out.goes_on k);
-          confirm = out.confirm;
-          reads = out.reads;
-          carries = out.carries;
-          tells = out.tells;
-        };
+        out = assumption (goes, once, is.noted w.tries out.again, goes_on);
         linked = rw (is.progress clear) linked;
       }
 

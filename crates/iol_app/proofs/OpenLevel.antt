@@ -27,34 +27,18 @@ pub handed_opens : (base : List Carried) (request : Option Request) (h : Hidden)
     → open_request request h ≡ Some q
 handed_opens base request h carried q named same fits = grind (arith, common_steps)
 
-late_step : (request : Option Request) (far : Far) (step : LocalStep) (h : Hidden)
-    → h.late ≡ None → (hidden_after request far step h).late ≡ None
-late_step request far step h none = grind (arith, common_steps)
+-- own steps make none late that wasn't, and keep the record tied to the answer where it was
+module _ (Tied : Type 0) (base : List Carried) (request : Option Request) where
+  abbrev pub IsTied : Hidden → List Carried → Type 0
+  IsTied h carried = (h.late ≡ None) × (Tied → AnswerFits base request h carried)
 
--- own steps keep the record tied to the answer
-abbrev pub IsTied : List Carried → Option Request → Hidden → List Carried → Type 0
-IsTied base request h carried = (h.late ≡ None) × AnswerFits base request h carried
-
--- and none is late that wasn't
-pub late_locals : (request : Option Request) (steps : List LocalStep) (far : Far) (h : Hidden)
-    → h.late ≡ None → (hidden_through request far steps h).late ≡ None
-late_locals request [] far h none = none
-late_locals request (step ∷ steps) far h none =
-    late_locals request steps (local far step) (hidden_after request far step h)
-    (late_step request far step h none)
-
-tied_step : (base : List Carried) (request : Option Request) (h : Hidden) (far : Far)
-    (step : LocalStep) → IsOpen far.isdu request h → IsTied base request h far.carried →
-    IsTied base request (hidden_after request far step h) (local far step).carried
-tied_step base request h far step opens tied = grind (arith, common_steps)
-
-pub tied_locals : (base : List Carried) (request : Option Request) (steps : List LocalStep)
-    (far : Far) (h : Hidden) → IsOpen far.isdu request h → IsTied base request h far.carried →
-    IsTied base request (hidden_through request far steps h) (locals far steps).carried
-tied_locals base request [] far h opens tied = tied
-tied_locals base request (step ∷ steps) far h opens tied =
-    tied_locals base request steps (local far step) (hidden_after request far step h)
-    (own_open_step request h far step opens) (tied_step base request h far step opens tied)
+  pub tied_locals : (steps : List LocalStep) (far : Far) (h : Hidden) → IsOpen far.isdu request h
+      → IsTied h far.carried
+      → IsTied (hidden_through request far steps h) (locals far steps).carried
+  tied_locals [] far h opens tied = tied
+  tied_locals (step ∷ steps) far h opens tied =
+      tied_locals steps (local far step) (hidden_after request far step h)
+      (own_open_step request h far step opens) (grind (arith, common_steps))
 
 pub hear_carried : (far : Far) (o : List ℕ) → (hear far o).far.carried ≡ far.carried
 hear_carried far o = by_accepted (λ q. (heard_as far o q).far.carried ≡ far.carried) far o refl

@@ -26,7 +26,7 @@ use Rattle.iol_app.specs.Ends.{output_for}
 pub exchange_confirms : (exchange : Exchange) (reading : Reading) (current : Option Current)
     (message : MasterMsg) → head_of message.mc ≡ head_for exchange reading current
     → confirms message ≡ confirms_events exchange
-exchange_confirms exchange reading current message e = grind (arith, common_steps)
+exchange_confirms exchange going current message e = grind (arith, common_steps)
 
 -- an output command
 
@@ -34,7 +34,7 @@ pub exchange_command : (exchange : Exchange) (reading : Reading) (current : Opti
     (size : ℕ) (message : MasterMsg) → head_of message.mc ≡ head_for exchange reading current
     → message.od.items ≡ data_for exchange size current
     → output_by Operate (command_in message) ≡ output_for exchange
-exchange_command exchange reading current size message e d = grind (arith, common_steps)
+exchange_command exchange going current size message e d = grind (arith, common_steps)
 
 -- ProcessDataOutputOperate in OPERATE isn't DeviceOperate in PREOPERATE
 
@@ -68,4 +68,4 @@ tell_differs run pre message size low od e =
 pub page_command : (exchange : Exchange) (reading : Reading) (current : Option Current)
     → (head_for exchange reading current).channel ≡ Page
     → (exchange ≡ TellOutput) ⊎ (exchange ≡ DropOutput)
-page_command exchange reading current e = grind (arith, common_steps)
+page_command exchange going current e = grind (arith, common_steps)

@@ -1,6 +1,6 @@
 -- What the far end does by itself, in the session's part: it is allowed, and leaves what the
 -- record and the choices say.
-use Rattle.std.proofs.Common.{◌≡◌, ℕ, Bool, true, false, List, [], ◌∷◌, ◌++◌, refl, subst, arith}
+use Rattle.std.proofs.Common.{◌≡◌, ℕ, Bool, true, false, List, [], ◌∷◌, refl, subst, arith}
 use Rattle.std.proofs.lemmas.Grind.{common_steps}
 use Rattle.std.specs.Prelude.{Option, Some, None, if◌then◌else◌, IsSome, IsTrue, ⊤}
 use Rattle.iol_mseq.specs.declared.master.MasterMsg.{MasterMsg}
@@ -13,7 +13,7 @@ use Rattle.iol_far.specs.Local.{LocalStep, local, locals, woken}
 use Rattle.iol_steps.specs.Step.{Step, Moment, may_repeat}
 use Rattle.iol_steps.specs.Session.{session_through, session_after, MaySession, MaySessionAll}
 use Rattle.iol_app.proofs.Parts.{runs-append, own_runs}
-use Rattle.iol_steps.specs.Bridge.{Hidden, IsOpen, again_steps, hidden_again, own_step, own_steps, hidden_after, hidden_through, worked_steps, heard_steps_as, heard_steps, passed_steps, exchange_steps, woken_steps, wake_steps}
+use Rattle.iol_steps.specs.Bridge.{Hidden, IsOpen, again_steps, hidden_again, own_steps, hidden_after, hidden_through, worked_steps, heard_steps_as, heard_steps, passed_steps, exchange_steps, wake_steps}
 use Rattle.iol_steps.specs.Kinds.{Seen}
 use Rattle.iol_steps.specs.Station.{session_of}
 use Rattle.iol_app.proofs.Accepted.{by_accepted}
@@ -24,15 +24,6 @@ abbrev pub SessionRuns : Moment → Seen → Hidden → List Carried → List St
 SessionRuns m seen h carried steps seen' h' carried' =
     MaySessionAll m steps (session_of seen h carried)
     × (session_through steps (session_of seen h carried) ≡ session_of seen' h' carried')
-
--- one list of steps after the other
-pub session_runs-append : (m : Moment) (seen seen1 seen2 : Seen) (h h1 h2 : Hidden)
-    (c c1 c2 : List Carried) (xs ys : List Step) →
-    SessionRuns m seen h c xs seen1 h1 c1 → SessionRuns m seen1 h1 c1 ys seen2 h2 c2
-    → SessionRuns m seen h c (xs ++ ys) seen2 h2 c2
-session_runs-append m seen seen1 seen2 h h1 h2 c c1 c2 xs ys =
-    runs-append (MaySession m) session_after xs ys
-    (session_of seen h c)
 
 pub own_open_step : (request : Option Request) (h : Hidden) (far : Far) (step : LocalStep)
     → IsOpen far.isdu request h → IsOpen (local far step).isdu request
@@ -67,19 +58,14 @@ module _ (m : Moment) (seen : Seen) where
   abbrev Leaves : Hidden → Far → List Step → Hidden → Far → Type 0
   Leaves h far steps h' far' = SessionRuns m seen h far.carried steps seen h' far'.carried
 
-  own_step_runs : (far : Far) (step : LocalStep) (h : Hidden) → IsOpen far.isdu seen.request h
-      → Leaves h far (own_step seen.request far step) (hidden_after seen.request far step h)
-      (local far step)
-  own_step_runs far step h opens = grind (arith, common_steps)
-
   -- all own steps of a call
   own_session : (h : Hidden) (steps : List LocalStep) (far : Far) → IsOpen far.isdu seen.request h
       → Leaves h far (own_steps seen.request far steps) (hidden_through seen.request far steps h)
       (locals far steps)
   own_session h steps far = own_runs (MaySession m) session_after seen.request
       (λ f k. session_of seen k f.carried) (λ f k. IsOpen f.isdu seen.request k)
-      (hidden_after seen.request) (λ f step k. own_open_step seen.request k f step) own_step_runs
-      far steps h
+      (hidden_after seen.request) (λ f step k. own_open_step seen.request k f step)
+      (λ f step k opens. grind (arith, common_steps)) far steps h
 
   -- What is heard and a wake: nothing of the session's
 
@@ -115,10 +101,6 @@ module _ (m : Moment) (seen : Seen) where
       (hidden_again seen.request state h) c
   again_session h state c may = grind (arith, common_steps)
 
-  woken_session : (h : Hidden) (wakes : Bool) (far : Far)
-      → Leaves h far (woken_steps wakes far) h (woken_if wakes far)
-  woken_session h wakes far = grind (arith, common_steps)
-
   -- the far end's part of a wake; no request is under way
   pub wake_session : (h : Hidden) (far : Far) (steps : List LocalStep) (wakes : Bool)
       → seen.request ≡ None → IsOpen far.isdu seen.request h
@@ -127,4 +109,4 @@ module _ (m : Moment) (seen : Seen) where
   wake_session h far steps wakes free opens = runs-append (MaySession m) session_after _ _ _
       (subst (λ (r : Option Request). Leaves h far (own_steps r far steps)
       (hidden_through r far steps h) (locals far steps)) free (own_session h steps far opens))
-      (woken_session (hidden_through None far steps h) wakes (locals far steps))
+      (grind (arith, common_steps))

@@ -13,10 +13,10 @@ use Rattle.iol_mseq.specs.declared.reply.Reply.{Reply}
 use Rattle.iol_page.specs.declared.page.Layouts.{Layouts}
 use Rattle.iol_event.specs.declared.event.Event.{Event}
 use Rattle.iol_event.specs.Laws.{MemoryStaysValid, WaitsForAll, GivesFrozen}
-use Rattle.iol_far.specs.Far.{Far, hear, command_in}
+use Rattle.iol_far.specs.Far.{Far, command_in}
 use Rattle.iol_far.specs.Local.{locals}
 use Rattle.iol_far.specs.Linked.{TextsAreHeard}
-use Rattle.iol_far.specs.Level.{Progress, Link, Move, Begin, IsOutOnce, IsLevel}
+use Rattle.iol_far.specs.Level.{Link, Move, Begin, IsOutOnce, IsLevel}
 use Rattle.iol_mode.specs.declared.configuration.Devices.{Devices}
 use Rattle.iol_mode.specs.declared.configuration.Devices.TheVariants.{Any}
 use Rattle.iol_mode.specs.Kinds.{trusted}
@@ -30,8 +30,8 @@ use Rattle.iol_mode.specs.States.{Outcome, StateFits, state_of, operate_by, coun
 use Rattle.iol_mode.specs.Turns.{IsMet}
 use Rattle.iol_steps.specs.declared.mode.Mode.TheVariants.{Operate as ModeOperate}
 use Rattle.iol_steps.specs.declared.said.Said.{Said}
-use Rattle.iol_steps.specs.Step.{Exchanged, repeats_at}
-use Rattle.iol_steps.specs.Bridge.{Hidden, IsOpen, hidden_again}
+use Rattle.iol_steps.specs.Step.{repeats_at}
+use Rattle.iol_steps.specs.Bridge.{Hidden, IsOpen}
 use Rattle.iol_steps.specs.Station.{AnswerFits, output_by}
 use Rattle.iol_steps.specs.Exchange.{TextNamesAnswer}
 use Rattle.iol_app.proofs.Given.{Laws, all_laws, page_locals}
@@ -42,17 +42,16 @@ use Rattle.iol_app.proofs.OpenLevel.{open_again}
 use Rattle.iol_app.specs.Ends.{OutputTold, output_for}
 use Rattle.iol_app.proofs.Outputs.{outputs_locals}
 use Rattle.iol_app.specs.declared.session.Exchange.{Exchange}
-use Rattle.iol_app.specs.Requests.{request_in}
-use Rattle.iol_app.specs.Moves.{progress_of, move_for, AnswersAreTakenUp}
+use Rattle.iol_app.specs.Moves.{AnswersAreTakenUp}
 use Rattle.iol_app.specs.State.{SessionState, IsSession}
 use Rattle.iol_app.specs.StationState.{StateFits as Joined, IsSettledSaid}
 use Rattle.iol_app.proofs.OperateMessages.{exchange_command}
 use Rattle.iol_app.proofs.Turns.{good_parts}
-use Rattle.iol_app.specs.Core.{Core, Ghost, Stands, ReceiveGives, Receives, vain_by, core_out, after_exchange}
+use Rattle.iol_app.specs.Core.{Core, Ghost, Stands, ReceiveGives, Receives, core_out, after_exchange}
 use Rattle.iol_app.proofs.SmallFacts.{operating, third_time, begins_request}
 use Rattle.iol_app.proofs.Stations.{trusts}
 use Rattle.iol_app.proofs.FarSide.{Goes, IsGoing, silent, replied, says_of, outputs_sent, outputs_after, opens_after, replied_told, replied_out}
-use Rattle.iol_app.proofs.Exchanging.{Passes, repeats_out, state_passed, hidden_own, gives, misses, loses, at, level_here, tied'}
+use Rattle.iol_app.proofs.Exchanging.{Turn, Passes, words, request_words, gives, misses, loses, at, level_here, tied'}
 use Rattle.iol_app.proofs.Had.{Good, Replied, progress_fits, had}
 use Rattle.iol_app.proofs.Cases.{message}
 
@@ -74,9 +73,6 @@ module _ (names : TextNamesAnswer) (taken : AnswersAreTakenUp) (laws : Laws)
   abbrev c : Core
   c = core_out layouts w t e t.current
 
-  abbrev o : List ℕ
-  o = master_text layouts.run w.message
-
   abbrev after_by : Option Reply → Outcome
   after_by reply = operate_by (counted w reply) layouts (attempt_of w.tries reply)
 
@@ -88,23 +84,27 @@ module _ (names : TextNamesAnswer) (taken : AnswersAreTakenUp) (laws : Laws)
         (after_exchange outcome c.session).session
 
   module _ (stands : Stands c g far n) (valid : IsSession c.session)
-      (x : HonestExchange far n o came far' n') (few : w.tries < 3)
+      (x : HonestExchange far n (master_text layouts.run w.message) came far' n')
+      (few : w.tries < 3)
       (accepts : (link : Link) → IsOperating layouts link
       → IsAccepted layouts far.page link w.message) where
+    abbrev turn : Turn
+    turn = record {
+      laws = laws;
+      layouts = layouts;
+      w = w;
+      t = t;
+      g = g;
+      far = far;
+      n = n;
+      steps = x.steps;
+    }
+
+    open (words turn Clean) use {o, passed as heard_far, devices}
+    open (request_words turn Clean e t.current) use {what, repeats, progress, vain}
+
     abbrev there : Far
     there = locals far x.steps
-
-    abbrev devices : Devices
-    devices = t.configuration.devices
-
-    abbrev progress : Progress
-    progress = progress_of devices t.clear t.current
-
-    abbrev what : Move
-    what = move_for e t.current
-
-    abbrev vain : ℕ
-    vain = vain_by devices e t.current w.tries
 
     commands : output_by ModeOperate (command_in w.message) ≡ output_for e
     commands = exchange_command e t.events.reading t.current layouts.run.od w.message
@@ -129,7 +129,7 @@ module _ (names : TextNamesAnswer) (taken : AnswersAreTakenUp) (laws : Laws)
     }
 
     same_layout : layout_in g.page FarOperate ≡ layouts.run
-    same_layout = at laws layouts w t g far n x.steps Clean e t.current stands
+    same_layout = at turn Clean e t.current stands
 
     goes : IsGoing going
     goes =
@@ -143,7 +143,7 @@ module _ (names : TextNamesAnswer) (taken : AnswersAreTakenUp) (laws : Laws)
 
     level : IsLevel g.page g.kind layouts.run.od g.request.base stands.request.link progress o vain
         there
-    level = level_here laws layouts w t g far n x.steps Clean e t.current stands
+    level = level_here turn Clean e t.current stands
 
     outputs : OutputTold g.sent (output_by ModeOperate (command_in w.message) ≡ None)
         t.output.told there
@@ -151,51 +151,43 @@ module _ (names : TextNamesAnswer) (taken : AnswersAreTakenUp) (laws : Laws)
         t.output.told x.steps far (rw commands stands.output)
 
     -- where the device is handed no request with each hearing, none was handed a second time
-    once : repeats_out layouts t g e t.current ≡ false
-        → IsOutOnce g.kind.hands_over layouts.run.od what (suc vain)
+    once : repeats ≡ false → IsOutOnce g.kind.hands_over layouts.run.od what (suc vain)
     once still = unrepeated devices g.kind.hands_over layouts.run.od what (suc vain)
         stands.request.out.once still
 
-    passes : (passage : Passage) → Passes layouts w t g far x.steps passage e t.current
-    passes passage = record {
-      opens = opens.0;
-      kept = λ still. (open_again state request h (opened still)).1;
-      again = may_again _ state request h (by_repeats (repeats_out layouts t g e t.current) refl);
-      outputs = rw (← commands) (outputs_after laws going goes passage there same_page level
-          outputs);
-      sends = outputs_sent laws going goes there same_page level outputs;
-    }
-      where
-        request : Option Request
-        request = request_in t.current
+    module _ (passage : Passage) where
+      open (words turn passage) use {passed}
+      open (request_words turn passage e t.current) use {request, own as h, hidden}
 
-        h : Hidden
-        h = hidden_own g far x.steps t.current
+      opens : IsOpen passed.isdu request hidden
+          × (IsOutOnce g.kind.hands_over layouts.run.od what (suc vain)
+          → AnswerFits g.request.base request h heard_far.carried → IsOpen passed.isdu request h)
+      opens = opens_after laws going goes there level request h
+          (progress_fits devices t.clear t.current) (begins_request e t.current)
+          (own_open request g.request.hidden x.steps far stands.request.opens) passage
 
-        state : IsduState
-        state = state_passed layouts w far x.steps passage
+      opened : repeats ≡ false → IsOpen passed.isdu request h
+      opened still = opens.1 (once still) (tied' turn Clean e t.current stands still)
 
-        opens : IsOpen state request (hidden_again request state h)
-            × (IsOutOnce g.kind.hands_over layouts.run.od what (suc vain)
-            → AnswerFits g.request.base request h (hear there o).far.carried
-            → IsOpen state request h)
-        opens = opens_after laws going goes there level request h
-            (progress_fits devices t.clear t.current) (begins_request e t.current)
-            (own_open request g.request.hidden x.steps far stands.request.opens) passage
+      by_repeats : (b : Bool) → repeats ≡ b
+          → IsOpen passed.isdu request h ⊎ ((q : Request) → request ≡ Some q → repeats_at devices
+          g.kind.hands_over (layout_in g.page FarOperate).od (Begin q) ≡ true)
+      by_repeats false still = inl (opened still)
+      by_repeats true whole = inr (λ q same.
+          let (r, is) = whole_begins devices g.kind.hands_over layouts.run.od what whole in
+          let named = begins_request e t.current r is in
+          let k : r ≡ q = cc in
+          rw same_layout (rw k at (rw is at whole)))
 
-        opened : repeats_out layouts t g e t.current ≡ false → IsOpen state request h
-        opened still = opens.1 (once still)
-            (tied' laws layouts w t g far n x.steps Clean e t.current stands still)
-
-        by_repeats : (b : Bool) → repeats_out layouts t g e t.current ≡ b
-            → IsOpen state request h ⊎ ((q : Request) → request ≡ Some q → repeats_at devices
-            g.kind.hands_over (layout_in g.page FarOperate).od (Begin q) ≡ true)
-        by_repeats false still = inl (opened still)
-        by_repeats true whole = inr (λ q same.
-            let (r, is) = whole_begins devices g.kind.hands_over layouts.run.od what whole in
-            let named = begins_request e t.current r is in
-            let k : r ≡ q = cc in
-            rw same_layout (rw k at (rw is at whole)))
+      passes : Passes turn passage e t.current
+      passes = record {
+        opens = opens.0;
+        kept = λ still. (open_again passed.isdu request h (opened still)).1;
+        again = may_again _ passed.isdu request h (by_repeats repeats refl);
+        outputs = rw (← commands) (outputs_after laws going goes passage there same_page level
+            outputs);
+        sends = outputs_sent laws going goes there same_page level outputs;
+      }
 
     by_tries : (b : Bool) → (w.tries == 2) ≡ b → n' ≡ min 3 (n + 1)
         → let outcome : Outcome = operate_by
@@ -204,16 +196,13 @@ module _ (names : TextNamesAnswer) (taken : AnswersAreTakenUp) (laws : Laws)
         IsMet outcome n' far' → Left outcome → IsSettledSaid outcome c.session said
         → ReceiveGives c g far n said (after_exchange outcome c.session) far' n'
     by_tries true two silence met left says =
-        gives laws layouts w t g far n x.steps x.passage e t.current stands far' n' x.far_is said
-        (passes x.passage) (Exchanged false) _ _ _ _
-        (loses laws layouts w t g far n x.steps x.passage e t.current stands far' n' x.far_is said
-        (passes x.passage) says (third_time w.tries n (grind (arith, nat_tests)) stands.link.tries))
-        tt silence (left.on far' n' met.stands) left.fits left.joined tt
+        gives turn x.passage e t.current stands (passes x.passage) x.far_is
+        (loses turn x.passage e t.current stands (passes x.passage) says
+        (third_time w.tries n (grind (arith, nat_tests)) stands.link.tries)) tt silence
+        (left.on far' n' met.stands) left.fits left.joined tt
     by_tries false two silence met left says =
-        gives laws layouts w t g far n x.steps x.passage e t.current stands far' n' x.far_is said
-        (passes x.passage) (Exchanged false) _ _ _ _
-        (misses laws layouts w t g far n x.steps x.passage e t.current stands far' n' x.far_is said
-        (passes x.passage) heard valid says)
+        gives turn x.passage e t.current stands (passes x.passage) x.far_is
+        (misses turn x.passage e t.current stands (passes x.passage) heard valid says)
         tt silence (left.on far' n' met.stands) left.fits left.joined tt
 
     by_reply : (reply : Option Reply) → good_reply layouts.run w.message came ≡ reply
@@ -225,18 +214,11 @@ module _ (names : TextNamesAnswer) (taken : AnswersAreTakenUp) (laws : Laws)
         (silent laws going goes far far' n n' came x stands.request.level good) met left says
     by_reply (Some r) good met left says =
         let is = replied laws going goes far far' n n' came x stands.request.level r good in
-        let turn : Good = record {
-          laws = laws;
+        let good_turn : Good = record {
+          turn = turn;
           readers = readers;
-          layouts = layouts;
-          w = w;
-          t = t;
-          g = g;
-          far = far;
           far' = far';
-          n = n;
           n' = n';
-          steps = x.steps;
           regular = x.regular;
           r = r;
           said = said;
@@ -249,10 +231,10 @@ module _ (names : TextNamesAnswer) (taken : AnswersAreTakenUp) (laws : Laws)
         let heard_says = says_of laws going goes there level is.octets is.replies in
         let parts = good_parts layouts.run w.message came r good in
         let passes_clean = passes Clean in
-        let a : Replied turn e t.current =
+        let a : Replied good_turn e t.current =
         search (is, passes_clean, once, heard_says, told_as, out_is, accepted, valid, parts) in
-        had a (message names taken turn e t.current a says) (left.on far' n' met.stands) left.fits
-        left.joined
+        had a (message names taken good_turn e t.current a says) (left.on far' n' met.stands)
+        left.fits left.joined
 
 pub receives : ((size : ℕ) → 1 ≤ size → LevelLaws size) → MuchStays → RepliesAreRead
     → InputStaysSized → ((first : Event) (rest : List Event) → EventLaws first rest)

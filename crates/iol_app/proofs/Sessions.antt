@@ -4,7 +4,7 @@ use Rattle.std.proofs.lemmas.Bool.Decides.{nat_tests}
 use Rattle.std.proofs.Common.{◌≡◌, ℕ, ◌+◌, ◌%◌, ◌<◌, ◌≤◌, Bool, true, false, ◌&&◌, ◌==◌, Result, if◌then◌else◌, List, length, refl, sym, ap, subst, ◌∙◌, arith, Option, Some, None}
 use Rattle.std.specs.Prelude.{not, slice_index, IfSome, unwrap_or}
 use Rattle.std.proofs.lemmas.List.{length-append}
-use Rattle.iol_mseq.specs.Shape.{Shape}
+use Rattle.iol_mseq.specs.Shape.{Shape, IsLayout}
 use Rattle.iol_mseq.specs.Master.{HasMasterParts}
 use Rattle.iol_mseq.specs.Replies.{answered_od}
 use Rattle.iol_mseq.specs.declared.reply.Reply.{Reply}
@@ -223,20 +223,21 @@ data_length : (exchange : Exchange) (size : ℕ) (reading : Reading) (current : 
 data_length exchange size other current some h same =
     grind (arith, common_steps, length-first_of_zeros, progress_data_length)
 
-pub parts_fit : (s : SessionState) (exchange : Exchange) (message : MasterMsg) (layout : Shape)
-    → IsSession s → s.layout ≡ Some layout
-    → head_of message.mc ≡ head_for exchange s.events.reading s.current
-    → message.od.items ≡ data_for exchange layout.od s.current
-    → message.out.items ≡ carried_by s.output
-    → IfSome s.layout (λ l. HasMasterParts l message)
-parts_fit s exchange message layout h told head od out =
-    let valid = rw told at h.layout in
-    let output = rw told at h.output in
+pub parts_fit : (layout : Shape) (output : Output) (reading : Reading)
+    (current : Option Current) (exchange : Exchange) (message : MasterMsg) {size : Option Shape}
+    → size ≡ Some layout → IfSome size IsLayout → IsOutput (output_length size) output
+    → IfSome current IsCurrent → IfSome current (λ c. c.cutter.size ≡ od_size size)
+    → head_of message.mc ≡ head_for exchange reading current
+    → message.od.items ≡ data_for exchange layout.od current
+    → message.out.items ≡ carried_by output → IfSome size (λ l. HasMasterParts l message)
+parts_fit layout output going current exchange message told valid sized fits same head od out =
+    let some = rw told at valid in
+    let carried = rw told at sized in
     rw told (record {
-      out = rw out (carried_length layout.pd_out s.output.wanted s.output.carried.items
-          output.carried output.wanted);
-      od = rw od (data_length exchange layout.od s.events.reading s.current
-          (grind (arith, common_steps, valid)) h.current (rw told at h.size))
+      out = rw out (carried_length layout.pd_out output.wanted output.carried.items
+          carried.carried carried.wanted);
+      od = rw od (data_length exchange layout.od going current
+          (grind (arith, common_steps, some)) fits (rw told at same))
           ∙ ap (λ (head : Head). if head.read then 0 else layout.od) (sym head);
     })
 

@@ -48,7 +48,7 @@ use Rattle.iol_app.proofs.Given.{Laws, page_locals, page_after as page_passed, k
 use Rattle.iol_app.proofs.OwnSession.{own_open}
 use Rattle.iol_app.specs.Ends.{OutputTold, ShownSeen}
 use Rattle.iol_app.proofs.Outputs.{outputs_locals}
-use Rattle.iol_app.proofs.OpenLevel.{IsTied, tied_locals, hear_carried}
+use Rattle.iol_app.proofs.OpenLevel.{tied_locals, hear_carried}
 use Rattle.iol_app.proofs.EventReading.{kept_fits, ends_hold}
 use Rattle.iol_app.proofs.Effects.{Effect, Ends, Left, untold_effect, gives as call_gives, falls as call_falls}
 use Rattle.iol_app.proofs.Shown.{shown_as}
@@ -284,8 +284,11 @@ module _ {start : Start} {session : SessionState} {g : Ghost} {far far' : Far} {
       let h = outputs_after laws going goes x.passage there page_there level outputs in
       record { untold = refl; off = λ a. h.1 a uncommanded; waits = h.2 }
 
-  tied : IsTied far.carried None h there.carried
-  tied = tied_locals far.carried None x.steps far g.request.hidden rests.opens (rests.late, refl)
+  tied : (h.late ≡ None) × (there.carried ≡ far.carried)
+  tied =
+      let own = tied_locals (Unit {0}) far.carried None x.steps far g.request.hidden rests.opens
+      (rests.late, λ _. refl) in
+      (own.0, own.1 tt)
 
   opens : IsOpen passed.isdu None h
   opens = (opens_after laws going goes there level None h tt (λ q e. absurd (cc e))

@@ -1,5 +1,5 @@
 -- A wake.
-use Rattle.std.proofs.Common.{◌≡◌, ◌≢◌, inl, inr, ℕ, ◌≤◌, Bool, true, false, List, [], ◌∷◌, refl, sym, ◌∙◌, ap, subst, arith}
+use Rattle.std.proofs.Common.{◌≡◌, ◌≢◌, inl, inr, ℕ, ◌≤◌, Bool, true, false, List, [], ◌∷◌, refl, ◌∙◌, ap, arith}
 use Rattle.std.proofs.lemmas.Grind.{common_steps}
 use Rattle.std.specs.Prelude.{None}
 use Rattle.iol_event.specs.declared.event.Event.{Event}
@@ -56,17 +56,15 @@ module _ (s : Down) (t : SessionState) (g : Ghost) (far : Far) (silence : ℕ)
   no_image : t.image ≡ None
   no_image = stands.shown.image below
 
-  abbrev GivesAt : Devices → Bool → Far → Type 0
-  GivesAt devices answered far' = StateStands (state_of (waked devices answered)) silence far'
+  abbrev Gives : Devices → Bool → Far → Type 0
+  Gives devices answered far' = StateStands (state_of (waked devices answered)) silence far'
       → StateFits (state_of (waked devices answered))
       → CallGives c g far silence Idle (woken_by devices answered t) far' silence
 
-  abbrev Gives : Bool → Far → Type 0
-  Gives = GivesAt t.configuration.devices
-
   -- a port for any device knows nothing of it yet
-  starts : (far' : Far) → Effect c g far far' → t.configuration.devices ≡ Any → Gives true far'
-  starts far' effect any = subst (λ (d : Devices). GivesAt d true far') (sym any) (λ link fits.
+  starts : (far' : Far) → Effect c g far far' → t.configuration.devices ≡ Any
+      → Gives Any true far'
+  starts far' effect any link fits =
       gives c g far far' effect silence silence stands below (Woke true) (Start ∷ [])
       (woken_by Any true t) effect.hidden false (record {
         limit = refl;
@@ -85,13 +83,13 @@ module _ (s : Down) (t : SessionState) (g : Ghost) (far : Far) (silence : ℕ)
         };
         sent = stands.sent;
         shown = shown_as stands.shown (λ e. no_image) refl tt refl;
-      }) tt refl fits link (stands.joined, tt))
+      }) tt refl fits link (stands.joined, tt)
 
   -- our own device was reset
   resets : (there : Far) → Effect c g far (woken there) → t.configuration.devices ≡ Own
-      → Gives true (woken there)
-  resets there effect own = subst (λ (d : Devices). GivesAt d true (woken there)) (sym own)
-      (λ link fits. gives c g far (woken there) effect silence silence stands below (Woke true)
+      → Gives Own true (woken there)
+  resets there effect own link fits =
+      gives c g far (woken there) effect silence silence stands below (Woke true)
       (Reset ∷ []) (woken_by Own true t) (record effect.hidden { late = None }) false (record {
         limit = refl;
         configuration = refl;
@@ -109,39 +107,41 @@ module _ (s : Down) (t : SessionState) (g : Ghost) (far : Far) (silence : ℕ)
         };
         sent = stands.sent;
         shown = shown_as stands.shown (λ e. no_image) refl tt refl;
-      }) tt refl fits link (stands.joined, tt))
+      }) tt refl fits link (stands.joined, tt)
 
   -- no rate is answered
-  fails : (far' : Far) → Effect c g far far' → Gives false far'
-  fails far' effect link fits =
+  fails : (far' : Far) → Effect c g far far' → (devices : Devices) → Gives devices false far'
+  fails far' effect devices link fits =
       loses c g far far' effect silence silence stands below (Woke false) NoWake free refl tt refl
 
   -- a rate is answered
   answers : (there : Far) → Effect c g far (woken there) → (devices : Devices)
-      → t.configuration.devices ≡ devices → Gives true (woken there)
+      → t.configuration.devices ≡ devices → Gives devices true (woken there)
   answers there effect Any any = starts (woken there) effect any
   answers there effect Own own = resets there effect own
 
   -- a wake that it doesn't see
   unseen : (after : Far) → Effect c g far after → far.misses_pulses ≡ true → (answered : Bool)
-      (devices : Devices) → t.configuration.devices ≡ devices → Gives answered after
-  unseen after effect misses false devices e = fails after effect
+      (devices : Devices) → t.configuration.devices ≡ devices → Gives devices answered after
+  unseen after effect misses false devices e = fails after effect devices
   unseen after effect misses true Any any = starts after effect any
   unseen after effect misses true Own own =
       absurd (let sees : far.misses_pulses ≡ false = rw own at stands.sees in cc)
 
   -- from the wire's own words
   module _ (laws : Laws) (leaves : OrderlyLaws) (heard : TextsAreHeard) where
-    by_seen : (far' : Far) (answered : Bool) → SeenWake far answered far' → Gives answered far'
+    by_seen : (far' : Far) (answered : Bool) → SeenWake far answered far'
+        → Gives t.configuration.devices answered far'
     by_seen far' true w =
         let there : Far = locals far w.steps in
         let is : far' ≡ woken there = w.far_is
         ∙ ap (λ (b : Bool). woken_if b there) (w.answered_is refl) in
         rw is (answers there (seen_effect c g far laws free stands.request w.steps true) _ refl)
     by_seen far' false w = rw w.far_is (fails (woken_if w.wakes (locals far w.steps))
-        (seen_effect c g far laws free stands.request w.steps w.wakes))
+        (seen_effect c g far laws free stands.request w.steps w.wakes) t.configuration.devices)
 
-    by_unseen : (far' : Far) (answered : Bool) → UnseenWake far answered far' → Gives answered far'
+    by_unseen : (far' : Far) (answered : Bool) → UnseenWake far answered far'
+        → Gives t.configuration.devices answered far'
     by_unseen far' answered w =
         let there : Far = locals far w.steps in
         let to_page : IsToPage test_read (page_read 2) = test_to_page heard in

@@ -1,11 +1,9 @@
 -- Both ends stand together as before where start-ups ask something else of the device.
 use Rattle.std.proofs.Common.{rules, refl}
-use Rattle.iol_mode.specs.declared.configuration.Configuration.{Configuration}
 use Rattle.iol_app.proofs.CoreCalls.{ask_steps}
 use Rattle.iol_app.proofs.core_data.Core.set_cycle.Goals as goal
 
 pub returns-clause-steps : goal.returns-clause-steps
 returns-clause-steps c =
-    let asks : Configuration =
-    record c.args.self.now.session.configuration { cycle = c.args.cycle } in
-    ask_steps asks c.args.self.now _ refl (search rules)
+    ask_steps (record c.args.self.now.session.configuration { cycle = c.args.cycle })
+    c.args.self.now _ refl (search rules)
