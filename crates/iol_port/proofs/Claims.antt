@@ -22,7 +22,7 @@ module _ {W : Type 0} (facts : WireFacts W) (opens : OpensSound) (runs : RunsSou
       → Claim facts o calls replies p
   holds earlier calls answered replies b run stands =
       let (owned, carries) = each_done_has_its_pair o.devices o.limits o.far o.silence
-          (map Whole (earlier ++ calls)) (answered ++ replies) b run in
+      (map Whole (earlier ++ calls)) (answered ++ replies) b run in
       record {
         earlier = earlier;
         answered = answered;

@@ -338,8 +338,15 @@ module _ {W : Type 0} (facts : WireFacts W) where
       next_is stage fits turns is = record {
         stage = stage;
         wire = t.turn.next;
-        at = grind (arith, common_steps, t.turn.stood, t.turn.heard_as.room, same.room, t.limit,
-            t.clear);
+        at = grind (
+          arith,
+          common_steps,
+          t.turn.stood,
+          t.turn.heard_as.room,
+          same.room,
+          t.limit,
+          t.clear,
+        );
         turns_are = turns;
         said_is = is;
       }

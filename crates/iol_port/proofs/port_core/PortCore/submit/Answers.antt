@@ -8,7 +8,7 @@ returns-clause-is g c =
     rw (← c.self.view_is, c.by_book.ensures)
     (record {
       does = λ far n. submit_does (at_end far n) _ c.args.request c.submit.result c.submit.new.self
-      c.submit.ensures.allowed c.submit.ensures.ticket c.submit.ensures.state
-      c.submit.ensures.unchanged c.submit.ensures.refused;
+          c.submit.ensures.allowed c.submit.ensures.ticket c.submit.ensures.state
+          c.submit.ensures.unchanged c.submit.ensures.refused;
       gives = search rules;
     })

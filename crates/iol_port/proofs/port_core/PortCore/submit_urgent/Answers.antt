@@ -8,8 +8,8 @@ returns-clause-is g c =
     rw (← c.self.view_is, c.by_book.ensures)
     (record {
       does = λ far n. submit_urgent_does (at_end far n) _ c.args.request c.submit_urgent.result
-      c.submit_urgent.new.self c.submit_urgent.ensures.allowed c.submit_urgent.ensures.ticket
-      c.submit_urgent.ensures.state c.submit_urgent.ensures.unchanged
-      c.submit_urgent.ensures.refused;
+          c.submit_urgent.new.self c.submit_urgent.ensures.allowed c.submit_urgent.ensures.ticket
+          c.submit_urgent.ensures.state c.submit_urgent.ensures.unchanged
+          c.submit_urgent.ensures.refused;
       gives = search rules;
     })
