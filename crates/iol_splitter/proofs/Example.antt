@@ -3,23 +3,24 @@ use Rattle.std.proofs.Common.{◌≡◌, ℕ, ◌<◌, List, [], ◌∷◌, ◌+
 use Rattle.iol_octets.specs.Checksum.{checksum_of, compressed, has_checksum}
 use Rattle.iol_octets.specs.Control.{control_of}
 use Rattle.iol_mseq.specs.Shape.{startup_shape}
+use Rattle.iol_splitter.specs.declared.message.Meaning.TheVariants.{Part}
 use Rattle.iol_splitter.specs.State.{Splitting}
-use Rattle.iol_splitter.specs.Written.{IsPart}
+use Rattle.iol_splitter.specs.Written.{Means}
 use Rattle.iol_splitter.specs.Example.{SomeAreWritten}
 
 -- of a message of two octets no beginning has two
 parts_of_two : (state : Splitting) (a b : ℕ) (begun rest : List ℕ)
-    → a ∷ b ∷ [] ≡ begun ++ rest → 1 < length begun → 0 < length rest → IsPart state begun
+    → a ∷ b ∷ [] ≡ begun ++ rest → 1 < length begun → 0 < length rest → Means state begun Part
 parts_of_two state a b begun rest is some more =
     absurd (omega (arith, ap length is, length-append begun rest))
 
 -- of one of three only its first two are one
-parts_of_three : (state : Splitting) (a b c : ℕ) → IsPart state (a ∷ b ∷ [])
+parts_of_three : (state : Splitting) (a b c : ℕ) → Means state (a ∷ b ∷ []) Part
     → (begun rest : List ℕ) → a ∷ b ∷ c ∷ [] ≡ begun ++ rest → 1 < length begun
-    → 0 < length rest → IsPart state begun
+    → 0 < length rest → Means state begun Part
 parts_of_three state a b c part (x ∷ y ∷ []) rest is some more =
     let same : a ∷ b ∷ [] ≡ x ∷ y ∷ [] = cc in
-    subst (λ (begun : List ℕ). IsPart state begun) same part
+    subst (λ (begun : List ℕ). Means state begun Part) same part
 parts_of_three state a b c part begun rest is some more =
     absurd (omega (arith, ap length is, length-append begun rest))
 
@@ -40,7 +41,7 @@ some_are_written = (
           spoken = refl;
           whole = refl;
           parts = parts_of_three _ 0x20 0x36 0x9A
-              (record { layout = startup_shape; spoken = refl; part = refl });
+              (record { layout = startup_shape; spoken = refl; meant = refl });
           most = omega arith;
         };
         sent = search arith;

@@ -13,9 +13,9 @@ use Rattle.iol_splitter.specs.declared.splitter.Phase.TheVariants.{Asleep, Wakin
 use Rattle.iol_splitter.specs.Lengths.{test_read, meaning_in, reply_length}
 use Rattle.iol_splitter.specs.State.{Splitting, new_splitter}
 use Rattle.iol_splitter.specs.Steps.{Step, told}
-use Rattle.iol_splitter.specs.Splitting.{answered_with, ended, ended_in, exchange_of, is_in_message, layout_begun, looked_as, octet_split, requested, wake_split}
+use Rattle.iol_splitter.specs.Splitting.{answered_with, ended, exchange_of, is_in_message, layout_begun, looked_as, octet_split, requested, wake_split}
 use Rattle.iol_splitter.specs.Waking.{woken}
-use Rattle.iol_splitter.specs.Written.{AreWritten, Fails, Follow, IsAnswerBehind, IsBehind, IsBehindPause, IsPart, IsSentBehind, IsSpeaking, IsTested, IsUnshown, IsWhole, IsWritten, Item, Octet, Passes, Reads, Shown as Stream, Tested, Tests, Timed, Wakes, Written, WrittenIsSplit, all_split, exchange_written, exchanged, exchanged_with, items_told, last_of, octets_of, shown_before, stream_of, test_before, tested, with_told}
+use Rattle.iol_splitter.specs.Written.{AreWritten, Fails, Follow, IsAnswerBehind, IsBehind, IsBehindPause, IsSentBehind, IsSpeaking, IsTested, IsUnshown, IsWhole, IsWritten, Item, Means, Octet, Passes, Reads, Shown as Stream, Tested, Tests, Timed, Wakes, Written, WrittenIsSplit, all_split, exchange_written, exchanged, exchanged_with, items_told, last_of, octets_of, shown_before, stream_of, test_before, tested, with_told}
 use Rattle.iol_splitter.specs.declared.passed.Passed.TheVariants as passed
 use Rattle.iol_judge.specs.declared.verdict.Wake.TheVariants.{Answered, Unanswered}
 
@@ -96,12 +96,12 @@ module _ (base : Splitting) (layout : Shape) (all : List ℕ) (meaning : Meaning
       let longer : length more ≡ length done + 1 = omega (arith, length-append {A = ℕ}) in
       let goes_on : all ≡ more ++ octets_of (u ∷ timed) =
       is ∙ sym (append_assoc done (t.octet ∷ []) (octets_of (u ∷ timed))) in
-      let part : IsPart base more = whole.parts more (octets_of (u ∷ timed)) goes_on
+      let part : Means base more Part = whole.parts more (octets_of (u ∷ timed)) goes_on
       (omega (arith, longer)) (omega arith) in
       ap (λ step. behind step (shown_before (u ∷ timed) later))
       (sent_on base done last t.time t.octet part.layout Part
       (omega (arith, whole.most, ap length is, length-append {A = ℕ})) follow.0 part.spoken
-      part.part)
+      part.meant)
       ∙ rest_sent more t.time u timed goes_on (omega (arith, longer)) follow.1
 
 message_sent : (state : Splitting) (layout : Shape) (timed : List Timed) (later : List Stream)
@@ -267,7 +267,8 @@ unshown_split : (phase : Phase) (state : Splitting) (t : Tested) (items : List I
     ≡ with_told (Ok (ended state)) (told_of (passed.Wake Answered) items)
 unshown_split Asleep state t items is unshown h later =
     test_answered state (subst IsSeeking (sym is) tt) t h items later unshown.1 unshown.2 unshown.0
-    ∙ ap (λ phase. with_told (Ok (ended_in phase state)) (told_of (passed.Wake Answered) items))
+    ∙ ap (λ phase. with_told (Ok (ended (record state { phase = phase })))
+    (told_of (passed.Wake Answered) items))
     (sym is)
 unshown_split phase state t items is unshown h later =
     let other = unshown.2 in
@@ -278,7 +279,7 @@ unshown_split phase state t items is unshown h later =
     ∙ ap (with_told (Ok (ended state)))
     (ap (λ step. behind step (Octet t.value ∷ Octet t.status ∷ stream_of items))
     (sent_on state (0xA2 ∷ []) t.control t.check 0 other.layout TestRead (omega arith) h.check
-    other.spoken other.other)
+    other.spoken other.meant)
     ∙ read_answered (record state { phase = Waking }) tt t h items later)
 
 -- All

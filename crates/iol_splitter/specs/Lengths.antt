@@ -1,5 +1,5 @@
 -- What the octets of a message are, by the layout.
-use Rattle.std.specs.Prelude.{ℕ, ◌+◌, Bool, true, false, not, ◌&&◌, ◌==◌, nat_lt, nat_le, if◌then◌else◌, List, [], ◌∷◌, length, slice_index, bytes_eq}
+use Rattle.std.specs.Prelude.{ℕ, ◌+◌, Bool, not, ◌&&◌, ◌==◌, nat_lt, nat_le, if◌then◌else◌, List, [], ◌∷◌, length, slice_index, bytes_eq}
 use Rattle.iol_mseq.specs.Shape.{Shape}
 use Rattle.iol_mseq.specs.Master.{sent_od}
 use Rattle.iol_mseq.specs.Replies.{answered_od}
@@ -29,10 +29,6 @@ test_read = 0xA2 ∷ 0 ∷ []
 abbrev pub is_test_read : List ℕ → Bool
 is_test_read octets = bytes_eq octets test_read
 
-abbrev pub is_unshown : Requests → Bool
-is_unshown Unshown = true
-is_unshown Shown = false
-
 -- What octets are that a message in this layout begins with. A test read stands behind a wake-up
 -- request, and is a message in a layout of M-sequence type 0 alone; there it may be any read
 -- MSG-3
@@ -40,4 +36,5 @@ abbrev pub meaning_in : Shape → Requests → List ℕ → Meaning
 meaning_in layout requests octets =
     if is_test_read octets && not (layout.kind == 0) then TestRead else
     if nat_lt (length octets) (message_length layout octets) then Part else
-    if is_test_read octets && is_unshown requests then ReadOrTest else Whole
+    if is_test_read octets then elim requests [ Unshown ↦ ReadOrTest | Shown ↦ Whole ]
+    else Whole

@@ -5,7 +5,7 @@ use Rattle.iol_mseq.specs.declared.master.MasterMsg.{MasterMsg}
 use Rattle.iol_page.specs.declared.page.Layouts.{Layouts}
 use Rattle.iol_far.specs.declared.mode.Mode.{Mode}
 use Rattle.iol_far.specs.declared.mode.Mode.TheVariants.{Startup, Preoperate}
-use Rattle.iol_far.specs.Far.{WaitingCommand, command_in, mode_asked, waits_after}
+use Rattle.iol_far.specs.Far.{command_in, mode_asked, waits_after}
 use Rattle.iol_far.specs.Level.{Link, taken}
 use Rattle.iol_judge.specs.declared.open.Open.{Open}
 
@@ -13,16 +13,14 @@ use Rattle.iol_judge.specs.declared.open.Open.{Open}
 abbrev pub started_link : Link
 started_link = record { mode = Startup; waits = None }
 
-abbrev pub begun_by : Option WaitingCommand → Mode → List ℕ → Mode
-begun_by None mode octets = mode
-begun_by (Some command) mode octets =
-    if starts_with nat_eq command.octets octets then mode else command.into
-
 -- The mode in whose layout a message is that begins with these octets. Behind a mode command
 -- the command itself is in the old one, and any other message in the new one
 -- DEV-3, DEV-4
 abbrev pub begun_in : Link → List ℕ → Mode
-begun_in link octets = begun_by link.waits link.mode octets
+begun_in link octets = elim link.waits [
+  | None ↦ link.mode
+  | Some command ↦ if starts_with nat_eq command.octets octets then link.mode else command.into
+]
 
 -- the mode asked for, unless the device is known not to have it
 -- DEV-5
@@ -30,12 +28,10 @@ abbrev pub mode_into : Result Layouts Open → Option Mode → Option Mode
 mode_into (Ok layouts) (Some Preoperate) = if is_some layouts.pre then Some Preoperate else None
 mode_into known asked = asked
 
-abbrev pub turned_by : Link → List ℕ → Option Mode → Link
-turned_by link octets asked =
-    record link { waits = waits_after link.mode link.waits octets asked }
-
 -- the link once a message had a good reply
 -- DEV-3, DEV-4
 abbrev pub link_after : Link → Result Layouts Open → List ℕ → MasterMsg → Link
 link_after link known octets message =
-    turned_by (taken link octets) octets (mode_into known (mode_asked (command_in message)))
+    let now = taken link octets in
+    let asked = mode_into known (mode_asked (command_in message)) in
+    record now { waits = waits_after now.mode now.waits octets asked }

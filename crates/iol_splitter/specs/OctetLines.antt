@@ -1,5 +1,5 @@
 -- The lines of a decoder's export: `SECONDS OCTET`, and `SECONDS wake`.
-use Rattle.std.specs.Prelude.{ℕ, ◌+◌, ◌-◌, ◌*◌, ◌^◌, ◌&&◌, ◌||◌, ◌==◌, nat_lt, nat_le, if◌then◌else◌, Option, Some, None, option_map, List, [], ◌∷◌, length, take, drop, fold, codes}
+use Rattle.std.specs.Prelude.{ℕ, ◌+◌, ◌-◌, ◌*◌, ◌^◌, ◌&&◌, ◌||◌, ◌==◌, nat_lt, nat_le, if◌then◌else◌, Option, Some, None, option_map, option_and_then, List, [], ◌∷◌, length, take, drop, fold, codes}
 use Rattle.std.specs.Char.{digit_value}
 use Rattle.std.specs.List.{position}
 use Rattle.std.specs.Str.{bytes_eq}
@@ -50,9 +50,8 @@ octet_form word = None
 
 -- Lines
 
-abbrev pub word_form : List ℕ → Option ℕ → Option OctetLine
-word_form word None = None
-word_form word (Some time) =
+abbrev pub word_form : List ℕ → ℕ → Option OctetLine
+word_form word time =
     if bytes_eq word (codes "wake") then Some (Wake time) else
     option_map (Octet time) (octet_form word)
 
@@ -61,7 +60,8 @@ abbrev pub parts_form : List ℕ → Option ℕ → Option OctetLine
 parts_form line None = None
 parts_form line (Some place) =
     let seconds = take place line in
-    word_form (drop (place + 1) line) (time_form seconds (position (λ b. b == 46) seconds))
+    option_and_then (word_form (drop (place + 1) line))
+    (time_form seconds (position (λ b. b == 46) seconds))
 
 -- what a line says, where it fits a form; a blank line and a comment say nothing
 abbrev pub line_form : List ℕ → Option OctetLine

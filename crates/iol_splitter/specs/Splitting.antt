@@ -3,7 +3,6 @@ use Rattle.std.specs.Prelude.{ℕ, ◌-◌, Bool, true, false, ◌==◌, nat_lt,
 use Rattle.iol_mseq.specs.Shape.{Shape}
 use Rattle.iol_mseq.specs.Master.{master_in}
 use Rattle.iol_mseq.specs.Replies.{reply_in}
-use Rattle.iol_mseq.specs.declared.master.MasterMsg.{MasterMsg}
 use Rattle.iol_judge.specs.declared.open.Open.{Open}
 use Rattle.iol_judge.specs.declared.verdict.Wake.TheVariants.{Unanswered}
 use Rattle.iol_judge.specs.Seen.{layouts_seen}
@@ -17,7 +16,7 @@ use Rattle.iol_splitter.specs.declared.message.Meaning.TheVariants.{Part, Whole,
 use Rattle.iol_splitter.specs.declared.passed.Passed.{Passed}
 use Rattle.iol_splitter.specs.declared.passed.Passed.TheVariants as passed
 use Rattle.iol_splitter.specs.declared.splitter.Phase.{Phase}
-use Rattle.iol_splitter.specs.declared.splitter.Phase.TheVariants.{Asleep, Waking, Message, Reply, Rest}
+use Rattle.iol_splitter.specs.declared.splitter.Phase.TheVariants.{Waking, Message, Reply, Rest}
 use Rattle.iol_splitter.specs.declared.splitter.Requests.TheVariants.{Shown}
 use Rattle.iol_splitter.specs.Times.{gap_of}
 use Rattle.iol_splitter.specs.Linking.{begun_in, link_after}
@@ -70,14 +69,12 @@ looked_in state (Err why) = step state (Err (fault.NoLayout why))
 abbrev pub layout_begun : Splitting → Result Shape Open
 layout_begun state = mode_layout (layouts_seen state.seen) (begun_in state.link state.sent)
 
-abbrev pub sent_with : Splitting → Step
-sent_with state = looked_in state (layout_begun state)
-
 -- it goes on with this octet
 abbrev pub sent_more : Splitting → ℕ → Step
 sent_more state octet =
     if length state.sent == 66 then step state (Err fault.LongMessage) else
-    sent_with (record state { sent = state.sent ++ octet ∷ [] })
+    let more = record state { sent = state.sent ++ octet ∷ [] } in
+    looked_in more (layout_begun more)
 
 abbrev pub message_heard : Gap → Splitting → ℕ → Step
 message_heard gap.Overlap state octet = step state (Err fault.Overlap)
@@ -87,22 +84,18 @@ message_heard other state octet = step state (Err fault.GapInMessage)
 
 -- A reply
 
-abbrev pub learned_by : Splitting → MasterMsg → Splitting
-learned_by state message = record state {
-  seen = noted_by state.seen message.mc state.answer;
-  link = link_after state.link (layouts_seen state.seen) state.sent message;
-}
-
-abbrev pub learned_as : Splitting → Option MasterMsg → Splitting
-learned_as state None = state
-learned_as state (Some message) =
-    if is_some (reply_in state.layout message.mc.read state.answer) then learned_by state message
-    else state
-
 -- what a good reply says of the page and the mode
 -- PAGE-1, DEV-3, DEV-5
 abbrev pub learned : Splitting → Splitting
-learned state = learned_as state (master_in state.layout state.sent)
+learned state = elim (master_in state.layout state.sent) [
+  | Some message ↦ if is_some (reply_in state.layout message.mc.read state.answer)
+      then record state {
+        seen = noted_by state.seen message.mc state.answer;
+        link = link_after state.link (layouts_seen state.seen) state.sent message;
+      }
+      else state
+  | None ↦ state
+]
 
 -- it is whole
 abbrev pub rested : Splitting → Splitting
@@ -154,15 +147,15 @@ rest_heard other state octet = step state (Err fault.LongReply)
 
 -- Calls
 
-abbrev pub heard_in : Phase → Gap → Splitting → ℕ → Step
-heard_in Asleep gap state octet = waking_heard gap state octet
-heard_in Waking gap state octet = waking_heard gap state octet
-heard_in Message gap state octet = message_heard gap state octet
-heard_in Reply gap state octet = reply_heard gap state octet
-heard_in Rest gap state octet = rest_heard gap state octet
-
 abbrev pub heard : Splitting → ℕ → ℕ → Step
-heard state elapsed octet = heard_in state.phase (gap_of state.rate elapsed) state octet
+heard state elapsed octet =
+    let gap = gap_of state.rate elapsed in
+    elim state.phase [
+      | Message ↦ message_heard gap state octet
+      | Reply ↦ reply_heard gap state octet
+      | Rest ↦ rest_heard gap state octet
+      | phase ↦ waking_heard gap state octet
+    ]
 
 -- an octet that begins at this time
 abbrev pub octet_split : Splitting → ℕ → ℕ → Step
@@ -170,14 +163,13 @@ octet_split state time octet =
     if nat_lt time state.last then step state (Err fault.TimeBack) else
     heard (record state { last = time }) (time - state.last) octet
 
-abbrev pub ended_in : Phase → Splitting → Option Passed
-ended_in Waking state = Some (passed.Wake Unanswered)
-ended_in Reply state = Some (exchange_of state)
-ended_in phase state = None
-
 -- what isn't told when a stream ends
 abbrev pub ended : Splitting → Option Passed
-ended state = ended_in state.phase state
+ended state = elim state.phase [
+  | Waking ↦ Some (passed.Wake Unanswered)
+  | Reply ↦ Some (exchange_of state)
+  | phase ↦ None
+]
 
 abbrev pub is_in_message : Phase → Bool
 is_in_message Message = true

@@ -110,10 +110,10 @@ exchange_written w = passed.Exchange (record {
 })
 
 -- the octets are this in the layout that a message has which begins with them
-pub record IsPart (state : Splitting) (sent : List ℕ) : Type 0 where
+pub record Means (state : Splitting) (sent : List ℕ) (meaning : Meaning) : Type 0 where
   pub layout : Shape
   pub spoken : layout_begun (record state { sent = sent }) ≡ Ok layout
-  pub part : meaning_in layout state.requests sent ≡ Part
+  pub meant : meaning_in layout state.requests sent ≡ meaning
 
 pub record IsWhole (state : Splitting) (layout : Shape) (sent : List ℕ)
     (meaning : Meaning) : Type 0 where
@@ -121,7 +121,7 @@ pub record IsWhole (state : Splitting) (layout : Shape) (sent : List ℕ)
   pub whole : meaning_in layout state.requests sent ≡ meaning
   -- and no beginning is whole
   pub parts : (begun rest : List ℕ) → sent ≡ begun ++ rest → 1 < length begun → 0 < length rest
-      → IsPart state begun
+      → Means state begun Part
   pub most : length sent ≤ 66
 
 -- the device was woken
@@ -174,18 +174,13 @@ pub record IsTested (rate : Rate) (t : Tested) : Type 0 where
 abbrev pub tested : Splitting → Tested → Splitting
 tested state t = woken (record state { last = t.status.time })
 
--- the octets of the test read are no message of the layout
-pub record IsOther (state : Splitting) : Type 0 where
-  pub layout : Shape
-  pub spoken : layout_begun (record state { sent = test_read }) ≡ Ok layout
-  pub other : meaning_in layout state.requests test_read ≡ TestRead
-
 -- A test read at this time behind a request that the decoder doesn't show: nothing was told before,
--- or the layout is another
+-- or its octets are no message of the layout
 abbrev pub IsUnshown : Phase → Splitting → ℕ → Type 0
 IsUnshown Asleep state time =
     (state.last ≤ time) × (state.sent ≡ []) × (state.answer ≡ [])
-IsUnshown phase state time = IsSpeaking phase × IsBehindPause state time × IsOther state
+IsUnshown phase state time =
+    IsSpeaking phase × IsBehindPause state time × Means state test_read TestRead
 
 -- Captures
 

@@ -1,7 +1,7 @@
 //! What a splitter makes of an octet.
 ghost use Rattle.std.specs.Prelude.{◌≡◌, Some, None, Ok};
 ghost use Rattle.iol_splitter.specs.Splitting.{answered_more, awaiting, begun, cleared, concluded, exchange_of, first_heard, further_heard, heard, learned, looked, looked_in, message_heard, pause_heard, reply_heard, rest_heard, sent_more};
-ghost use Rattle.iol_splitter.specs.Steps.{step};
+ghost use Rattle.iol_splitter.specs.Steps.{step, told};
 
 use crate::fault::SplitFault;
 use crate::gap::Gap;
@@ -43,8 +43,7 @@ impl Splitter {
 
     /// A message begins.
     fn begin(&mut self, octet: u8) -> Option<Passed>
-        ensures none { result ≡ None }
-        ensures state { self.new ≡ begun self.old octet }
+        ensures { told self.new result ≡ told (begun self.old octet) None }
     {
         self.phase = Phase::Message;
         self.answer.clear();
@@ -209,8 +208,8 @@ impl Splitter {
 
     /// The message and the reply under way, which are over.
     pub(crate) fn exchange(&mut self) -> Passed
-        ensures passed { result ≡ exchange_of self.old }
-        ensures cleared { self.new ≡ cleared self.old }
+        ensures { told self.new (Some result)
+            ≡ told (cleared self.old) (Some (exchange_of self.old)) }
     {
         let sent = replace(&mut self.sent, Message::new());
         let answer = replace(&mut self.answer, Message::new());

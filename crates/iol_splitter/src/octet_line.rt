@@ -53,7 +53,7 @@ fn parse_parts(line: &[u8]) -> Option<OctetLine>
 
 /// An octet, or `wake`.
 fn parse_word(word: &[u8], time: u64) -> Option<OctetLine>
-    ensures { result ≡ word_form word.now (Some time) }
+    ensures { result ≡ word_form word.now time }
 {
     if word == b"wake".as_slice() {
         Some(OctetLine::Wake(time))

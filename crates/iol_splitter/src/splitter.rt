@@ -2,7 +2,7 @@
 ghost use Rattle.std.specs.Prelude.{◌≡◌};
 ghost use Rattle.iol_judge.specs.Seen.{whole_page};
 ghost use Rattle.iol_splitter.specs.Splitting.{ended, octet_split, wake_split};
-ghost use Rattle.iol_splitter.specs.Steps.{step};
+ghost use Rattle.iol_splitter.specs.Steps.{step, told};
 ghost use Rattle.iol_splitter.specs.State.{new_splitter};
 
 use crate::fault::SplitFault;
@@ -148,8 +148,7 @@ impl Splitter {
 
     /// What isn't told yet. No octet is under way any more.
     fn finish(&mut self) -> Option<Passed>
-        ensures passed { result ≡ ended self.old }
-        ensures cleared { self.new ≡ cleared self.old }
+        ensures { told self.new result ≡ told (cleared self.old) (ended self.old) }
     {
         let passed = match self.phase {
             Phase::Asleep => None,
