@@ -16,7 +16,7 @@ use Rattle.iol_watch.specs.declared.phase.Phase.TheVariants.{Down}
 use Rattle.iol_watch.specs.declared.master.Master.{Master}
 use Rattle.iol_watch.specs.declared.master.Missed.{Missed}
 use Rattle.iol_watch.specs.declared.verdict.Verdict.TheVariants.{ByTheRules}
-use Rattle.iol_watch.specs.Watched.{Watched, asked_instead, repeated, sent, sent_again, sent_new, sent_by, sent_to_page, heard, heard_reply, missed_as, read_from, written_to, exchanged, judged_as}
+use Rattle.iol_watch.specs.Watched.{Watched, asked_instead, repeated, sent, sent_again, sent_new, sent_on, sent_to_page, heard, heard_reply, missed, read_from, written_to, exchanged, judged_as}
 use Rattle.iol_watch.specs.Laws.{RepeatsAreFair, is_out}
 
 bytes_themselves : (a : List ℕ) → bytes_eq a a ≡ true
@@ -34,12 +34,12 @@ Keeps old (Err fault) = ⊤
 page_keeps : (m : Master) (message : MasterMsg) → Keeps (stand m) (sent_to_page m message)
 page_keeps m message = grind arith
 
-by_keeps : (m : Master) (layouts : Layouts) (message : MasterMsg)
-    → Keeps (stand m) (sent_by message.mc.channel m layouts message)
-by_keeps m layouts message = grind (arith, page_keeps)
+on_keeps : (m : Master) (layouts : Layouts) (message : MasterMsg)
+    → Keeps (stand m) (sent_on m layouts message)
+on_keeps m layouts message = grind (arith, page_keeps)
 
 new_keeps : (m : Master) (octets : List ℕ) → Keeps (stand m) (sent_new m octets)
-new_keeps m octets = grind (arith, page_keeps, by_keeps)
+new_keeps m octets = grind (arith, page_keeps, on_keeps)
 
 -- Once octets were sent, the mode isn't down, and none but these are to be sent again
 
@@ -88,9 +88,8 @@ ready_fair m octets ready some = grind arith
 
 -- And so it is once something came back, or nothing did
 
-missed_fair : (o : Option Missed) (m : Master) (octets : List ℕ) → Ready m octets
-    → IsFair octets (missed_as o m octets)
-missed_fair o m octets ready some = grind (arith, ready_fair, bytes_themselves)
+missed_fair : (m : Master) (octets : List ℕ) → Ready m octets → IsFair octets (missed m octets)
+missed_fair m octets ready some = grind (arith, ready_fair, bytes_themselves)
 
 answered_out : (read : Bool) (c : Channel) (old : Master) (message : MasterMsg) (came : List ℕ)
     → (if read then read_from c old message came else written_to c old message came).out ≡ old.out

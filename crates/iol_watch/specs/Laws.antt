@@ -1,19 +1,17 @@
 -- What the watch promises of each capture.
-use Rattle.std.specs.Prelude.{◌≡◌, ℕ, Bool, true, false, ◌&&◌, List, Option, is_some}
+use Rattle.std.specs.Prelude.{◌≡◌, ℕ, Bool, true, false, List, Option, is_some}
 use Rattle.iol_judge.specs.declared.verdict.Wake.{Wake}
 use Rattle.iol_watch.specs.declared.fault.MasterFault.{MasterFault}
-use Rattle.iol_watch.specs.declared.verdict.Verdict.{Verdict}
 use Rattle.iol_watch.specs.declared.verdict.Verdict.TheVariants.{ByTheRules, NotByTheRules}
 use Rattle.iol_watch.specs.Watched.{Watched, exchanged, paged, woke}
-
-abbrev pub is_fair : Verdict → Bool
-is_fair ByTheRules = true
-is_fair verdict = false
 
 -- the last message had no good reply, and no wake-up request is due
 -- LINK-2
 abbrev pub is_out : Watched → Bool
-is_out watched = is_fair watched.verdict && is_some watched.master.out
+is_out watched = elim watched.verdict [
+  | ByTheRules ↦ is_some watched.master.out
+  | verdict ↦ false
+]
 
 -- the same octets again, behind an exchange that left the message out, are never blamed
 -- LINK-2

@@ -14,9 +14,8 @@ abbrev pub no_output : Output
 no_output = record { carried = Unknown; valid = false }
 
 abbrev pub aged : Carried → Carried
-aged Unknown = Unknown
-aged (Before octets) = Before octets
 aged (Last octets) = Before octets
+aged carried = carried
 
 -- once a wake-up request was made
 -- PD-6
@@ -30,19 +29,15 @@ allows_octets Unknown octets = true
 allows_octets (Before before) octets = bytes_eq octets before.items || are_zeros octets
 allows_octets (Last last) octets = bytes_eq octets last.items
 
--- whether the device's output is valid with a message
--- PD-5
-abbrev pub valid_with : Bool → Option MasterCommand → Bool
-valid_with valid (Some ProcessDataOutputOperate) = true
-valid_with valid (Some DeviceOperate) = false
-valid_with valid command = valid
-
-abbrev pub carried_as : Bool → Output → List ℕ → Result Output MasterFault
-carried_as valid output octets = if valid || allows_octets output.carried octets
-    then Ok (record { carried = Last (record { items = octets }); valid = valid })
-    else Err OutputOctets
-
 -- once a new message of OPERATE carries these octets
 -- PD-4, PD-5
 abbrev pub carried : Output → Option MasterCommand → List ℕ → Result Output MasterFault
-carried output command octets = carried_as (valid_with output.valid command) output octets
+carried output command octets =
+    let valid : Bool = elim command [
+      | Some ProcessDataOutputOperate ↦ true
+      | Some DeviceOperate ↦ false
+      | command ↦ output.valid
+    ] in
+    if valid || allows_octets output.carried octets
+    then Ok (record { carried = Last (record { items = octets }); valid = valid })
+    else Err OutputOctets

@@ -1,12 +1,11 @@
 -- The ISDU transfer of a master: which message is due there, and what its reply tells.
-use Rattle.std.specs.Prelude.{ℕ, Bool, true, false, ◌&&◌, ◌==◌, nat_le, if◌then◌else◌, List, ◌++◌, length, drop, slice_index, Option, Some, None, Result, Ok, Err}
+use Rattle.std.specs.Prelude.{ℕ, Bool, true, false, ◌&&◌, ◌==◌, nat_le, if◌then◌else◌, List, ◌++◌, length, drop, slice_index, Option, Some, None, is_some, Result, Ok, Err}
 use Rattle.iol_octets.specs.declared.flow_control.Flow.{Flow}
 use Rattle.iol_octets.specs.declared.flow_control.Flow.TheVariants.{Start, Count, Idle1, Idle2, Abort, Reserved}
-use Rattle.iol_isdu.specs.declared.fault.IsduFault.{IsduFault}
 use Rattle.iol_isdu.specs.declared.values.Request.{Request}
 use Rattle.iol_isdu.specs.Answers.{answer_fault, is_read}
 use Rattle.iol_isdu.specs.Parse.{request_of}
-use Rattle.iol_segment.specs.Join.{Stage, Open, Complete, Wrong, stage, next_count}
+use Rattle.iol_segment.specs.Join.{Open, Complete, Wrong, stage, next_count}
 use Rattle.iol_judge.specs.Octets.{are_zeros}
 use Rattle.iol_watch.specs.declared.fault.MasterFault.{MasterFault}
 use Rattle.iol_watch.specs.declared.fault.MasterFault.TheVariants.{NotDue, RequestText, NotInLine}
@@ -28,15 +27,14 @@ whole None rest = Err RequestText
 whole (Some request) rest =
     if are_zeros rest then Ok (Asked (is_read request)) else Err RequestText
 
-abbrev pub written_at : Stage → List ℕ → Option ℕ → Result Transfer MasterFault
-written_at Open octets last = begun octets last
-written_at (Complete text) octets last = whole (request_of text) (drop (length text) octets)
-written_at Wrong octets last = Err RequestText
-
 -- of a request these octets were written, the last of them under this COUNT
 -- SEG-1, SEG-5
 abbrev pub written : List ℕ → Option ℕ → Result Transfer MasterFault
-written octets last = written_at (stage octets) octets last
+written octets last = elim (stage octets) [
+  | Open ↦ begun octets last
+  | Complete text ↦ whole (request_of text) (drop (length text) octets)
+  | Wrong ↦ Err RequestText
+]
 
 -- REQ-2, REQ-3
 abbrev pub start_sent : Bool → Transfer → List ℕ → Result Transfer MasterFault
@@ -68,23 +66,18 @@ abbrev pub answer_begun : Bool → List ℕ → Option ℕ → Transfer
 answer_begun read octets last = if nat_le (length octets) LONGEST
     then Answered read (record { items = octets }) last else Refused
 
-abbrev pub answer_by : Option IsduFault → Transfer
-answer_by None = Quiet
-answer_by (Some fault) = Refused
-
 -- ISDU-9, REQ-7
 abbrev pub answer_joined : Bool → List ℕ → Transfer
-answer_joined read text = answer_by (answer_fault read text)
-
-abbrev pub answered_at : Stage → Bool → List ℕ → Option ℕ → Transfer
-answered_at Open read octets last = answer_begun read octets last
-answered_at (Complete text) read octets last = answer_joined read text
-answered_at Wrong read octets last = Refused
+answer_joined read text = if is_some (answer_fault read text) then Refused else Quiet
 
 -- of an answer these octets came, the last of them under this COUNT
 -- REQ-5, REQ-7
 abbrev pub answered : Bool → List ℕ → Option ℕ → Transfer
-answered read octets last = answered_at (stage octets) read octets last
+answered read octets last = elim (stage octets) [
+  | Open ↦ answer_begun read octets last
+  | Complete text ↦ answer_joined read text
+  | Wrong ↦ Refused
+]
 
 -- busy, no service, or the answer's first segment
 -- REQ-5, REQ-7, ISDU-11

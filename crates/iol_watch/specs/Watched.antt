@@ -1,5 +1,6 @@
 -- The watch: how far a master has come, and the verdict.
 use Rattle.std.specs.Prelude.{ℕ, ◌+◌, ◌-◌, ◌^◌, min, Bool, true, false, not, ◌&&◌, ◌==◌, bytes_eq, if◌then◌else◌, List, slice_index, Option, Some, None, is_some, option_and_then, Result, Ok, Err}
+use Rattle.std.specs.Result.{result_map_both}
 use Rattle.iol_octets.specs.declared.control.Channel.{Channel}
 use Rattle.iol_octets.specs.declared.control.Channel.TheVariants.{Process, Page, Diagnosis, Isdu}
 use Rattle.iol_mseq.specs.Master.{master_in}
@@ -18,10 +19,8 @@ use Rattle.iol_watch.specs.declared.fault.MasterFault.{MasterFault}
 use Rattle.iol_watch.specs.declared.fault.MasterFault.TheVariants.{WakeDue, NotRepeated, NotStartUp, NotWellFormed, NotDue}
 use Rattle.iol_watch.specs.declared.phase.Phase.{Phase}
 use Rattle.iol_watch.specs.declared.phase.Phase.TheVariants.{Down, Startup, Preoperate, Operate}
-use Rattle.iol_watch.specs.declared.output.Output.{Output}
 use Rattle.iol_watch.specs.declared.master.Master.{Master}
 use Rattle.iol_watch.specs.declared.master.Missed.{Missed}
-use Rattle.iol_watch.specs.declared.transfer.Transfer.{Transfer}
 use Rattle.iol_watch.specs.declared.transfer.Transfer.TheVariants.{Quiet}
 use Rattle.iol_watch.specs.declared.verdict.Verdict.{Verdict}
 use Rattle.iol_watch.specs.declared.verdict.Verdict.TheVariants.{Unjudged, ByTheRules, NotByTheRules}
@@ -42,15 +41,11 @@ new_master = record {
   transfer = Quiet;
 }
 
-abbrev pub woken_phase : Wake → Phase
-woken_phase Answered = Startup
-woken_phase Unanswered = Down
-
 -- once a wake-up request was made, by what is known of the page
 -- LINK-1, PD-6, EVT-9, REQ-11
 abbrev pub woken : Master → List (Option ℕ) → Wake → Master
 woken master seen answer = record new_master {
-  phase = woken_phase answer;
+  phase = elim answer [ Answered ↦ Startup | Unanswered ↦ Down ];
   seen = seen;
   output = woken_output master.output;
 }
@@ -58,22 +53,20 @@ woken master seen answer = record new_master {
 -- A new message on the page channel
 
 -- LINK-6, LINK-7, LINK-8, LINK-10
-abbrev pub ident_after : Bool → Option MasterCommand → Bool
-ident_after ident (Some MasterIdent) = true
-ident_after ident command = ident
-
 abbrev pub command_sent : Master → Option MasterCommand → Result Master MasterFault
 command_sent master command =
     if allows master.phase (layouts_seen master.seen) master.done command
     then Ok (record master {
-      done = record { ident = ident_after master.done.ident command; cycle = master.done.cycle };
+      done = record master.done {
+        ident = elim command [ Some MasterIdent ↦ true | command ↦ master.done.ident ];
+      };
     })
     else Err NotStartUp
 
 -- LINK-12
 abbrev pub cycle_sent : Master → ℕ → Result Master MasterFault
 cycle_sent master octet = if allows_cycle (octet_seen master.seen 2) octet
-    then Ok (record master { done = record { ident = master.done.ident; cycle = true } })
+    then Ok (record master { done = record master.done { cycle = true } })
     else Err NotStartUp
 
 abbrev pub sent_to_page : Master → MasterMsg → Result Master MasterFault
@@ -84,75 +77,64 @@ sent_to_page master message =
     Ok master
 
 -- in STARTUP
-abbrev pub startup_on : Channel → Master → MasterMsg → Result Master MasterFault
-startup_on Page master message = sent_to_page master message
-startup_on channel master message = Err NotStartUp
-
 abbrev pub sent_in_startup : Master → MasterMsg → Result Master MasterFault
-sent_in_startup master message = startup_on message.mc.channel master message
+sent_in_startup master message = elim message.mc.channel [
+  | Page ↦ sent_to_page master message
+  | channel ↦ Err NotStartUp
+]
 
 -- On the other channels
 
--- EVT-5, EVT-6, EVT-7, EVT-8
-abbrev pub event_sent : Master → MasterMsg → Result Master MasterFault
-event_sent master message = if is_due master.events message.mc.read message.mc.address
-    then Ok master else Err NotDue
-
-abbrev pub with_transfer : Master → Result Transfer MasterFault → Result Master MasterFault
-with_transfer master (Ok transfer) = Ok (record master { transfer = transfer })
-with_transfer master (Err fault) = Err fault
-
 abbrev pub isdu_sent : Master → Bool → MasterMsg → Result Master MasterFault
-isdu_sent master isdu message = with_transfer master
+isdu_sent master isdu message = result_map_both
+    (λ transfer. record master { transfer = transfer }) (λ fault. fault)
     (moved isdu master.transfer message.mc.read (flow_of message.mc.address) message.od.items)
 
 -- in PREOPERATE or OPERATE
-abbrev pub sent_by : Channel → Master → Layouts → MasterMsg → Result Master MasterFault
-sent_by Process master layouts message = Ok master
-sent_by Page master layouts message = sent_to_page master message
-sent_by Diagnosis master layouts message = event_sent master message
-sent_by Isdu master layouts message = isdu_sent master layouts.isdu message
-
+-- EVT-5, EVT-6, EVT-7, EVT-8
 abbrev pub sent_on : Master → Layouts → MasterMsg → Result Master MasterFault
-sent_on master layouts message = sent_by message.mc.channel master layouts message
+sent_on master layouts message = elim message.mc.channel [
+  | Process ↦ Ok master
+  | Page ↦ sent_to_page master message
+  | Diagnosis ↦ if is_due master.events message.mc.read message.mc.address then Ok master
+      else Err NotDue
+  | Isdu ↦ isdu_sent master layouts.isdu message
+]
 
 -- A message
 
--- in OPERATE, where the process data out fits
+-- a new message, by the mode: in OPERATE the process data out has to fit
 -- PD-4
-abbrev pub sent_carrying : Master → Layouts → MasterMsg → Result Output MasterFault
-    → Result Master MasterFault
-sent_carrying master layouts message (Ok output) =
-    sent_on (record master { output = output }) layouts message
-sent_carrying master layouts message (Err fault) = Err fault
-
 abbrev pub sent_at : Phase → Master → MasterMsg → Result Master MasterFault
-sent_at Down master message = sent_in_startup master message
-sent_at Startup master message = sent_in_startup master message
 sent_at (Preoperate layouts) master message = sent_on master layouts message
 sent_at (Operate layouts) master message =
-    sent_carrying master layouts message
-    (carried master.output (command_in message) message.out.items)
-
-abbrev pub sent_as : Master → Option MasterMsg → Result Master MasterFault
-sent_as master None = Err NotWellFormed
-sent_as master (Some message) = sent_at master.phase master message
+    elim (carried master.output (command_in message) message.out.items) [
+      | Ok output ↦ sent_on (record master { output = output }) layouts message
+      | Err fault ↦ Err fault
+    ]
+sent_at phase master message = sent_in_startup master message
 
 -- MSG-3
 abbrev pub sent_new : Master → List ℕ → Result Master MasterFault
-sent_new master octets = sent_as master (master_in (phase_layout master.phase) octets)
+sent_new master octets = elim (master_in (phase_layout master.phase) octets) [
+  | Some message ↦ sent_at master.phase master message
+  | None ↦ Err NotWellFormed
+]
 
 -- the message that is out, again
 abbrev pub repeated : Master → Master
 repeated master = record master { transfer = asked_again master.transfer }
 
+-- these octets are to be sent again, after one attempt or two
+abbrev pub left_out : Master → List ℕ → Bool → Master
+left_out master octets twice =
+    record master { out = Some (record { octets = record { items = octets }; twice = twice }) }
+
 -- A START read in its place: it is out from now on, and the attempts are counted on
 -- REQ-14
 abbrev pub asked_instead : Bool → List ℕ → Result Master MasterFault → Result Master MasterFault
-asked_instead twice octets (Ok master) = Ok (record master {
-  out = Some (record { octets = record { items = octets }; twice = twice });
-  transfer = doubted master.transfer;
-})
+asked_instead twice octets (Ok master) =
+    Ok (record (left_out master octets twice) { transfer = doubted master.transfer })
 asked_instead twice octets (Err fault) = Err fault
 
 -- LINK-2, REQ-14
@@ -164,33 +146,24 @@ sent_again (Some out) master octets =
     then asked_instead out.twice octets (sent_new master octets) else
     Err NotRepeated
 
--- LINK-1, LINK-3
-abbrev pub sent_in : Phase → Master → List ℕ → Result Master MasterFault
-sent_in Down master octets = Err WakeDue
-sent_in phase master octets = sent_again master.out master octets
-
 -- once it sends these octets
+-- LINK-1, LINK-3
 abbrev pub sent : Master → List ℕ → Result Master MasterFault
-sent master octets = sent_in master.phase master octets
+sent master octets = elim master.phase [
+  | Down ↦ Err WakeDue
+  | phase ↦ sent_again master.out master octets
+]
 
 -- What comes back
 
-abbrev pub lost : Master → Master
-lost master = record master { phase = Down; out = None }
-
--- these octets are to be sent again, after one attempt or two
-abbrev pub left_out : Master → List ℕ → Bool → Master
-left_out master octets twice =
-    record master { out = Some (record { octets = record { items = octets }; twice = twice }) }
-
+-- without a good reply: lost behind two attempts
 -- LINK-2, LINK-3
-abbrev pub missed_as : Option Missed → Master → List ℕ → Master
-missed_as None master octets = left_out master octets false
-missed_as (Some out) master octets =
-    if out.twice then lost master else left_out master octets true
-
 abbrev pub missed : Master → List ℕ → Master
-missed master octets = missed_as master.out master octets
+missed master octets = elim master.out [
+  | None ↦ left_out master octets false
+  | Some out ↦ if out.twice then record master { phase = Down; out = None }
+      else left_out master octets true
+]
 
 -- the good reply to a write to the page: another mode drops the transfer
 -- LINK-9, DEV-3
@@ -223,36 +196,31 @@ written_to Page master message octets = mode_entered master (command_in message)
 written_to Diagnosis master message octets = events_on master false octets
 written_to channel master message octets = master
 
-abbrev pub answered : Master → MasterMsg → List ℕ → Master
-answered master message octets =
-    if message.mc.read then read_from message.mc.channel master message octets
-    else written_to message.mc.channel master message octets
-
--- the message is out no more, and the Event flag is the reply's
-abbrev pub flagged : Master → Bool → Master
-flagged master flag =
-    record master { out = None; events = record master.events { flag = flag } }
-
--- a good reply
+-- a good reply: the message is out no more, and the Event flag is the reply's
 -- LINK-9, EVT-5
 abbrev pub replied : Master → MasterMsg → Reply → Master
-replied master message reply = answered (flagged master reply.event) message reply.od.items
+replied master message reply =
+    let flagged = record master {
+      out = None;
+      events = record master.events { flag = reply.event };
+    } in
+    if message.mc.read then read_from message.mc.channel flagged message reply.od.items
+    else written_to message.mc.channel flagged message reply.od.items
 
 abbrev pub heard_reply : Master → List ℕ → MasterMsg → Option Reply → Master
 heard_reply master octets message None = missed master octets
 heard_reply master octets message (Some reply) = replied master message reply
 
-abbrev pub heard_as : Master → List ℕ → Option MasterMsg → Option (List ℕ) → Master
-heard_as master octets None answer = master
-heard_as master octets (Some message) answer =
-    heard_reply master octets message
-    (option_and_then (reply_in (phase_layout master.phase) message.mc.read) answer)
-
 -- once this came in the time of a reply to what was sent, if anything did
 -- LINK-2, LINK-3, MSG-4
 abbrev pub heard : Master → List ℕ → Option (List ℕ) → Master
 heard master octets answer =
-    heard_as master octets (master_in (phase_layout master.phase) octets) answer
+    let layout = phase_layout master.phase in
+    elim (master_in layout octets) [
+      | Some message ↦ heard_reply master octets message
+          (option_and_then (reply_in layout message.mc.read) answer)
+      | None ↦ master
+    ]
 
 -- The watch
 
@@ -273,20 +241,16 @@ abbrev pub paged : Watched → List (Option ℕ) → Watched
 paged watched page =
     record watched { told = page; master = record watched.master { seen = page } }
 
-abbrev pub woke_with : Verdict → Watched → Wake → Watched
-woke_with (NotByTheRules number fault) watched wake = watched
-woke_with verdict watched wake = record watched {
-  master = woken watched.master watched.told wake;
-  verdict = ByTheRules;
-}
-
 -- the watch, told a wake-up request
 -- LINK-1
 abbrev pub woke : Watched → Wake → Watched
-woke watched wake = woke_with watched.verdict watched wake
-
-abbrev pub counted : Watched → Watched
-counted watched = record watched { exchanges = min (watched.exchanges + 1) (2 ^ 64 - 1) }
+woke watched wake = elim watched.verdict [
+  | NotByTheRules number fault ↦ watched
+  | verdict ↦ record watched {
+    master = woken watched.master watched.told wake;
+    verdict = ByTheRules;
+  }
+]
 
 abbrev pub judged_as : Watched → List ℕ → Option (List ℕ) → Result Master MasterFault → Watched
 judged_as watched octets answer (Ok master) =
@@ -296,12 +260,12 @@ judged_as watched octets answer (Err fault) = record watched {
   verdict = NotByTheRules watched.exchanges fault;
 }
 
-abbrev pub judged_by : Verdict → Watched → List ℕ → Option (List ℕ) → Watched
-judged_by ByTheRules watched octets answer =
-    judged_as watched octets answer (sent watched.master octets)
-judged_by verdict watched octets answer = watched
-
 -- the watch, told an exchange
 -- LINK-2, LINK-3
 abbrev pub exchanged : Watched → List ℕ → Option (List ℕ) → Watched
-exchanged watched octets answer = judged_by watched.verdict (counted watched) octets answer
+exchanged watched octets answer =
+    let counted = record watched { exchanges = min (watched.exchanges + 1) (2 ^ 64 - 1) } in
+    elim watched.verdict [
+      | ByTheRules ↦ judged_as counted octets answer (sent watched.master octets)
+      | verdict ↦ counted
+    ]

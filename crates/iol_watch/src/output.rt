@@ -1,6 +1,6 @@
 //! The process data out of a master.
 ghost use Rattle.std.specs.Prelude.{◌≡◌, ◌≤◌, length};
-ghost use Rattle.iol_watch.specs.Outputs.{aged, allows_octets, carried, no_output, valid_with, woken_output};
+ghost use Rattle.iol_watch.specs.Outputs.{aged, allows_octets, carried, no_output, woken_output};
 ghost use Rattle.iol_watch.specs.Results.{result_with};
 
 use crate::fault::MasterFault;
