@@ -6,4 +6,3 @@ pub mod Lines
 pub mod BookInside
 pub mod Numbers
 pub mod Takings
-pub mod TakingLaws

@@ -19,11 +19,9 @@
 mod book;
 mod entries;
 mod fault;
-mod laws;
 mod queue_limit;
 
 pub use book::Book;
 pub use entries::{Entry, Limits, Outcome, Ticket};
 pub use fault::BookFault;
-pub use laws::{records_fit, takings_of_calls};
 pub use queue_limit::QueueLimit;

@@ -10,7 +10,7 @@ use Rattle.iol_steps.specs.Session.{Session, session_after, session_through}
 use Rattle.iol_port.specs.declared.call.Call.TheVariants as call
 use Rattle.iol_port.specs.declared.call.Answered.TheVariants as answered
 use Rattle.iol_port.specs.Run.{PortState, Whole, request_of}
-use Rattle.iol_port.proofs.CallsSound.{Did, Cancels, Restarts, Moves, piece_did}
+use Rattle.iol_port.proofs.PieceLemmas.{Did, Cancels, Restarts, Moves, piece_did}
 use Rattle.iol_port.specs.Promises.{CancelledWasAsked, AskedByCancel, is_asked}
 
 -- no step sets the mark

@@ -1,18 +1,15 @@
 -- The claim holds of each port: for the clauses `claim` of `run` and `keeps_record`.
-use Rattle.std.proofs.Common.{◌≡◌, List, [], ◌++◌, refl, map, append-nil}
-use Rattle.iol_far.specs.declared.carried.Carried.{Carried}
+use Rattle.std.proofs.Common.{List, [], ◌++◌, refl, map, append-nil}
 use Rattle.iol_link.specs.WireFacts.{WireFacts}
 use Rattle.iol_port.specs.declared.call.Call.{Call}
 use Rattle.iol_port.specs.declared.call.Answered.{Answered}
-use Rattle.iol_port.specs.Run.{PortState, Run, Whole, opened}
-use Rattle.iol_port.specs.Promises.{OpensSound, RunsSound, SoundFits}
+use Rattle.iol_port.specs.Run.{PortState, Run, Whole}
 use Rattle.iol_port.specs.Claim.{Claim, Has, opened_with}
 use Rattle.iol_port.specs.View.{Parts, Opening, OpensWell, StandsFor, IsRun, Runs}
-use Rattle.iol_port.proofs.OwnedRuns.{each_done_has_its_pair}
-use Rattle.iol_port.proofs.RunLemmas.{runs_join}
+use Rattle.iol_port.proofs.LedgerRuns.{each_done_has_its_pair, opened_sound, runs_sound}
+use Rattle.iol_port.proofs.PieceLemmas.{runs_join}
 
-module _ {W : Type 0} (facts : WireFacts W) (opens : OpensSound) (runs : RunsSound)
-    (fits : SoundFits) (o : Opening W) (p : Parts W) where
+module _ {W : Type 0} (facts : WireFacts W) (o : Opening W) (p : Parts W) where
   has_it : (a : PortState) → StandsFor facts p a → Has facts a p
   has_it a (c, shows, same) = rw same
       record { book = refl; kept = refl; image = refl; input = refl; output = refl; carried = refl }
@@ -20,20 +17,17 @@ module _ {W : Type 0} (facts : WireFacts W) (opens : OpensSound) (runs : RunsSou
   holds : (earlier calls : List Call) (answered replies : List Answered) (b : PortState)
       → Run (opened_with o) (earlier ++ calls) (answered ++ replies) b → StandsFor facts p b
       → Claim facts o calls replies p
-  holds earlier calls answered replies b run stands =
-      let (owned, carries) = each_done_has_its_pair o.devices o.limits o.far o.silence
-      (map Whole (earlier ++ calls)) (answered ++ replies) b run in
-      record {
-        earlier = earlier;
-        answered = answered;
-        port = b;
-        run = run;
-        has = has_it b stands;
-        owned = owned;
-        carries = carries;
-        in_order = fits b (runs (opened_with o) b (earlier ++ calls) (answered ++ replies) run
-            (opens o.devices o.limits o.far o.silence));
-      }
+  holds earlier calls answered replies b run stands = record {
+    earlier = earlier;
+    answered = answered;
+    port = b;
+    run = run;
+    has = has_it b stands;
+    carries = each_done_has_its_pair o.devices o.limits o.far o.silence
+        (map Whole (earlier ++ calls)) (answered ++ replies) b run;
+    in_order = (runs_sound (opened_with o) b (earlier ++ calls) (answered ++ replies) run
+        (opened_sound o.devices o.limits o.far o.silence)).fits.takings_are;
+  }
 
   pub claim_holds : IsRun facts o p → OpensWell o → Claim facts o [] [] p
   unfolding IsRun

@@ -1,5 +1,7 @@
 pub mod Replaying
-pub mod CallsSound
+pub mod PieceLemmas
+pub mod LedgerSteps
+pub mod LedgerRuns
 pub mod CallLemmas
 pub mod Filters
 pub mod TurnLemmas
@@ -21,8 +23,4 @@ pub mod CleanTurns
 pub mod Served
 pub mod CleanLevel
 pub mod Crosses
-pub mod Apart
-pub mod OwnedLists
-pub mod OwnedRuns
 pub mod Claims
-pub mod WithoutIsdu

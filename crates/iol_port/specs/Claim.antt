@@ -1,13 +1,13 @@
 -- The claim, in one record: what those who use a port may rely on over a lossy line.
 use Rattle.std.specs.Prelude.{◌≡◌, List, ◌++◌, map}
 use Rattle.iol_far.specs.Far.{output_of}
+use Rattle.iol_book.specs.Takings.{takings}
 use Rattle.iol_link.specs.WireFacts.{WireFacts}
 use Rattle.iol_app.specs.StationState.{wire_of}
 use Rattle.iol_port.specs.declared.call.Call.{Call}
 use Rattle.iol_port.specs.declared.call.Answered.{Answered}
-use Rattle.iol_port.specs.Run.{PortState, Piece, Whole, Run, opened}
-use Rattle.iol_port.specs.Sound.{RecordFits, allowance_of}
-use Rattle.iol_port.specs.Owned.{Owned, CarriesOut}
+use Rattle.iol_port.specs.Run.{PortState, Whole, Run, opened}
+use Rattle.iol_port.specs.CarriesOut.{CarriesOut}
 use Rattle.iol_port.specs.View.{Parts, Opening}
 
 -- the abstract port with which a port begins
@@ -30,7 +30,8 @@ module _ {W : Type 0} (facts : WireFacts W) where
   -- All calls since the opening, these the last of them, with what each answered are a run of an
   -- abstract port, which has what is there. The device carried out only whole requests of these
   -- calls, each at most once, in the order taken; and each Done tells its answer to that very
-  -- request. Otherwise is only what the allowance says, which is none at a port for any device.
+  -- request. Otherwise is only what the allowance says, which is none at a port for any device. The
+  -- journal has the requests that were taken since it began.
   -- PORT-4, BOOK-10
   pub record Claim (o : Opening W) (calls : List Call) (replies : List Answered) (p : Parts W) :
       Type 0 where
@@ -39,8 +40,7 @@ module _ {W : Type 0} (facts : WireFacts W) where
     pub port : PortState
     pub run : Run (opened_with o) (earlier ++ calls) (answered ++ replies) port
     pub has : Has port p
-    pub owned : List Owned
     pub carries :
-        CarriesOut (allowance_of (opened_with o).terms) o.limits.given o.far.carried
-        (map Whole (earlier ++ calls)) (answered ++ replies) port.session.carried owned
-    pub in_order : RecordFits port
+        CarriesOut (opened_with o) (map Whole (earlier ++ calls)) (answered ++ replies) port
+    pub in_order :
+        takings port.book.journal ≡ map (λ account. account.taking) port.ledger.accounts

@@ -10,7 +10,7 @@ use Rattle.iol_port.specs.declared.call.Call.TheVariants as call
 use Rattle.iol_port.specs.declared.call.Answered.{Answered}
 use Rattle.iol_port.specs.declared.call.Answered.TheVariants as answered
 use Rattle.iol_port.specs.Run.{PortState, Piece, Whole, Pieces, opened}
-use Rattle.iol_port.specs.Owned.{Happens}
+use Rattle.iol_port.specs.CarriesOut.{Happens}
 use Rattle.iol_mode.specs.declared.configuration.Devices.{Devices}
 
 -- in no run of a port that is opened, across losses, restarts and archives, does a

@@ -12,7 +12,8 @@ pub mod Promises
 pub mod Replies
 pub mod Turns
 pub mod Clean
-pub mod Owned
+pub mod Ledger
+pub mod CarriesOut
 pub mod Claim
 pub mod Denials
 pub mod CorePort

@@ -13,7 +13,7 @@ use Rattle.iol_port.specs.declared.call.Call.TheVariants as call
 use Rattle.iol_port.specs.declared.call.Answered.{Answered}
 use Rattle.iol_port.specs.declared.call.Answered.TheVariants as answered
 use Rattle.iol_port.specs.Run.{PortState, TurnOf, SendOf, ReceiveOf, Piece, Whole, PieceOf, Pieces, Run, opened}
-use Rattle.iol_port.specs.Sound.{IsSound, RecordFits}
+use Rattle.iol_port.specs.Sound.{IsSound}
 use Rattle.iol_mode.specs.declared.configuration.Devices.{Devices}
 
 -- a port that is opened is sound
@@ -31,10 +31,6 @@ abbrev pub PiecesSound : Type 0
 PiecesSound =
     (a b : PortState) (pieces : List Piece) (replies : List Answered) → Pieces a pieces replies b
     → IsSound a → IsSound b
-
--- of a sound port the record fits the journal
-abbrev pub SoundFits : Type 0
-SoundFits = (a : PortState) → IsSound a → RecordFits a
 
 -- a turn that begins in OPERATE and brings a good reply ends in OPERATE
 abbrev pub GoodLinkStays : Type 0

@@ -1,70 +1,94 @@
--- What every call of the abstract port keeps: the journal says where each ticket
--- stands, and the device's record fits it.
-use Rattle.std.specs.Prelude.{◌≡◌, ◌≤◌, ◌⊎◌, ℕ, false, List, [], ◌∷◌, ◌++◌, drop, length, map, Option, Some, None}
+-- What every call of the abstract port keeps: the journal says where each ticket stands, and the
+-- device's record is that of the ledger, which fits what the journal says.
+use Rattle.std.specs.Prelude.{◌≡◌, ◌≤◌, ◌+◌, ◌⊎◌, ℕ, Bool, true, false, List, [], ◌∷◌, ◌++◌, map, Option, Some, None, IsTrue, cond, nat_lt}
 use Rattle.iol_isdu.specs.declared.values.Request.{Request}
 use Rattle.iol_isdu.specs.declared.values.Answer.{Answer}
 use Rattle.iol_isdu.specs.declared.values.Cause.{Cause}
-use Rattle.iol_far.specs.declared.carried.Carried.{Carried}
-use Rattle.iol_book.specs.declared.entries.Entry.{Entry}
-use Rattle.iol_book.specs.declared.entries.Outcome.TheVariants as outcome
+use Rattle.iol_book.specs.declared.entries.Outcome.{Outcome}
+use Rattle.iol_book.specs.declared.entries.Outcome.TheVariants.{Unknown, Withdrawn, NoIsdu}
 use Rattle.iol_book.specs.declared.entries.Ticket.{Ticket}
-use Rattle.iol_book.specs.BookModel.{BookState, IsReplayed}
-use Rattle.iol_book.specs.Takings.{Taking, Allowance, ended, AreAgain, FitsTakings, FitsEnded, FitsJournal}
-use Rattle.iol_steps.specs.Step.{Terms, may_repeat, may_misread}
+use Rattle.iol_book.specs.Numbers.{times_in}
+use Rattle.iol_book.specs.BookModel.{BookState, IsReplayed, leaves_unsure}
+use Rattle.iol_book.specs.Takings.{takings}
 use Rattle.iol_steps.specs.Session.{Job, Session}
-use Rattle.iol_port.specs.Run.{PortState, request_of}
+use Rattle.iol_port.specs.Ledger.{Account, Ledger, Allowance, IsOneOf, HasEnded, Fits, all, allowance_of, pairs_of, times_of}
+use Rattle.iol_port.specs.Run.{PortState}
 
--- the pairs of a record from a place on
-abbrev pub pairs_from : ℕ → List Carried → List (Request × Answer)
-pairs_from base carried = map (λ pair. (pair.request, pair.answer)) (drop base carried)
+-- what is said of each pair of a list
+abbrev pub Each : {K X : Type 0} → (K → X → Type 0) → List (K × X) → Type 0
+Each P [] = Unit {0}
+Each P (pair ∷ pairs) = P pair.0 pair.1 × Each P pairs
 
--- a request under way is in the record with its answer, once it has one
-abbrev pub written : Request → Option Answer → List (Request × Answer)
-written request None = []
-written request (Some answer) = (request, answer) ∷ []
-
--- The record fits the requests that ended. The one under way is in it once it has
--- an answer; a late one, which was cut off last, isn't in it yet. Of one that may be repeated there
--- may be pairs before
-abbrev pub FitsOpen : Allowance → Option Job → Option Request → List Entry
-    → List (Request × Answer) → Type 0
-FitsOpen allowance (Some job) late journal pairs =
-    (earlier : List (Request × Answer)) × (again : List (Request × Answer))
-    × (pairs ≡ earlier ++ again ++ written job.request job.answer)
-    × AreAgain allowance.repeats job.request again × FitsEnded allowance journal earlier
-FitsOpen allowance None (Some request) journal pairs =
-    (earlier : List Taking) × (cause : Cause)
-    × (part : List (Request × Answer)) × (again : List (Request × Answer))
-    × (ended journal ≡ earlier ++ (request, Some (outcome.Unknown cause)) ∷ [])
-    × (pairs ≡ part ++ again) × AreAgain allowance.repeats request again
-    × FitsTakings allowance earlier part
-FitsOpen allowance None None journal pairs = FitsEnded allowance journal pairs
+-- The journal has the takings of the ledger, and the device's record its pairs, in the order taken:
+-- at most one for each request, and exactly one, with its answer, for each that is done; but for
+-- what the allowance is
+-- BOOK-10
+pub record RecordFits (allowance : Allowance) (book : BookState) (session : Session)
+    (ledger : Ledger) : Type 0 where
+  pub takings_are : takings book.journal ≡ map (λ account. account.taking) ledger.accounts
+  pub record_is : session.carried ≡ ledger.before ++ pairs_of (all ledger)
+  pub fit : (account : Account) → IsOneOf account (all ledger) → Fits allowance account
 
 abbrev pub request_taken : Option (Ticket × Request) → Option Request
 request_taken None = None
 request_taken (Some taken) = Some taken.1
 
-pub record Sound (allowance : Allowance) (book : BookState) (s : Session) (base : ℕ) : Type 0 where
-  pub replayed : IsReplayed book
-  -- the request taken is the one under way
-  pub same : request_taken book.standing.taken ≡ request_of s.job
-  -- a request may be late only while that isn't sure, and only where none is under way
-  pub sure : book.unsure ≡ false → s.late ≡ None
-  pub alone : (s.job ≡ None) ⊎ (s.late ≡ None)
-  pub within : base ≤ length s.carried
-  pub fits : FitsOpen allowance s.job s.late book.journal (pairs_from base s.carried)
+-- the answers of a request under way: without one it may be carried out next
+abbrev pub AnswersFit : Bool → Option Answer → List Answer → Type 0
+AnswersFit repeats None answers = (answers ≡ []) ⊎ IsTrue repeats
+AnswersFit repeats (Some answer) [] = ⊥
+AnswersFit repeats (Some answer) (last ∷ earlier) = last ≡ answer
 
--- what the record may have by the device that is there
-abbrev pub allowance_of : Terms → Allowance
-allowance_of terms = record { repeats = may_repeat terms; misreads = may_misread terms }
+-- the request under way is the one that is taken
+pub record IsUnderWay (repeats : Request → Bool) (job : Job) (taken : Option (Ticket × Request))
+    (account : Account) : Type 0 where
+  pub taken_is : taken ≡ Some (account.taking.ticket, job.request)
+  pub request_is : account.taking.request ≡ job.request
+  pub none : account.taking.outcome ≡ None
+  pub answers : AnswersFit (repeats job.request) job.answer account.answers
+
+-- one was cut off, and may be carried out next
+pub record IsLate (repeats : Request → Bool) (request : Request) (account : Account) : Type 0 where
+  pub request_is : account.taking.request ≡ request
+  pub cause : Cause
+  pub cut : account.taking.outcome ≡ Some (Unknown cause)
+  pub unsure : leaves_unsure (Unknown cause) ≡ true
+  pub answers : AnswersFit (repeats request) None account.answers
+
+-- the request under way, or the late one, is the one that was taken last
+abbrev pub IsOpen : (Request → Bool) → Option Job → Option Request → Option (Ticket × Request)
+    → List Account → Type 0
+IsOpen repeats None None taken accounts = taken ≡ None
+IsOpen repeats (Some job) None taken (last ∷ accounts) = IsUnderWay repeats job taken last
+IsOpen repeats None (Some request) taken (last ∷ accounts) =
+    (taken ≡ None) × IsLate repeats request last
+IsOpen repeats job late taken accounts = ⊥
+
+-- an outcome is that of a request that was taken, or of one that never was: withdrawn, or denied at
+-- a device without ISDU
+abbrev pub IsOutcome : Bool → List Account → Ticket → Outcome → Type 0
+IsOutcome isdu accounts ticket Withdrawn = Unit {0}
+IsOutcome isdu accounts ticket NoIsdu = isdu ≡ false
+IsOutcome isdu accounts ticket outcome = HasEnded accounts ticket outcome
+
+-- how often a number stands among the tickets of those that were taken, those that wait, and those
+-- that are still to be given
+abbrev pub times_ever : ℕ → BookState → Ledger → ℕ
+times_ever number book ledger =
+    cond (nat_lt book.last number) 1 0 + times_in number book.standing.urgent
+    + times_in number book.standing.waiting + times_of number (all ledger)
+
+pub record Sound (allowance : Allowance) (book : BookState) (s : Session) (ledger : Ledger) :
+    Type 0 where
+  pub replayed : IsReplayed book
+  pub fits : RecordFits allowance book s ledger
+  pub opens : IsOpen allowance.repeats s.job s.late book.standing.taken ledger.accounts
+  -- a request may be late only while that isn't sure
+  pub sure : book.unsure ≡ false → s.late ≡ None
+  -- each ticket is that of one request, and above those that were given before
+  pub once : (number : ℕ) → times_ever number book ledger ≤ 1
+  pub above : (number : ℕ) → number ≤ ledger.given → times_ever number book ledger ≡ 0
+  pub outcomes : Each (IsOutcome allowance.isdu (all ledger)) book.standing.outcomes
 
 abbrev pub IsSound : PortState → Type 0
-IsSound a = Sound (allowance_of a.terms) a.book a.session a.base
-
--- the record from where the journal begins has, in the order taken, at most one pair
--- for each request taken, and exactly one, with its answer, for each that is done; where the device
--- takes the repeat of a request for another one, more before it
--- BOOK-10
-abbrev pub RecordFits : PortState → Type 0
-RecordFits a =
-    FitsJournal (allowance_of a.terms) a.book.journal (pairs_from a.base a.session.carried)
+IsSound a = Sound (allowance_of a.terms) a.book a.session a.ledger

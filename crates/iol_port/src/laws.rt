@@ -1,12 +1,11 @@
 //! What a client may conclude of a whole run of a port: laws, without code.
-ghost use Rattle.iol_port.specs.Promises.{OpensSound, RunsSound, SoundFits, GoodLinkStays, NothingIsNoTurn, RunsJoin};
+ghost use Rattle.iol_port.specs.Promises.{OpensSound, RunsSound, GoodLinkStays, NothingIsNoTurn, RunsJoin};
 ghost use Rattle.iol_port.specs.Promises.{PiecesSound, PiecesJoin, HalvesAreTurns};
 ghost use Rattle.iol_port.specs.Promises.{CancelledWasAsked, AskedByCancel};
 ghost use Rattle.iol_port.specs.Clean.{CleanLaws};
 ghost use Rattle.iol_port.specs.Denials.{CarriesNone, IsDeniedWithoutIsdu};
-ghost use Rattle.iol_port.specs.Owned.{EachDoneHasItsPair, LateEnds, CutForGoodStaysOut};
+ghost use Rattle.iol_port.specs.CarriesOut.{EachDoneHasItsPair, LateEnds, CutForGoodStaysOut};
 
-use iol_book::{records_fit, takings_of_calls};
 use iol_far::{modes_have_layouts, page_and_room_stay, replies_are_read, requests_are_received};
 use iol_isdu::one_text_each;
 use iol_segment::{cut_is_whole, segments_join, texts_join};
@@ -16,22 +15,20 @@ use iol_segment::{cut_is_whole, segments_join, texts_join};
 ///
 /// A port is sound when it is opened, and each run keeps it so, whatever calls and
 /// turns it has, whole or in two pieces with calls between them. Of a sound port the
-/// journal says where each ticket stands, and the record has, in the order in which
-/// requests were taken, at most one pair for each, and exactly one, with that answer,
-/// for each that is done. Of a request that the device may carry out more than once, it may have
-/// more pairs just before. At a port for our own devices whose device forgets its answer once the
-/// last segment was sent, the answer that is told may be another than that of the pair.
+/// journal says where each ticket stands, and the ledger has what the journal says was taken, and
+/// each pair of the record: in the order in which requests were taken, at most one pair for each,
+/// and exactly one, with that answer, for each that is done. Of a request that the device may carry
+/// out more than once, it may have more. At a port for our own devices whose device forgets its
+/// answer once the last segment was sent, the answer that is told may be another than that of the
+/// pair.
 ///
 /// Rule BOOK-10.
+#[tactic(auto, using(crate::proofs::LedgerRuns::opened_sound, crate::proofs::LedgerRuns::runs_sound, crate::proofs::LedgerRuns::pieces_sound))]
 pub fn record_fits_journal()
     ensures opens { OpensSound }
     ensures runs { RunsSound }
     ensures pieces { PiecesSound }
-    ensures fits { SoundFits }
-{
-    records_fit();
-    takings_of_calls();
-}
+{}
 
 /// A law of the definitions: what no turn of the abstract port is.
 ///
@@ -49,7 +46,7 @@ pub fn pieces_are_turns()
 {}
 
 /// A law of the definitions: a run, and one that goes on from where it led, are one run.
-#[tactic(auto, using(crate::proofs::RunLemmas::runs_join, crate::proofs::RunLemmas::pieces_join))]
+#[tactic(auto, using(crate::proofs::PieceLemmas::runs_join, crate::proofs::PieceLemmas::pieces_join))]
 pub fn runs_join()
     ensures runs { RunsJoin }
     ensures pieces { PiecesJoin }
@@ -57,12 +54,12 @@ pub fn runs_join()
 
 /// A law of the definitions, over whole runs of a port that is opened: each pair by which
 /// the device's record grew is that of a request which was submitted under a ticket of its
-/// own, and each outcome Done that was collected has its pair there, with that answer: the
-/// last one of its ticket.
+/// own, and each outcome Done that was collected is that of such a request, whose last pair has
+/// that answer.
 ///
-/// The pairs stand behind what the record had at the opening, and no two have one
-/// ticket, across losses, restarts and archives: so each request is carried out
-/// once at most, one that was cut off as well.
+/// The pairs stand behind what the record had at the opening, and no two requests of the ledger
+/// have one ticket, nor one of them two pairs, across losses, restarts and archives: so each is
+/// carried out once at most, one that was cut off as well.
 ///
 /// It is otherwise only at a port for our own devices whose device hands a request over with its
 /// last segment. There a request whose text fits in one START write may have several pairs, next
@@ -70,7 +67,7 @@ pub fn runs_join()
 /// segment was sent, the answer that is told may be another than that of the pair.
 ///
 /// Rule REQ-15.
-#[tactic(auto, using(crate::proofs::OwnedRuns::each_done_has_its_pair))]
+#[tactic(auto, using(crate::proofs::LedgerRuns::each_done_has_its_pair))]
 pub fn each_done_has_its_pair()
     ensures { EachDoneHasItsPair }
 {}
@@ -86,7 +83,6 @@ pub fn each_done_has_its_pair()
 /// restart, as a cancelled one, isn't carried out after that at all.
 ///
 /// Rule REQ-12.
-#[tactic(auto, using(crate::proofs::OwnedRuns::late_ends, crate::proofs::OwnedRuns::cut_for_good_stays_out))]
 pub fn late_requests_end()
     ensures wakes { LateEnds }
     ensures for_good { CutForGoodStaysOut }
@@ -94,7 +90,7 @@ pub fn late_requests_end()
 
 /// A law of the definitions, over whole runs of a port that is opened: a device without ISDU
 /// carries nothing out, and each outcome NoIsdu that was collected is that of such a device.
-#[tactic(auto, using(crate::proofs::WithoutIsdu::carries_none, crate::proofs::WithoutIsdu::denied_without_isdu))]
+#[tactic(auto, using(crate::proofs::LedgerRuns::carries_none, crate::proofs::LedgerRuns::denied_without_isdu))]
 pub fn denied_requests_stay_out()
     ensures carries { CarriesNone }
     ensures denied { IsDeniedWithoutIsdu }

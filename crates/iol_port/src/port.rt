@@ -27,7 +27,7 @@ ghost use Rattle.iol_port.specs.Replies.{ticket_reply, nothing_reply};
 use crate::copies::{copy_of_image, copy_of_request};
 use crate::laws::clean_laws;
 use crate::port_core::PortCore;
-use crate::{Answered, Call, Counters, Counting, PortFault, record_fits_journal};
+use crate::{Answered, Call, Counters, Counting, PortFault};
 use iol_app::{Asked, Status};
 use iol_book::{BookFault, Entry, Limits, Outcome, Ticket};
 use iol_cell::{Handle, ImageWriter};
@@ -431,7 +431,6 @@ impl<W: Wire, A: Handle> Port<W, A> {
         ensures unchanged { IfErr result (λ _. self.new ≡ self.old) }
     {
         self.keeps_record();
-        record_fits_journal();
         clean_laws();
         let Ok(mut replies) = Vec::with_capacity(alloc, calls.len()) else {
             return Err(PortFault::Book(BookFault::OutOfMemory));
@@ -520,7 +519,6 @@ impl<W: Wire, A: Handle> Port<W, A> {
         ensures record_fits { OpensWell self.now.opening → KeepsRecord W.facts self.now.parts }
         ensures level { OpensWell self.now.opening → IsLevelBetween W.facts self.now.parts }
     {
-        record_fits_journal();
         self.core.keeps_record();
     }
 

@@ -29,7 +29,7 @@ use crate::PortFault;
 use crate::awaited::Awaited;
 use crate::call::Counting;
 use crate::counters::Counters;
-use crate::laws::{clean_laws, record_fits_journal};
+use crate::laws::clean_laws;
 use crate::settle::{KEPT, ROOM, begin_next, by_book, by_output, lacks_isdu, resets, settle};
 use arrayvec::ArrayVec;
 use iol_app::{Asked, Brought, Core, Status};
@@ -519,7 +519,6 @@ impl<A: Allocator + Copy> PortCore<A> {
         ensures replayed { IsReplayed self.now.book.state }
         ensures record_fits { CoreKeeps self.now }
     {
-        record_fits_journal();
         let _ = self.book.journal();
     }
 

@@ -1,16 +1,10 @@
-//! Tests of a book: laws, and memory refused in turn. What it answers to a thousand lists of calls
-//! is in `tests/books`.
+//! Tests of a book: memory refused in turn. What it answers to a thousand lists of calls is in
+//! `tests/books`.
 use crate::limits::LIMITS;
-use iol_book::{Book, BookFault, Entry, Ticket, records_fit, takings_of_calls};
+use iol_book::{Book, BookFault, Entry, Ticket};
 use iol_cell::Handle;
 use iol_isdu::{Place, Request};
 use refusing_alloc::{Refusal, RefusingAlloc};
-
-#[test]
-fn laws_speak_of_each_journal() {
-    takings_of_calls();
-    records_fit();
-}
 
 fn read() -> Request {
     Request::Read(Place { index: 16, sub: 0 })

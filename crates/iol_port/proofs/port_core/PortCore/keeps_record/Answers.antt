@@ -5,5 +5,5 @@ use Rattle.iol_port.proofs.port_core.PortCore.keeps_record.Goals as goal
 
 pub returns-clause-record_fits : goal.returns-clause-record_fits
 returns-clause-record_fits g c far n a stands sound =
-    let keeps = sound_keeps (at_end far n) c.record_fits_journal.ensures.fits _ a stands sound in
+    let keeps = sound_keeps (at_end far n) _ a stands sound in
     (keeps, level_kept (at_end far n) _ keeps)

@@ -1,0 +1,480 @@
+-- The ledger of a whole run: it stays sound, its requests were submitted in the run, and none that
+-- was cut off before a reset of the device, or for good, has more answers then.
+use Rattle.std.proofs.Common.{◌≡◌, ◌⊎◌, ◌∷◌, ◌++◌, [], List, ℕ, ◌+◌, ◌≤◌, true, false, Option, Some, None, append-nil, refl, sym, ap, ◌∙◌, inl, inr, subst, arith}
+use Rattle.std.proofs.lemmas.Bool.{eq-eqb}
+use Rattle.std.proofs.lemmas.Bool.Decides.{nat_tests}
+use Rattle.std.proofs.lemmas.Grind.{common_steps}
+use Rattle.iol_isdu.specs.declared.values.Request.{Request}
+use Rattle.iol_isdu.specs.declared.values.Cause.{Cause}
+use Rattle.iol_isdu.specs.declared.values.Cause.TheVariants.{Restarted}
+use Rattle.iol_book.specs.declared.entries.Ticket.{Ticket}
+use Rattle.iol_book.specs.declared.entries.Entry.{Entry}
+use Rattle.iol_book.specs.declared.entries.Entry.TheVariants.{Submitted, Collected, Withdrawn, Urgent}
+use Rattle.iol_book.specs.declared.entries.Outcome.{Outcome}
+use Rattle.iol_book.specs.declared.entries.Outcome.TheVariants as outcome
+use Rattle.iol_book.specs.Replay.{Standing, same_ticket, request_waiting, without, others_without}
+use Rattle.iol_book.specs.BookModel.{BookState, entered, next_ticket, next_taken, posted}
+use Rattle.iol_book.specs.Takings.{takings, takings_after, first_with}
+use Rattle.iol_steps.specs.Step.{Step, Take, Deny, Carry, Done, Unknown, LateCarry, Moment}
+use Rattle.iol_steps.specs.Session.{Job, Session, MaySession, session_after}
+use Rattle.iol_steps.specs.Kinds.{restart_steps}
+use Rattle.iol_port.specs.declared.call.Call.TheVariants as call
+use Rattle.iol_port.specs.declared.call.Answered.{Answered}
+use Rattle.iol_port.specs.declared.call.Answered.TheVariants as answered
+use Rattle.iol_port.specs.Ledger.{Account, Ledger, all, pairs_of, answered as answer_more, settled, ledger_after, ledger_through, IsOneOf, Fits, HasEnded, allowance_of, times_of}
+use Rattle.iol_port.specs.Steps.{ticket_of, MayBook, book_after, book_through}
+use Rattle.iol_port.specs.Run.{PortState, Piece, Whole, PieceOf, Pieces, opened, request_of}
+use Rattle.iol_port.specs.Sound.{Each, IsOutcome, IsSound, times_ever}
+use Rattle.iol_port.specs.CarriesOut.{CarriesOut, IsSubmitted, IsCutOff, Happens, EachDoneHasItsPair, LeavesOut, IsBelow, LateEnds, CutForGoodStaysOut}
+use Rattle.iol_port.specs.Denials.{CarriesNone, IsDeniedWithoutIsdu}
+use Rattle.iol_port.specs.Promises.{OpensSound, PiecesSound, RunsSound}
+use Rattle.iol_port.proofs.PieceLemmas.{Did, Stays, Submits, Urges, Collects, Withdraws, Cancels, Restarts, Archives, Moves, piece_did, told_outcome, pieces_join}
+use Rattle.iol_port.proofs.Replaying.{entered_replayed, entered_takings, free_archive, next_is, next_ticket_is, steps_keep}
+use Rattle.iol_port.proofs.LedgerSteps.{each_removed, each_push, each_inserted, each_looked, waiting_push, waiting_left, counted, go_on_then, go_on_each, outcome_on, closed, closed_of, closed_has, Goes, goes_then, goes_itself, goes_book, marked_goes, restart_goes, archive_goes, step_goes}
+
+-- The pieces
+
+-- the one port leads on to the other
+pub record Leads (a b : PortState) : Type 0 where
+  pub terms_are : allowance_of b.terms ≡ allowance_of a.terms
+  pub goes : Goes (allowance_of a.terms) a.session a.ledger b.book b.session b.ledger
+
+leads_then : {a b c : PortState} → Leads a b → Leads b c → Leads a c
+leads_then one two = record {
+  terms_are = two.terms_are ∙ one.terms_are;
+  goes = goes_then one.goes (rw one.terms_are at two.goes);
+}
+
+leads_sound : {a b : PortState} → Leads a b → IsSound b
+leads_sound leads = rw leads.terms_are leads.goes.sound
+
+-- one more entry, which takes none
+entry_goes : (a : PortState) (e : Entry) {last : ℕ}
+    → takings_after a.book.standing e (takings a.book.journal) ≡ takings a.book.journal
+    → (entered a.book e).standing.taken ≡ a.book.standing.taken
+    → ((n : ℕ) → times_ever n (record (entered a.book e) { last = last }) a.ledger
+    ≤ times_ever n a.book a.ledger)
+    → Each (IsOutcome (allowance_of a.terms).isdu (all a.ledger))
+    (entered a.book e).standing.outcomes → IsSound a
+    → Goes (allowance_of a.terms) a.session a.ledger (record (entered a.book e) { last = last })
+    a.session a.ledger
+entry_goes a e none taken fewer outcomes sound =
+    goes_book (entered_replayed a.book e sound.replayed) taken refl
+    (entered_takings a.book e sound.replayed ∙ none) fewer outcomes sound
+
+piece_leads : (a b : PortState) (c : Piece) (reply : Answered) → PieceOf a c reply b → IsSound a
+    → Leads a b
+piece_leads a b c reply is sound = by b (piece_did a b c reply is)
+  where
+    open a.book.standing use {urgent, waiting, outcomes}
+
+    Stands : Ticket → Outcome → Type 0
+    Stands t out = IsOutcome (allowance_of a.terms).isdu (all a.ledger) t out
+
+    by : (b : PortState) → Did a c reply b → Leads a b
+    by _ (Submits q e told) = let t : Ticket = next_ticket a.book in record {
+      terms_are = refl;
+      goes = entry_goes a (Submitted t q) refl refl
+          (λ n. grind (arith, nat_tests, waiting_push n waiting (t, q))) sound.outcomes sound;
+    }
+    by _ (Urges q e told) = let t : Ticket = next_ticket a.book in record {
+      terms_are = refl;
+      goes = entry_goes a (Urgent t q) refl refl
+          (λ n. grind (arith, nat_tests, waiting_push n urgent (t, q))) sound.outcomes sound;
+    }
+    by _ (Collects t is) = rw is record {
+      terms_are = refl;
+      goes = entry_goes a (Collected t) refl refl (λ n. omega arith)
+          (each_removed Stands (same_ticket t) outcomes sound.outcomes) sound;
+    }
+    by _ (Withdraws t is) = rw is record {
+      terms_are = refl;
+      goes = entry_goes a (Withdrawn t) refl refl
+          (λ n. omega (arith, waiting_left n t a.book.standing))
+          (each_inserted Stands outcomes t outcome.Withdrawn tt sound.outcomes) sound;
+    }
+    by _ (Cancels t e r) = record {
+      terms_are = refl;
+      goes = marked_goes a.session a.session.job a.session.late a.ledger a.ledger.accounts sound;
+    }
+    by _ Restarts = record {
+      terms_are = refl;
+      goes = restart_goes a.session a.session.job a.session.late a.ledger a.ledger.accounts sound;
+    }
+    by _ (Archives may) = record {
+      terms_are = refl;
+      goes = archive_goes a.session a.session.job a.session.late a.ledger a.ledger.accounts
+          (free_archive a.book may) sound;
+    }
+    by _ (Moves m steps w) = rw (w.book, w.session, w.ledger) record {
+      terms_are = ap allowance_of w.terms;
+      goes = rw w.at at (steps_keep (Goes (allowance_of m.terms) a.session a.ledger) m
+          (λ step d s l next may g. goes_then g (step_goes m step d s s.job s.late l l.accounts next
+          may g.sound))
+          steps a.book a.session a.ledger w.may_book w.may_session (goes_itself (rw w.at sound)));
+    }
+    by _ (Stays kept images expected) = record { terms_are = refl; goes = goes_itself sound }
+
+-- A run, and what was told in it
+
+run_leads : (a b : PortState) (pieces : List Piece) (replies : List Answered)
+    → Pieces a pieces replies b → IsSound a
+    → Leads a b × ((t : Ticket) (out : Outcome)
+    → Happens pieces replies (Whole (call.Collect t)) (answered.Outcome out)
+    → IsOutcome (allowance_of a.terms).isdu (all b.ledger) t out)
+run_leads a b [] [] run sound =
+    (rw run (record { terms_are = refl; goes = goes_itself sound }), λ t out no. absurd no)
+run_leads a b (c ∷ pieces) (reply ∷ replies) (mid, first, rest) sound =
+    let one = piece_leads a mid c reply first sound in
+    let (more, told) = run_leads mid b pieces replies rest (leads_sound one) in (
+      leads_then one more,
+      λ t out happens. elim happens [
+        | inl is ↦ outcome_on _ (go_on_then one.goes.on more.goes.on) t out
+            (each_looked _ a.book.standing.outcomes t out
+            (told_outcome a mid t out (rw (is.0, is.1) at first)) sound.outcomes)
+        | inr later ↦ subst (λ isdu. IsOutcome isdu (all b.ledger) t out)
+            (ap (λ x. x.isdu) one.terms_are) (told t out later)
+      ],
+    )
+run_leads a b _ _ run sound = absurd run
+
+pub pieces_sound : PiecesSound
+pieces_sound a b pieces replies run sound = leads_sound (run_leads a b pieces replies run sound).0
+
+pub runs_sound : RunsSound
+runs_sound a b calls replies run sound = pieces_sound a b _ replies run sound
+
+pub opened_sound : OpensSound
+opened_sound devices limits far silence = record {
+  replayed = refl;
+  fits = record {
+    takings_are = refl;
+    record_is = sym (append-nil far.carried);
+    fit = λ account i. absurd i;
+  };
+  opens = refl;
+  sure = λ _. refl;
+  once = λ n. grind (arith, nat_tests);
+  above = λ n low. grind (arith, nat_tests);
+  outcomes = tt;
+}
+
+-- What waits or was taken was submitted
+
+abbrev Asked : (Ticket → Request → Type 0) → BookState → Ledger → Type 0
+Asked P b l = Each P b.standing.urgent × Each P b.standing.waiting
+    × ((x : Account) → IsOneOf x (all l) → P x.taking.ticket x.taking.request)
+
+module _ (P : Ticket → Request → Type 0) where
+  -- the request of a ticket waits no longer
+  asked_left : (t : Ticket) (s : Standing) → Each P s.urgent × Each P s.waiting
+      → Each P (without t s.urgent) × Each P (others_without t s.urgent s.waiting)
+  asked_left t s asked = grind (arith, each_removed P (same_ticket t))
+
+  asked_next : (s : Standing) (t : Ticket) (q : Request) → next_taken s ≡ Some (t, q)
+      → Each P s.urgent × Each P s.waiting → P t q
+  asked_next s t q next asked =
+      let found : request_waiting s t ≡ Some q = (next_is s t q next).found in
+      grind (arith, common_steps, each_looked P s.urgent t q, each_looked P s.waiting t q)
+
+  -- the account that is first has another outcome, or more answers
+  asked_first : (change : Account → Account)
+      → ((x : Account) → ((change x).taking.ticket ≡ x.taking.ticket)
+      × ((change x).taking.request ≡ x.taking.request))
+      → (xs ys : List Account)
+      → ((x : Account) → IsOneOf x (xs ++ ys) → P x.taking.ticket x.taking.request)
+      → (x : Account) → IsOneOf x (first_with change xs ++ ys) → P x.taking.ticket x.taking.request
+  asked_first change same [] ys asked x i = asked x i
+  asked_first change same (y ∷ xs) ys asked x (inl is) = subst
+      (λ z. P z.taking.ticket z.taking.request) is
+      (rw (same y).0 (rw (same y).1 (asked y (inl refl))))
+  asked_first change same (y ∷ xs) ys asked x (inr i) = asked x (inr i)
+
+  asked_ended : (out : Outcome) (b : BookState) (l : Ledger) → Asked P b l
+      → Asked P (posted b out) (record l { accounts = first_with (settled out) l.accounts })
+  asked_ended out b l (urgent, waiting, taken) = (
+    grind (arith, common_steps),
+    grind (arith, common_steps),
+    asked_first (settled out) (λ x. (refl, refl)) l.accounts l.archived taken,
+  )
+
+  asked_step : (m : Moment) (step : Step) (b : BookState) (s : Session) (l : Ledger)
+      → MayBook step b → MaySession m step s → Asked P b l
+      → Asked P (book_after step b) (ledger_after step l)
+  asked_step m (Take t q) b s l next may (urgent, waiting, taken) =
+      let is = next_is b.standing (ticket_of t) q next in
+      let left = asked_left (ticket_of t) b.standing (urgent, waiting) in
+      rw (is.urgent, is.others) (
+        left.0,
+        left.1,
+        λ x i. elim i [
+          | inl same ↦ subst (λ z. P z.taking.ticket z.taking.request) same
+              (asked_next b.standing (ticket_of t) q next (urgent, waiting))
+          | inr i ↦ taken x i
+        ],
+      )
+  asked_step m (Deny t) b s l head may (urgent, waiting, taken) =
+      let (q, next) = next_ticket_is (next_taken b.standing) (ticket_of t) head in
+      let is = next_is b.standing (ticket_of t) q next in
+      let left = asked_left (ticket_of t) b.standing (urgent, waiting) in
+      rw (is.urgent, is.others) (left.0, left.1, taken)
+  asked_step m (Carry a) b s l next may (urgent, waiting, taken) =
+      (urgent, waiting, asked_first (answer_more a) (λ x. (refl, refl)) l.accounts l.archived taken)
+  asked_step m (LateCarry a) b s l next may (urgent, waiting, taken) =
+      (urgent, waiting, asked_first (answer_more a) (λ x. (refl, refl)) l.accounts l.archived taken)
+  asked_step m (Done a) b s l next may asked = asked_ended (outcome.Done a) b l asked
+  asked_step m (Unknown cause) b s l next may asked =
+      asked_ended (outcome.Unknown cause) b l asked
+  asked_step m _ b s l next may asked = asked
+
+  asked_piece : (a b : PortState) (c : Piece) (reply : Answered) → PieceOf a c reply b
+      → ((t : Ticket) (q : Request) → reply ≡ answered.Ticket t
+      → (c ≡ Whole (call.Submit q)) ⊎ (c ≡ Whole (call.SubmitUrgent q)) → P t q)
+      → Asked P a.book a.ledger → Asked P b.book b.ledger
+  asked_piece a b c reply is submits (asked_urgent, asked_waiting, taken) =
+      by b (piece_did a b c reply is)
+    where
+      open a.book.standing use {urgent, waiting}
+
+      t : Ticket
+      t = next_ticket a.book
+
+      cut : (job : Option Job)
+          → Asked P (book_through (restart_steps (request_of job)) a.book)
+          (ledger_through (restart_steps (request_of job)) a.ledger)
+      cut None = (asked_urgent, asked_waiting, taken)
+      cut (Some job) = asked_ended (outcome.Unknown Restarted) a.book a.ledger
+          (asked_urgent, asked_waiting, taken)
+
+      by : (b : PortState) → Did a c reply b → Asked P b.book b.ledger
+      by _ (Submits q e told) =
+          (asked_urgent, each_push P waiting t q (submits t q told (inl e)) asked_waiting, taken)
+      by _ (Urges q e told) =
+          (each_push P urgent t q (submits t q told (inr e)) asked_urgent, asked_waiting, taken)
+      by _ (Collects k is) = rw is (asked_urgent, asked_waiting, taken)
+      by _ (Withdraws k is) =
+          let left = asked_left k a.book.standing (asked_urgent, asked_waiting) in
+          rw is (left.0, left.1, taken)
+      by _ Restarts = cut a.session.job
+      by _ (Moves m steps w) = rw (w.book, w.ledger) (steps_keep (λ d s l. Asked P d l) m
+          (λ step d s l next may. asked_step m step d s l next may) steps a.book a.session a.ledger
+          w.may_book w.may_session (asked_urgent, asked_waiting, taken))
+      by _ _ = (asked_urgent, asked_waiting, taken)
+
+asked_run : (pieces more : List Piece) (replies others : List Answered) (a b : PortState)
+    → Pieces a more others b
+    → ((c : Piece) (r : Answered) → Happens more others c r → Happens pieces replies c r)
+    → Asked (IsSubmitted pieces replies) a.book a.ledger
+    → Asked (IsSubmitted pieces replies) b.book b.ledger
+asked_run pieces [] replies [] a b run are asked = rw run asked
+asked_run pieces (c ∷ more) replies (r ∷ others) a b (mid, first, rest) are asked =
+    asked_run pieces more replies others mid b rest (λ d x i. are d x (inr i))
+    (asked_piece (IsSubmitted pieces replies) a mid c r first (λ t q told is. elim is [
+      | inl e ↦ inl (are _ _ (inl (e, told)))
+      | inr e ↦ inr (are _ _ (inl (e, told)))
+    ]) asked)
+asked_run pieces _ replies _ a b run are asked = absurd run
+
+-- The laws
+
+pub each_done_has_its_pair : EachDoneHasItsPair
+each_done_has_its_pair devices limits far silence pieces replies b run =
+    let from = opened devices limits far silence in
+    let sound = opened_sound devices limits far silence in
+    let (leads, told) = run_leads from b pieces replies run sound in
+    let goes = leads.goes in
+    record {
+      record_is = goes.sound.fits.record_is ∙ ap (λ c. c ++ pairs_of (all b.ledger)) goes.same.1;
+      once = λ n. omega (arith, goes.sound.once n);
+      above = λ n low. omega (arith, goes.sound.above n (rw goes.same.0 low));
+      fits = goes.sound.fits.fit;
+      asked = (asked_run pieces pieces replies replies from b run (λ c r i. i)
+          (tt, tt, λ x i. absurd i)).2;
+      done = λ t answer happens. told t (outcome.Done answer) happens;
+    }
+
+-- a number that stands once is that of one account
+times_first : (n : ℕ) (y : Account) (xs : List Account)
+    → times_of n (y ∷ xs) ≡ counted n y.taking.ticket.0 + times_of n xs
+times_first n y xs = grind (arith, common_steps)
+
+counted_same : (n m : ℕ) → n ≡ m → counted n m ≡ 1
+counted_same n m is = rw (eq-eqb n m is) refl
+
+is_there : (x : Account) (xs : List Account) → IsOneOf x xs
+    → 1 ≤ times_of x.taking.ticket.0 xs
+is_there x [] i = absurd i
+is_there x (y ∷ xs) (inl is) =
+    let n : ℕ = x.taking.ticket.0 in
+    let here = counted_same n y.taking.ticket.0 (ap (λ a. a.taking.ticket.0) (sym is)) in
+    omega (arith, times_first n y xs, here)
+is_there x (y ∷ xs) (inr i) =
+    omega (arith, times_first x.taking.ticket.0 y xs, is_there x xs i)
+
+twice : (z : Account) (xs : List Account) (y : Account) → ((n : ℕ) → times_of n (z ∷ xs) ≤ 1)
+    → IsOneOf y xs → z.taking.ticket.0 ≡ y.taking.ticket.0 → ⊥
+twice z xs y once j is =
+    let n : ℕ = y.taking.ticket.0 in
+    omega (
+      arith,
+      once n,
+      times_first n z xs,
+      is_there y xs j,
+      counted_same n z.taking.ticket.0 (sym is),
+    )
+
+one_each : (xs : List Account) (x y : Account) → ((n : ℕ) → times_of n xs ≤ 1)
+    → IsOneOf x xs → IsOneOf y xs → x.taking.ticket ≡ y.taking.ticket → x ≡ y
+one_each [] x y once i j same = absurd i
+one_each (z ∷ xs) x y once (inl is) (inl also) same = sym is ∙ also
+one_each (z ∷ xs) x y once (inr i) (inr j) same =
+    one_each xs x y (λ n. omega (arith, once n, times_first n z xs)) i j same
+one_each (z ∷ xs) x y once (inl is) (inr j) same = absurd (twice z xs y once j
+    (ap (λ a. a.taking.ticket.0) is ∙ ap (λ t. t.0) same))
+one_each (z ∷ xs) x y once (inr i) (inl also) same = absurd (twice z xs x once i
+    (ap (λ a. a.taking.ticket.0) also ∙ ap (λ t. t.0) (sym same)))
+
+leaves_out : (IsOut : Ticket → Type 0) (a c : PortState) → Leads a c
+    → ((t : Ticket) → IsOut t
+    → (y : Account) × IsOneOf y (closed a.session a.ledger) × (y.taking.ticket ≡ t))
+    → LeavesOut a c IsOut
+leaves_out IsOut a c leads find = record {
+  go_on = leads.goes.on;
+  left_out = λ x i out.
+      let (y, j, same) = find x.taking.ticket out in
+      let k = closed_of c.session c.ledger y (leads.goes.stays y j) in
+      let is = one_each (all c.ledger) y x (λ n. omega (arith, leads.goes.sound.once n)) k i same in
+      subst (λ z. IsOneOf z (all a.ledger)) is (closed_of a.session a.ledger y j);
+}
+
+-- what was cut off by the end of a run has ended so
+cut_ended : (a b : PortState) (pieces : List Piece) (replies : List Answered)
+    → Pieces a pieces replies b → IsSound a → (t : Ticket) (cause : Cause)
+    → IsCutOff pieces replies b t cause → HasEnded (all b.ledger) t (outcome.Unknown cause)
+cut_ended a b pieces replies run sound t cause (inl happens) =
+    (run_leads a b pieces replies run sound).1 t (outcome.Unknown cause) happens
+cut_ended a b pieces replies run sound t cause (inr is) =
+    let now = pieces_sound a b pieces replies run sound in
+    each_looked _ b.book.standing.outcomes t (outcome.Unknown cause) is
+    now.outcomes
+
+pub cut_for_good_stays_out : CutForGoodStaysOut
+cut_for_good_stays_out devices limits far silence pieces more replies others a c run rest =
+    let from = opened devices limits far silence in
+    let start = opened_sound devices limits far silence in
+    let sound = pieces_sound from a pieces replies run start in (
+      each_done_has_its_pair devices limits far silence (pieces ++ more) (replies ++ others) c
+          (pieces_join from a c pieces more replies others run rest),
+      leaves_out _ a c (run_leads a c more others rest sound).0 (λ t (cause, sure, cut).
+          let (x, i, same, is) = cut_ended from a pieces replies run start t cause cut in (
+            x,
+            closed_has _ a.session.job a.session.late a.book.standing.taken a.ledger
+                a.ledger.accounts sound.opens x i (outcome.Unknown cause) is (inl sure),
+            same,
+          )),
+    )
+
+-- Below the reset of the device, until nothing is late
+
+below_stays : (m : Moment) (step : Step) (s : Session) → IsBelow m.terms.devices s.mode
+    → MaySession m step s
+    → ((session_after step s).late ≡ None) ⊎ IsBelow m.terms.devices (session_after step s).mode
+below_stays m step s below may = grind (arith, common_steps)
+
+-- what had ended at this port has no more answers
+abbrev IsPast : PortState → Session → Ledger → Type 0
+IsPast a s l = (x : Account) → IsOneOf x (all a.ledger) → (out : Outcome)
+    → x.taking.outcome ≡ Some out
+    → (y : Account) × IsOneOf y (closed s l) × (y.taking.ticket ≡ x.taking.ticket)
+
+module _ (a : PortState) (m : Moment) where
+  abbrev Wakes : BookState → Session → Ledger → Type 0
+  Wakes d s l = Goes (allowance_of m.terms) a.session a.ledger d s l
+      × (IsBelow m.terms.devices s.mode ⊎ IsPast a s l)
+
+  wake_step : (step : Step) (d : BookState) (s : Session) (l : Ledger) → MayBook step d
+      → MaySession m step s → Wakes d s l
+      → Wakes (book_after step d) (session_after step s) (ledger_after step l)
+  wake_step step d s l next may (g, left) = (all_goes, by left)
+    where
+      one : Goes (allowance_of m.terms) s l (book_after step d) (session_after step s)
+          (ledger_after step l)
+      one = step_goes m step d s s.job s.late l l.accounts next may g.sound
+
+      all_goes : Goes (allowance_of m.terms) a.session a.ledger (book_after step d)
+          (session_after step s) (ledger_after step l)
+      all_goes = goes_then g one
+
+      by : IsBelow m.terms.devices s.mode ⊎ IsPast a s l
+          → IsBelow m.terms.devices (session_after step s).mode
+          ⊎ IsPast a (session_after step s) (ledger_after step l)
+      by (inr past) = inr (λ x i out is. let (y, j, same) = past x i out is in
+          (y, one.stays y j, same))
+      by (inl below) = elim (below_stays m step s below may) [
+        | inr stays ↦ inl stays
+        | inl none ↦ inr (λ x i out is.
+            let (y, j, goes) = go_on_each all_goes.on x i in (
+              y,
+              closed_has _ (session_after step s).job (session_after step s).late
+                  (book_after step d).standing.taken (ledger_after step l)
+                  (ledger_after step l).accounts one.sound.opens y j out (goes.ends out is)
+                  (inr none),
+              goes.ticket_is,
+            ))
+      ]
+
+-- one that leads on from below the reset had one
+piece_wakes : (a b : PortState) (c : Piece) (reply : Answered) → PieceOf a c reply b
+    → IsBelow a.terms.devices a.session.mode → (IsBelow b.terms.devices b.session.mode → ⊥)
+    → IsSound a → IsPast a b.session b.ledger
+piece_wakes a b c reply is below left sound = by b (piece_did a b c reply is) left
+  where
+    by : (b : PortState) → Did a c reply b → (IsBelow b.terms.devices b.session.mode → ⊥)
+        → IsPast a b.session b.ledger
+    by _ Restarts left = absurd (left (grind (arith, common_steps)))
+    by b (Moves m steps w) left =
+        let (g, ends) = steps_keep (Wakes a m) m (wake_step a m) steps a.book a.session
+        a.ledger w.may_book w.may_session (goes_itself (rw w.at sound), inl (rw w.at below)) in
+        rw (w.session, w.ledger) (elim ends [
+          | inl still ↦ absurd (left (rw (w.terms, w.session) (rw w.at at still)))
+          | inr past ↦ past
+        ])
+    by _ _ left = absurd (left below)
+
+pub late_ends : LateEnds
+late_ends devices limits far silence pieces more piece replies others a b c run resets rest =
+    let from = opened devices limits far silence in
+    let start = opened_sound devices limits far silence in
+    let sound = pieces_sound from a pieces replies run start in
+    let one = piece_leads a b piece answered.Nothing resets.is sound in
+    let past = piece_wakes a b piece answered.Nothing resets.is resets.below resets.up sound in (
+      each_done_has_its_pair devices limits far silence (pieces ++ piece ∷ more)
+          (replies ++ answered.Nothing ∷ others) c (pieces_join from a c pieces (piece ∷ more)
+          replies (answered.Nothing ∷ others) run (b, resets.is, rest)),
+      leaves_out _ b c (run_leads b c more others rest (leads_sound one)).0 (λ t (cause, cut).
+          let (x, i, same, is) = cut_ended from a pieces replies run start t cause cut in
+          let (y, j, also) = past x i (outcome.Unknown cause) is in (y, j, also ∙ same)),
+    )
+
+-- At a device without ISDU none is taken, and at one with ISDU none is denied
+
+pub carries_none : CarriesNone
+carries_none devices limits far silence pieces replies b run none =
+    by (all b.ledger) done.fits done.record_is
+  where
+    done : CarriesOut (opened devices limits far silence) pieces replies b
+    done = each_done_has_its_pair devices limits far silence pieces replies b run
+
+    by : (accounts : List Account)
+        → ((x : Account) → IsOneOf x accounts
+        → Fits (allowance_of (opened devices limits far silence).terms) x)
+        → b.session.carried ≡ far.carried ++ pairs_of accounts → b.session.carried ≡ far.carried
+    by [] fits is = is ∙ append-nil far.carried
+    by (x ∷ accounts) fits is =
+        let known = (fits x (inl refl)).isdu in
+        absurd (let never : true ≡ false = sym known ∙ none in cc)
+
+pub denied_without_isdu : IsDeniedWithoutIsdu
+denied_without_isdu devices limits far silence pieces replies b run ticket happens =
+    (run_leads (opened devices limits far silence) b pieces replies run
+    (opened_sound devices limits far silence)).1 ticket outcome.NoIsdu happens

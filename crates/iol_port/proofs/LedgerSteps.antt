@@ -1,0 +1,662 @@
+-- What each step does to the ledger of a sound port: it stays sound, and its accounts go on.
+use Rattle.std.proofs.Common.{◌≡◌, ◌⊎◌, ◌∷◌, ◌++◌, [], List, ℕ, ◌+◌, Bool, true, false, cond, ◌≤◌, nat_eq, Option, Some, None, append_assoc, append-nil, length, ◌||◌, refl, ap, sym, ◌∙◌, subst, arith, inl, inr, map, drop}
+use Rattle.std.proofs.lemmas.Grind.{common_steps}
+use Rattle.std.specs.Prelude.{IsTrue}
+use Rattle.std.specs.Map.{remove_entry, lookup}
+use Rattle.indexmap.specs.IndexMap.{insert_entry}
+use Rattle.iol_isdu.specs.declared.values.Request.{Request}
+use Rattle.iol_isdu.specs.declared.values.Answer.{Answer}
+use Rattle.iol_isdu.specs.declared.values.Cause.{Cause}
+use Rattle.iol_isdu.specs.declared.values.Cause.TheVariants.{LinkLost, Restarted}
+use Rattle.iol_far.specs.Level.{grown_by}
+use Rattle.iol_book.specs.declared.entries.Ticket.{Ticket}
+use Rattle.iol_book.specs.declared.entries.Outcome.{Outcome}
+use Rattle.iol_book.specs.declared.entries.Outcome.TheVariants as outcome
+use Rattle.iol_book.specs.Numbers.{times_in}
+use Rattle.iol_book.specs.Replay.{Standing, nothing, same_ticket, without, without_waiting}
+use Rattle.iol_book.specs.BookModel.{BookState, IsReplayed, next_taken, took, posted, leaves_unsure}
+use Rattle.iol_book.specs.Takings.{takings, taking_of, first_with, ended}
+use Rattle.iol_steps.specs.Step.{Step, Take, Deny, Carry, Again, Done, Unknown, LateCarry, Start, Reset, Busy, Move, Moment, may_repeat, may_misread}
+use Rattle.iol_steps.specs.Session.{Job, Session, MaySession, session_after, session_through, cut_for, unanswered, marked}
+use Rattle.iol_steps.specs.Kinds.{restart_steps}
+use Rattle.iol_steps.specs.declared.mode.Mode.{Mode}
+use Rattle.iol_steps.specs.declared.mode.Mode.TheVariants.{Down, Startup}
+use Rattle.iol_mode.specs.declared.why.Why.{Why}
+use Rattle.iol_port.specs.Ledger.{Account, Ledger, all, pairs_of, answered, settled, ledger_after, ledger_through, archiving, Allowance, IsOneOf, IsToldAs, EndsAs, Fits, HasEnded, allowance_of}
+use Rattle.iol_port.specs.Steps.{ticket_of, MayBook, book_after, book_through}
+use Rattle.iol_port.specs.Run.{request_of}
+use Rattle.iol_port.specs.Sound.{Each, AnswersFit, IsOpen, IsOutcome, times_ever, Sound}
+use Rattle.iol_port.specs.CarriesOut.{GoesOn, LastGoesOn, GoOn}
+use Rattle.iol_port.proofs.Replaying.{told_for, LeavesWaiting, next_is, next_ticket_is, took_replayed, took_takings, denied_replayed, denied_takings, posted_replayed, posted_takings}
+
+-- What is said of each pair of a list
+
+pub each_removed : {K X : Type 0} (P : K → X → Type 0) (test : K → Bool) (es : List (K × X))
+    → Each P es → Each P (remove_entry test es)
+each_removed P test [] each = tt
+each_removed P test (e ∷ es) each = grind (arith, each_removed P test es)
+
+pub each_more : {K X : Type 0} {P Q : K → X → Type 0} (es : List (K × X))
+    → ((k : K) (x : X) → P k x → Q k x) → Each P es → Each Q es
+each_more [] more each = tt
+each_more (e ∷ es) more each = (more e.0 e.1 each.0, each_more es more each.1)
+
+pub each_push : {K X : Type 0} (P : K → X → Type 0) (es : List (K × X)) (k : K) (x : X) → P k x
+    → Each P es → Each P (es ++ (k, x) ∷ [])
+each_push P [] k x this each = (this, tt)
+each_push P (e ∷ es) k x this each = (each.0, each_push P es k x this each.1)
+
+-- the ticket of that number
+pub ticket_is : (t k : Ticket) → same_ticket t k ≡ true → k ≡ t
+ticket_is t k e = grind (arith, common_steps)
+
+-- one that is entered for a ticket, and the one that is found for it
+pub each_inserted : {X : Type 0} (P : Ticket → X → Type 0) (es : List (Ticket × X)) (t : Ticket)
+    (x : X) → P t x → Each P es → Each P (insert_entry same_ticket es t x)
+each_inserted P [] t x this each = (this, tt)
+each_inserted P (e ∷ es) t x this each =
+    grind (arith, common_steps, ticket_is, each_inserted P es t x)
+
+pub each_looked : {X : Type 0} (P : Ticket → X → Type 0) (es : List (Ticket × X)) (t : Ticket)
+    (x : X) → lookup (same_ticket t) es ≡ Some x → Each P es → P t x
+each_looked P [] t x e each = absurd (cc)
+each_looked P (entry ∷ es) t x e each = grind (arith, common_steps, ticket_is, each_looked P es t x)
+
+-- How often a number stands among those that wait
+
+abbrev pub counted : ℕ → ℕ → ℕ
+counted n m = cond (nat_eq n m) 1 0
+
+pub waiting_push : (n : ℕ) (ws : List (Ticket × Request)) (w : Ticket × Request)
+    → times_in n (ws ++ w ∷ []) ≡ times_in n ws + counted n w.0.0
+waiting_push n [] w = grind (arith, common_steps)
+waiting_push n (v ∷ ws) w = grind (arith, common_steps, waiting_push n ws w)
+
+waiting_without : (n : ℕ) (t : Ticket) (ws : List (Ticket × Request))
+    → times_in n (without t ws) ≤ times_in n ws
+waiting_without n t [] = omega arith
+waiting_without n t (w ∷ ws) = grind (arith, common_steps, waiting_without n t ws)
+
+abbrev pub waiting_in : ℕ → Standing → ℕ
+waiting_in n s = times_in n s.urgent + times_in n s.waiting
+
+pub waiting_left : (n : ℕ) (t : Ticket) (s : Standing)
+    → waiting_in n (without_waiting s t) ≤ waiting_in n s
+waiting_left n t s = grind (arith, waiting_without n t s.urgent, waiting_without n t s.waiting)
+
+-- the request that is taken next leaves the list that it heads
+waiting_next : (n : ℕ) (s : Standing) (t : Ticket) (q : Request) → next_taken s ≡ Some (t, q)
+    → waiting_in n s ≡ counted n t.0 + waiting_in n (without_waiting s t)
+waiting_next n s t q next =
+    let is = next_is s t q next in rw (← is.urgent, ← is.others) (grind (arith, common_steps))
+
+-- Accounts that go on
+
+goes_on_itself : {x : Account} → GoesOn x x
+goes_on_itself = record {
+  ticket_is = refl;
+  request_is = refl;
+  ends = λ out is. is;
+  more = [];
+  answers_are = refl;
+}
+
+goes_on_then : {x y z : Account} → GoesOn x y → GoesOn y z → GoesOn x z
+goes_on_then {x} one two = record {
+  ticket_is = two.ticket_is ∙ one.ticket_is;
+  request_is = two.request_is ∙ one.request_is;
+  ends = λ out is. two.ends out (one.ends out is);
+  more = two.more ++ one.more;
+  answers_are = two.answers_are ∙ (ap (λ answers. two.more ++ answers) one.answers_are
+      ∙ sym (append_assoc two.more one.more x.answers));
+}
+
+last_itself : (xs : List Account) → LastGoesOn xs xs
+last_itself [] = tt
+last_itself (x ∷ xs) = (goes_on_itself, refl)
+
+-- with these taken since
+go_on_behind : (more xs : List Account) → GoOn xs (more ++ xs)
+go_on_behind more xs =
+    record { more = more; others = xs; accounts_are = refl; last = last_itself xs }
+
+pub go_on_itself : {xs : List Account} → GoOn xs xs
+go_on_itself {xs} = go_on_behind [] xs
+
+-- the first goes on as another
+go_on_first : {x y : Account} {zs : List Account} → GoesOn x y → GoOn (x ∷ zs) (y ∷ zs)
+go_on_first {y = y} {zs = zs} goes =
+    record { more = []; others = y ∷ zs; accounts_are = refl; last = (goes, refl) }
+
+pub go_on_then : {xs ys zs : List Account} → GoOn xs ys → GoOn ys zs → GoOn xs zs
+go_on_then {xs} {ys} {zs} one two =
+    by one.more one.others two.others two.accounts_are one.last (rw one.accounts_are at two.last)
+  where
+    by : (more others late : List Account) → zs ≡ two.more ++ late → LastGoesOn xs others
+        → LastGoesOn (more ++ others) late → GoOn xs zs
+    by [] others late are first then =
+        record {
+          more = two.more;
+          others = late;
+          accounts_are = are;
+          last = both xs others late
+              first then;
+        }
+      where
+        both : (xs ys zs : List Account) → LastGoesOn xs ys → LastGoesOn ys zs → LastGoesOn xs zs
+        both [] [] [] first then = tt
+        both (x ∷ xs) (y ∷ ys) (z ∷ zs) first then =
+            (goes_on_then first.0 then.0, then.1 ∙ first.1)
+        both [] (y ∷ ys) zs first then = absurd first
+        both (x ∷ xs) [] zs first then = absurd first
+        both [] [] (z ∷ zs) first then = absurd then
+        both (x ∷ xs) (y ∷ ys) [] first then = absurd then
+    by (w ∷ more) others (v ∷ late) are first then = record {
+      more = two.more ++ v ∷ more;
+      others = others;
+      accounts_are = are ∙ (ap (λ behind. two.more ++ v ∷ behind) then.1
+          ∙ sym (append_assoc two.more (v ∷ more) others));
+      last = first;
+    }
+    by (w ∷ more) others [] are first then = absurd then
+
+one_behind : (x : Account) (more xs : List Account) → IsOneOf x xs → IsOneOf x (more ++ xs)
+one_behind x [] xs i = i
+one_behind x (y ∷ more) xs i = inr (one_behind x more xs i)
+
+pub go_on_each : {xs ys : List Account} → GoOn xs ys → (x : Account) → IsOneOf x xs
+    → (y : Account) × IsOneOf y ys × GoesOn x y
+go_on_each {xs} goes x i = rw goes.accounts_are (
+    let (y, j, one) = by xs goes.others goes.last i in
+    (y, one_behind y goes.more goes.others j, one))
+  where
+    by : (xs others : List Account) → LastGoesOn xs others → IsOneOf x xs
+        → (y : Account) × IsOneOf y others × GoesOn x y
+    by (z ∷ xs) (y ∷ others) last (inl is) = (y, inl refl, subst (λ w. GoesOn w y) is last.0)
+    by (z ∷ xs) (y ∷ others) last (inr i) = (x, inr (rw last.1 i), goes_on_itself)
+    by [] others last i = absurd i
+    by (z ∷ xs) [] last i = absurd last
+
+-- how a request ended, it has ended from then on
+pub ended_on : {xs ys : List Account} → GoOn xs ys → (t : Ticket) (out : Outcome)
+    → HasEnded xs t out → HasEnded ys t out
+ended_on goes t out (x, i, same, is) =
+    let (y, j, one) = go_on_each goes x i in (y, j, one.ticket_is ∙ same, one.ends out is)
+
+pub outcome_on : (isdu : Bool) {xs ys : List Account} → GoOn xs ys → (t : Ticket)
+    (out : Outcome) → IsOutcome isdu xs t out → IsOutcome isdu ys t out
+outcome_on isdu goes t (outcome.Done a) is = ended_on goes t (outcome.Done a) is
+outcome_on isdu goes t (outcome.Unknown cause) is = ended_on goes t (outcome.Unknown cause) is
+outcome_on isdu goes t _ is = is
+
+-- The accounts that have no more answers: all but that of the request under way, or of the late one
+
+abbrev closed_by : Option Job → Option Request → Ledger → List Account
+closed_by None None l = all l
+closed_by job late l = drop 1 l.accounts ++ l.archived
+
+abbrev pub closed : Session → Ledger → List Account
+closed s l = closed_by s.job s.late l
+
+pub closed_of : (s : Session) (l : Ledger) (x : Account) → IsOneOf x (closed s l)
+    → IsOneOf x (all l)
+closed_of s l x i = by s.job s.late l.accounts i
+  where
+    by : (job : Option Job) (late : Option Request) (xs : List Account)
+        → IsOneOf x (closed_by job late (record l { accounts = xs })) → IsOneOf x (xs ++ l.archived)
+    by None None xs i = i
+    by (Some job) late [] i = i
+    by (Some job) late (y ∷ xs) i = inr i
+    by None (Some q) [] i = i
+    by None (Some q) (y ∷ xs) i = inr i
+
+-- one that ended is closed, unless it is late
+pub closed_has : (repeats : Request → Bool) (job : Option Job) (late : Option Request)
+    (taken : Option (Ticket × Request)) (l : Ledger) (xs : List Account)
+    → IsOpen repeats job late taken xs
+    → (x : Account) → IsOneOf x (xs ++ l.archived) → (out : Outcome)
+    → x.taking.outcome ≡ Some out → (leaves_unsure out ≡ false) ⊎ (late ≡ None)
+    → IsOneOf x (closed_by job late (record l { accounts = xs }))
+closed_has repeats None None taken l xs opens x i out is sure = i
+closed_has repeats (Some job) None taken l (y ∷ xs) opens x (inr i) out is sure = i
+closed_has repeats (Some job) None taken l (y ∷ xs) opens x (inl same) out is sure =
+    let none = ap (λ z. z.taking.outcome) same ∙ is in
+    absurd (let never : None ≡ Some out = sym opens.none ∙ none in cc)
+closed_has repeats None (Some q) taken l (y ∷ xs) opens x (inr i) out is sure = i
+closed_has repeats None (Some q) taken l (y ∷ xs) opens x (inl same) out is (inl sure) =
+    let cut : Some (outcome.Unknown opens.1.cause) ≡ Some out =
+    sym opens.1.cut ∙ (ap (λ z. z.taking.outcome) same ∙ is) in
+    let unsure = opens.1.unsure in absurd (grind (arith, common_steps))
+closed_has repeats None (Some q) taken l (y ∷ xs) opens x (inl same) out is (inr none) = absurd (cc)
+closed_has repeats None (Some q) taken l [] opens x i out is sure = absurd opens
+closed_has repeats (Some job) (Some q) taken l xs opens x i out is sure = absurd opens
+closed_has repeats (Some job) None taken l [] opens x i out is sure = absurd opens
+
+-- What a step does from there on
+
+pub record Goes (allowance : Allowance) (s : Session) (l : Ledger) (next : BookState)
+    (t : Session) (m : Ledger) : Type 0 where
+  pub sound : Sound allowance next t m
+  pub same : (m.given ≡ l.given) × (m.before ≡ l.before)
+  pub on : GoOn (all l) (all m)
+  pub stays : (x : Account) → IsOneOf x (closed s l) → IsOneOf x (closed t m)
+
+pub goes_then : {allowance : Allowance} {s t u : Session} {l m n : Ledger} {b c : BookState}
+    → Goes allowance s l b t m → Goes allowance t m c u n → Goes allowance s l c u n
+goes_then one two = record {
+  sound = two.sound;
+  same = (two.same.0 ∙ one.same.0, two.same.1 ∙ one.same.1);
+  on = go_on_then one.on two.on;
+  stays = λ x i. two.stays x (one.stays x i);
+}
+
+pub goes_itself : {allowance : Allowance} {b : BookState} {s : Session} {l : Ledger}
+    → Sound allowance b s l → Goes allowance s l b s l
+goes_itself sound =
+    record { sound = sound; same = (refl, refl); on = go_on_itself; stays = λ x i. i }
+
+-- another book, of the same takings
+pub goes_book : {allowance : Allowance} {b next : BookState} {s : Session} {l : Ledger}
+    → IsReplayed next → next.standing.taken ≡ b.standing.taken → next.unsure ≡ b.unsure
+    → takings next.journal ≡ takings b.journal
+    → ((n : ℕ) → times_ever n next l ≤ times_ever n b l)
+    → Each (IsOutcome allowance.isdu (all l)) next.standing.outcomes
+    → Sound allowance b s l → Goes allowance s l next s l
+goes_book {allowance} replayed taken unsure same fewer outcomes sound = goes_itself (record {
+  replayed = replayed;
+  fits = record {
+    takings_are = same ∙ sound.fits.takings_are;
+    record_is = sound.fits.record_is;
+    fit = sound.fits.fit;
+  };
+  opens = rw taken sound.opens;
+  sure = λ sure. sound.sure (sym unsure ∙ sure);
+  once = λ n. omega (arith, fewer n, sound.once n);
+  above = λ n low. omega (arith, fewer n, sound.above n low);
+  outcomes = outcomes;
+})
+
+-- The step ends or answers the request that was taken last, or takes one
+
+module _ {allowance : Allowance} {b : BookState} {s : Session} (l : Ledger) (x : Account)
+    (xs : List Account) (sound : Sound allowance b s (record l { accounts = x ∷ xs })) where
+  rest : List Account
+  rest = xs ++ l.archived
+
+  fits_x : Fits allowance x
+  fits_x = sound.fits.fit x (inl refl)
+
+  -- the account goes on as another
+  first_goes : {next : BookState} {t : Session} {y : Account} → GoesOn x y
+      → IsReplayed next → takings next.journal ≡ y.taking ∷ map (λ a. a.taking) xs
+      → t.carried ≡ l.before ++ pairs_of (y ∷ xs ++ l.archived) → Fits allowance y
+      → IsOpen allowance.repeats t.job t.late next.standing.taken (y ∷ xs)
+      → (next.unsure ≡ false → t.late ≡ None)
+      → ((n : ℕ) → times_ever n next (record l { accounts = y ∷ xs })
+      ≤ times_ever n b (record l { accounts = x ∷ xs }))
+      → Each (IsOutcome allowance.isdu (y ∷ xs ++ l.archived)) next.standing.outcomes
+      → ((z : Account) → IsOneOf z (closed s (record l { accounts = x ∷ xs }))
+      → IsOneOf z (closed t (record l { accounts = y ∷ xs })))
+      → Goes allowance s (record l { accounts = x ∷ xs }) next t (record l { accounts = y ∷ xs })
+  first_goes {y = y} goes replayed same record_is fits opens sure fewer outcomes stays = record {
+    sound = record {
+      replayed = replayed;
+      fits = record { takings_are = same; record_is = record_is; fit = by };
+      opens = opens;
+      sure = sure;
+      once = λ n. omega (arith, fewer n, sound.once n);
+      above = λ n low. omega (arith, fewer n, sound.above n low);
+      outcomes = outcomes;
+    };
+    same = (refl, refl);
+    on = go_on_first goes;
+    stays = stays;
+  }
+    where
+      by : (a : Account) → IsOneOf a (y ∷ xs ++ l.archived) → Fits allowance a
+      by a (inl is) = subst (Fits allowance) is fits
+      by a (inr i) = sound.fits.fit a (inr i)
+
+  -- it was carried out once more
+  answers_goes : (a : Answer) {t : Session}
+      → AnswersFit (allowance.repeats x.taking.request) None x.answers
+      → (out : Option Outcome) → x.taking.outcome ≡ out
+      → ((answer : Answer) → out ≡ Some (outcome.Done answer) → ⊥) → (out ≡ Some outcome.NoIsdu → ⊥)
+      → t.carried ≡ grown_by s.carried x.taking.request a
+      → IsOpen allowance.repeats t.job t.late b.standing.taken (answered a x ∷ xs)
+      → (b.unsure ≡ false → t.late ≡ None)
+      → ((z : Account) → IsOneOf z (closed s (record l { accounts = x ∷ xs }))
+      → IsOneOf z (closed t (record l { accounts = answered a x ∷ xs })))
+      → Goes allowance s (record l { accounts = x ∷ xs }) b t
+      (record l { accounts = answered a x ∷ xs })
+  answers_goes a may out is none never grown opens sure stays =
+      first_goes goes sound.replayed sound.fits.takings_are
+      (grown ∙ simp (sound.fits.record_is, append_assoc))
+      (record { once = once may; ends = rw is (ends out none never); isdu = fits_x.isdu }) opens
+      sure (λ n. omega arith)
+      (each_more b.standing.outcomes (outcome_on allowance.isdu (go_on_first goes))
+      sound.outcomes) stays
+    where
+      goes : GoesOn x (answered a x)
+      goes = record {
+        ticket_is = refl;
+        request_is = refl;
+        ends = λ o same. same;
+        more = a ∷ [];
+        answers_are = refl;
+      }
+
+      once : AnswersFit (allowance.repeats x.taking.request) None x.answers
+          → (length (a ∷ x.answers) ≤ 1) ⊎ IsTrue (allowance.repeats x.taking.request)
+      once (inl first) = inl (rw first (omega arith))
+      once (inr again) = inr again
+
+      ends : (out : Option Outcome) → ((answer : Answer) → out ≡ Some (outcome.Done answer) → ⊥)
+          → (out ≡ Some outcome.NoIsdu → ⊥) → EndsAs allowance.misreads out (a ∷ x.answers)
+      ends None none never = tt
+      ends (Some (outcome.Done answer)) none never = absurd (none answer refl)
+      ends (Some (outcome.Unknown cause)) none never = tt
+      ends (Some outcome.Withdrawn) none never = tt
+      ends (Some outcome.NoIsdu) none never = absurd (never refl)
+
+  -- it ends
+  ends_goes : (out : Outcome) {q : Request} {t : Session}
+      → b.standing.taken ≡ Some (x.taking.ticket, q) → x.taking.outcome ≡ None
+      → LeavesWaiting out → EndsAs allowance.misreads (Some out) x.answers
+      → IsOutcome allowance.isdu (settled out x ∷ xs ++ l.archived) x.taking.ticket out
+      → t.carried ≡ s.carried
+      → IsOpen allowance.repeats t.job t.late None (settled out x ∷ xs)
+      → ((posted b out).unsure ≡ false → t.late ≡ None)
+      → ((z : Account) → IsOneOf z (closed s (record l { accounts = x ∷ xs }))
+      → IsOneOf z (closed t (record l { accounts = settled out x ∷ xs })))
+      → Goes allowance s (record l { accounts = x ∷ xs }) (posted b out) t
+      (record l { accounts = settled out x ∷ xs })
+  ends_goes out {q} taken none leaves ends new same opens sure stays =
+      first_goes goes (posted_replayed b out leaves sound.replayed)
+      (posted_takings b (x.taking.ticket, q) out sound.replayed taken
+      ∙ ap (first_with (ended out)) sound.fits.takings_are)
+      (same ∙ sound.fits.record_is) (record
+      { once = fits_x.once; ends = ends; isdu = fits_x.isdu }) (rw taken opens) sure
+      (λ n. rw taken (omega arith))
+      (rw taken (each_inserted _ b.standing.outcomes x.taking.ticket out new
+      (each_more b.standing.outcomes (outcome_on allowance.isdu (go_on_first goes))
+      sound.outcomes))) stays
+    where
+      goes : GoesOn x (settled out x)
+      goes = record {
+        ticket_is = refl;
+        request_is = refl;
+        ends = λ o is. absurd (let never : None ≡ Some o = sym none ∙ is in cc);
+        more = [];
+        answers_are = refl;
+      }
+
+-- only the session changes, and whether it is sure
+session_goes : {allowance : Allowance} {b : BookState} {s t : Session} {l : Ledger} {unsure : Bool}
+    → Sound allowance b s l → t.carried ≡ s.carried
+    → IsOpen allowance.repeats t.job t.late b.standing.taken l.accounts
+    → (unsure ≡ false → t.late ≡ None)
+    → ((z : Account) → IsOneOf z (closed s l) → IsOneOf z (closed t l))
+    → Goes allowance s l (record b { unsure = unsure }) t l
+session_goes sound same opens sure stays = record {
+  sound = record {
+    replayed = sound.replayed;
+    fits = record {
+      takings_are = sound.fits.takings_are;
+      record_is = same ∙ sound.fits.record_is;
+      fit = sound.fits.fit;
+    };
+    opens = opens;
+    sure = sure;
+    once = sound.once;
+    above = sound.above;
+    outcomes = sound.outcomes;
+  };
+  same = (refl, refl);
+  on = go_on_itself;
+  stays = stays;
+}
+
+-- the same request is under way, with the answers that it had
+job_goes : {allowance : Allowance} {b : BookState} (s : Session) (l : Ledger) (x : Account)
+    (xs : List Account) (job next : Job) → next.request ≡ job.request
+    → (AnswersFit (allowance.repeats job.request) job.answer x.answers
+    → AnswersFit (allowance.repeats job.request) next.answer x.answers)
+    → Sound allowance b (record s { job = Some job; late = None }) (record l { accounts = x ∷ xs })
+    → Goes allowance (record s { job = Some job; late = None }) (record l { accounts = x ∷ xs }) b
+    (record s { job = Some next; late = None }) (record l { accounts = x ∷ xs })
+job_goes s l x xs job next same answers sound = session_goes sound refl (record {
+  taken_is = rw same sound.opens.taken_is;
+  request_is = sound.opens.request_is ∙ sym same;
+  none = sound.opens.none;
+  answers = rw same (answers sound.opens.answers);
+}) (λ _. refl) (λ z i. i)
+
+module _ {allowance : Allowance} {b : BookState} (s : Session) (l : Ledger) (x : Account)
+    (xs : List Account) (job : Job) (sound : Sound allowance b
+    (record s { job = Some job; late = None }) (record l { accounts = x ∷ xs })) where
+  open sound use {opens}
+
+  -- a request that is cut off, of which nothing is late
+  cut_goes : (cause : Cause) → Goes allowance (record s { job = Some job; late = None })
+      (record l { accounts = x ∷ xs }) (posted b (outcome.Unknown cause))
+      (record s { job = None; late = None })
+      (record l { accounts = settled (outcome.Unknown cause) x ∷ xs })
+  cut_goes cause = ends_goes l x xs sound (outcome.Unknown cause) opens.taken_is opens.none
+      (λ t standing. refl) tt (settled (outcome.Unknown cause) x, inl refl, refl, refl) refl refl
+      (λ _. refl) (λ z i. inr i)
+
+  -- it may be carried out yet where it has no answer
+  lost_goes : (cause : Cause) (answer : Option Answer) → job.answer ≡ answer
+      → leaves_unsure (outcome.Unknown cause) ≡ true
+      → Goes allowance (record s { job = Some job; late = None })
+      (record l { accounts = x ∷ xs }) (posted b (outcome.Unknown cause))
+      (record s { job = None; late = unanswered answer job.request })
+      (record l { accounts = settled (outcome.Unknown cause) x ∷ xs })
+  lost_goes cause (Some a) is unsure = cut_goes cause
+  lost_goes cause None is unsure =
+      ends_goes l x xs sound (outcome.Unknown cause) opens.taken_is opens.none
+      (λ t standing. refl) tt (settled (outcome.Unknown cause) x, inl refl, refl, refl) refl (
+        refl,
+        record {
+          request_is = opens.request_is;
+          cause = cause;
+          cut = refl;
+          unsure = unsure;
+          answers = rw is at opens.answers;
+        },
+      )
+      (λ sure. absurd (never b.unsure _ unsure sure)) (λ z i. i)
+    where
+      never : (u v : Bool) → v ≡ true → (u || v) ≡ false → ⊥
+      never u v unsure sure = grind arith
+
+  pub unknown_goes : (cause : Cause) → Goes allowance (record s { job = Some job; late = None })
+      (record l { accounts = x ∷ xs }) (posted b (outcome.Unknown cause))
+      (cut_for cause (record s { job = Some job; late = None }))
+      (record l { accounts = settled (outcome.Unknown cause) x ∷ xs })
+  unknown_goes LinkLost = lost_goes LinkLost job.answer refl refl
+  unknown_goes Restarted = lost_goes Restarted job.answer refl refl
+  unknown_goes cause = cut_goes cause
+
+-- the mark, the mode and a restart are no business of the ledger, but that a restart cuts off
+
+pub moved_goes : {allowance : Allowance} {b : BookState} {s : Session} {l : Ledger} (mode : Mode)
+    (why : Option Why) → Sound allowance b s l
+    → Goes allowance s l b (record s { mode = mode; why = why }) l
+moved_goes mode why sound = session_goes sound refl sound.opens sound.sure (λ z i. i)
+
+pub marked_goes : {allowance : Allowance} {b : BookState} (s : Session) (job : Option Job)
+    (late : Option Request) (l : Ledger) (xs : List Account)
+    → Sound allowance b (record s { job = job; late = late }) (record l { accounts = xs })
+    → Goes allowance (record s { job = job; late = late }) (record l { accounts = xs }) b
+    (record s { job = marked job; late = late }) (record l { accounts = xs })
+marked_goes s None late l xs sound = goes_itself sound
+marked_goes s (Some job) None l (x ∷ xs) sound =
+    job_goes s l x xs job (record job { asked = true }) refl (λ is. is) sound
+marked_goes s (Some job) None l [] sound = absurd sound.opens
+marked_goes s (Some job) (Some q) l xs sound = absurd sound.opens
+
+pub restart_goes : {allowance : Allowance} {b : BookState} (s : Session) (job : Option Job)
+    (late : Option Request) (l : Ledger) (xs : List Account)
+    → Sound allowance b (record s { job = job; late = late }) (record l { accounts = xs })
+    → Goes allowance (record s { job = job; late = late }) (record l { accounts = xs })
+    (book_through (restart_steps (request_of job)) b)
+    (session_through (restart_steps (request_of job)) (record s { job = job; late = late }))
+    (ledger_through (restart_steps (request_of job)) (record l { accounts = xs }))
+restart_goes s None late l xs sound = moved_goes Down None sound
+restart_goes s (Some job) None l (x ∷ xs) sound =
+    let cut = unknown_goes s l x xs job sound Restarted in
+    goes_then cut (moved_goes Down None cut.sound)
+restart_goes s (Some job) None l [] sound = absurd sound.opens
+restart_goes s (Some job) (Some q) l xs sound = absurd sound.opens
+
+-- an archive begins a new journal: nothing is open
+pub archive_goes : {allowance : Allowance} {b : BookState} (s : Session) (job : Option Job)
+    (late : Option Request) (l : Ledger) (xs : List Account)
+    → (b.standing ≡ nothing) × (b.unsure ≡ false)
+    → Sound allowance b (record s { job = job; late = late }) (record l { accounts = xs })
+    → Goes allowance (record s { job = job; late = late }) (record l { accounts = xs })
+    (record b { journal = [] }) (record s { job = job; late = late })
+    (archiving (record l { accounts = xs }))
+archive_goes s None None l xs (free, sure) sound = record {
+  sound = record {
+    replayed = free;
+    fits = record {
+      takings_are = refl;
+      record_is = sound.fits.record_is;
+      fit = sound.fits.fit;
+    };
+    opens = sound.opens;
+    sure = sound.sure;
+    once = sound.once;
+    above = sound.above;
+    outcomes = sound.outcomes;
+  };
+  same = (refl, refl);
+  on = go_on_itself;
+  stays = λ z i. i;
+}
+archive_goes s None (Some q) l xs (free, sure) sound =
+    absurd (let none : Some q ≡ None = sound.sure sure in cc)
+archive_goes s (Some job) None l (x ∷ xs) (free, sure) sound = absurd (let taken
+    : None ≡ Some (x.taking.ticket, job.request) = rw free at sound.opens.taken_is in cc)
+archive_goes s (Some job) None l [] free sound = absurd sound.opens
+archive_goes s (Some job) (Some q) l xs free sound = absurd sound.opens
+
+-- one more is taken
+take_goes : {allowance : Allowance} {b : BookState} (s : Session) (l : Ledger) (t : Ticket)
+    (q : Request) → next_taken b.standing ≡ Some (t, q) → allowance.isdu ≡ true
+    → Sound allowance b (record s { job = None; late = None }) l
+    → Goes allowance (record s { job = None; late = None }) l (took b (t, q)) (record s {
+      job = Some (record { request = q; answer = None; busy = 0; asked = false });
+      late = None;
+    }) (record l { accounts = record { taking = taking_of t q; answers = [] } ∷ l.accounts })
+take_goes {allowance} {b} s l t q next isdu sound = record {
+  sound = record {
+    replayed = took_replayed b t q next sound.replayed;
+    fits = record {
+      takings_are = took_takings b t q sound.replayed next
+          ∙ ap (λ ts. taking_of t q ∷ ts) sound.fits.takings_are;
+      record_is = sound.fits.record_is ∙ ap (λ c. l.before ++ c) (sym (append-nil _));
+      fit = fit;
+    };
+    opens = record { taken_is = refl; request_is = refl; none = refl; answers = inl refl };
+    sure = λ _. refl;
+    once = λ n. omega (arith, fewer n, sound.once n);
+    above = λ n low. omega (arith, fewer n, sound.above n low);
+    outcomes = each_more b.standing.outcomes (outcome_on allowance.isdu on) sound.outcomes;
+  };
+  same = (refl, refl);
+  on = on;
+  stays = λ z i. i;
+}
+  where
+    x : Account
+    x = record { taking = taking_of t q; answers = [] }
+
+    on : GoOn (all l) (x ∷ all l)
+    on = go_on_behind (x ∷ []) (all l)
+
+    fit : (a : Account) → IsOneOf a (x ∷ all l) → Fits allowance a
+    fit a (inl is) = subst (Fits allowance) is
+        (record { once = inl (omega arith); ends = tt; isdu = isdu })
+    fit a (inr i) = sound.fits.fit a i
+
+    fewer : (n : ℕ) → times_ever n (took b (t, q)) (record l { accounts = x ∷ l.accounts })
+        ≤ times_ever n b l
+    fewer n = let is = next_is b.standing t q next in rw (is.urgent, is.others)
+        (grind (arith, common_steps, waiting_next n b.standing t q next))
+
+pub step_goes : (m : Moment) (step : Step) (b : BookState) (s : Session)
+    (job : Option Job) (late : Option Request) (l : Ledger) (xs : List Account)
+    → MayBook step b
+    → MaySession m step (record s { job = job; late = late })
+    → Sound (allowance_of m.terms) b (record s { job = job; late = late })
+    (record l { accounts = xs })
+    → Goes (allowance_of m.terms) (record s { job = job; late = late }) (record l { accounts = xs })
+    (book_after step b) (session_after step (record s { job = job; late = late }))
+    (ledger_after step (record l { accounts = xs }))
+step_goes m (Take t q) b s None None l xs next may sound =
+    take_goes s (record l { accounts = xs }) (ticket_of t) q next may.0 sound
+step_goes m (Deny t) b s job late l xs head may sound =
+    let (q, next) = next_ticket_is (next_taken b.standing) (ticket_of t) head in
+    let is = next_is b.standing (ticket_of t) q next in
+    goes_book (denied_replayed b (ticket_of t) q next sound.replayed) refl refl
+    (denied_takings b (ticket_of t) sound.replayed is.free)
+    (λ n. rw (is.urgent, is.others) (omega (arith, waiting_left n (ticket_of t) b.standing)))
+    (each_inserted _ b.standing.outcomes (ticket_of t) outcome.NoIsdu may.0 sound.outcomes) sound
+step_goes m (Carry a) b s (Some job) None l (x ∷ xs) next none sound =
+    answers_goes l x xs sound a (rw (sound.opens.request_is) (rw none at sound.opens.answers)) None
+    sound.opens.none (λ answer is. cc) (λ is. cc)
+    (ap (λ q. grown_by s.carried q a) (sym sound.opens.request_is)) (record {
+      taken_is = sound.opens.taken_is;
+      request_is = sound.opens.request_is;
+      none = sound.opens.none;
+      answers = refl;
+    })
+    (λ _. refl) (λ z i. i)
+step_goes m Again b s (Some job) None l (x ∷ xs) next may sound =
+    job_goes s l x xs job (record job { answer = None }) refl
+    (λ _. inr may.1) sound
+step_goes m (Done a) b s (Some job) None l (x ∷ xs) next may sound =
+    let (carried, given, told) = told_for m.terms a job.answer may in
+    ends_goes l x xs sound (outcome.Done a) sound.opens.taken_is sound.opens.none
+    (λ t standing. refl)
+    (told_by x.answers carried (rw given at sound.opens.answers) told)
+    (settled (outcome.Done a) x, inl refl, refl, refl) refl refl (λ _. refl) (λ z i. inr i)
+  where
+    told_by : (answers : List Answer) (carried : Answer)
+        → AnswersFit (may_repeat m.terms job.request) (Some carried) answers
+        → IsToldAs (may_misread m.terms) a carried
+        → EndsAs (may_misread m.terms) (Some (outcome.Done a)) answers
+    told_by (last ∷ earlier) carried is told = rw is told
+    told_by [] carried is told = absurd is
+step_goes m (Unknown cause) b s (Some job) None l (x ∷ xs) next may sound =
+    unknown_goes s l x xs job sound cause
+step_goes m (LateCarry a) b s None (Some q) l (x ∷ xs) next may sound =
+    let late = sound.opens.1 in
+    answers_goes l x xs sound a (rw late.request_is late.answers)
+    (Some (outcome.Unknown late.cause))
+    late.cut (λ answer is. cc) (λ is. cc)
+    (ap (λ r. grown_by s.carried r a) (sym late.request_is)) sound.opens.0 (λ _. refl)
+    (λ z i. inr i)
+step_goes m Reset b s job None l xs next may sound =
+    session_goes sound refl sound.opens (λ _. refl) (λ z i. i)
+step_goes m Reset b s None (Some q) l (x ∷ xs) next may sound =
+    session_goes sound refl sound.opens.0 (λ _. refl) (λ z i. inr i)
+step_goes m Busy b s (Some job) None l (x ∷ xs) next may sound =
+    job_goes s l x xs job (record job { busy = job.busy + 1 }) refl (λ is. is) sound
+step_goes m Start b s job late l xs next may sound = moved_goes Startup None sound
+step_goes m (Move mode why) b s job late l xs next may sound = moved_goes mode why sound
+step_goes m _ b s (Some job) (Some q) l xs next may sound = absurd sound.opens
+step_goes m _ b s (Some job) None l [] next may sound = absurd sound.opens
+step_goes m _ b s None (Some q) l [] next may sound = absurd sound.opens
+step_goes m (Take t q) b s job late l xs next may sound = absurd (grind (arith, common_steps))
+step_goes m (Carry a) b s None late l xs next may sound = absurd may
+step_goes m Again b s None late l xs next may sound = absurd may
+step_goes m (Done a) b s None late l xs next may sound = absurd may
+step_goes m (Unknown cause) b s None late l xs next may sound = absurd may
+step_goes m Busy b s None late l xs next may sound = absurd may
+step_goes m (LateCarry a) b s job None l xs next may sound = absurd (cc)
+step_goes m _ b s job late l xs next may sound = goes_itself sound

@@ -1,0 +1,114 @@
+-- what a piece of a run of the abstract port leaves, and what each piece keeps
+use Rattle.std.proofs.Common.{◌≡◌, ◌∷◌, [], List, true, Option, Some, None, refl, arith, inl, inr, ◌⊎◌, drop, map}
+use Rattle.std.proofs.lemmas.Grind.{common_steps}
+use Rattle.std.proofs.lemmas.List.{map-append}
+use Rattle.std.specs.Map.{lookup}
+use Rattle.iol_isdu.specs.declared.values.Request.{Request}
+use Rattle.iol_book.specs.declared.entries.Ticket.{Ticket}
+use Rattle.iol_book.specs.declared.entries.Outcome.{Outcome}
+use Rattle.iol_book.specs.declared.entries.Entry.TheVariants.{Collected, Withdrawn}
+use Rattle.iol_book.specs.Replay.{same_ticket}
+use Rattle.iol_book.specs.BookModel.{entered, submitted, next_ticket, collected, withdrawn, may_archive, submitted_urgent, flight_refusal}
+use Rattle.iol_steps.specs.Session.{MaySessionAll, cancelling, session_through}
+use Rattle.iol_steps.specs.Images.{Images}
+use Rattle.iol_steps.specs.Step.{Step, Moment, Exchanged}
+use Rattle.iol_event.specs.declared.event.Event.{Event}
+use Rattle.iol_page.specs.declared.identity.Identity.{Identity}
+use Rattle.iol_port.specs.Steps.{MayBookAll, book_through}
+use Rattle.iol_port.specs.Ledger.{ledger_through, archiving}
+use Rattle.iol_port.specs.declared.call.Call.TheVariants as call
+use Rattle.iol_port.specs.declared.call.Answered.{Answered}
+use Rattle.iol_port.specs.declared.call.Answered.TheVariants as answered
+use Rattle.iol_port.specs.Run.{PortState, CallOf, Piece, Whole, Send, Receive, PieceOf, moment_in, moment_by, restarted}
+use Rattle.iol_port.specs.Promises.{RunsJoin, PiecesJoin}
+
+-- some steps in the book, the session and the ledger, whatever becomes of the events and the images
+pub record IsMoved (m : Moment) (steps : List Step) (a b : PortState) : Type 0 where
+  pub may_book : MayBookAll steps a.book
+  pub book : b.book ≡ book_through steps a.book
+  pub may_session : MaySessionAll m steps a.session
+  pub session : b.session ≡ session_through steps a.session
+  pub ledger : b.ledger ≡ ledger_through steps a.ledger
+  pub terms : b.terms ≡ a.terms
+  pub at : m.terms ≡ a.terms
+
+-- What a piece did, by the port behind it
+pub data Did (a : PortState) (c : Piece) (reply : Answered) : PortState → Type 0 where
+  -- the book and the session stay
+  Stays : (kept : List Event) (images : Images) (expected : Option Identity) → Did a c reply
+      (record a { kept = kept; images = images; terms = record a.terms { expected = expected } })
+  Submits : (q : Request) → c ≡ Whole (call.Submit q)
+      → reply ≡ answered.Ticket (next_ticket a.book)
+      → Did a c reply (record a { book = submitted a.book q })
+  Urges : (q : Request) → c ≡ Whole (call.SubmitUrgent q)
+      → reply ≡ answered.Ticket (next_ticket a.book)
+      → Did a c reply (record a { book = submitted_urgent a.book q })
+  Collects : (t : Ticket) → collected a.book t ≡ entered a.book (Collected t)
+      → Did a c reply (record a { book = collected a.book t })
+  Withdraws : (t : Ticket) → withdrawn a.book t ≡ entered a.book (Withdrawn t)
+      → Did a c reply (record a { book = withdrawn a.book t })
+  Cancels : (t : Ticket) → c ≡ Whole (call.Cancel t)
+      → (reply ≡ answered.Nothing) × (flight_refusal a.book.standing t ≡ None)
+      → Did a c reply (record a { session = cancelling a.session })
+  Restarts : Did a c reply (restarted a)
+  Archives : may_archive a.book ≡ true → Did a c reply
+      (record a { book = record a.book { journal = [] }; ledger = archiving a.ledger })
+  Moves : (m : Moment) (steps : List Step) {b : PortState} → IsMoved m steps a b → Did a c reply b
+
+-- an outcome that a collect hands out was there
+pub told_outcome : (a b : PortState) (t : Ticket) (out : Outcome)
+    → CallOf a (call.Collect t) (answered.Outcome out) b
+    → lookup (same_ticket t) a.book.standing.outcomes ≡ Some out
+told_outcome a b t out e = grind (arith, common_steps)
+
+module _ (a b : PortState) where
+  did : {c : Piece} {reply : Answered} {next : PortState} → Did a c reply next → b ≡ next
+      → Did a c reply b
+  did it e = rw e it
+
+  stayed : {c : Piece} {reply : Answered} → b ≡ a → Did a c reply b
+  stayed e = did (Stays a.kept a.images a.terms.expected) e
+
+  -- a call that may be refused
+  may_do : {Q : Type 0} {c : Piece} {reply : Answered} {next : PortState}
+      → (Q → Did a c reply next) → (b ≡ a) ⊎ (Q × (b ≡ next)) → Did a c reply b
+  may_do does (inl e) = stayed e
+  may_do does (inr (q, e)) = did (does q) e
+
+  pub piece_did : (c : Piece) (reply : Answered) → PieceOf a c reply b → Did a c reply b
+  piece_did (Whole (call.Submit q)) reply e = may_do (Submits q refl) (grind (arith, common_steps))
+  piece_did (Whole (call.SubmitUrgent q)) reply e =
+      may_do (Urges q refl) (grind (arith, common_steps))
+  piece_did (Whole (call.Collect t)) reply e = may_do (Collects t) (grind (arith, common_steps))
+  piece_did (Whole (call.Withdraw t)) reply e = may_do (Withdraws t) (grind (arith, common_steps))
+  piece_did (Whole (call.Cancel t)) reply e = may_do (Cancels t refl) (grind (arith, common_steps))
+  piece_did (Whole call.Archive) reply e = may_do Archives (grind (arith, common_steps))
+  piece_did (Whole call.Restart) reply e = did Restarts e.1.1
+  piece_did (Whole (call.SetOutput image)) reply e =
+      did (Stays a.kept b.images a.terms.expected) (grind (arith, common_steps))
+  piece_did (Whole call.ClearOutput) reply e =
+      did (Stays a.kept (record a.images { wanted = None }) a.terms.expected) e.1
+  piece_did (Whole (call.Expect identity)) reply e = did (Stays a.kept a.images identity) e.1
+  piece_did (Whole call.TakeEvent) reply e =
+      did (Stays (drop 1 a.kept) a.images a.terms.expected) (grind (arith, common_steps))
+  piece_did (Whole call.Counters) reply (k, e) = stayed e.1
+  piece_did (Whole call.Turn) reply (_, (t, all, work, _, _, _)) =
+      Moves (moment_in a t) t.steps (grind (arith, common_steps))
+  piece_did (Whole _) reply e = stayed e.1
+  piece_did Send reply (_, inl s) = Moves (moment_by a (Exchanged true)) s.steps
+      (grind (arith, common_steps, s.may_session (Exchanged true)))
+  piece_did Send reply (_, inr (_, e)) = stayed e
+  piece_did Receive reply (_, r) =
+      Moves (moment_in a r.turn) r.turn.steps (grind (arith, common_steps))
+
+-- A run, and one that goes on from where it led
+
+pub pieces_join : PiecesJoin
+pieces_join a b c [] more [] others run rest = rw run at rest
+pieces_join a b c (p ∷ pieces) more (r ∷ replies) others (next, first, run) rest =
+    (next, first, pieces_join next b c pieces more replies others run rest)
+pieces_join a b c _ more _ others run rest = absurd run
+
+pub runs_join : RunsJoin
+runs_join a b c calls more replies others run rest = rw map-append
+    (pieces_join a b c (map Whole calls) (map Whole more) replies others run rest)

@@ -1,0 +1,5 @@
+use Rattle.iol_port.proofs.LedgerRuns.{late_ends, cut_for_good_stays_out}
+use Rattle.iol_port.proofs.laws.late_requests_end.Goals as goal
+
+pub returns : goal.returns
+returns c = record { wakes = late_ends; for_good = cut_for_good_stays_out }

@@ -1,0 +1,139 @@
+-- What a client may conclude of a whole run: which requests the device carried out
+-- in it, each once, or more than once in a row.
+use Rattle.std.specs.Prelude.{◌≡◌, ◌≤◌, ◌⊎◌, ℕ, false, List, [], ◌∷◌, ◌++◌, Some, ⊤}
+use Rattle.std.specs.Map.{lookup}
+use Rattle.iol_isdu.specs.declared.values.Request.{Request}
+use Rattle.iol_isdu.specs.declared.values.Answer.{Answer}
+use Rattle.iol_isdu.specs.declared.values.Cause.{Cause}
+use Rattle.iol_far.specs.Far.{Far}
+use Rattle.iol_book.specs.declared.entries.Limits.{Limits}
+use Rattle.iol_book.specs.declared.entries.Outcome.{Outcome}
+use Rattle.iol_book.specs.declared.entries.Outcome.TheVariants.{Done, Unknown}
+use Rattle.iol_book.specs.declared.entries.Ticket.{Ticket}
+use Rattle.iol_book.specs.BookModel.{leaves_unsure}
+use Rattle.iol_book.specs.Replay.{same_ticket}
+use Rattle.iol_steps.specs.declared.mode.Mode.{Mode}
+use Rattle.iol_steps.specs.declared.mode.Mode.TheVariants.{Down, Startup}
+use Rattle.iol_port.specs.declared.call.Call.TheVariants as call
+use Rattle.iol_port.specs.declared.call.Answered.{Answered}
+use Rattle.iol_port.specs.declared.call.Answered.TheVariants as answered
+use Rattle.iol_port.specs.Ledger.{Account, all, pairs_of, Fits, IsOneOf, HasEnded, allowance_of, times_of}
+use Rattle.iol_port.specs.Run.{PortState, Piece, Whole, PieceOf, Pieces, opened}
+use Rattle.iol_mode.specs.declared.configuration.Devices.{Devices}
+use Rattle.iol_mode.specs.declared.configuration.Devices.TheVariants.{Any}
+
+-- the run has this piece, with this reply
+abbrev pub Happens : List Piece → List Answered → Piece → Answered → Type 0
+Happens [] replies piece reply = ⊥
+Happens (p ∷ pieces) [] piece reply = ⊥
+Happens (p ∷ pieces) (r ∷ replies) piece reply = ((p ≡ piece) × (r ≡ reply))
+    ⊎ Happens pieces replies piece reply
+
+-- a request was submitted under this ticket, as an urgent one or as one of the others
+abbrev pub IsSubmitted : List Piece → List Answered → Ticket → Request → Type 0
+IsSubmitted pieces replies ticket request =
+    Happens pieces replies (Whole (call.Submit request)) (answered.Ticket ticket)
+    ⊎ Happens pieces replies (Whole (call.SubmitUrgent request)) (answered.Ticket ticket)
+
+-- Of a run that led here: the record grew by the pairs of its ledger, in this order. Each request
+-- of it was submitted in the run, under a ticket of its own; it has at most one pair, or more only
+-- where it may be carried out more than once; and each outcome Done that was collected is that of
+-- such a request, whose last pair has the answer, but for what the allowance is
+pub record CarriesOut (from : PortState) (pieces : List Piece) (replies : List Answered)
+    (a : PortState) : Type 0 where
+  pub record_is : a.session.carried ≡ from.session.carried ++ pairs_of (all a.ledger)
+  pub once : (number : ℕ) → times_of number (all a.ledger) ≤ 1
+  pub above : (number : ℕ) → number ≤ from.book.last → times_of number (all a.ledger) ≡ 0
+  pub fits : (account : Account) → IsOneOf account (all a.ledger)
+      → Fits (allowance_of from.terms) account
+  pub asked : (account : Account) → IsOneOf account (all a.ledger)
+      → IsSubmitted pieces replies account.taking.ticket account.taking.request
+  pub done : (ticket : Ticket) (answer : Answer)
+      → Happens pieces replies (Whole (call.Collect ticket)) (answered.Outcome (Done answer))
+      → HasEnded (all a.ledger) ticket (Done answer)
+
+-- So it is in every run of a port that is opened, across losses, restarts and archives
+abbrev pub EachDoneHasItsPair : Type 0
+EachDoneHasItsPair =
+    (devices : Devices) (limits : Limits) (far : Far) (silence : ℕ) (pieces : List Piece)
+    (replies : List Answered) (b : PortState)
+    → Pieces (opened devices limits far silence) pieces replies b
+    → CarriesOut (opened devices limits far silence) pieces replies b
+
+-- the request of a ticket was cut off: that is its outcome, which was collected in
+-- the run, or may still be
+abbrev pub IsCutOff : List Piece → List Answered → PortState → Ticket → Cause → Type 0
+IsCutOff pieces replies a ticket cause =
+    Happens pieces replies (Whole (call.Collect ticket)) (answered.Outcome (Unknown cause))
+    ⊎ (lookup (same_ticket ticket) a.book.standing.outcomes ≡ Some (Unknown cause))
+
+-- the account has the answers that it had, maybe more before them, and ended as it had
+pub record GoesOn (earlier later : Account) : Type 0 where
+  pub ticket_is : later.taking.ticket ≡ earlier.taking.ticket
+  pub request_is : later.taking.request ≡ earlier.taking.request
+  pub ends : (outcome : Outcome) → earlier.taking.outcome ≡ Some outcome
+      → later.taking.outcome ≡ Some outcome
+  pub more : List Answer
+  pub answers_are : later.answers ≡ more ++ earlier.answers
+
+-- these are the same accounts, but that the last one goes on
+abbrev pub LastGoesOn : List Account → List Account → Type 0
+LastGoesOn [] [] = Unit {0}
+LastGoesOn (x ∷ earlier) (y ∷ later) = GoesOn x y × (later ≡ earlier)
+LastGoesOn earlier later = ⊥
+
+-- so they are, below those that were taken since
+pub record GoOn (earlier later : List Account) : Type 0 where
+  pub more : List Account
+  pub others : List Account
+  pub accounts_are : later ≡ more ++ others
+  pub last : LastGoesOn earlier others
+
+-- A run leads on from `a` to `c`: the accounts of `a` go on there, and that of such a ticket has no
+-- more answers
+pub record LeavesOut (a c : PortState) (IsOut : Ticket → Type 0) : Type 0 where
+  pub go_on : GoOn (all a.ledger) (all c.ledger)
+  pub left_out : (account : Account) → IsOneOf account (all c.ledger)
+      → IsOut account.taking.ticket → IsOneOf account (all a.ledger)
+
+-- A run comes to `a`, and goes on to `c`: of what is carried out from `a` on, nothing was cut off
+-- before with the device's word that it has the request no more: for any cause but the loss of the
+-- link and a restart
+-- REQ-12
+abbrev pub CutForGoodStaysOut : Type 0
+CutForGoodStaysOut =
+    (devices : Devices) (limits : Limits) (far : Far) (silence : ℕ) (pieces more : List Piece)
+    (replies others : List Answered) (a c : PortState)
+    → Pieces (opened devices limits far silence) pieces replies a → Pieces a more others c
+    → CarriesOut (opened devices limits far silence) (pieces ++ more) (replies ++ others) c
+    × LeavesOut a c (λ ticket. (cause : Cause) × (leaves_unsure (Unknown cause) ≡ false)
+    × IsCutOff pieces replies a ticket cause)
+
+-- below the reset of the device: down, and at a port for any device STARTUP too, in which it has it
+-- leave its mode
+-- LINK-13
+abbrev pub IsBelow : Devices → Mode → Type 0
+IsBelow devices Down = ⊤
+IsBelow Any Startup = ⊤
+IsBelow devices mode = ⊥
+
+-- the device is reset behind it, in a whole turn or as what came is taken up: a wake that had
+-- success, which leads out of down; at a port for any device what leads out of STARTUP, and on
+pub record Resets (piece : Piece) (a b : PortState) : Type 0 where
+  pub is : PieceOf a piece answered.Nothing b
+  pub below : IsBelow a.terms.devices a.session.mode
+  pub up : IsBelow b.terms.devices b.session.mode → ⊥
+
+-- A run comes to `a`, by such a piece to `b`, and goes on to `c`: of what is carried
+-- out from `b` on, nothing was cut off before
+-- REQ-12
+abbrev pub LateEnds : Type 0
+LateEnds =
+    (devices : Devices) (limits : Limits) (far : Far) (silence : ℕ) (pieces more : List Piece)
+    (piece : Piece)
+    (replies others : List Answered) (a b c : PortState)
+    → Pieces (opened devices limits far silence) pieces replies a → Resets piece a b
+    → Pieces b more others c
+    → CarriesOut (opened devices limits far silence) (pieces ++ piece ∷ more)
+    (replies ++ answered.Nothing ∷ others) c
+    × LeavesOut b c (λ ticket. (cause : Cause) × IsCutOff pieces replies a ticket cause)
