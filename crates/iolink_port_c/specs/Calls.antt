@@ -34,6 +34,11 @@ pub record Guards (result : ℕ) (old new : IolPort) : Type 0 where
   pub closed : IsFalse old.is_open → IsRefused result old new
   pub stays : Stays old new
 
+-- and what is written elsewhere stays where it is closed
+pub record GuardsOut {X : Type 0} (result : ℕ) (old new : IolPort) (out after : X) : Type 0 where
+  pub guards : Guards result old new
+  pub unwritten : IsFalse old.is_open → after ≡ out
+
 -- the call of C is this call of the abstract port, with this answer
 abbrev pub CallDoes : IolPort → Call → Answered → IolPort → Type 0
 CallDoes old call answered new = CoreDoes (parts_of old) call answered (parts_of new)

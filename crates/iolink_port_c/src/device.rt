@@ -6,7 +6,7 @@ ghost use Rattle.iol_port.specs.declared.call.Call.TheVariants as call;
 ghost use Rattle.iol_port.specs.declared.call.Answered.TheVariants as answered;
 ghost use Rattle.iol_port.specs.EveryWire.{page_shown};
 ghost use Rattle.iolink_handle.specs.Shown.{AreShown};
-ghost use Rattle.iolink_port_c.specs.Calls.{parts_of, IsRefused, CallDoes, Guards};
+ghost use Rattle.iolink_port_c.specs.Calls.{parts_of, IsRefused, CallDoes, Guards, GuardsOut};
 ghost use Rattle.iolink_port_c.specs.DeviceCalls.{identity_at, largest_device, counting_number};
 ghost use Rattle.iolink_port_c.specs.DeviceCalls.{IsCycleOf, Expects, Paces};
 
@@ -56,8 +56,7 @@ pub extern "C" fn iol_port_expect(
 /// is. With 0 `counts` is as of `iol_port_expect`.
 #[unsafe(no_mangle)]
 pub extern "C" fn iol_port_expect_any(alloc: Global, handle: &mut IolPort, counts: &mut u8) -> u8
-    ensures guards { Guards result handle.old handle.new }
-    ensures unwritten { IsFalse handle.old.is_open → counts.new ≡ counts.old }
+    ensures guards { GuardsOut result handle.old handle.new counts.old counts.new }
     ensures expects { IsTrue handle.old.is_open →
         Expects None handle.old result counts.new handle.new }
 {

@@ -1,8 +1,8 @@
 //! The line: what goes out, and what came.
-ghost use Rattle.std.specs.Prelude.{◌≡◌, ◌≤◌, ◌<◌, length, IsTrue, IsFalse};
+ghost use Rattle.std.specs.Prelude.{◌≡◌, ◌≤◌, ◌<◌, length, IsTrue};
 ghost use Rattle.iol_port.specs.declared.awaited.Awaited.{Awaited};
 ghost use Rattle.iol_port.specs.CorePort.{awaited};
-ghost use Rattle.iolink_port_c.specs.Calls.{parts_of, IsNotAsked, Guards};
+ghost use Rattle.iolink_port_c.specs.Calls.{parts_of, IsNotAsked, Guards, GuardsOut};
 ghost use Rattle.iolink_port_c.specs.Calls.{rate_of, answer_of};
 ghost use Rattle.iolink_port_c.specs.LineCalls.{Sends, Receives, Wakes};
 
@@ -35,8 +35,7 @@ pub struct IolMessage {
 /// further call gives the same again and changes nothing, whatever other calls came between.
 #[unsafe(no_mangle)]
 pub extern "C" fn iol_port_asks(alloc: Global, handle: &mut IolPort, out: &mut IolMessage) -> u8
-    ensures guards { Guards result handle.old handle.new }
-    ensures unwritten { IsFalse handle.old.is_open → out.new ≡ out.old }
+    ensures guards { GuardsOut result handle.old handle.new out.old out.new }
     ensures sends { IsTrue handle.old.is_open → Sends handle.old result out.new handle.new }
 {
     match handle.with(alloc, |master| master.port.send()) {

@@ -1,11 +1,11 @@
 //! Requests: entered, collected, taken back and cut off.
-ghost use Rattle.std.specs.Prelude.{◌≡◌, ◌≤◌, ◌<◌, length, IsTrue, IsFalse};
+ghost use Rattle.std.specs.Prelude.{◌≡◌, ◌≤◌, ◌<◌, length, IsTrue};
 ghost use Rattle.std.specs.Prelude.{IfOk, IfErr, IfSome, IfNone};
 ghost use Rattle.iol_isdu.specs.Fault.{fault_number as isdu_number};
 ghost use Rattle.iolink_port_c.specs.declared.request.Urgency.{Urgency};
 ghost use Rattle.iolink_port_c.specs.RequestCalls.{Enters, Collects, Withdraws, Cancels};
 ghost use Rattle.iolink_port_c.specs.RequestCalls.{read_at, write_at};
-ghost use Rattle.iolink_port_c.specs.Calls.{number_of, Guards};
+ghost use Rattle.iolink_port_c.specs.Calls.{number_of, Guards, GuardsOut};
 
 use crate::held::IolPort;
 use crate::outcome::{IolOutcome, show_outcome};
@@ -31,8 +31,7 @@ fn enter(
     urgency: Urgency,
     ticket: &mut u64,
 ) -> u8
-    ensures guards { Guards result handle.old handle.new }
-    ensures unwritten { IsFalse handle.old.is_open → ticket.new ≡ ticket.old }
+    ensures guards { GuardsOut result handle.old handle.new ticket.old ticket.new }
     ensures refused { IsTrue handle.old.is_open → IfErr request (λ why.
         (result ≡ isdu_number why) × (ticket.new ≡ 0) × (handle.new ≡ handle.old)) }
     ensures enters { IsTrue handle.old.is_open → IfOk request (λ request.
@@ -83,8 +82,7 @@ pub extern "C" fn iol_port_read(
     sub: u8,
     ticket: &mut u64,
 ) -> u8
-    ensures guards { Guards result handle.old handle.new }
-    ensures unwritten { IsFalse handle.old.is_open → ticket.new ≡ ticket.old }
+    ensures guards { GuardsOut result handle.old handle.new ticket.old ticket.new }
     ensures enters { IsTrue handle.old.is_open →
         Enters Urgency.Ordinary (read_at index sub) handle.old result ticket.new handle.new }
 {
@@ -102,8 +100,7 @@ pub extern "C" fn iol_port_read_urgent(
     sub: u8,
     ticket: &mut u64,
 ) -> u8
-    ensures guards { Guards result handle.old handle.new }
-    ensures unwritten { IsFalse handle.old.is_open → ticket.new ≡ ticket.old }
+    ensures guards { GuardsOut result handle.old handle.new ticket.old ticket.new }
     ensures enters { IsTrue handle.old.is_open →
         Enters Urgency.Urgent (read_at index sub) handle.old result ticket.new handle.new }
 {
@@ -123,8 +120,7 @@ pub extern "C" fn iol_port_write(
     octets: &[u8],
     ticket: &mut u64,
 ) -> u8
-    ensures guards { Guards result handle.old handle.new }
-    ensures unwritten { IsFalse handle.old.is_open → ticket.new ≡ ticket.old }
+    ensures guards { GuardsOut result handle.old handle.new ticket.old ticket.new }
     ensures long { IsTrue handle.old.is_open → 232 < length octets.now →
         (result ≡ 9) × (ticket.new ≡ 0) × (handle.new ≡ handle.old) }
     ensures enters { IsTrue handle.old.is_open → length octets.now ≤ 232 →
@@ -146,8 +142,7 @@ pub extern "C" fn iol_port_write_urgent(
     octets: &[u8],
     ticket: &mut u64,
 ) -> u8
-    ensures guards { Guards result handle.old handle.new }
-    ensures unwritten { IsFalse handle.old.is_open → ticket.new ≡ ticket.old }
+    ensures guards { GuardsOut result handle.old handle.new ticket.old ticket.new }
     ensures long { IsTrue handle.old.is_open → 232 < length octets.now →
         (result ≡ 9) × (ticket.new ≡ 0) × (handle.new ≡ handle.old) }
     ensures enters { IsTrue handle.old.is_open → length octets.now ≤ 232 →
@@ -168,8 +163,7 @@ pub extern "C" fn iol_port_collect(
     ticket: u64,
     out: &mut IolOutcome,
 ) -> u8
-    ensures guards { Guards result handle.old handle.new }
-    ensures unwritten { IsFalse handle.old.is_open → out.new ≡ out.old }
+    ensures guards { GuardsOut result handle.old handle.new out.old out.new }
     ensures collects { IsTrue handle.old.is_open →
         Collects ticket handle.old result out.old out.new handle.new }
 {

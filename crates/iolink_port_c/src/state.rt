@@ -8,7 +8,7 @@ ghost use Rattle.iol_port.specs.CorePort.{awaited};
 ghost use Rattle.iol_port.specs.View.{status_of};
 ghost use Rattle.iolink_handle.specs.Shown.{AreShown};
 ghost use Rattle.iolink_port_c.specs.Shown.{IsShown};
-ghost use Rattle.iolink_port_c.specs.Calls.{parts_of, IsRefused, IsNotAsked, CallDoes, Guards};
+ghost use Rattle.iolink_port_c.specs.Calls.{parts_of, IsRefused, IsNotAsked, CallDoes, Guards, GuardsOut};
 ghost use Rattle.iolink_port_c.specs.StateCalls.{Restarts, SetsOutput, ClearsOutput, TakesEvent};
 
 use crate::held::IolPort;
@@ -112,8 +112,7 @@ pub struct IolEvent {
 /// is closed, and 30 where none is kept. Where it is refused, `out` stays as it is.
 #[unsafe(no_mangle)]
 pub extern "C" fn iol_port_take_event(alloc: Global, handle: &mut IolPort, out: &mut IolEvent) -> u8
-    ensures guards { Guards result handle.old handle.new }
-    ensures unwritten { IsFalse handle.old.is_open → out.new ≡ out.old }
+    ensures guards { GuardsOut result handle.old handle.new out.old out.new }
     ensures takes { IsTrue handle.old.is_open →
         TakesEvent handle.old result out.old out.new handle.new }
 {
