@@ -4,5 +4,5 @@ use Rattle.std.proofs.Common.{arith}
 use Rattle.iol_app.proofs.Pieces.{same_sends}
 use Rattle.iol_app.proofs.core_data.Core.put_next.Goals as goal
 
-pub returns-clause-steps : goal.returns-clause-steps
-returns-clause-steps c = grind (arith, common_steps, same_sends)
+pub returns-clause-puts : goal.returns-clause-puts
+returns-clause-puts c = grind (arith, common_steps, same_sends)
