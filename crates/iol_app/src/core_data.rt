@@ -302,24 +302,19 @@ impl Core {
         ensures out { IsOut result (asked_in self.old.state self.old.session room)
             self.new.state }
     {
-        station_laws();
-        self.session.is_valid();
-        if matches!(self.state, State::Operate(_)) {
-            self.put_due(room);
-        }
+        self.put_due(room);
         !self.state.sends_wake()
     }
 
-    /// In OPERATE: a message for what is due is out, where none was.
+    /// In OPERATE a message for what is due is out from now on, where none was.
+    #[tactic(auto, using(std::proofs::lemmas::Grind::common_steps, crate::proofs::Pieces::same_sends))]
     fn put_due(&mut self, room: bool)
-        requires { operates self.old.state ≡ true }
-        ensures puts { PutsOut room self.old self.new }
-        ensures sending { IsSending self.new.state }
+        ensures { PutsOut room self.old self.new }
     {
         station_laws();
         self.session.is_valid();
         let State::Operate(operate) = &self.state else {
-            unreachable!()
+            return;
         };
         if operate.out.is_none() {
             let mut message = blank();

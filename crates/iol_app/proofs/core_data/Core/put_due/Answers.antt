@@ -12,11 +12,11 @@ use Rattle.iol_app.specs.State.{SessionState, IsMessageFor, sending}
 use Rattle.iol_app.specs.StationState.{StateFits}
 use Rattle.iol_app.specs.Core.{Core, core_out}
 use Rattle.iol_app.specs.Pieces.{IsSent}
-use Rattle.iol_app.proofs.Pieces.{no_exchange, new_sends, sent_reads, same_sends}
+use Rattle.iol_app.proofs.Pieces.{no_exchange, new_sends, sent_reads}
 use Rattle.iol_app.proofs.core_data.Core.put_due.Goals as goal
 
-pub returns-then-is_none-clause-puts : goal.returns-then-is_none-clause-puts
-returns-then-is_none-clause-puts c =
+pub returns-then-is_none : goal.returns-then-is_none
+returns-then-is_none c =
     let layouts = c.in-Operate.operate.layouts in
     let t : SessionState = c.self.inside.session in
     let due : Exchange = due_of t c.args.room in
@@ -56,6 +56,3 @@ returns-then-is_none-clause-puts c =
           (rw put_is at c.put_out.ensures.fits)
           (λ far. rw put_is at (c.put_out.ensures.accepted far)) on;
     })
-
-pub returns-else-is_none-clause-puts : goal.returns-else-is_none-clause-puts
-returns-else-is_none-clause-puts c = grind (arith, common_steps, same_sends)
