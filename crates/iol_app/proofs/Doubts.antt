@@ -89,7 +89,7 @@ after_fits sent layouts attempt s valid told fits joined =
     let linked = missed_joined (record { out = Some sent; layouts = layouts }) s in
     grind (arith, common_steps)
 
-abbrev core_of : State → SessionState → Core
+abbrev pub core_of : State → SessionState → Core
 core_of state s = record { state = state; session = s }
 
 -- what the code makes of it: the session asks for this message

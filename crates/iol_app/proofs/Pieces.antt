@@ -34,7 +34,7 @@ use Rattle.iol_app.specs.StationState.{StateFits as Joined, IsStill, NextFits, I
 use Rattle.iol_app.specs.StationLaws.{StationLaws}
 use Rattle.iol_app.specs.Core.{Core, Ghost, Stands, CallGives, IsAttempted, ordered, moment_of, images_in, after_exchange, settled_core, after_wake, core_out, free_core}
 use Rattle.iol_app.proofs.Orderly.{first_parts}
-use Rattle.iol_app.proofs.Doubts.{after_fits}
+use Rattle.iol_app.proofs.Doubts.{core_of, after_fits}
 use Rattle.iol_app.specs.Pieces.{IsSent, ReadsOn, IsSettledBy, IsTakenUp, SendSteps, Received, WakeSteps, ReceiveSteps}
 use Rattle.iol_app.proofs.Turns.{startup_next, preoperate_next, operate_next}
 use Rattle.iol_app.proofs.Settling.{settled_fits}
@@ -121,9 +121,6 @@ not_up state down up = grind (arith, common_steps)
 
 module _ (laws : StationLaws) (came : Option (List ℕ)) (said : Said) (brought : Brought) (g : Ghost)
     (far far' : Far) (n n' : ℕ) where
-  abbrev core_of : State → SessionState → Core
-  core_of state s = record { state = state; session = s }
-
   -- what it comes to
   abbrev outcome : State → SessionState → Outcome
   outcome state s = judged s.configuration state came
