@@ -70,10 +70,8 @@ question_stays out = refl
 missed_fits : (layouts : Layouts) (sent : Sending) (s : SessionState) (b : Bool)
     → IsOutput (output_length s.layout) s.output → s.layout ≡ Some layouts.run
     → OperateFits (record { out = Some sent; layouts = layouts })
-    → OperateFits (record {
-      out = Some (if b then record sent { message = question s.output.carried.items } else sent);
-      layouts = layouts;
-    })
+    → let message : MasterMsg = if b then question s.output.carried.items else sent.message in
+    OperateFits (record { out = Some (record sent { message = message }); layouts = layouts })
 missed_fits layouts sent s b output told h =
     let parts = question_parts s.layout s.output output in
     let stays = question_stays s.output.carried.items in
@@ -91,7 +89,7 @@ after_fits sent layouts attempt s valid told fits joined =
     let linked = missed_joined (record { out = Some sent; layouts = layouts }) s in
     grind (arith, common_steps)
 
-abbrev core_of : State → SessionState → Core
+abbrev pub core_of : State → SessionState → Core
 core_of state s = record { state = state; session = s }
 
 -- what the code makes of it: the session asks for this message

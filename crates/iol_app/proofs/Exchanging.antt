@@ -1,7 +1,7 @@
 -- An exchange in OPERATE: what every outcome needs; a miss, and a loss.
 use Rattle.std.proofs.Common.{◌≡◌, ℕ, suc, ◌+◌, ◌≤◌, min, Bool, true, false, List, [], ◌++◌, filter, refl, sym, ◌∙◌, ap, subst, arith}
 use Rattle.std.proofs.lemmas.Grind.{common_steps}
-use Rattle.std.specs.Prelude.{Option, Some, None, IsTrue, IfSome, if◌then◌else◌}
+use Rattle.std.specs.Prelude.{Option, Some, None, IsTrue, IfSome}
 use Rattle.iol_mseq.specs.Shape.{Shape}
 use Rattle.iol_mseq.specs.Texts.{master_text}
 use Rattle.iol_page.specs.Page.{layouts_of}
@@ -15,7 +15,6 @@ use Rattle.iol_far.specs.Codec.{layout_in}
 use Rattle.iol_far.specs.Far.{Far, output_of}
 use Rattle.iol_far.specs.Local.{LocalStep, locals}
 use Rattle.iol_mseq.specs.Master.{HasMasterParts}
-use Rattle.iol_mseq.specs.declared.master.MasterMsg.{MasterMsg}
 use Rattle.iol_far.specs.Linked.{TextsAreHeard}
 use Rattle.iol_far.specs.Level.{Progress, Move, Begin, IsLevel, taken}
 use Rattle.iol_far.specs.Laws.{confirms as octets_confirm}
@@ -59,9 +58,9 @@ use Rattle.iol_app.proofs.OperateMessages.{exchange_confirms}
 use Rattle.iol_app.proofs.SmallFacts.{confirms_is, more_silence, same_carried}
 use Rattle.iol_app.proofs.Sessions.{question_parts}
 use Rattle.iol_app.proofs.Doubts.{missed_request_by}
-use Rattle.iol_app.proofs.Missing.{Stays, sent_again, asked_for, busy_missed}
+use Rattle.iol_app.proofs.Missing.{stays, busy_missed}
 use Rattle.iol_app.proofs.Telling.{told_layout}
-use Rattle.iol_app.specs.Core.{Core, Ghost, OfRequest, OfEvents, Stands, ReceiveGives, work_of, vain_by, after_missed, OperateRequest, RequestStands, EventsStand, OutputStands, CalmAt, ShownStands, core_out, reading_in, ordered_by, moment_of, seen_in, shown_in, images_in, settled_core}
+use Rattle.iol_app.specs.Core.{Core, Ghost, OfRequest, OfEvents, Stands, ReceiveGives, work_of, vain_by, after_missed, RequestStands, EventsStand, OutputStands, CalmAt, ShownStands, core_out, reading_in, ordered_by, moment_of, seen_in, shown_in, images_in, settled_core}
 use Rattle.iol_mode.specs.Kinds.{trusted}
 use Rattle.iol_far.specs.declared.kind.Recalls.{Recalls}
 use Rattle.iol_mode.specs.declared.configuration.Devices.{Devices}
@@ -382,42 +381,26 @@ module _ (turn : Turn) (passage : Passage) (e : Exchange) (current : Option Curr
       same_request = missed_request_by t.configuration.devices (Some e) current
 
       -- the request, once the ends are level with what is out from now on
-      abbrev AgainStays : MasterMsg → Type 0
-      AgainStays m = Stays laws heard g.page g.kind layouts g.request.base up.link w R g.sent
-          t.clear t.limit carried at some_od parts carries passed t.configuration.devices e
-          (missed_by t.configuration.devices (Some e) current) m
-
-      abbrev Requests : Sending → Type 0
-      Requests out = OperateRequest (record { out = Some out; layouts = layouts })
-          (work_of missed_core.session) R (ended unheard away) passed
-
-      request_out : (m : MasterMsg) → AgainStays m
-          → Requests (record { message = m; tries = w.tries + 1 })
-      request_out m k = record {
-        late = late';
-        opens = rw same_request p.opens;
-        link = up.link;
-        linked = k.linked;
-        level = k.level;
-        out = k.out;
-        answer = λ once.
-            let still = repeats_missed devices g.kind.hands_over layouts.run.od e current once in
-            rw same_request (rw (p.kept still) (tied' still));
-        busy = busy_missed devices in_doubt t.limit e current g.request.busy g.request.asked
-            up.busy;
-        known = rw same_request up.known;
-      }
-
-      request_by : (b : Bool) → doubts c.session ≡ b
-          → Requests (if b then record again { message = question carried } else again)
-      request_by true is = request_out (question carried)
-          (asked_for laws heard g.page g.kind layouts g.request.base up.link w R g.sent
-          t.clear t.limit carried at some_od parts carries passed t.configuration.devices e
-          current valid.current sized is up.out up.linked level')
-      request_by false is = request_out w.message
-          (sent_again laws heard g.page g.kind layouts g.request.base up.link w R g.sent
-          t.clear t.limit carried at some_od parts carries passed t.configuration.devices e
-          current valid.current sized is up.out up.linked level')
+      request_out : RequestStands missed_core.state (work_of missed_core.session) t.events
+          (ended unheard away) passed
+      request_out =
+          let k = stays laws heard layouts up.link w R t g at some_od parts carries passed
+          (doubts c.session) devices e current valid.current sized refl up.out up.linked level' in
+          record {
+            late = late';
+            opens = rw same_request p.opens;
+            link = up.link;
+            linked = k.linked;
+            level = k.level;
+            out = k.out;
+            answer = λ once.
+                let still = repeats_missed devices g.kind.hands_over layouts.run.od e current
+                once in
+                rw same_request (rw (p.kept still) (tied' still));
+            busy = busy_missed devices in_doubt t.limit e current g.request.busy g.request.asked
+                up.busy;
+            known = rw same_request up.known;
+          }
 
       pub misses : {said : Said} → said ≡ quiet_said request
           → Ends said (Exchanged false) missed_core unheard away Missed
@@ -431,7 +414,7 @@ module _ (turn : Turn) (passage : Passage) (e : Exchange) (current : Option Curr
         says = says;
         last = ((λ k. absurd (more_silence n k.1)), (λ k. absurd (k refl)), (λ k l. refl));
         wanted = λ k. absurd (more_silence n k);
-        request_is = request_by (doubts c.session) refl;
+        request_is = request_out;
         events = rw confirms at told';
         output = p.outputs;
         sent = stands.sent;

@@ -12,10 +12,10 @@ use Rattle.iol_app.specs.StationState.{mode_in}
 use Rattle.iol_app.specs.Core.{Core, Ghost, SendGives, CallGives, moment_of, images_in}
 use Rattle.iol_app.proofs.Clash.{make_apart}
 
-pub turn_of : (c mid next : Core) (g after : Ghost) (far far' : Far) (n n' : ℕ) (said : Said)
+pub turn_of : {c mid next : Core} {g after : Ghost} {far far' : Far} {n n' : ℕ} {said : Said}
     → SendGives c mid g after far n → (r : CallGives mid after far n said next far' n')
     → no_make r.steps ≡ true → CallGives c g far n said next far' n'
-turn_of c mid next g after far far' n n' said s r unmade =
+turn_of {c} {mid} {next} {g} {after} {far} {far'} {n} s r unmade =
     let m : Moment = moment_of c g n r.call in
     let at : moment_of mid after n r.call ≡ m = λ i. record {
       terms = record {

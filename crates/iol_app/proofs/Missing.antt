@@ -4,11 +4,10 @@ use Rattle.std.proofs.lemmas.Grind.{common_steps}
 use Rattle.std.proofs.lemmas.Bool.{false≢true}
 use Rattle.std.proofs.lemmas.Bool.Decides.{nat_tests}
 use Rattle.std.proofs.Common.{arith, ◌≡◌, inr, ℕ, suc, ◌+◌, ◌*◌, ◌≤◌, Bool, true, false, List, length, refl, sym, ap, ◌∙◌, Option, Some, None}
-use Rattle.std.specs.Prelude.{IfSome, nat_lt, not}
+use Rattle.std.specs.Prelude.{IfSome, if◌then◌else◌, nat_lt, not}
 use Rattle.arrayvec.specs.ArrayVec.{ArrayVec}
 use Rattle.iol_octets.specs.Control.{control_of}
 use Rattle.iol_octets.specs.declared.flow_control.Flow.TheVariants.{Start}
-use Rattle.iol_mseq.specs.Shape.{Shape}
 use Rattle.iol_mseq.specs.Master.{HasMasterParts}
 use Rattle.iol_mseq.specs.Texts.{master_text}
 use Rattle.iol_mseq.specs.declared.master.MasterMsg.{MasterMsg}
@@ -28,7 +27,6 @@ use Rattle.iol_link.specs.Attempts.{Sending}
 use Rattle.iol_mode.specs.declared.configuration.Devices.{Devices}
 use Rattle.iol_mode.specs.declared.configuration.Devices.TheVariants.{Any}
 use Rattle.iol_mode.specs.Stands.{operate_link}
-use Rattle.iol_steps.specs.Step.{Image}
 use Rattle.iol_steps.specs.Station.{Reading}
 use Rattle.iol_app.specs.declared.request.Current.{Current}
 use Rattle.iol_app.specs.declared.request.Progress.{Progress as Cursor}
@@ -39,8 +37,8 @@ use Rattle.iol_app.specs.Messages.{question}
 use Rattle.iol_app.specs.Requests.{text_of, is_over, IsCurrent}
 use Rattle.iol_app.specs.Moves.{progress_of, move_for}
 use Rattle.iol_app.specs.Ends.{BusySeen, OperateLink}
-use Rattle.iol_app.specs.State.{doubts_by, missed_by}
-use Rattle.iol_app.specs.Core.{Work, vain_by, AgainBy, OutStands}
+use Rattle.iol_app.specs.State.{SessionState, doubts_by, missed_by}
+use Rattle.iol_app.specs.Core.{Ghost, Work, vain_by, AgainBy, OutStands}
 use Rattle.iol_app.proofs.Given.{Laws, level_more}
 
 -- The request, where the message goes out again as it was
@@ -96,20 +94,26 @@ short_text : (given size : ℕ) (text : List ℕ) → given ≡ 1
     → not (nat_lt (given * size) (length text)) ≡ true → length text ≤ size
 short_text given size text one whole = grind (arith, nat_tests, common_steps)
 
-module _ (laws : Laws) (heard : TextsAreHeard) (page : List ℕ) (kind : Kind) (layouts : Layouts)
-    (base : List Carried) (link : Link) (w : Sending) (R : Reading) (sent : Option Image)
-    (clear : Bool) (limit : ℕ) (carried : List ℕ)
-    (there : layout_in page FarOperate ≡ layouts.run) (some : 1 ≤ layouts.run.od)
-    (parts : HasMasterParts layouts.run (question carried))
-    (carries : IfSome sent (λ image. carried ≡ image)) (far : Far) where
-  abbrev run : Shape
-  run = layouts.run
+module _ (laws : Laws) (heard : TextsAreHeard) (layouts : Layouts) (link : Link) (w : Sending)
+    (R : Reading) (t : SessionState) (g : Ghost) (there : layout_in g.page FarOperate ≡ layouts.run)
+    (some : 1 ≤ layouts.run.od)
+    (parts : HasMasterParts layouts.run (question t.output.carried.items))
+    (carries : IfSome g.sent (λ image. t.output.carried.items ≡ image)) (far : Far) where
+  open layouts use {run}
+  open g use {page, kind, sent}
+  open t use {clear}
+
+  abbrev base : List Carried
+  base = g.request.base
+
+  abbrev carried : List ℕ
+  carried = t.output.carried.items
 
   abbrev work : Devices → Exchange → Option Current → Work
   work d e current = record {
     devices = d;
     clear = clear;
-    limit = limit;
+    limit = t.limit;
     current = current;
     exchange = Some e;
   }
@@ -126,7 +130,7 @@ module _ (laws : Laws) (heard : TextsAreHeard) (page : List ℕ) (kind : Kind) (
     pub linked : OperateLink layouts (progress_of d clear current) link
 
   -- so they do where a message stood out that brought no good reply, in doubt or not
-  abbrev pub Leaves : Bool → MasterMsg → Devices → Exchange → Option Current → Type 0
+  abbrev Leaves : Bool → MasterMsg → Devices → Exchange → Option Current → Type 0
   Leaves doubted m d e current = IfSome current IsCurrent
       → IfSome current (λ c. c.cutter.size ≡ run.od) → doubts_by d (Some e) current ≡ doubted
       → OutStands layouts w e (work d e current) R page kind link sent
@@ -134,7 +138,7 @@ module _ (laws : Laws) (heard : TextsAreHeard) (page : List ℕ) (kind : Kind) (
       → LevelAt (progress_of d clear current) w.message (suc (vain_by d e current w.tries))
       → Stays d e (missed_by d (Some e) current) m
 
-  pub sent_again : (d : Devices) (e : Exchange) (current : Option Current)
+  sent_again : (d : Devices) (e : Exchange) (current : Option Current)
       → Leaves false w.message d e current
   sent_again d e current valid same sure out linked level =
       let is = sent_as_was d e current sure in
@@ -153,16 +157,16 @@ module _ (laws : Laws) (heard : TextsAreHeard) (page : List ℕ) (kind : Kind) (
       }
 
   -- the one segment of a request was out: it is asked for
-  by_cursor : (t : Current) (p : Cursor)
-      → Leaves true (question carried) Any NextMessage (Some (record t { progress = p }))
-  by_cursor t (Cut Start piece) valid same whole out linked level =
+  by_cursor : (c : Current) (p : Cursor)
+      → Leaves true (question carried) Any NextMessage (Some (record c { progress = p }))
+  by_cursor c (Cut Start piece) valid same whole out linked level =
       let asked : MasterMsg = question carried in
-      let r : Request = t.cutter.source in
-      let one : t.cutter.given ≡ 1 =
-      first_given t.cutter.size (text_of t.cutter) t.cutter.given piece valid.progress in
+      let r : Request = c.cutter.source in
+      let one : c.cutter.given ≡ 1 =
+      first_given c.cutter.size (text_of c.cutter) c.cutter.given piece valid.progress in
       let link_is : link ≡ operate_link = clear_link layouts link (rw one at linked) in
       let short : length (request_text r) ≤ run.od =
-      rw same at (short_text t.cutter.given t.cutter.size (request_text r) one whole) in
+      rw same at (short_text c.cutter.given c.cutter.size (request_text r) one whole) in
       let layout : layout_in page (taken link (master_text run asked)).mode ≡ run =
       rw link_is there in
       rw whole (record {
@@ -188,11 +192,16 @@ module _ (laws : Laws) (heard : TextsAreHeard) (page : List ℕ) (kind : Kind) (
         };
         linked = inr link_is;
       })
-  by_cursor t (Cut other piece) valid same whole out linked level = absurd (false≢true whole)
-  by_cursor t other valid same whole out linked level = absurd (false≢true whole)
+  by_cursor c (Cut other piece) valid same whole out linked level = absurd (false≢true whole)
+  by_cursor c other valid same whole out linked level = absurd (false≢true whole)
 
-  pub asked_for : (d : Devices) (e : Exchange) (current : Option Current)
+  asked_for : (d : Devices) (e : Exchange) (current : Option Current)
       → Leaves true (question carried) d e current
   asked_for Any NextMessage (Some c) valid same doubted out linked level =
       by_cursor c c.progress valid same doubted out linked level
   asked_for d e current valid same doubted out linked level = absurd (false≢true doubted)
+
+  pub stays : (doubted : Bool) (d : Devices) (e : Exchange) (current : Option Current)
+      → Leaves doubted (if doubted then question carried else w.message) d e current
+  stays true d e current = asked_for d e current
+  stays false d e current = sent_again d e current

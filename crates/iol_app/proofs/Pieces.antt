@@ -18,25 +18,24 @@ use Rattle.iol_mode.specs.declared.states.State.TheVariants.{Down as AtDown, Ope
 use Rattle.iol_mode.specs.Messages.{command_message, unsent}
 use Rattle.iol_mode.specs.Next.{EnteredFits}
 use Rattle.iol_mode.specs.States.{Outcome, OutcomeFits, StateFits, IsDown, state_of, waked, operate_by, counted}
-use Rattle.iol_mode.specs.Exchanges.{IsSending, AreFew, ExchangeGives, AcceptedBy, StandsOn, WakeStands, judged, text_out}
+use Rattle.iol_mode.specs.Exchanges.{IsSending, AcceptedBy, StandsOn, WakeStands, judged, text_out}
 use Rattle.iol_mode.specs.Stands.{StateStands}
 use Rattle.iol_steps.specs.declared.mode.Mode.TheVariants.{Operate as ModeOperate}
 use Rattle.iol_steps.specs.declared.said.Said.{Said}
 use Rattle.iol_steps.specs.declared.said.Said.TheVariants.{Idle}
 use Rattle.iol_steps.specs.Step.{Step, Moment, no_make}
 use Rattle.iol_steps.specs.Images.{Images, MayImagesAll, images_after}
-use Rattle.iol_app.specs.declared.request.Current.{Current}
 use Rattle.iol_app.specs.declared.session.Exchange.{Exchange}
-use Rattle.iol_app.specs.Requests.{request_in, EndsRequest}
+use Rattle.iol_app.specs.declared.brought.Brought.{Brought}
 use Rattle.iol_app.specs.Due.{due_of}
 use Rattle.iol_app.specs.Outputs.{carried_by}
 use Rattle.iol_app.specs.State.{SessionState, IsSession, IsOutBy, IsMessageFor, sending}
-use Rattle.iol_app.specs.StationState.{StateFits as Joined, IsStill, NextFits, IsSettledSaid, waked_session, mode_in}
+use Rattle.iol_app.specs.StationState.{StateFits as Joined, IsStill, NextFits, IsSettledSaid, mode_in}
 use Rattle.iol_app.specs.StationLaws.{StationLaws}
-use Rattle.iol_app.specs.Core.{came_of, Core, Ghost, Stands, CallGives, IsAttempted, ordered, moment_of, images_in, after_exchange, settled_core, after_wake, core_out, free_core}
+use Rattle.iol_app.specs.Core.{Core, Ghost, Stands, CallGives, IsAttempted, ordered, moment_of, images_in, after_exchange, settled_core, after_wake, core_out, free_core}
 use Rattle.iol_app.proofs.Orderly.{first_parts}
-use Rattle.iol_app.proofs.Doubts.{after_fits}
-use Rattle.iol_app.specs.Pieces.{SendSteps, Received, WakeSteps, ReceiveSteps}
+use Rattle.iol_app.proofs.Doubts.{core_of, after_fits}
+use Rattle.iol_app.specs.Pieces.{IsSent, ReadsOn, IsSettledBy, IsTakenUp, SendSteps, Received, WakeSteps, ReceiveSteps}
 use Rattle.iol_app.proofs.Turns.{startup_next, preoperate_next, operate_next}
 use Rattle.iol_app.proofs.Settling.{settled_fits}
 
@@ -47,22 +46,10 @@ reset_parts = record { out = refl; od = refl }
 waked_fits : (devices : Devices) (answered : Bool) → OutcomeFits (waked devices answered)
 waked_fits devices answered = grind (arith, common_steps, first_parts, reset_parts)
 
--- a wake says nothing
-pub idle_said : (devices : Devices) (answered : Bool) (s : SessionState) (said : Said)
-    → s.current ≡ None → said ≡ Idle
-    → IsSettledSaid (waked devices answered) (waked_session answered s) said
-idle_said devices answered s said free idle = grind (arith, common_steps)
-
 -- in a start-up nothing is said
 pub still_said : (outcome : Outcome) (s : SessionState) (said : Said) → IsStill s
     → IsSettledSaid outcome s said → said ≡ Idle
 still_said outcome s said still h = grind (arith, common_steps)
-
--- only a request that is under way is answered or cut off
-pub settled_ends : (s : SessionState) (outcome : Outcome) (said : Said)
-    (current : Option Current) → s.current ≡ current → IsSettledSaid outcome s said
-    → EndsRequest said (request_in current)
-settled_ends s outcome said current e h = grind (arith, common_steps)
 
 -- a message that is out is the session's, and none is out where the session has none
 pub some_exchange : (e : Option Exchange) (s : SessionState) (m : MasterMsg)
@@ -101,6 +88,9 @@ same_sends old = λ g far n stands.
     wanted_at old.state old.session n far tried stands.link calm in
     inl (assumption asks)
 
+pub sent_reads : (room : Bool) (old new : Core) → IsSent room old new → ReadsOn room old new
+sent_reads room old new sent = grind (arith, common_steps)
+
 -- what is made of what comes back may be taken up
 out_next : (out : Option Sending) (layouts : Layouts) (came : Option (List ℕ))
     (s : SessionState) → let state : Operate = record { out = out; layouts = layouts } in
@@ -129,11 +119,8 @@ unmade_by {c} {g = g} {far = far} {n = n} down r =
 not_up : (state : State) → IsDown state → mode_in state ≡ ModeOperate → ⊥
 not_up state down up = grind (arith, common_steps)
 
-module _ (laws : StationLaws) (came : Option (List ℕ)) (said : Said) (g : Ghost) (far far' : Far)
-    (n n' : ℕ) where
-  abbrev core_of : State → SessionState → Core
-  core_of state s = record { state = state; session = s }
-
+module _ (laws : StationLaws) (came : Option (List ℕ)) (said : Said) (brought : Brought) (g : Ghost)
+    (far far' : Far) (n n' : ℕ) where
   -- what it comes to
   abbrev outcome : State → SessionState → Outcome
   outcome state s = judged s.configuration state came
@@ -143,10 +130,9 @@ module _ (laws : StationLaws) (came : Option (List ℕ)) (said : Said) (g : Ghos
       Received (core_of state s) g far n said (after_exchange (outcome state s) s) far' n'
 
   abbrev Gives : State → SessionState → Type 0
-  Gives state s = IsSession s → Stands (core_of state s) g far n
-      → HonestExchange far n (text_out state) came far' n' → AreFew state
-      → OutcomeFits (outcome state s) → ExchangeGives state came (outcome state s)
-      → IsSettledSaid (outcome state s) s said
+  Gives state s = Stands (core_of state s) g far n
+      → HonestExchange far n (text_out state) came far' n'
+      → IsSettledBy (core_of state s) came said brought
       → StandsOn (state_of (outcome state s)) (after_exchange (outcome state s) s).state
       → Came state s
 
@@ -154,20 +140,19 @@ module _ (laws : StationLaws) (came : Option (List ℕ)) (said : Said) (g : Ghos
   operate_gives : (out : Option Sending) (layouts : Layouts) (t : SessionState)
       (e : Option Exchange) → IsSending (AtOperate (record { out = out; layouts = layouts }))
       → Gives (AtOperate (record { out = out; layouts = layouts })) (record t { exchange = e })
-  operate_gives None layouts t e sends valid stands x few fits gives says on =
+  operate_gives None layouts t e sends stands x j on =
       absurd (let e : false ≡ true = sends in cc)
-  operate_gives (Some w) layouts t None sends valid stands x few fits gives says on =
-      absurd stands.joined.out_for
-  operate_gives (Some w) layouts t (Some e) sends valid stands x few fits gives says on =
+  operate_gives (Some w) layouts t None sends stands x j on = absurd stands.joined.out_for
+  operate_gives (Some w) layouts t (Some e) sends stands x j on =
       let s : SessionState = record t { exchange = Some e } in
       let reply : Option Reply = good_reply layouts.run w.message came in
-      let met = gives far far' n n' stands.link x in
-      let fitting = after_fits (counted w reply) layouts (attempt_of w.tries reply) s valid
-      stands.joined.told.0 fits (settled_fits
-      (operate_by (counted w reply) layouts (attempt_of w.tries reply)) s fits
+      let met = j.gives far far' n n' stands.link x in
+      let fitting = after_fits (counted w reply) layouts (attempt_of w.tries reply) s j.valid
+      stands.joined.told.0 j.fits (settled_fits
+      (operate_by (counted w reply) layouts (attempt_of w.tries reply)) s j.fits
       (out_next (Some w) layouts came s refl stands.joined)) in
-      let got = laws.receives.gives layouts w t e g far far' n n' came said stands valid x few
-      met.0 met.1 on fitting.0 fitting.1 says in
+      let got = laws.receives.gives layouts w t e g far far' n n' came said stands j.valid x j.few
+      met.0 met.1 on fitting.0 fitting.1 j.said_is in
       record {
         given = got.given;
         unmade = got.unmade;
@@ -178,27 +163,24 @@ module _ (laws : StationLaws) (came : Option (List ℕ)) (said : Said) (g : Ghos
   state_gives (AtDown o) s sends = absurd sends
   state_gives (AtOperate o) s sends = operate_gives o.out o.layouts s s.exchange sends
   -- in both modes of a start-up
-  state_gives state s sends = λ valid stands x few fits gives says on.
+  state_gives state s sends = λ stands x j on.
       let o : Outcome = outcome state s in
-      let risen = gives far far' n n' stands.link x in
+      let risen = j.gives far far' n n' stands.link x in
       let given : CallGives (core_of state s) g far n Idle (settled_core o s) far' n' =
-      laws.rises.gives (core_of state s) g far far' n n' came refl stands valid x risen fits
-      (settled_fits o s fits (judged_next state came s sends stands.joined)) in
+      laws.rises.gives (core_of state s) g far far' n n' came refl stands j.valid x risen j.fits
+      (settled_fits o s j.fits (judged_next state came s sends stands.joined)) in
       let settled = risen_settled o s n' far' risen.entered in
       let down : mode_in state ≡ ModeOperate → ⊥ = λ up. cc in
-      rw (settled.0, still_said o s said stands.joined.0 says)
+      rw (settled.0, still_said o s said stands.joined.0 j.said_is)
       (record { given = given; unmade = unmade_by down given; attempted = settled.1 })
 
-pub receive_steps : StationLaws → (old : Core) (came : Option (List ℕ)) (said : Said)
-    (new : Core) → IsSession old.session → IsSending old.state → AreFew old.state
-    → OutcomeFits (came_of old came) → ExchangeGives old.state came (came_of old came)
-    → IsSettledSaid (came_of old came) old.session said
-    → StandsOn (state_of (came_of old came)) new.state
-    → new ≡ after_exchange (came_of old came) old.session → ReceiveSteps old came said new
+pub receive_steps : StationLaws → {old : Core} {came : Option (List ℕ)} {said : Said}
+    {brought : Brought} {new : Core} → IsSending old.state → IsTakenUp old came said brought new
+    → ReceiveSteps old came said new
 unfolding ReceiveSteps
-receive_steps laws old came said new valid sends few fits gives says on e =
-    λ g far far' n n' stands x. rw e (state_gives laws came said g far far' n n' old.state
-    old.session sends valid stands x few fits gives says (rw e at on))
+receive_steps laws {old} {came} {said} {brought} sends t = λ g far far' n n' stands x. rw t.is
+    (state_gives laws came said brought g far far' n n' old.state old.session sends stands x
+    t.settled (rw t.is at t.on))
 
 -- In OPERATE a new message goes out
 module _ (laws : StationLaws) (layouts : Layouts) (t : SessionState) (room : Bool)

@@ -26,8 +26,9 @@ use Rattle.iol_app.specs.Brought.{brought_in}
 use Rattle.iol_app.specs.Due.{due_of}
 use Rattle.iol_app.specs.Outputs.{carried_by}
 use Rattle.iol_app.specs.Reports.{is_reading}
-use Rattle.iol_app.specs.State.{SessionState, sending, IsMessageFor}
-use Rattle.iol_app.specs.StationState.{IsSettledSaid}
+use Rattle.iol_app.specs.Requests.{request_in, request_after}
+use Rattle.iol_app.specs.State.{SessionState, IsSession, sending, IsMessageFor}
+use Rattle.iol_app.specs.StationState.{StateFits as Joined, IsSettledSaid, settled_session}
 use Rattle.iol_app.specs.Core.{Core, Ghost, Stands, IsAttempted, CallGives, SendGives, after_exchange, came_of, core_out, made_ghost, ordered}
 
 -- What is out
@@ -73,21 +74,42 @@ abbrev pub ReadsOn : Bool → Core → Core → Type 0
 ReadsOn room old new =
     is_reading new.session ≡ true → (is_reading old.session ≡ true) ⊎ (room ≡ true)
 
+-- What came back is judged by the message that is out
+pub record IsSettledBy (old : Core) (came : Option (List ℕ)) (said : Said) (brought : Brought) :
+    Type 0 where
+  -- it was sent less than three times
+  pub few : AreFew old.state
+  -- the session, by itself, and to the mode
+  pub valid : IsSession old.session
+  pub joined : Joined old.state old.session
+  -- the mode that it comes to, by itself, and over an honest wire to the far end
+  pub fits : OutcomeFits (came_of old came)
+  pub gives : ExchangeGives old.state came (came_of old came)
+  -- what is said of it
+  pub said_is : IsSettledSaid (came_of old came) old.session said
+  -- an answer and a cut end the request under way
+  pub request : request_in (settled_session (came_of old came) old.session).current
+      ≡ request_after (request_in old.session.current) said
+  -- what the exchange brought
+  pub brought_is : brought ≡ brought_in old.state came
+
+-- and is taken up
+pub record IsTakenUp (old : Core) (came : Option (List ℕ)) (said : Said) (brought : Brought)
+    (new : Core) : Type 0 where
+  pub settled : IsSettledBy old came said brought
+  -- a message without a good reply goes out again, or a question in its place
+  pub is : new ≡ after_exchange (came_of old came) old.session
+  -- and the mode stands to each far end as that which was settled
+  pub on : StandsOn (state_of (came_of old came)) new.state
+
 -- The message that is out went out over the wire, and what came back was taken up
 pub record IsPassed {W : Type 0} (facts : WireFacts W) (wire wire_new : W) (old : Core)
-    (said : Said)
-    (brought : Brought) (new : Core) : Type 0 where
+    (said : Said) (brought : Brought) (new : Core) : Type 0 where
   pub came : Option (ArrayVec ℕ)
   pub called : facts.exchange_gives wire (text_out old.state) came wire_new
   pub passes : Passes facts wire (text_out old.state) came wire_new
   pub honesty : facts.honest wire_new ≡ facts.honest wire
-  pub few : AreFew old.state
-  pub fits : OutcomeFits (came_of old (octets_in came))
-  pub gives : ExchangeGives old.state (octets_in came) (came_of old (octets_in came))
-  pub is : new ≡ after_exchange (came_of old (octets_in came)) old.session
-  pub said_is : IsSettledSaid (came_of old (octets_in came)) old.session said
-  pub brought_is : brought ≡ brought_in old.state (octets_in came)
-  pub on : StandsOn (state_of (came_of old (octets_in came))) new.state
+  pub taken : IsTakenUp old (octets_in came) said brought new
 
 -- Over an honest wire
 
@@ -103,6 +125,17 @@ unfoldable pub SendSteps : Core → Core → Type 0
 SendSteps old new =
     (g : Ghost) (far : Far) (silence : ℕ) → Stands old g far silence
     → SendsAgain old new silence ⊎ SendGives old new g (made_ghost old.session g) far silence
+
+-- all that a sending makes of the core
+pub record PutsOut (room : Bool) (old new : Core) : Type 0 where
+  -- a message for what is due is out, where none was
+  pub sent : IsSent room old new
+  -- a reading of events is begun only where there is room
+  pub reads : ReadsOn room old new
+  -- the mode stands to each far end as before
+  pub on : StandsOn old.state new.state
+  -- where both ends stand, they stand on
+  pub steps : SendSteps old new
 
 -- what comes back is taken up: no message is made, and one that is out afterwards was sent
 pub record Received (old : Core) (g : Ghost) (far : Far) (silence : ℕ) (said : Said) (new : Core)

@@ -1,4 +1,4 @@
--- Which reports of events may come, over every wire.
+-- What may be said of a request and of a reading of events, over every wire.
 use Rattle.std.specs.Prelude.{◌≡◌, ◌⊎◌, Bool, true, false, ◌||◌, Option, Some}
 use Rattle.iol_steps.specs.declared.said.Said.{Said}
 use Rattle.iol_steps.specs.declared.said.Said.TheVariants.{Reported}
@@ -6,6 +6,7 @@ use Rattle.iol_app.specs.declared.session.Exchange.{Exchange}
 use Rattle.iol_app.specs.declared.session.Exchange.TheVariants.{ReadEvent}
 use Rattle.iol_app.specs.Due.{is_under_way}
 use Rattle.iol_app.specs.State.{SessionState}
+use Rattle.iol_app.specs.Requests.{request_in, request_after, EndsRequest}
 
 abbrev pub is_read_out : Option Exchange → Bool
 is_read_out (Some ReadEvent) = true
@@ -19,3 +20,13 @@ is_reading s = is_read_out s.exchange || is_under_way s.events.reading
 abbrev pub ReadingAfter : Bool → Bool → Said → Bool → Type 0
 ReadingAfter room before (Reported events) after = (before ≡ true) × (after ≡ false)
 ReadingAfter room before said after = after ≡ true → (before ≡ true) ⊎ (room ≡ true)
+
+-- what is said fits what became of the session
+pub record SaidFits (room : Bool) (old : SessionState) (said : Said) (new : SessionState) :
+    Type 0 where
+  -- an answer and a cut end the request under way
+  pub request : request_in new.current ≡ request_after (request_in old.current) said
+  -- both are said only of one
+  pub ends : EndsRequest said (request_in old.current)
+  -- a report ends a reading that was begun, and `room` says whether one may begin
+  pub reading : ReadingAfter room (is_reading old) said (is_reading new)

@@ -5,21 +5,18 @@ ghost use Rattle.std.specs.Option.{option_copied, option_map};
 ghost use Rattle.iol_far.specs.Octets.{octets_in};
 ghost use Rattle.iol_link.specs.Attempts.{attempt_in};
 ghost use Rattle.iol_link.specs.WireFacts.{Wakes};
-ghost use Rattle.iol_mode.specs.Kinds.{IsHonestFor};
-ghost use Rattle.iol_mode.specs.States.{IsDown, OutcomeFits, is_reset, outcome_with, state_of};
-ghost use Rattle.iol_mode.specs.Stands.{StateStands};
-ghost use Rattle.iol_mode.specs.Exchanges.{IsSending, AreFew, ExchangeGives, StandsOn, WakeStands, tries_in, text_out};
+ghost use Rattle.iol_mode.specs.States.{IsDown, is_reset, outcome_with};
+ghost use Rattle.iol_mode.specs.Exchanges.{IsSending, StandsOn, WakeStands, text_out};
 ghost use Rattle.iol_app.specs.EventReading.{is_refused};
-ghost use Rattle.iol_app.specs.State.{aborted_in, begun_in, wanting, expecting, pacing, output_refusal, IsSession};
-ghost use Rattle.iol_app.specs.Requests.{request_in, request_after, EndsRequest};
+ghost use Rattle.iol_app.specs.State.{aborted_in, begun_in, wanting, expecting, pacing, output_refusal};
+ghost use Rattle.iol_app.specs.Requests.{request_in, request_after};
 ghost use Rattle.iol_app.specs.Due.{is_ready};
-ghost use Rattle.iol_app.specs.Reports.{is_reading, ReadingAfter};
-ghost use Rattle.iol_app.specs.StationState.{mode_in, why_in, page_in, operates, settled_session, NextFits, IsSettledSaid, IsTurn, StateFits as Joined};
-ghost use Rattle.iol_app.specs.Asking.{asked_in, beginning_in, asked_of, outgoing, IsCall};
-ghost use Rattle.iol_app.specs.Brought.{brought_in, brought_facts};
-ghost use Rattle.iol_app.specs.Core.{after_exchange, after_missed, settled_core, after_wake, came_of, opened_core, restarted_core, wanting_core, IsRight};
-ghost use Rattle.iol_app.specs.Pieces.{IsAskedOut, IsOut, IsSent, IsPassed, ReadsOn, SendSteps, WakeSteps, ReceiveSteps};
-ghost use Rattle.iol_app.specs.Seen.{station_of, NewSteps, BeginSteps, DenySteps, AbortSteps, CancelSteps, WantSteps, RestartSteps, TurnSteps};
+ghost use Rattle.iol_app.specs.Reports.{SaidFits};
+ghost use Rattle.iol_app.specs.StationState.{mode_in, why_in, page_in, operates, settled_session, NextFits, IsSettledSaid, StateFits as Joined};
+ghost use Rattle.iol_app.specs.Asking.{asked_in, beginning_in, outgoing};
+ghost use Rattle.iol_app.specs.Core.{after_missed, settled_core, after_wake, came_of, opened_core, restarted_core, wanting_core, IsRight};
+ghost use Rattle.iol_app.specs.Pieces.{IsAskedOut, IsOut, IsSettledBy, IsTakenUp, IsPassed, PutsOut, WakeSteps, ReceiveSteps};
+ghost use Rattle.iol_app.specs.Seen.{station_of, NewSteps, BeginSteps, DenySteps, AbortSteps, CancelSteps, WantSteps, RestartSteps, LinkStands, IsWholeTurn};
 
 use crate::asked::{Asked, Outgoing};
 use crate::brought::{Brought, Out};
@@ -287,12 +284,9 @@ impl Core {
     ///
     /// Rule PORT-8.
     pub fn send(&mut self, room: bool) -> Asked
-        ensures sent { IsSent room self.old self.new }
+        ensures puts { PutsOut room self.old self.new }
         ensures says { IsAskedOut result self.new.state }
         ensures asked { result ≡ asked_in self.old.state self.old.session room }
-        ensures reads { ReadsOn room self.old self.new }
-        ensures on { StandsOn self.old.state self.new.state }
-        ensures steps { SendSteps self.old self.new }
     {
         if self.put_next(room) {
             goes_out(self.state.layout(), self.state.sends())
@@ -304,33 +298,23 @@ impl Core {
     /// Puts out a new message, where one goes out. Answers whether a message is out: else a wake
     /// is to be sent.
     fn put_next(&mut self, room: bool) -> bool
-        ensures sent { IsSent room self.old self.new }
+        ensures puts { PutsOut room self.old self.new }
         ensures out { IsOut result (asked_in self.old.state self.old.session room)
             self.new.state }
-        ensures reads { ReadsOn room self.old self.new }
-        ensures on { StandsOn self.old.state self.new.state }
-        ensures steps { SendSteps self.old self.new }
     {
-        station_laws();
-        self.session.is_valid();
-        if matches!(self.state, State::Operate(_)) {
-            self.put_due(room);
-        }
+        self.put_due(room);
         !self.state.sends_wake()
     }
 
-    /// In OPERATE: a message for what is due is out, where none was.
+    /// In OPERATE a message for what is due is out from now on, where none was.
+    #[tactic(auto, using(std::proofs::lemmas::Grind::common_steps, crate::proofs::Pieces::same_sends))]
     fn put_due(&mut self, room: bool)
-        requires { operates self.old.state ≡ true }
-        ensures sent { IsSent room self.old self.new }
-        ensures sending { IsSending self.new.state }
-        ensures on { StandsOn self.old.state self.new.state }
-        ensures steps { SendSteps self.old self.new }
+        ensures { PutsOut room self.old self.new }
     {
         station_laws();
         self.session.is_valid();
         let State::Operate(operate) = &self.state else {
-            unreachable!()
+            return;
         };
         if operate.out.is_none() {
             let mut message = blank();
@@ -345,10 +329,7 @@ impl Core {
     pub fn receive_wake(&mut self, rate: Option<Rate>)
         requires { IsDown self.old.state }
         ensures core { self.new ≡ after_wake (is_some rate) self.old.session }
-        ensures request { request_in self.new.session.current
-            ≡ request_in self.old.session.current }
-        ensures reading { ReadingAfter false (is_reading self.old.session) Said.Idle
-            (is_reading self.new.session) }
+        ensures told { SaidFits false self.old.session Said.Idle self.new.session }
         ensures steps { WakeSteps self.old (is_some rate) self.new }
     {
         station_laws();
@@ -381,17 +362,9 @@ impl Core {
     pub fn receive(&mut self, came: &Option<Message>, said: &mut Said) -> Brought
         requires idle { said.old ≡ Said.Idle }
         requires out { IsSending self.old.state }
-        ensures core { self.new
-            ≡ after_exchange (came_of self.old (octets_in came.now)) self.old.session }
-        ensures said { IsSettledSaid (came_of self.old (octets_in came.now))
-            self.old.session said.new }
-        ensures request { request_in self.new.session.current
-            ≡ request_after (request_in self.old.session.current) said.new }
-        ensures ends { EndsRequest said.new (request_in self.old.session.current) }
-        ensures reading { ReadingAfter false (is_reading self.old.session) said.new
-            (is_reading self.new.session) }
+        ensures taken { IsTakenUp self.old (octets_in came.now) said.new result self.new }
+        ensures told { SaidFits false self.old.session said.new self.new.session }
         ensures steps { ReceiveSteps self.old (octets_in came.now) said.new self.new }
-        ensures brought { result ≡ brought_in self.old.state (octets_in came.now) }
     {
         station_laws();
         self.take(came, said)
@@ -400,20 +373,7 @@ impl Core {
     fn take(&mut self, came: &Option<Message>, said: &mut Said) -> Brought
         requires idle { said.old ≡ Said.Idle }
         requires out { IsSending self.old.state }
-        ensures core { self.new
-            ≡ after_exchange (came_of self.old (octets_in came.now)) self.old.session }
-        ensures said { IsSettledSaid (came_of self.old (octets_in came.now))
-            self.old.session said.new }
-        ensures request { request_in self.new.session.current
-            ≡ request_after (request_in self.old.session.current) said.new }
-        ensures few { AreFew self.old.state }
-        ensures fits { OutcomeFits (came_of self.old (octets_in came.now)) }
-        ensures valid { IsSession self.old.session }
-        ensures joined { Joined self.old.state self.old.session }
-        ensures gives { ExchangeGives self.old.state (octets_in came.now)
-            (came_of self.old (octets_in came.now)) }
-        ensures brought { result ≡ brought_in self.old.state (octets_in came.now) }
-        ensures on { StandsOn (state_of (came_of self.old (octets_in came.now))) self.new.state }
+        ensures { IsTakenUp self.old (octets_in came.now) said.new result self.new }
     {
         let brought = self.settle(came, said);
         self.miss();
@@ -426,17 +386,7 @@ impl Core {
         requires out { IsSending self.old.state }
         ensures core { self.new
             ≡ settled_core (came_of self.old (octets_in came.now)) self.old.session }
-        ensures said { IsSettledSaid (came_of self.old (octets_in came.now))
-            self.old.session said.new }
-        ensures request { request_in self.new.session.current
-            ≡ request_after (request_in self.old.session.current) said.new }
-        ensures few { AreFew self.old.state }
-        ensures fits { OutcomeFits (came_of self.old (octets_in came.now)) }
-        ensures valid { IsSession self.old.session }
-        ensures joined { Joined self.old.state self.old.session }
-        ensures gives { ExchangeGives self.old.state (octets_in came.now)
-            (came_of self.old (octets_in came.now)) }
-        ensures brought { result ≡ brought_in self.old.state (octets_in came.now) }
+        ensures settled { IsSettledBy self.old (octets_in came.now) said.new result }
     {
         self.session.is_valid();
         let out = Out::of(&self.state);
@@ -451,8 +401,6 @@ impl Core {
     /// Rule REQ-14.
     fn miss(&mut self)
         ensures core { self.new ≡ after_missed self.old }
-        ensures request { request_in self.new.session.current
-            ≡ request_in self.old.session.current }
         ensures on { StandsOn self.old.state self.new.state }
     {
         station_laws();
@@ -478,25 +426,11 @@ impl Core {
     /// Rule PD-7.
     pub fn turn<W: Wire>(&mut self, wire: &mut W, room: bool, said: &mut Said) -> Brought
         requires idle { said.old ≡ Said.Idle }
-        requires stands { IsHonestFor W.facts self.old.session.configuration.devices wire.old
-            → StateStands self.old.state (W.facts.silence wire.old) (W.facts.far wire.old) }
-        ensures request { request_in self.new.session.current
-            ≡ request_after (request_in self.old.session.current) said.new }
-        ensures turn { IsTurn W.facts room
-            (station_of wire.old self.old) said.new (station_of wire.new self.new) }
-        ensures ends { EndsRequest said.new (request_in self.old.session.current) }
-        ensures reading { ReadingAfter room (is_reading self.old.session) said.new
-            (is_reading self.new.session) }
-        ensures steps { TurnSteps W.facts
-            (station_of wire.old self.old) said.new (station_of wire.new self.new) }
-        ensures asked { IsCall W.facts (asked_in self.old.state self.old.session room)
-            wire.old wire.new }
-        ensures exact { IsTurn (brought_facts W.facts
-            (asked_in self.old.state self.old.session room) (tries_in self.old.state) result)
-            room (station_of wire.old self.old) said.new (station_of wire.new self.new) }
+        requires stands { LinkStands W.facts wire.old self.old }
+        ensures turn { IsWholeTurn W.facts room (station_of wire.old self.old) said.new result
+            (station_of wire.new self.new) }
         ensures honest { W.facts.honest wire.new ≡ W.facts.honest wire.old }
-        ensures stands { IsHonestFor W.facts self.new.session.configuration.devices wire.new
-            → StateStands self.new.state (W.facts.silence wire.new) (W.facts.far wire.new) }
+        ensures stands { LinkStands W.facts wire.new self.new }
     {
         station_laws();
         page_and_room_stay();
@@ -514,10 +448,7 @@ impl Core {
     fn exchange<W: Wire>(&mut self, wire: &mut W, said: &mut Said) -> Brought
         requires idle { said.old ≡ Said.Idle }
         requires out { IsSending self.old.state }
-        ensures passed { IsPassed W.facts wire.old wire.new self.old said.new result self.new }
-        ensures request { request_in self.new.session.current
-            ≡ request_after (request_in self.old.session.current) said.new }
-        ensures valid { IsSession self.old.session }
+        ensures { IsPassed W.facts wire.old wire.new self.old said.new result self.new }
     {
         let mut sent = Message::new();
         self.state.write(&mut sent);

@@ -1,10 +1,8 @@
 -- A question in place of the message that is out.
 use Rattle.std.proofs.lemmas.Grind.{common_steps}
-use Rattle.std.proofs.Common.{◌≡◌, ◌∙◌, sym, ap, arith, Bool, true, false}
+use Rattle.std.proofs.Common.{◌≡◌, ◌∙◌, sym, arith, Bool, true, false}
 use Rattle.std.specs.Prelude.{not}
-use Rattle.iol_app.specs.Requests.{request_in}
-use Rattle.iol_app.specs.Core.{Core}
-use Rattle.iol_app.proofs.Doubts.{asked_joined, asked_after, missed_request}
+use Rattle.iol_app.proofs.Doubts.{asked_joined, asked_after}
 use Rattle.iol_app.proofs.core_data.Core.miss.Goals as goal
 
 some_of : (some none : Bool) → some ≡ not none → none ≡ false → some ≡ true
@@ -23,8 +21,3 @@ returns-in-Some-clause-core c =
     rw (← c.self.view_is) (asked_after _ _ _ _ _ _ c.in-Operate.is
     (some_of _ _ c.is_none.ensures c.if-is_none.false) c.self.invariant.1 c.miss.ensures.session
     (sym c.in-Some.is ∙ c.miss.ensures.asks) c.put_instead.ensures.state)
-
-pub returns-in-Some-clause-request : goal.returns-in-Some-clause-request
-returns-in-Some-clause-request c =
-    ap (λ (k : Core). request_in k.session.current) (returns-in-Some-clause-core c)
-    ∙ missed_request c.args.self.now.state c.args.self.now.session

@@ -4,21 +4,19 @@ use Rattle.std.proofs.lemmas.Grind.{common_steps}
 use Rattle.iol_link.specs.Attempts.{Sending}
 use Rattle.iol_mode.specs.declared.states.State.{State}
 use Rattle.iol_mode.specs.declared.states.State.TheVariants.{Operate as AtOperate}
-use Rattle.iol_mode.specs.Exchanges.{putting}
+use Rattle.iol_mode.specs.Exchanges.{StandsOn, putting}
 use Rattle.iol_mode.specs.Messages.{unsent}
 use Rattle.iol_app.specs.declared.session.Exchange.{Exchange}
 use Rattle.iol_app.specs.Due.{due_of}
 use Rattle.iol_app.specs.State.{SessionState, IsMessageFor, sending}
 use Rattle.iol_app.specs.StationState.{StateFits}
 use Rattle.iol_app.specs.Core.{Core, core_out}
-use Rattle.iol_app.specs.Pieces.{IsSent, SendSteps}
-use Rattle.iol_app.proofs.Pieces.{no_exchange, new_sends, same_sends}
+use Rattle.iol_app.specs.Pieces.{IsSent}
+use Rattle.iol_app.proofs.Pieces.{no_exchange, new_sends, sent_reads}
 use Rattle.iol_app.proofs.core_data.Core.put_due.Goals as goal
 
-both : (c : goal.After-put_out) → let new : Core =
-    record { state = c.put_out.new.self; session = c.new_message.new.self } in
-    IsSent c.args.room c.args.self.now new × SendSteps c.args.self.now new
-both c =
+pub returns-then-is_none : goal.returns-then-is_none
+returns-then-is_none c =
     let layouts = c.in-Operate.operate.layouts in
     let t : SessionState = c.self.inside.session in
     let due : Exchange = due_of t c.args.room in
@@ -40,26 +38,21 @@ both c =
     let joined : StateFits free t = rw state_is at c.self.invariant.1 in
     let is : IsMessageFor due (sending due t) m =
     record { head = made.ensures.due.head; octets = made.ensures.due.od } in
-    rw (old_is, new_is) (
-      record {
-        message = m;
-        is = refl;
-        due = is;
-        parts = rw joined.told.0 at made.ensures.parts;
-        carries = made.ensures.due.out;
-      },
-      new_sends c.station_laws.ensures layouts t c.args.room m c.is_valid.ensures
+    let sent : IsSent c.args.room old next = record {
+      message = m;
+      is = refl;
+      due = is;
+      parts = rw joined.told.0 at made.ensures.parts;
+      carries = made.ensures.due.out;
+    } in
+    let on : StandsOn old.state next.state =
+    rw (state_is, put_is) at c.put_out.ensures.stands in
+    rw (old_is, new_is) (record {
+      sent = sent;
+      reads = sent_reads c.args.room old next sent;
+      on = on;
+      steps = new_sends c.station_laws.ensures layouts t c.args.room m c.is_valid.ensures
           (no_exchange t.exchange t joined.out_for) is made.ensures.due.out
           (rw put_is at c.put_out.ensures.fits)
-          (λ far. rw put_is at (c.put_out.ensures.accepted far))
-          (rw (state_is, put_is) at c.put_out.ensures.stands),
-    )
-
-pub returns-then-is_none-clause-sent : goal.returns-then-is_none-clause-sent
-returns-then-is_none-clause-sent c = (both c).0
-
-pub returns-then-is_none-clause-steps : goal.returns-then-is_none-clause-steps
-returns-then-is_none-clause-steps c = (both c).1
-
-pub returns-else-is_none-clause-steps : goal.returns-else-is_none-clause-steps
-returns-else-is_none-clause-steps c = same_sends c.args.self.now
+          (λ far. rw put_is at (c.put_out.ensures.accepted far)) on;
+    })

@@ -39,14 +39,17 @@ invariant_of-self c = (
 pub returns-clause-core : goal.returns-clause-core
 returns-clause-core c = grind (arith, common_steps, outcome_state)
 
-pub returns-clause-said : goal.returns-clause-said
-returns-clause-said c = grind (arith, common_steps, outcome_state)
-
-pub returns-clause-fits : goal.returns-clause-fits
-returns-clause-fits c = rw (← c.self.view_is, ← is_judged c) (fits c)
-
-pub returns-clause-gives : goal.returns-clause-gives
-returns-clause-gives c = rw (← c.self.view_is, ← is_judged c) c.receives-attempt.ensures.gives
-
-pub returns-clause-brought : goal.returns-clause-brought
-returns-clause-brought c = grind (arith, common_steps, brought_is)
+pub returns-clause-settled : goal.returns-clause-settled
+returns-clause-settled c =
+    rw (← c.self.view_is)
+    (record {
+      few = c.receives-attempt.ensures.few;
+      valid = c.is_valid.ensures;
+      joined = c.self.invariant.1;
+      fits = rw (← is_judged c) (fits c);
+      gives = rw (← is_judged c) c.receives-attempt.ensures.gives;
+      said_is = rw (← is_judged c) c.settled.ensures.said;
+      request = rw (← is_judged c)
+          (rw c.settled.ensures.session at c.settled.ensures.request);
+      brought_is = grind (arith, common_steps, brought_is);
+    })
