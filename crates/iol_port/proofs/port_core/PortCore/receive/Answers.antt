@@ -8,9 +8,13 @@ use Rattle.iol_port.specs.Steps.{book_through}
 use Rattle.iol_port.specs.View.{Parts}
 use Rattle.iol_port.specs.CorePort.{awaited, bare}
 use Rattle.iol_port.proofs.CorePorts.{parts_in, reply_out, receive_does, heard_reset}
-use Rattle.iol_port.proofs.TieLemmas.{turn_tied, settled_limit}
+use Rattle.iol_port.proofs.TieLemmas.{ends_ask, turn_tied, settled_limit}
 use Rattle.iol_port.proofs.port_core.PortCore.receive.Given as given
 use Rattle.iol_port.proofs.port_core.PortCore.receive.Goals as goal
+
+pub settle-requires-clause-asked : goal.settle-requires-clause-asked
+settle-requires-clause-asked g c =
+    ends_ask _ _ _ c.self.invariant.same c.receive-brought.ensures.told.ends
 
 pub invariant_of-self : goal.invariant_of-self
 invariant_of-self g c =
@@ -18,10 +22,10 @@ invariant_of-self g c =
     turn_tied p p.station (bare c.receive-brought.new.self) p.book.state c.settle.new.kept.items
     c.settle.new.book c.resets-reset.result false c.receive-brought.new.said c.self.invariant
     (inl (refl, refl))
-    (ap (λ (k : Core). k.session.limit) c.receive-brought.ensures.core
+    (ap (λ (k : Core). k.session.limit) c.receive-brought.ensures.taken.is
     ∙ settled_limit (came_of c.self.inside.core (octets_in c.args.came.now))
     c.self.inside.core.session)
-    c.receive-brought.ensures.request c.receive-brought.ensures.reading
+    c.receive-brought.ensures.told.request c.receive-brought.ensures.told.reading
     (λ room. absurd (let k : false ≡ true = room in cc)) c.settle.ensures.book
     c.settle.ensures.kept
 
@@ -38,13 +42,13 @@ returns-clause-gives g c =
     rw (← c.self.view_is)
     (record {
       said = c.receive-brought.new.said;
-      core = c.receive-brought.ensures.core;
-      said_is = c.receive-brought.ensures.said;
+      core = c.receive-brought.ensures.taken.is;
+      said_is = c.receive-brought.ensures.taken.settled.said_is;
       book = book_is g c;
       memory = c.settle.ensures.memory;
       kept = c.settle.ensures.kept;
       sent = refl;
-      counters = c.turned.ensures ∙ (rw c.receive-brought.ensures.brought refl);
+      counters = c.turned.ensures ∙ (rw c.receive-brought.ensures.taken.settled.brought_is refl);
     })
 
 pub returns-clause-does : goal.returns-clause-does

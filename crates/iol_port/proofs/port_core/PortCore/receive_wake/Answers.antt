@@ -20,7 +20,7 @@ invariant_of-self g c =
     c.settle.new.book c.resets-reset.result false Idle c.self.invariant (inl (refl, refl))
     (ap (λ (k : Core). k.session.limit) c.receive_wake.ensures.core
     ∙ woken_limit (is_some c.args.rate) c.self.inside.core.session)
-    c.receive_wake.ensures.request c.receive_wake.ensures.reading
+    c.receive_wake.ensures.told.request c.receive_wake.ensures.told.reading
     (λ room. absurd (let k : false ≡ true = room in cc)) c.settle.ensures.book
     c.settle.ensures.kept
 

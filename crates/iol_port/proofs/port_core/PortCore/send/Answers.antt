@@ -27,8 +27,8 @@ invariant_of-self g c =
       | else-not-self w ↦ rw w.self-inside-is (inl (refl, refl), refl)
     ] in
     send_tied p now.core c.send.new.self now.book now.kept.items now.sent c.has_room-room.result
-    c.send.result c.self.invariant begun.0 begun.1 (room g c) c.send.ensures.sent
-    c.send.ensures.reads c.send.ensures.says
+    c.send.result c.self.invariant begun.0 begun.1 (room g c) c.send.ensures.puts.sent
+    c.send.ensures.puts.reads c.send.ensures.says
 
 -- the parts after the sending
 abbrev after : (g : given.Over) (c : goal.After-send g) → Parts (Unit {0})
@@ -45,7 +45,7 @@ both g c =
           let exact : begun.new.core ≡ core_of (station_begun p) =
           begun.ensures.exact ∙ (rw (room g c) refl) in
           let sent : IsSent (has_room p.kept) (core_of (station_begun p)) c.send.new.self =
-          rw (w.self-inside-is, exact, room g c) at c.send.ensures.sent in
+          rw (w.self-inside-is, exact, room g c) at c.send.ensures.puts.sent in
           rw w.self-inside-is (
             record {
               core = λ _. sent;
@@ -56,13 +56,13 @@ both g c =
               counters = refl;
             },
             send_does p _ (bare begun.new.core) begun.new.book.state (cc) begun.ensures.next
-                (rw w.self-inside-is at c.send.ensures.steps) refl refl refl,
+                (rw w.self-inside-is at c.send.ensures.puts.steps) refl refl refl,
           )
       | else-not-self w ↦
           let sent : p.sent ≡ true = cc in
           let same : c.send.new.self ≡ c.self.inside.core = sent_same c.has_room-room.result
           c.self.inside.core c.send.new.self (c.self.invariant.out sent)
-          (rw w.self-inside-is at c.send.ensures.sent) in
+          (rw w.self-inside-is at c.send.ensures.puts.sent) in
           rw (w.self-inside-is, same) (
             record {
               core = λ free. absurd (let k : true ≡ false = sym sent ∙ free in cc);

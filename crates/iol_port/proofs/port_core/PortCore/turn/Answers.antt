@@ -23,7 +23,7 @@ use Rattle.iol_port.proofs.port_core.PortCore.turn.Goals as goal
 pub settle-requires-clause-asked : goal.settle-requires-clause-asked
 settle-requires-clause-asked g c =
     ends_ask _ _ _ (begun_same _ _ _ _ c.begin_next.ensures.next c.self.invariant.same)
-    c.turn-brought.ensures.ends
+    c.turn-brought.ensures.turn.told.ends
 
 free : (g : given.Over) (c : goal.After-settle g) → c.self.inside.sent ≡ false
 free g c = ap (λ (q : Parts (Unit {0})). q.sent) c.self.view_is ∙ c.requires.free
@@ -36,8 +36,8 @@ invariant_of-self g c =
     c.turn-brought.new.said c.self.invariant c.begin_next.ensures.next
     (turn_limit g.W.Wire.facts _ (station_of c.args.wire.now c.begin_next.new.core)
     c.turn-brought.new.said (station_of c.turn-brought.new.wire c.turn-brought.new.self)
-    c.turn-brought.ensures.turn)
-    c.turn-brought.ensures.request c.turn-brought.ensures.reading
+    c.turn-brought.ensures.turn.is)
+    c.turn-brought.ensures.turn.told.request c.turn-brought.ensures.turn.told.reading
     (λ room. grind (arith, common_steps)) c.settle.ensures.book c.settle.ensures.kept)
 
 -- and what was begun, over the wire
@@ -73,7 +73,7 @@ returns-clause-does g c =
     (record {
       follows = turn_does g.W.Wire.facts (before g c) (after g c) c.turn-brought.new.said
           (mid g c) c.begin_next.new.book.state (free g c) (free g c) (begins g c)
-          c.turn-brought.ensures.steps (record { posts = cc; keeps = c.settle.ensures.kept });
+          c.turn-brought.ensures.turn.steps (record { posts = cc; keeps = c.settle.ensures.kept });
       book = turn_gives_none _ _ _ _ _
           (cond c.resets-reset.result (Reset ∷ []) [] ++ book_said c.turn-brought.new.said)
           (begins g c) c.settle.ensures.book;
@@ -88,7 +88,7 @@ returns-clause-clean g c =
     (begins g c)
     (takes_over c.args.wire.now c.has_room-room.result c.self.inside.core c.begin_next.new.core
     c.self.inside.book.state c.begin_next.new.book.state c.begin_next.ensures.takes)
-    c.turn-brought.ensures.turn c.self.invariant.busy (unreset g c) c.settle.ensures.book)
+    c.turn-brought.ensures.turn.is c.self.invariant.busy (unreset g c) c.settle.ensures.book)
 
 pub returns-clause-gives : goal.returns-clause-gives
 returns-clause-gives g c =
@@ -106,7 +106,7 @@ returns-clause-gives g c =
       brought = c.turn-brought.result;
       turn = turn_begun_asked g.W.Wire.facts p.station (mid g c) (after g c).station next
           c.has_room-room.result _ said c.turn-brought.result room exact
-          c.turn-brought.ensures.exact;
+          c.turn-brought.ensures.turn.exact;
       book = c.settle.ensures.book
           ∙ book_told p.station (mid g c) (after g c).station next c.has_room-room.result _ _ _ said
           c.begin_next.new.book.state exact c.is_reset-began.ensures c.is_reset.ensures
@@ -117,7 +117,7 @@ returns-clause-gives g c =
       denies = λ ticket has. turn_denies p (after g c) c.begin_next.new.book.state
           c.resets-reset.result said
           (ends_ask _ _ _ (begun_same _ _ _ _ c.begin_next.ensures.next c.self.invariant.same)
-          c.turn-brought.ensures.ends)
+          c.turn-brought.ensures.turn.told.ends)
           c.settle.ensures.book ticket has
           (is_operating p.station.link && is_ready p.station.session c.has_room-room.result)
           c.begin_next.ensures.taken
