@@ -280,9 +280,6 @@ goes_book {allowance} replayed taken unsure same fewer outcomes sound = goes_its
 
 module _ {allowance : Allowance} {b : BookState} {s : Session} (l : Ledger) (x : Account)
     (xs : List Account) (sound : Sound allowance b s (record l { accounts = x ∷ xs })) where
-  rest : List Account
-  rest = xs ++ l.archived
-
   fits_x : Fits allowance x
   fits_x = sound.fits.fit x (inl refl)
 
