@@ -151,6 +151,7 @@ opened_sound devices limits far silence = record {
     takings_are = refl;
     record_is = sym (append-nil far.carried);
     fit = λ account i. absurd i;
+    ended = λ account i. absurd i;
   };
   opens = refl;
   sure = λ _. refl;

@@ -1,7 +1,7 @@
 -- What each step does to the ledger of a sound port: it stays sound, and its accounts go on.
 use Rattle.std.proofs.Common.{◌≡◌, ◌⊎◌, ◌∷◌, ◌++◌, [], List, ℕ, ◌+◌, Bool, true, false, cond, ◌≤◌, nat_eq, Option, Some, None, append_assoc, append-nil, length, ◌||◌, refl, ap, sym, ◌∙◌, subst, arith, inl, inr, map, drop}
 use Rattle.std.proofs.lemmas.Grind.{common_steps}
-use Rattle.std.specs.Prelude.{IsTrue}
+use Rattle.std.specs.Prelude.{IsTrue, IsSome}
 use Rattle.std.specs.Map.{remove_entry, lookup}
 use Rattle.indexmap.specs.IndexMap.{insert_entry}
 use Rattle.iol_isdu.specs.declared.values.Request.{Request}
@@ -25,7 +25,7 @@ use Rattle.iol_mode.specs.declared.why.Why.{Why}
 use Rattle.iol_port.specs.Ledger.{Account, Ledger, all, pairs_of, answered, settled, ledger_after, ledger_through, archiving, Allowance, IsOneOf, IsToldAs, EndsAs, Fits, HasEnded, allowance_of}
 use Rattle.iol_port.specs.Steps.{ticket_of, MayBook, book_after, book_through}
 use Rattle.iol_port.specs.Run.{request_of}
-use Rattle.iol_port.specs.Sound.{Each, AnswersFit, IsOpen, IsOutcome, times_ever, Sound}
+use Rattle.iol_port.specs.Sound.{not_under_way, Each, AnswersFit, IsOpen, IsOutcome, times_ever, Sound}
 use Rattle.iol_port.specs.CarriesOut.{GoesOn, LastGoesOn, GoOn}
 use Rattle.iol_port.proofs.Replaying.{told_for, LeavesWaiting, next_is, next_ticket_is, took_replayed, took_takings, denied_replayed, denied_takings, posted_replayed, posted_takings}
 
@@ -232,6 +232,17 @@ closed_has repeats None (Some q) taken l [] opens x i out is sure = absurd opens
 closed_has repeats (Some job) (Some q) taken l xs opens x i out is sure = absurd opens
 closed_has repeats (Some job) None taken l [] opens x i out is sure = absurd opens
 
+others_rest : (job : Option Job) (x : Account) (xs : List Account) (z : Account) → IsOneOf z xs
+    → IsOneOf z (not_under_way job (x ∷ xs))
+others_rest None x xs z i = inr i
+others_rest (Some job) x xs z i = i
+
+others_all : (job : Option Job) (xs : List Account) (z : Account)
+    → IsOneOf z (not_under_way job xs) → IsOneOf z xs
+others_all None xs z i = i
+others_all (Some job) [] z i = i
+others_all (Some job) (x ∷ xs) z i = inr i
+
 -- What a step does from there on
 
 pub record Goes (allowance : Allowance) (s : Session) (l : Ledger) (next : BookState)
@@ -268,6 +279,7 @@ goes_book {allowance} replayed taken unsure same fewer outcomes sound = goes_its
     takings_are = same ∙ sound.fits.takings_are;
     record_is = sound.fits.record_is;
     fit = sound.fits.fit;
+    ended = sound.fits.ended;
   };
   opens = rw taken sound.opens;
   sure = λ sure. sound.sure (sym unsure ∙ sure);
@@ -287,6 +299,8 @@ module _ {allowance : Allowance} {b : BookState} {s : Session} (l : Ledger) (x :
   first_goes : {next : BookState} {t : Session} {y : Account} → GoesOn x y
       → IsReplayed next → takings next.journal ≡ y.taking ∷ map (λ a. a.taking) xs
       → t.carried ≡ l.before ++ pairs_of (y ∷ xs ++ l.archived) → Fits allowance y
+      → ((z : Account) → IsOneOf z (not_under_way t.job (y ∷ xs ++ l.archived))
+      → IsSome z.taking.outcome)
       → IsOpen allowance.repeats t.job t.late next.standing.taken (y ∷ xs)
       → (next.unsure ≡ false → t.late ≡ None)
       → ((n : ℕ) → times_ever n next (record l { accounts = y ∷ xs })
@@ -295,10 +309,10 @@ module _ {allowance : Allowance} {b : BookState} {s : Session} (l : Ledger) (x :
       → ((z : Account) → IsOneOf z (closed s (record l { accounts = x ∷ xs }))
       → IsOneOf z (closed t (record l { accounts = y ∷ xs })))
       → Goes allowance s (record l { accounts = x ∷ xs }) next t (record l { accounts = y ∷ xs })
-  first_goes {y = y} goes replayed same record_is fits opens sure fewer outcomes stays = record {
+  first_goes {y = y} goes replayed same record_is fits ended_are opens sure fewer outcomes stays = record {
     sound = record {
       replayed = replayed;
-      fits = record { takings_are = same; record_is = record_is; fit = by };
+      fits = record { takings_are = same; record_is = record_is; fit = by; ended = ended_are };
       opens = opens;
       sure = sure;
       once = λ n. omega (arith, fewer n, sound.once n);
@@ -320,17 +334,19 @@ module _ {allowance : Allowance} {b : BookState} {s : Session} (l : Ledger) (x :
       → (out : Option Outcome) → x.taking.outcome ≡ out
       → ((answer : Answer) → out ≡ Some (outcome.Done answer) → ⊥) → (out ≡ Some outcome.NoIsdu → ⊥)
       → t.carried ≡ grown_by s.carried x.taking.request a
+      → ((z : Account) → IsOneOf z (not_under_way t.job (answered a x ∷ xs ++ l.archived))
+      → IsSome z.taking.outcome)
       → IsOpen allowance.repeats t.job t.late b.standing.taken (answered a x ∷ xs)
       → (b.unsure ≡ false → t.late ≡ None)
       → ((z : Account) → IsOneOf z (closed s (record l { accounts = x ∷ xs }))
       → IsOneOf z (closed t (record l { accounts = answered a x ∷ xs })))
       → Goes allowance s (record l { accounts = x ∷ xs }) b t
       (record l { accounts = answered a x ∷ xs })
-  answers_goes a may out is none never grown opens sure stays =
+  answers_goes a may out is none never grown ended_are opens sure stays =
       first_goes goes sound.replayed sound.fits.takings_are
       (grown ∙ simp (sound.fits.record_is, append_assoc))
-      (record { once = once may; ends = rw is (ends out none never); isdu = fits_x.isdu }) opens
-      sure (λ n. omega arith)
+      (record { once = once may; ends = rw is (ends out none never); isdu = fits_x.isdu }) ended_are
+      opens sure (λ n. omega arith)
       (each_more b.standing.outcomes (outcome_on allowance.isdu (go_on_first goes))
       sound.outcomes) stays
     where
@@ -368,17 +384,23 @@ module _ {allowance : Allowance} {b : BookState} {s : Session} (l : Ledger) (x :
       → IsOneOf z (closed t (record l { accounts = settled out x ∷ xs })))
       → Goes allowance s (record l { accounts = x ∷ xs }) (posted b out) t
       (record l { accounts = settled out x ∷ xs })
-  ends_goes out {q} taken none leaves ends new same opens sure stays =
+  ends_goes out {q} {t} taken none leaves ends new same opens sure stays =
       first_goes goes (posted_replayed b out leaves sound.replayed)
       (posted_takings b (x.taking.ticket, q) out sound.replayed taken
       ∙ ap (first_with (ended out)) sound.fits.takings_are)
       (same ∙ sound.fits.record_is) (record
-      { once = fits_x.once; ends = ends; isdu = fits_x.isdu }) (rw taken opens) sure
+      { once = fits_x.once; ends = ends; isdu = fits_x.isdu })
+      (λ z i. ended_are z (others_all t.job _ z i)) (rw taken opens) sure
       (λ n. rw taken (omega arith))
       (rw taken (each_inserted _ b.standing.outcomes x.taking.ticket out new
       (each_more b.standing.outcomes (outcome_on allowance.isdu (go_on_first goes))
       sound.outcomes))) stays
     where
+      ended_are : (z : Account) → IsOneOf z (settled out x ∷ xs ++ l.archived)
+          → IsSome z.taking.outcome
+      ended_are z (inl is) = subst (λ y. IsSome y.taking.outcome) is refl
+      ended_are z (inr i) = sound.fits.ended z (others_rest s.job x (xs ++ l.archived) z i)
+
       goes : GoesOn x (settled out x)
       goes = record {
         ticket_is = refl;
@@ -391,17 +413,19 @@ module _ {allowance : Allowance} {b : BookState} {s : Session} (l : Ledger) (x :
 -- only the session changes, and whether it is sure
 session_goes : {allowance : Allowance} {b : BookState} {s t : Session} {l : Ledger} {unsure : Bool}
     → Sound allowance b s l → t.carried ≡ s.carried
+    → ((z : Account) → IsOneOf z (not_under_way t.job (all l)) → IsSome z.taking.outcome)
     → IsOpen allowance.repeats t.job t.late b.standing.taken l.accounts
     → (unsure ≡ false → t.late ≡ None)
     → ((z : Account) → IsOneOf z (closed s l) → IsOneOf z (closed t l))
     → Goes allowance s l (record b { unsure = unsure }) t l
-session_goes sound same opens sure stays = record {
+session_goes sound same ended_are opens sure stays = record {
   sound = record {
     replayed = sound.replayed;
     fits = record {
       takings_are = sound.fits.takings_are;
       record_is = same ∙ sound.fits.record_is;
       fit = sound.fits.fit;
+      ended = ended_are;
     };
     opens = opens;
     sure = sure;
@@ -422,7 +446,7 @@ job_goes : {allowance : Allowance} {b : BookState} (s : Session) (l : Ledger) (x
     → Sound allowance b (record s { job = Some job; late = None }) (record l { accounts = x ∷ xs })
     → Goes allowance (record s { job = Some job; late = None }) (record l { accounts = x ∷ xs }) b
     (record s { job = Some next; late = None }) (record l { accounts = x ∷ xs })
-job_goes s l x xs job next same answers sound = session_goes sound refl (record {
+job_goes s l x xs job next same answers sound = session_goes sound refl sound.fits.ended (record {
   taken_is = rw same sound.opens.taken_is;
   request_is = sound.opens.request_is ∙ sym same;
   none = sound.opens.none;
@@ -481,7 +505,7 @@ module _ {allowance : Allowance} {b : BookState} (s : Session) (l : Ledger) (x :
 pub moved_goes : {allowance : Allowance} {b : BookState} {s : Session} {l : Ledger} (mode : Mode)
     (why : Option Why) → Sound allowance b s l
     → Goes allowance s l b (record s { mode = mode; why = why }) l
-moved_goes mode why sound = session_goes sound refl sound.opens sound.sure (λ z i. i)
+moved_goes mode why sound = session_goes sound refl sound.fits.ended sound.opens sound.sure (λ z i. i)
 
 pub marked_goes : {allowance : Allowance} {b : BookState} (s : Session) (job : Option Job)
     (late : Option Request) (l : Ledger) (xs : List Account)
@@ -523,6 +547,7 @@ archive_goes s None None l xs (free, sure) sound = record {
       takings_are = refl;
       record_is = sound.fits.record_is;
       fit = sound.fits.fit;
+      ended = sound.fits.ended;
     };
     opens = sound.opens;
     sure = sound.sure;
@@ -557,6 +582,7 @@ take_goes {allowance} {b} s l t q next isdu sound = record {
           ∙ ap (λ ts. taking_of t q ∷ ts) sound.fits.takings_are;
       record_is = sound.fits.record_is ∙ ap (λ c. l.before ++ c) (sym (append-nil _));
       fit = fit;
+      ended = sound.fits.ended;
     };
     opens = record { taken_is = refl; request_is = refl; none = refl; answers = inl refl };
     sure = λ _. refl;
@@ -606,7 +632,7 @@ step_goes m (Deny t) b s job late l xs head may sound =
 step_goes m (Carry a) b s (Some job) None l (x ∷ xs) next none sound =
     answers_goes l x xs sound a (rw (sound.opens.request_is) (rw none at sound.opens.answers)) None
     sound.opens.none (λ answer is. cc) (λ is. cc)
-    (ap (λ q. grown_by s.carried q a) (sym sound.opens.request_is)) (record {
+    (ap (λ q. grown_by s.carried q a) (sym sound.opens.request_is)) sound.fits.ended (record {
       taken_is = sound.opens.taken_is;
       request_is = sound.opens.request_is;
       none = sound.opens.none;
@@ -636,12 +662,17 @@ step_goes m (LateCarry a) b s None (Some q) l (x ∷ xs) next may sound =
     answers_goes l x xs sound a (rw late.request_is late.answers)
     (Some (outcome.Unknown late.cause))
     late.cut (λ answer is. cc) (λ is. cc)
-    (ap (λ r. grown_by s.carried r a) (sym late.request_is)) sound.opens.0 (λ _. refl)
+    (ap (λ r. grown_by s.carried r a) (sym late.request_is)) ended_are sound.opens.0 (λ _. refl)
     (λ z i. inr i)
+  where
+    ended_are : (z : Account) → IsOneOf z (answered a x ∷ xs ++ l.archived)
+        → IsSome z.taking.outcome
+    ended_are z (inl is) = subst (λ y. IsSome y.taking.outcome) is (sound.fits.ended x (inl refl))
+    ended_are z (inr i) = sound.fits.ended z (inr i)
 step_goes m Reset b s job None l xs next may sound =
-    session_goes sound refl sound.opens (λ _. refl) (λ z i. i)
+    session_goes sound refl sound.fits.ended sound.opens (λ _. refl) (λ z i. i)
 step_goes m Reset b s None (Some q) l (x ∷ xs) next may sound =
-    session_goes sound refl sound.opens.0 (λ _. refl) (λ z i. inr i)
+    session_goes sound refl sound.fits.ended sound.opens.0 (λ _. refl) (λ z i. inr i)
 step_goes m Busy b s (Some job) None l (x ∷ xs) next may sound =
     job_goes s l x xs job (record job { busy = job.busy + 1 }) refl (λ is. is) sound
 step_goes m Start b s job late l xs next may sound = moved_goes Startup None sound

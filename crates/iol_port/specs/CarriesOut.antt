@@ -35,10 +35,10 @@ IsSubmitted pieces replies ticket request =
     Happens pieces replies (Whole (call.Submit request)) (answered.Ticket ticket)
     ⊎ Happens pieces replies (Whole (call.SubmitUrgent request)) (answered.Ticket ticket)
 
--- Of a run that led here: the record grew by the pairs of its ledger, in this order. Each request
--- of it was submitted in the run, under a ticket of its own; it has at most one pair, or more only
--- where it may be carried out more than once; and each outcome Done that was collected is that of
--- such a request, whose last pair has the answer, but for what the allowance is
+-- Of a run from an opening that led here: the record grew by the pairs of the ledger, in this order.
+-- Each request of it was submitted in the run, under a ticket of its own; it has at most one pair,
+-- or more only where it may be carried out more than once; and each outcome Done that was collected
+-- is that of such a request, whose last pair has the answer, but for what the allowance is
 pub record CarriesOut (from : PortState) (pieces : List Piece) (replies : List Answered)
     (a : PortState) : Type 0 where
   pub record_is : a.session.carried ≡ from.session.carried ++ pairs_of (all a.ledger)

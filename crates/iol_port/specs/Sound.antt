@@ -1,6 +1,6 @@
 -- What every call of the abstract port keeps: the journal says where each ticket stands, and the
 -- device's record is that of the ledger, which fits what the journal says.
-use Rattle.std.specs.Prelude.{◌≡◌, ◌≤◌, ◌+◌, ◌⊎◌, ℕ, Bool, true, false, List, [], ◌∷◌, ◌++◌, map, Option, Some, None, IsTrue, cond, nat_lt}
+use Rattle.std.specs.Prelude.{IsSome, drop, ◌≡◌, ◌≤◌, ◌+◌, ◌⊎◌, ℕ, Bool, true, false, List, [], ◌∷◌, ◌++◌, map, Option, Some, None, IsTrue, cond, nat_lt}
 use Rattle.iol_isdu.specs.declared.values.Request.{Request}
 use Rattle.iol_isdu.specs.declared.values.Answer.{Answer}
 use Rattle.iol_isdu.specs.declared.values.Cause.{Cause}
@@ -19,15 +19,22 @@ abbrev pub Each : {K X : Type 0} → (K → X → Type 0) → List (K × X) → 
 Each P [] = Unit {0}
 Each P (pair ∷ pairs) = P pair.0 pair.1 × Each P pairs
 
+-- those of the accounts that are no longer under way
+abbrev pub not_under_way : Option Job → List Account → List Account
+not_under_way None accounts = accounts
+not_under_way (Some job) accounts = drop 1 accounts
+
 -- The journal has the takings of the ledger, and the device's record its pairs, in the order taken:
 -- at most one for each request, and exactly one, with its answer, for each that is done; but for
--- what the allowance is
+-- what the allowance is. All have ended but the one under way
 -- BOOK-10
 pub record RecordFits (allowance : Allowance) (book : BookState) (session : Session)
     (ledger : Ledger) : Type 0 where
   pub takings_are : takings book.journal ≡ map (λ account. account.taking) ledger.accounts
   pub record_is : session.carried ≡ ledger.before ++ pairs_of (all ledger)
   pub fit : (account : Account) → IsOneOf account (all ledger) → Fits allowance account
+  pub ended : (account : Account) → IsOneOf account (not_under_way session.job (all ledger))
+      → IsSome account.taking.outcome
 
 abbrev pub request_taken : Option (Ticket × Request) → Option Request
 request_taken None = None

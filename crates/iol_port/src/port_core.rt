@@ -3,8 +3,7 @@ ghost use Rattle.std.specs.Prelude.{◌≡◌, ◌<◌, ◌≤◌, None, true, f
 ghost use Rattle.std.specs.Option.{option_copied};
 ghost use Rattle.std.specs.Result.{result_map_both};
 ghost use Rattle.iol_far.specs.Octets.{octets_in};
-ghost use Rattle.iol_mode.specs.Kinds.{IsHonestFor};
-ghost use Rattle.iol_mode.specs.Stands.{StateStands};
+ghost use Rattle.iol_app.specs.Seen.{LinkStands, core_of};
 ghost use Rattle.iol_book.specs.declared.fault.BookFault.TheVariants.{OutOfMemory};
 ghost use Rattle.iol_book.specs.BookModel.{AreLimits, IsReplayed, submitted};
 ghost use Rattle.iol_app.specs.Asking.{IsCall};
@@ -483,13 +482,9 @@ impl<A: Allocator + Copy> PortCore<A> {
     /// Rules PORT-1, PORT-12.
     pub(crate) fn turn<W: Wire>(&mut self, wire: &mut W)
         requires free { self.old.sent ≡ false }
-        requires stands { IsHonestFor W.facts
-            self.old.station.session.configuration.devices wire.old → StateStands
-            self.old.station.link.state (W.facts.silence wire.old) (W.facts.far wire.old) }
+        requires stands { LinkStands W.facts wire.old (core_of self.old.station) }
         ensures free { self.new.sent ≡ false }
-        ensures stands { IsHonestFor W.facts
-            self.new.station.session.configuration.devices wire.new → StateStands
-            self.new.station.link.state (W.facts.silence wire.new) (W.facts.far wire.new) }
+        ensures stands { LinkStands W.facts wire.new (core_of self.new.station) }
         ensures does { Does W.facts (parts_over wire.old self.old) call.Turn answered.Nothing
             (parts_over wire.new self.new) }
         ensures asked { IsCall W.facts (asks_of self.old) wire.old wire.new }
