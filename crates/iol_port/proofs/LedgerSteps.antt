@@ -309,20 +309,21 @@ module _ {allowance : Allowance} {b : BookState} {s : Session} (l : Ledger) (x :
       → ((z : Account) → IsOneOf z (closed s (record l { accounts = x ∷ xs }))
       → IsOneOf z (closed t (record l { accounts = y ∷ xs })))
       → Goes allowance s (record l { accounts = x ∷ xs }) next t (record l { accounts = y ∷ xs })
-  first_goes {y = y} goes replayed same record_is fits ended_are opens sure fewer outcomes stays = record {
-    sound = record {
-      replayed = replayed;
-      fits = record { takings_are = same; record_is = record_is; fit = by; ended = ended_are };
-      opens = opens;
-      sure = sure;
-      once = λ n. omega (arith, fewer n, sound.once n);
-      above = λ n low. omega (arith, fewer n, sound.above n low);
-      outcomes = outcomes;
-    };
-    same = (refl, refl);
-    on = go_on_first goes;
-    stays = stays;
-  }
+  first_goes {y = y} goes replayed same record_is fits ended_are opens sure fewer outcomes
+      stays = record {
+        sound = record {
+          replayed = replayed;
+          fits = record { takings_are = same; record_is = record_is; fit = by; ended = ended_are };
+          opens = opens;
+          sure = sure;
+          once = λ n. omega (arith, fewer n, sound.once n);
+          above = λ n low. omega (arith, fewer n, sound.above n low);
+          outcomes = outcomes;
+        };
+        same = (refl, refl);
+        on = go_on_first goes;
+        stays = stays;
+      }
     where
       by : (a : Account) → IsOneOf a (y ∷ xs ++ l.archived) → Fits allowance a
       by a (inl is) = subst (Fits allowance) is fits
@@ -505,7 +506,8 @@ module _ {allowance : Allowance} {b : BookState} (s : Session) (l : Ledger) (x :
 pub moved_goes : {allowance : Allowance} {b : BookState} {s : Session} {l : Ledger} (mode : Mode)
     (why : Option Why) → Sound allowance b s l
     → Goes allowance s l b (record s { mode = mode; why = why }) l
-moved_goes mode why sound = session_goes sound refl sound.fits.ended sound.opens sound.sure (λ z i. i)
+moved_goes mode why sound = session_goes sound refl sound.fits.ended sound.opens sound.sure
+    (λ z i. i)
 
 pub marked_goes : {allowance : Allowance} {b : BookState} (s : Session) (job : Option Job)
     (late : Option Request) (l : Ledger) (xs : List Account)

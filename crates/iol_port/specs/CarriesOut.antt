@@ -35,7 +35,8 @@ IsSubmitted pieces replies ticket request =
     Happens pieces replies (Whole (call.Submit request)) (answered.Ticket ticket)
     ⊎ Happens pieces replies (Whole (call.SubmitUrgent request)) (answered.Ticket ticket)
 
--- Of a run from an opening that led here: the record grew by the pairs of the ledger, in this order.
+-- Of a run from an opening that led here: the record grew by the pairs of the ledger, in this
+-- order.
 -- Each request of it was submitted in the run, under a ticket of its own; it has at most one pair,
 -- or more only where it may be carried out more than once; and each outcome Done that was collected
 -- is that of such a request, whose last pair has the answer, but for what the allowance is
