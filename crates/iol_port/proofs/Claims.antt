@@ -6,7 +6,7 @@ use Rattle.iol_port.specs.declared.call.Answered.{Answered}
 use Rattle.iol_port.specs.Run.{PortState, Run, Whole}
 use Rattle.iol_port.specs.Claim.{Claim, Has, opened_with}
 use Rattle.iol_port.specs.View.{Parts, Opening, OpensWell, StandsFor, IsRun, Runs}
-use Rattle.iol_port.proofs.LedgerRuns.{each_done_has_its_pair, opened_sound, runs_sound}
+use Rattle.iol_port.proofs.OwnerRuns.{each_done_has_its_pair, opened_sound, runs_sound}
 use Rattle.iol_port.proofs.PieceLemmas.{runs_join}
 
 module _ {W : Type 0} (facts : WireFacts W) (o : Opening W) (p : Parts W) where

@@ -34,7 +34,7 @@ use Rattle.iol_port.specs.declared.call.Call.TheVariants as call
 use Rattle.iol_port.specs.EveryWire.{page_shown}
 use Rattle.iol_port.specs.Run.{counting, PortState, Pending, PieceOf, Send, Receive, opened, is_sending, is_take, moment_by}
 use Rattle.iol_port.specs.declared.awaited.Awaited.TheVariants.{Nothing, Wake, Reply}
-use Rattle.iol_port.specs.Ledger.{ledger_through}
+use Rattle.iol_port.specs.Owners.{owners_through}
 use Rattle.iol_port.specs.View.{Parts, Choice, IsOut, IsTied, PendingAt, StandsFor, OpensWell, IsOpened, opening_for, Follows, Does, BeginsNext, TakesNext, state_of}
 use Rattle.iol_book.specs.declared.entries.Limits.{Limits}
 use Rattle.iol_port.specs.CorePort.{IsNewFor, CoreOpensFor, bare, awaited, at_end, parts_over, CoreDoes, PieceDoes, SendDoes, ReceiveDoes, WakeDoes}
@@ -147,7 +147,7 @@ goes_out {start = start} {after = after} {made = made} p next far n u none kept 
     let images = λ (call : WireCall). images_ahead b.first (moment_by before call) (make_of made)
     before.images (s.may call) in
     let c : Choice = record {
-      ledger = ledger_through steps u.ledger;
+      owners = owners_through steps u.owners;
       ghost = after;
       pending = Some (record {
         took = list_any is_take steps;
@@ -169,7 +169,7 @@ goes_out {start = start} {after = after} {made = made} p next far n u none kept 
           session = s.session ∙ made_session made _ ∙ b.session (make_of made);
           may_images = λ call. (images call).0;
           images = λ call. s.images call ∙ (images call).1;
-          ledger = refl;
+          owners = refl;
           frozen = s.frozen;
           kept = kept;
           silence = refl;
@@ -231,7 +231,7 @@ module _ (p next : Bare) (far far' : Far) (n n' : ℕ) (said : Said) (free : nex
       let began : Bool = is_reset p.station.link.state in
       let ended : Bool = is_reset next.station.link.state in
       let c : Choice = record {
-        ledger = ledger_through x.steps u.ledger;
+        owners = owners_through x.steps u.owners;
         ghost = x.after;
         pending = None;
       } in (
@@ -258,7 +258,7 @@ module _ (p next : Bare) (far far' : Far) (n n' : ℕ) (said : Said) (free : nex
                   ∙ (rw (← x.said_book) (sym (book_through-filter x.steps p.book.state)));
               may_session = x.session.0;
               session = sym x.session.1;
-              ledger = refl;
+              owners = refl;
               down = none_down next.station.link.state next.station.session x.after
                   x.after.request.hidden.answer x.stands.joined;
             };

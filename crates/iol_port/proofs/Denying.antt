@@ -16,7 +16,7 @@ use Rattle.iol_port.specs.Steps.{book_through}
 use Rattle.iol_port.specs.Asks.{lacks_isdu}
 use Rattle.iol_port.specs.EveryWire.{taken_where, HasNoIsdu, IsDenied}
 use Rattle.iol_port.specs.View.{Parts, Asks}
-use Rattle.iol_port.proofs.LedgerSteps.{ticket_is}
+use Rattle.iol_port.proofs.OwnerSteps.{ticket_is}
 use Rattle.iol_port.proofs.Replaying.{next_is}
 
 -- the outcome of a ticket, once one is entered

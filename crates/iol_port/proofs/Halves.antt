@@ -11,7 +11,7 @@ use Rattle.iol_steps.specs.FrozenEvents.{Frozen, MayFrozenAll, frozen_through}
 use Rattle.iol_steps.specs.Images.{Images, MayImagesAll, images_after, images_through}
 use Rattle.iol_steps.specs.Turn.{is_calm}
 use Rattle.iol_port.specs.Steps.{MayBookAll, book_after, book_through, kept_through}
-use Rattle.iol_port.specs.Ledger.{Ledger, ledger_after, ledger_through}
+use Rattle.iol_port.specs.Owners.{Owners, owners_after, owners_through}
 use Rattle.iol_port.specs.Run.{Pending, is_sending, is_take, moment_by}
 use Rattle.iol_port.specs.Promises.{HalvesAreTurns}
 
@@ -47,10 +47,10 @@ module _ (m : Moment) (ys : List Step) where
   rest_stays (x ∷ xs) s i f kept only =
       grind (arith, common_steps, rest_stays xs (session_after x s) (images_after m x i) f kept)
 
-ledger_both : (xs ys : List Step) (l : Ledger)
-    → ledger_through (xs ++ ys) l ≡ ledger_through ys (ledger_through xs l)
-ledger_both [] ys l = refl
-ledger_both (x ∷ xs) ys l = ledger_both xs ys (ledger_after x l)
+owners_both : (xs ys : List Step) (l : Owners)
+    → owners_through (xs ++ ys) l ≡ owners_through ys (owners_through xs l)
+owners_both [] ys l = refl
+owners_both (x ∷ xs) ys l = owners_both xs ys (owners_after x l)
 
 -- No step of the one clashes with a step of the other
 
@@ -109,7 +109,7 @@ halves_are_turns a m b s r =
         book = (rw s.book at r.work.book) ∙ sym book.1;
         may_session = session.0;
         session = (rw s.session at r.work.session) ∙ sym session.1;
-        ledger = (rw s.ledger at r.work.ledger) ∙ sym (ledger_both s.steps got a.ledger);
+        owners = (rw s.owners at r.work.owners) ∙ sym (owners_both s.steps got a.owners);
         down = r.work.down;
       },
       record {

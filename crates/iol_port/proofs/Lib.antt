@@ -1,7 +1,7 @@
 pub mod Replaying
 pub mod PieceLemmas
-pub mod LedgerSteps
-pub mod LedgerRuns
+pub mod OwnerSteps
+pub mod OwnerRuns
 pub mod CallLemmas
 pub mod Filters
 pub mod TurnLemmas

@@ -15,20 +15,20 @@ use Rattle.iol_steps.specs.Step.{Step, Moment, Exchanged}
 use Rattle.iol_event.specs.declared.event.Event.{Event}
 use Rattle.iol_page.specs.declared.identity.Identity.{Identity}
 use Rattle.iol_port.specs.Steps.{MayBookAll, book_through}
-use Rattle.iol_port.specs.Ledger.{ledger_through, archiving}
+use Rattle.iol_port.specs.Owners.{owners_through, archiving}
 use Rattle.iol_port.specs.declared.call.Call.TheVariants as call
 use Rattle.iol_port.specs.declared.call.Answered.{Answered}
 use Rattle.iol_port.specs.declared.call.Answered.TheVariants as answered
 use Rattle.iol_port.specs.Run.{PortState, CallOf, Piece, Whole, Send, Receive, PieceOf, moment_in, moment_by, restarted}
 use Rattle.iol_port.specs.Promises.{RunsJoin, PiecesJoin}
 
--- some steps in the book, the session and the ledger, whatever becomes of the events and the images
+-- some steps in the book, the session and the owners, whatever becomes of the events and the images
 pub record IsMoved (m : Moment) (steps : List Step) (a b : PortState) : Type 0 where
   pub may_book : MayBookAll steps a.book
   pub book : b.book ≡ book_through steps a.book
   pub may_session : MaySessionAll m steps a.session
   pub session : b.session ≡ session_through steps a.session
-  pub ledger : b.ledger ≡ ledger_through steps a.ledger
+  pub owners : b.owners ≡ owners_through steps a.owners
   pub terms : b.terms ≡ a.terms
   pub at : m.terms ≡ a.terms
 
@@ -52,7 +52,7 @@ pub data Did (a : PortState) (c : Piece) (reply : Answered) : PortState → Type
       → Did a c reply (record a { session = cancelling a.session })
   Restarts : Did a c reply (restarted a)
   Archives : may_archive a.book ≡ true → Did a c reply
-      (record a { book = record a.book { journal = [] }; ledger = archiving a.ledger })
+      (record a { book = record a.book { journal = [] }; owners = archiving a.owners })
   Moves : (m : Moment) (steps : List Step) {b : PortState} → IsMoved m steps a b → Did a c reply b
 
 -- an outcome that a collect hands out was there

@@ -16,7 +16,7 @@ use Rattle.iol_book.specs.BookModel.{BookState, IsReplayed, entered, leaves_unsu
 use Rattle.iol_book.specs.Takings.{Taking, taking_of, ended, first_with, takings, takings_after, takings_from}
 use Rattle.iol_steps.specs.Step.{Step, Moment, Terms, may_misread}
 use Rattle.iol_steps.specs.Session.{Session, MayTell, MaySession, MaySessionAll, session_after, session_through}
-use Rattle.iol_port.specs.Ledger.{Ledger, ledger_after, ledger_through, IsToldAs}
+use Rattle.iol_port.specs.Owners.{Owners, owners_after, owners_through, IsToldAs}
 use Rattle.iol_port.specs.Steps.{MayBook, MayBookAll, book_after, book_through}
 
 replay_from-push : (s : Standing) (entries : List Entry) (entry : Entry)
@@ -125,13 +125,13 @@ told_for terms told (Some a) (inr (misreads, some)) =
     (a, refl, told_as (may_misread terms) told a (inl misreads))
 
 -- what each step keeps, a list of steps keeps
-pub steps_keep : (P : BookState → Session → Ledger → Type 0) (m : Moment)
-    → ((step : Step) (b : BookState) (s : Session) (l : Ledger) → MayBook step b
+pub steps_keep : (P : BookState → Session → Owners → Type 0) (m : Moment)
+    → ((step : Step) (b : BookState) (s : Session) (l : Owners) → MayBook step b
     → MaySession m step s → P b s l → P (book_after step b) (session_after step s)
-    (ledger_after step l))
-    → (steps : List Step) (b : BookState) (s : Session) (l : Ledger) → MayBookAll steps b
+    (owners_after step l))
+    → (steps : List Step) (b : BookState) (s : Session) (l : Owners) → MayBookAll steps b
     → MaySessionAll m steps s → P b s l
-    → P (book_through steps b) (session_through steps s) (ledger_through steps l)
+    → P (book_through steps b) (session_through steps s) (owners_through steps l)
 steps_keep P m keeps [] b s l next may holds = holds
 steps_keep P m keeps (step ∷ steps) b s l next may holds =
     steps_keep P m keeps steps _ _ _ next.1 may.1 (keeps step b s l next.0 may.0 holds)

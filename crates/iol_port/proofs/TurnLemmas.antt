@@ -33,7 +33,7 @@ use Rattle.iol_port.specs.declared.call.Answered.{Answered}
 use Rattle.iol_port.specs.declared.call.Answered.TheVariants as answered
 use Rattle.iol_port.specs.Steps.{MayBookAll, book_after, book_through, kept_through}
 use Rattle.iol_port.specs.Run.{PortState, TurnOf, is_take}
-use Rattle.iol_port.specs.Ledger.{ledger_through}
+use Rattle.iol_port.specs.Owners.{owners_through}
 use Rattle.iol_port.specs.View.{Parts, Choice, state_of, Follows, BeginsNext, BookDoes, KeepsLimits}
 use Rattle.iol_port.proofs.Filters.{book_through-filter, MayBookAll-filter, kept_through-filter, clash_free-take, clash_free-deny, is_beside, may_book_said}
 use Rattle.iol_far.specs.declared.kind.Kind.{Kind}
@@ -190,7 +190,7 @@ module _ {W : Type 0} (facts : WireFacts W) where
       (record u.ghost { request = b.request; fresh = b.fresh }) said next.station)
       → TurnOf (state_of facts p u)
       (state_of facts next (record {
-        ledger = ledger_through (ahead b.first t.given.steps) u.ledger;
+        owners = owners_through (ahead b.first t.given.steps) u.owners;
         ghost = t.given.after;
         pending = None;
       }))
@@ -218,7 +218,7 @@ module _ {W : Type 0} (facts : WireFacts W) where
               ∙ (rw (← x.said_book) (sym (book_through-filter x.steps start))) ∙ book.1;
           may_session = b.may_session m refl x.steps x.session.0;
           session = sym x.session.1 ∙ b.session x.steps;
-          ledger = refl;
+          owners = refl;
           down = none_down next.station.link.state next.station.session x.after
               x.after.request.hidden.answer t.stands.both.joined;
         },
@@ -257,7 +257,7 @@ module _ {W : Type 0} (facts : WireFacts W) where
         attempted = (rw none at shows.out).1;
       }) in (
         record {
-          ledger = ledger_through (ahead first.first t.given.steps) u.ledger;
+          owners = owners_through (ahead first.first t.given.steps) u.owners;
           ghost = t.given.after;
           pending = None;
         },

@@ -17,7 +17,7 @@ use Rattle.iol_steps.specs.declared.mode.Mode.TheVariants.{Down, Startup}
 use Rattle.iol_port.specs.declared.call.Call.TheVariants as call
 use Rattle.iol_port.specs.declared.call.Answered.{Answered}
 use Rattle.iol_port.specs.declared.call.Answered.TheVariants as answered
-use Rattle.iol_port.specs.Ledger.{Account, all, pairs_of, Fits, IsOneOf, HasEnded, allowance_of, times_of}
+use Rattle.iol_port.specs.Owners.{Owner, all, pairs_of, Fits, IsOneOf, HasEnded, allowance_of, times_of}
 use Rattle.iol_port.specs.Run.{PortState, Piece, Whole, PieceOf, Pieces, opened}
 use Rattle.iol_mode.specs.declared.configuration.Devices.{Devices}
 use Rattle.iol_mode.specs.declared.configuration.Devices.TheVariants.{Any}
@@ -35,23 +35,23 @@ IsSubmitted pieces replies ticket request =
     Happens pieces replies (Whole (call.Submit request)) (answered.Ticket ticket)
     ⊎ Happens pieces replies (Whole (call.SubmitUrgent request)) (answered.Ticket ticket)
 
--- Of a run from an opening that led here: the record grew by the pairs of the ledger, in this
+-- Of a run from an opening that led here: the record grew by the pairs of the owners, in this
 -- order.
--- Each request of it was submitted in the run, under a ticket of its own; it has at most one pair,
+-- Each of them was submitted in the run, under a ticket of its own; it has at most one pair,
 -- or more only where it may be carried out more than once; and each outcome Done that was collected
 -- is that of such a request, whose last pair has the answer, but for what the allowance is
 pub record CarriesOut (from : PortState) (pieces : List Piece) (replies : List Answered)
     (a : PortState) : Type 0 where
-  pub record_is : a.session.carried ≡ from.session.carried ++ pairs_of (all a.ledger)
-  pub once : (number : ℕ) → times_of number (all a.ledger) ≤ 1
-  pub above : (number : ℕ) → number ≤ from.book.last → times_of number (all a.ledger) ≡ 0
-  pub fits : (account : Account) → IsOneOf account (all a.ledger)
-      → Fits (allowance_of from.terms) account
-  pub asked : (account : Account) → IsOneOf account (all a.ledger)
-      → IsSubmitted pieces replies account.taking.ticket account.taking.request
+  pub record_is : a.session.carried ≡ from.session.carried ++ pairs_of (all a.owners)
+  pub once : (number : ℕ) → times_of number (all a.owners) ≤ 1
+  pub above : (number : ℕ) → number ≤ from.book.last → times_of number (all a.owners) ≡ 0
+  pub fits : (owner : Owner) → IsOneOf owner (all a.owners)
+      → Fits (allowance_of from.terms) owner
+  pub asked : (owner : Owner) → IsOneOf owner (all a.owners)
+      → IsSubmitted pieces replies owner.taking.ticket owner.taking.request
   pub done : (ticket : Ticket) (answer : Answer)
       → Happens pieces replies (Whole (call.Collect ticket)) (answered.Outcome (Done answer))
-      → HasEnded (all a.ledger) ticket (Done answer)
+      → HasEnded (all a.owners) ticket (Done answer)
 
 -- So it is in every run of a port that is opened, across losses, restarts and archives
 abbrev pub EachDoneHasItsPair : Type 0
@@ -68,8 +68,8 @@ IsCutOff pieces replies a ticket cause =
     Happens pieces replies (Whole (call.Collect ticket)) (answered.Outcome (Unknown cause))
     ⊎ (lookup (same_ticket ticket) a.book.standing.outcomes ≡ Some (Unknown cause))
 
--- the account has the answers that it had, maybe more before them, and ended as it had
-pub record GoesOn (earlier later : Account) : Type 0 where
+-- the owner has the answers that it had, maybe more before them, and ended as it had
+pub record GoesOn (earlier later : Owner) : Type 0 where
   pub ticket_is : later.taking.ticket ≡ earlier.taking.ticket
   pub request_is : later.taking.request ≡ earlier.taking.request
   pub ends : (outcome : Outcome) → earlier.taking.outcome ≡ Some outcome
@@ -77,25 +77,25 @@ pub record GoesOn (earlier later : Account) : Type 0 where
   pub more : List Answer
   pub answers_are : later.answers ≡ more ++ earlier.answers
 
--- these are the same accounts, but that the last one goes on
-abbrev pub LastGoesOn : List Account → List Account → Type 0
+-- these are the same owners, but that the last one goes on
+abbrev pub LastGoesOn : List Owner → List Owner → Type 0
 LastGoesOn [] [] = Unit {0}
 LastGoesOn (x ∷ earlier) (y ∷ later) = GoesOn x y × (later ≡ earlier)
 LastGoesOn earlier later = ⊥
 
 -- so they are, below those that were taken since
-pub record GoOn (earlier later : List Account) : Type 0 where
-  pub more : List Account
-  pub others : List Account
-  pub accounts_are : later ≡ more ++ others
+pub record GoOn (earlier later : List Owner) : Type 0 where
+  pub more : List Owner
+  pub others : List Owner
+  pub owners_are : later ≡ more ++ others
   pub last : LastGoesOn earlier others
 
--- A run leads on from `a` to `c`: the accounts of `a` go on there, and that of such a ticket has no
+-- A run leads on from `a` to `c`: the owners of `a` go on there, and that of such a ticket has no
 -- more answers
 pub record LeavesOut (a c : PortState) (IsOut : Ticket → Type 0) : Type 0 where
-  pub go_on : GoOn (all a.ledger) (all c.ledger)
-  pub left_out : (account : Account) → IsOneOf account (all c.ledger)
-      → IsOut account.taking.ticket → IsOneOf account (all a.ledger)
+  pub go_on : GoOn (all a.owners) (all c.owners)
+  pub left_out : (owner : Owner) → IsOneOf owner (all c.owners)
+      → IsOut owner.taking.ticket → IsOneOf owner (all a.owners)
 
 -- A run comes to `a`, and goes on to `c`: of what is carried out from `a` on, nothing was cut off
 -- before with the device's word that it has the request no more: for any cause but the loss of the

@@ -43,4 +43,4 @@ module _ {W : Type 0} (facts : WireFacts W) where
     pub carries :
         CarriesOut (opened_with o) (map Whole (earlier ++ calls)) (answered ++ replies) port
     pub in_order :
-        takings port.book.journal ≡ map (λ account. account.taking) port.ledger.accounts
+        takings port.book.journal ≡ map (λ owner. owner.taking) port.owners.current

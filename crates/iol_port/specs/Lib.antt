@@ -12,7 +12,7 @@ pub mod Promises
 pub mod Replies
 pub mod Turns
 pub mod Clean
-pub mod Ledger
+pub mod Owners
 pub mod CarriesOut
 pub mod Claim
 pub mod Denials

@@ -1,5 +1,5 @@
 -- What every call of the abstract port keeps: the journal says where each ticket stands, and the
--- device's record is that of the ledger, which fits what the journal says.
+-- device's record is that of the owners, who fit what the journal says.
 use Rattle.std.specs.Prelude.{IsSome, drop, ◌≡◌, ◌≤◌, ◌+◌, ◌⊎◌, ℕ, Bool, true, false, List, [], ◌∷◌, ◌++◌, map, Option, Some, None, IsTrue, cond, nat_lt}
 use Rattle.iol_isdu.specs.declared.values.Request.{Request}
 use Rattle.iol_isdu.specs.declared.values.Answer.{Answer}
@@ -11,7 +11,7 @@ use Rattle.iol_book.specs.Numbers.{times_in}
 use Rattle.iol_book.specs.BookModel.{BookState, IsReplayed, leaves_unsure}
 use Rattle.iol_book.specs.Takings.{takings}
 use Rattle.iol_steps.specs.Session.{Job, Session}
-use Rattle.iol_port.specs.Ledger.{Account, Ledger, Allowance, IsOneOf, HasEnded, Fits, all, allowance_of, pairs_of, times_of}
+use Rattle.iol_port.specs.Owners.{Owner, Owners, Allowance, IsOneOf, HasEnded, Fits, all, allowance_of, pairs_of, times_of}
 use Rattle.iol_port.specs.Run.{PortState}
 
 -- what is said of each pair of a list
@@ -19,22 +19,23 @@ abbrev pub Each : {K X : Type 0} → (K → X → Type 0) → List (K × X) → 
 Each P [] = Unit {0}
 Each P (pair ∷ pairs) = P pair.0 pair.1 × Each P pairs
 
--- those of the accounts that are no longer under way
-abbrev pub not_under_way : Option Job → List Account → List Account
-not_under_way None accounts = accounts
-not_under_way (Some job) accounts = drop 1 accounts
+-- those of the owners that are no longer under way
+abbrev pub not_under_way : Option Job → List Owner → List Owner
+not_under_way None owners = owners
+not_under_way (Some job) owners = drop 1 owners
 
--- The journal has the takings of the ledger, and the device's record its pairs, in the order taken:
--- at most one for each request, and exactly one, with its answer, for each that is done; but for
+-- The journal has the takings of the owners, and the device's record their pairs, in the order
+-- taken: at most one for each request, and exactly one, with its answer, for each that is done;
+-- but for
 -- what the allowance is. All have ended but the one under way
 -- BOOK-10
 pub record RecordFits (allowance : Allowance) (book : BookState) (session : Session)
-    (ledger : Ledger) : Type 0 where
-  pub takings_are : takings book.journal ≡ map (λ account. account.taking) ledger.accounts
-  pub record_is : session.carried ≡ ledger.before ++ pairs_of (all ledger)
-  pub fit : (account : Account) → IsOneOf account (all ledger) → Fits allowance account
-  pub ended : (account : Account) → IsOneOf account (not_under_way session.job (all ledger))
-      → IsSome account.taking.outcome
+    (owners : Owners) : Type 0 where
+  pub takings_are : takings book.journal ≡ map (λ owner. owner.taking) owners.current
+  pub record_is : session.carried ≡ owners.before ++ pairs_of (all owners)
+  pub fit : (owner : Owner) → IsOneOf owner (all owners) → Fits allowance owner
+  pub ended : (owner : Owner) → IsOneOf owner (not_under_way session.job (all owners))
+      → IsSome owner.taking.outcome
 
 abbrev pub request_taken : Option (Ticket × Request) → Option Request
 request_taken None = None
@@ -48,54 +49,54 @@ AnswersFit repeats (Some answer) (last ∷ earlier) = last ≡ answer
 
 -- the request under way is the one that is taken
 pub record IsUnderWay (repeats : Request → Bool) (job : Job) (taken : Option (Ticket × Request))
-    (account : Account) : Type 0 where
-  pub taken_is : taken ≡ Some (account.taking.ticket, job.request)
-  pub request_is : account.taking.request ≡ job.request
-  pub none : account.taking.outcome ≡ None
-  pub answers : AnswersFit (repeats job.request) job.answer account.answers
+    (owner : Owner) : Type 0 where
+  pub taken_is : taken ≡ Some (owner.taking.ticket, job.request)
+  pub request_is : owner.taking.request ≡ job.request
+  pub none : owner.taking.outcome ≡ None
+  pub answers : AnswersFit (repeats job.request) job.answer owner.answers
 
 -- one was cut off, and may be carried out next
-pub record IsLate (repeats : Request → Bool) (request : Request) (account : Account) : Type 0 where
-  pub request_is : account.taking.request ≡ request
+pub record IsLate (repeats : Request → Bool) (request : Request) (owner : Owner) : Type 0 where
+  pub request_is : owner.taking.request ≡ request
   pub cause : Cause
-  pub cut : account.taking.outcome ≡ Some (Unknown cause)
+  pub cut : owner.taking.outcome ≡ Some (Unknown cause)
   pub unsure : leaves_unsure (Unknown cause) ≡ true
-  pub answers : AnswersFit (repeats request) None account.answers
+  pub answers : AnswersFit (repeats request) None owner.answers
 
 -- the request under way, or the late one, is the one that was taken last
 abbrev pub IsOpen : (Request → Bool) → Option Job → Option Request → Option (Ticket × Request)
-    → List Account → Type 0
-IsOpen repeats None None taken accounts = taken ≡ None
-IsOpen repeats (Some job) None taken (last ∷ accounts) = IsUnderWay repeats job taken last
-IsOpen repeats None (Some request) taken (last ∷ accounts) =
+    → List Owner → Type 0
+IsOpen repeats None None taken owners = taken ≡ None
+IsOpen repeats (Some job) None taken (last ∷ owners) = IsUnderWay repeats job taken last
+IsOpen repeats None (Some request) taken (last ∷ owners) =
     (taken ≡ None) × IsLate repeats request last
-IsOpen repeats job late taken accounts = ⊥
+IsOpen repeats job late taken owners = ⊥
 
 -- an outcome is that of a request that was taken, or of one that never was: withdrawn, or denied at
 -- a device without ISDU
-abbrev pub IsOutcome : Bool → List Account → Ticket → Outcome → Type 0
-IsOutcome isdu accounts ticket Withdrawn = Unit {0}
-IsOutcome isdu accounts ticket NoIsdu = isdu ≡ false
-IsOutcome isdu accounts ticket outcome = HasEnded accounts ticket outcome
+abbrev pub IsOutcome : Bool → List Owner → Ticket → Outcome → Type 0
+IsOutcome isdu owners ticket Withdrawn = Unit {0}
+IsOutcome isdu owners ticket NoIsdu = isdu ≡ false
+IsOutcome isdu owners ticket outcome = HasEnded owners ticket outcome
 
 -- how often a number stands among the tickets of those that were taken, those that wait, and those
 -- that are still to be given
-abbrev pub times_ever : ℕ → BookState → Ledger → ℕ
-times_ever number book ledger =
+abbrev pub times_ever : ℕ → BookState → Owners → ℕ
+times_ever number book owners =
     cond (nat_lt book.last number) 1 0 + times_in number book.standing.urgent
-    + times_in number book.standing.waiting + times_of number (all ledger)
+    + times_in number book.standing.waiting + times_of number (all owners)
 
-pub record Sound (allowance : Allowance) (book : BookState) (s : Session) (ledger : Ledger) :
+pub record Sound (allowance : Allowance) (book : BookState) (s : Session) (owners : Owners) :
     Type 0 where
   pub replayed : IsReplayed book
-  pub fits : RecordFits allowance book s ledger
-  pub opens : IsOpen allowance.repeats s.job s.late book.standing.taken ledger.accounts
+  pub fits : RecordFits allowance book s owners
+  pub opens : IsOpen allowance.repeats s.job s.late book.standing.taken owners.current
   -- a request may be late only while that isn't sure
   pub sure : book.unsure ≡ false → s.late ≡ None
   -- each ticket is that of one request, and above those that were given before
-  pub once : (number : ℕ) → times_ever number book ledger ≤ 1
-  pub above : (number : ℕ) → number ≤ ledger.given → times_ever number book ledger ≡ 0
-  pub outcomes : Each (IsOutcome allowance.isdu (all ledger)) book.standing.outcomes
+  pub once : (number : ℕ) → times_ever number book owners ≤ 1
+  pub above : (number : ℕ) → number ≤ owners.given → times_ever number book owners ≡ 0
+  pub outcomes : Each (IsOutcome allowance.isdu (all owners)) book.standing.outcomes
 
 abbrev pub IsSound : PortState → Type 0
-IsSound a = Sound (allowance_of a.terms) a.book a.session a.ledger
+IsSound a = Sound (allowance_of a.terms) a.book a.session a.owners

@@ -15,15 +15,15 @@ use iol_segment::{cut_is_whole, segments_join, texts_join};
 ///
 /// A port is sound when it is opened, and each run keeps it so, whatever calls and
 /// turns it has, whole or in two pieces with calls between them. Of a sound port the
-/// journal says where each ticket stands, and the ledger has what the journal says was taken, and
-/// each pair of the record: in the order in which requests were taken, at most one pair for each,
-/// and exactly one, with that answer, for each that is done. Of a request that the device may carry
+/// journal says where each ticket stands, and the record's pairs have their owners, which are the
+/// requests that the journal says were taken: in the order taken, at most one pair for each, and
+/// exactly one, with that answer, for each that is done. Of a request that the device may carry
 /// out more than once, it may have more. At a port for our own devices whose device forgets its
 /// answer once the last segment was sent, the answer that is told may be another than that of the
 /// pair.
 ///
 /// Rule BOOK-10.
-#[tactic(auto, using(crate::proofs::LedgerRuns::opened_sound, crate::proofs::LedgerRuns::runs_sound, crate::proofs::LedgerRuns::pieces_sound))]
+#[tactic(auto, using(crate::proofs::OwnerRuns::opened_sound, crate::proofs::OwnerRuns::runs_sound, crate::proofs::OwnerRuns::pieces_sound))]
 pub fn record_fits_journal()
     ensures opens { OpensSound }
     ensures runs { RunsSound }
@@ -57,9 +57,9 @@ pub fn runs_join()
 /// own, and each outcome Done that was collected is that of such a request, whose last pair has
 /// that answer.
 ///
-/// The pairs stand behind what the record had at the opening, and no two requests of the ledger
-/// have one ticket, nor one of them two pairs, across losses, restarts and archives: so each is
-/// carried out once at most, one that was cut off as well.
+/// The pairs stand behind what the record had at the opening, and no two owners have one ticket,
+/// nor one of them two pairs, across losses, restarts and archives: so each request is carried out
+/// once at most, one that was cut off as well.
 ///
 /// It is otherwise only at a port for our own devices whose device hands a request over with its
 /// last segment. There a request whose text fits in one START write may have several pairs, next
@@ -67,7 +67,7 @@ pub fn runs_join()
 /// segment was sent, the answer that is told may be another than that of the pair.
 ///
 /// Rule REQ-15.
-#[tactic(auto, using(crate::proofs::LedgerRuns::each_done_has_its_pair))]
+#[tactic(auto, using(crate::proofs::OwnerRuns::each_done_has_its_pair))]
 pub fn each_done_has_its_pair()
     ensures { EachDoneHasItsPair }
 {}
@@ -90,7 +90,7 @@ pub fn late_requests_end()
 
 /// A law of the definitions, over whole runs of a port that is opened: a device without ISDU
 /// carries nothing out, and each outcome NoIsdu that was collected is that of such a device.
-#[tactic(auto, using(crate::proofs::LedgerRuns::carries_none, crate::proofs::LedgerRuns::denied_without_isdu))]
+#[tactic(auto, using(crate::proofs::OwnerRuns::carries_none, crate::proofs::OwnerRuns::denied_without_isdu))]
 pub fn denied_requests_stay_out()
     ensures carries { CarriesNone }
     ensures denied { IsDeniedWithoutIsdu }

@@ -13,13 +13,13 @@
 //! What a port does is said by an abstract port, which knows no octets, segments or
 //! repeats (`specs/Run`). Over an honest wire each call of a [`Port`] is one call of the
 //! abstract port that it stands for, and a list of calls is a run of it; a sending and a
-//! receiving are two pieces of one, with calls between them. It has a ledger: each request that
-//! was taken, with how it ended and what the device answered it. Of all such runs
-//! [`record_fits_journal`] says that the device's record is that of the ledger, which fits the
-//! journal. IEC 61131-9 leaves it to the master how requests are queued: that part is this
-//! project's profile.
+//! receiving are two pieces of one, with calls between them. It has the owners of the record's
+//! pairs: each request that was taken, how it ended and what the device answered it. Of all such
+//! runs [`record_fits_journal`] says that the record is theirs, and that they fit the journal.
+//! IEC 61131-9 leaves it to the master how requests are queued: that part is this project's
+//! profile.
 //!
-//! Definitions begin in `specs/Run`, the abstract port; then `Ledger`, `Sound`, `View`, `EveryWire`
+//! Definitions begin in `specs/Run`, the abstract port; then `Owners`, `Sound`, `View`, `EveryWire`
 //! and `CorePort`.
 #![tactic(auto)]
 

@@ -1,4 +1,4 @@
-use Rattle.iol_port.proofs.LedgerRuns.{late_ends, cut_for_good_stays_out}
+use Rattle.iol_port.proofs.OwnerRuns.{late_ends, cut_for_good_stays_out}
 use Rattle.iol_port.proofs.laws.late_requests_end.Goals as goal
 
 pub returns : goal.returns

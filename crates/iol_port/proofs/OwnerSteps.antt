@@ -1,4 +1,4 @@
--- What each step does to the ledger of a sound port: it stays sound, and its accounts go on.
+-- What each step does to the owners of a sound port: it stays sound, and they go on.
 use Rattle.std.proofs.Common.{◌≡◌, ◌⊎◌, ◌∷◌, ◌++◌, [], List, ℕ, ◌+◌, Bool, true, false, cond, ◌≤◌, nat_eq, Option, Some, None, append_assoc, append-nil, length, ◌||◌, refl, ap, sym, ◌∙◌, subst, arith, inl, inr, map, drop}
 use Rattle.std.proofs.lemmas.Grind.{common_steps}
 use Rattle.std.specs.Prelude.{IsTrue, IsSome}
@@ -22,7 +22,7 @@ use Rattle.iol_steps.specs.Kinds.{restart_steps}
 use Rattle.iol_steps.specs.declared.mode.Mode.{Mode}
 use Rattle.iol_steps.specs.declared.mode.Mode.TheVariants.{Down, Startup}
 use Rattle.iol_mode.specs.declared.why.Why.{Why}
-use Rattle.iol_port.specs.Ledger.{Account, Ledger, all, pairs_of, answered, settled, ledger_after, ledger_through, archiving, Allowance, IsOneOf, IsToldAs, EndsAs, Fits, HasEnded, allowance_of}
+use Rattle.iol_port.specs.Owners.{Owner, Owners, all, pairs_of, answered, settled, owners_after, owners_through, archiving, Allowance, IsOneOf, IsToldAs, EndsAs, Fits, HasEnded, allowance_of}
 use Rattle.iol_port.specs.Steps.{ticket_of, MayBook, book_after, book_through}
 use Rattle.iol_port.specs.Run.{request_of}
 use Rattle.iol_port.specs.Sound.{not_under_way, Each, AnswersFit, IsOpen, IsOutcome, times_ever, Sound}
@@ -90,9 +90,9 @@ waiting_next : (n : ℕ) (s : Standing) (t : Ticket) (q : Request) → next_take
 waiting_next n s t q next =
     let is = next_is s t q next in rw (← is.urgent, ← is.others) (grind (arith, common_steps))
 
--- Accounts that go on
+-- Owners that go on
 
-goes_on_itself : {x : Account} → GoesOn x x
+goes_on_itself : {x : Owner} → GoesOn x x
 goes_on_itself = record {
   ticket_is = refl;
   request_is = refl;
@@ -101,7 +101,7 @@ goes_on_itself = record {
   answers_are = refl;
 }
 
-goes_on_then : {x y z : Account} → GoesOn x y → GoesOn y z → GoesOn x z
+goes_on_then : {x y z : Owner} → GoesOn x y → GoesOn y z → GoesOn x z
 goes_on_then {x} one two = record {
   ticket_is = two.ticket_is ∙ one.ticket_is;
   request_is = two.request_is ∙ one.request_is;
@@ -111,39 +111,39 @@ goes_on_then {x} one two = record {
       ∙ sym (append_assoc two.more one.more x.answers));
 }
 
-last_itself : (xs : List Account) → LastGoesOn xs xs
+last_itself : (xs : List Owner) → LastGoesOn xs xs
 last_itself [] = tt
 last_itself (x ∷ xs) = (goes_on_itself, refl)
 
 -- with these taken since
-go_on_behind : (more xs : List Account) → GoOn xs (more ++ xs)
+go_on_behind : (more xs : List Owner) → GoOn xs (more ++ xs)
 go_on_behind more xs =
-    record { more = more; others = xs; accounts_are = refl; last = last_itself xs }
+    record { more = more; others = xs; owners_are = refl; last = last_itself xs }
 
-pub go_on_itself : {xs : List Account} → GoOn xs xs
+pub go_on_itself : {xs : List Owner} → GoOn xs xs
 go_on_itself {xs} = go_on_behind [] xs
 
 -- the first goes on as another
-go_on_first : {x y : Account} {zs : List Account} → GoesOn x y → GoOn (x ∷ zs) (y ∷ zs)
+go_on_first : {x y : Owner} {zs : List Owner} → GoesOn x y → GoOn (x ∷ zs) (y ∷ zs)
 go_on_first {y = y} {zs = zs} goes =
-    record { more = []; others = y ∷ zs; accounts_are = refl; last = (goes, refl) }
+    record { more = []; others = y ∷ zs; owners_are = refl; last = (goes, refl) }
 
-pub go_on_then : {xs ys zs : List Account} → GoOn xs ys → GoOn ys zs → GoOn xs zs
+pub go_on_then : {xs ys zs : List Owner} → GoOn xs ys → GoOn ys zs → GoOn xs zs
 go_on_then {xs} {ys} {zs} one two =
-    by one.more one.others two.others two.accounts_are one.last (rw one.accounts_are at two.last)
+    by one.more one.others two.others two.owners_are one.last (rw one.owners_are at two.last)
   where
-    by : (more others late : List Account) → zs ≡ two.more ++ late → LastGoesOn xs others
+    by : (more others late : List Owner) → zs ≡ two.more ++ late → LastGoesOn xs others
         → LastGoesOn (more ++ others) late → GoOn xs zs
     by [] others late are first then =
         record {
           more = two.more;
           others = late;
-          accounts_are = are;
+          owners_are = are;
           last = both xs others late
               first then;
         }
       where
-        both : (xs ys zs : List Account) → LastGoesOn xs ys → LastGoesOn ys zs → LastGoesOn xs zs
+        both : (xs ys zs : List Owner) → LastGoesOn xs ys → LastGoesOn ys zs → LastGoesOn xs zs
         both [] [] [] first then = tt
         both (x ∷ xs) (y ∷ ys) (z ∷ zs) first then =
             (goes_on_then first.0 then.0, then.1 ∙ first.1)
@@ -154,56 +154,56 @@ go_on_then {xs} {ys} {zs} one two =
     by (w ∷ more) others (v ∷ late) are first then = record {
       more = two.more ++ v ∷ more;
       others = others;
-      accounts_are = are ∙ (ap (λ behind. two.more ++ v ∷ behind) then.1
+      owners_are = are ∙ (ap (λ behind. two.more ++ v ∷ behind) then.1
           ∙ sym (append_assoc two.more (v ∷ more) others));
       last = first;
     }
     by (w ∷ more) others [] are first then = absurd then
 
-one_behind : (x : Account) (more xs : List Account) → IsOneOf x xs → IsOneOf x (more ++ xs)
+one_behind : (x : Owner) (more xs : List Owner) → IsOneOf x xs → IsOneOf x (more ++ xs)
 one_behind x [] xs i = i
 one_behind x (y ∷ more) xs i = inr (one_behind x more xs i)
 
-pub go_on_each : {xs ys : List Account} → GoOn xs ys → (x : Account) → IsOneOf x xs
-    → (y : Account) × IsOneOf y ys × GoesOn x y
-go_on_each {xs} goes x i = rw goes.accounts_are (
+pub go_on_each : {xs ys : List Owner} → GoOn xs ys → (x : Owner) → IsOneOf x xs
+    → (y : Owner) × IsOneOf y ys × GoesOn x y
+go_on_each {xs} goes x i = rw goes.owners_are (
     let (y, j, one) = by xs goes.others goes.last i in
     (y, one_behind y goes.more goes.others j, one))
   where
-    by : (xs others : List Account) → LastGoesOn xs others → IsOneOf x xs
-        → (y : Account) × IsOneOf y others × GoesOn x y
+    by : (xs others : List Owner) → LastGoesOn xs others → IsOneOf x xs
+        → (y : Owner) × IsOneOf y others × GoesOn x y
     by (z ∷ xs) (y ∷ others) last (inl is) = (y, inl refl, subst (λ w. GoesOn w y) is last.0)
     by (z ∷ xs) (y ∷ others) last (inr i) = (x, inr (rw last.1 i), goes_on_itself)
     by [] others last i = absurd i
     by (z ∷ xs) [] last i = absurd last
 
 -- how a request ended, it has ended from then on
-pub ended_on : {xs ys : List Account} → GoOn xs ys → (t : Ticket) (out : Outcome)
+pub ended_on : {xs ys : List Owner} → GoOn xs ys → (t : Ticket) (out : Outcome)
     → HasEnded xs t out → HasEnded ys t out
 ended_on goes t out (x, i, same, is) =
     let (y, j, one) = go_on_each goes x i in (y, j, one.ticket_is ∙ same, one.ends out is)
 
-pub outcome_on : (isdu : Bool) {xs ys : List Account} → GoOn xs ys → (t : Ticket)
+pub outcome_on : (isdu : Bool) {xs ys : List Owner} → GoOn xs ys → (t : Ticket)
     (out : Outcome) → IsOutcome isdu xs t out → IsOutcome isdu ys t out
 outcome_on isdu goes t (outcome.Done a) is = ended_on goes t (outcome.Done a) is
 outcome_on isdu goes t (outcome.Unknown cause) is = ended_on goes t (outcome.Unknown cause) is
 outcome_on isdu goes t _ is = is
 
--- The accounts that have no more answers: all but that of the request under way, or of the late one
+-- The owners that have no more answers: all but that of the request under way, or of the late one
 
-abbrev closed_by : Option Job → Option Request → Ledger → List Account
+abbrev closed_by : Option Job → Option Request → Owners → List Owner
 closed_by None None l = all l
-closed_by job late l = drop 1 l.accounts ++ l.archived
+closed_by job late l = drop 1 l.current ++ l.archived
 
-abbrev pub closed : Session → Ledger → List Account
+abbrev pub closed : Session → Owners → List Owner
 closed s l = closed_by s.job s.late l
 
-pub closed_of : (s : Session) (l : Ledger) (x : Account) → IsOneOf x (closed s l)
+pub closed_of : (s : Session) (l : Owners) (x : Owner) → IsOneOf x (closed s l)
     → IsOneOf x (all l)
-closed_of s l x i = by s.job s.late l.accounts i
+closed_of s l x i = by s.job s.late l.current i
   where
-    by : (job : Option Job) (late : Option Request) (xs : List Account)
-        → IsOneOf x (closed_by job late (record l { accounts = xs })) → IsOneOf x (xs ++ l.archived)
+    by : (job : Option Job) (late : Option Request) (xs : List Owner)
+        → IsOneOf x (closed_by job late (record l { current = xs })) → IsOneOf x (xs ++ l.archived)
     by None None xs i = i
     by (Some job) late [] i = i
     by (Some job) late (y ∷ xs) i = inr i
@@ -212,11 +212,11 @@ closed_of s l x i = by s.job s.late l.accounts i
 
 -- one that ended is closed, unless it is late
 pub closed_has : (repeats : Request → Bool) (job : Option Job) (late : Option Request)
-    (taken : Option (Ticket × Request)) (l : Ledger) (xs : List Account)
+    (taken : Option (Ticket × Request)) (l : Owners) (xs : List Owner)
     → IsOpen repeats job late taken xs
-    → (x : Account) → IsOneOf x (xs ++ l.archived) → (out : Outcome)
+    → (x : Owner) → IsOneOf x (xs ++ l.archived) → (out : Outcome)
     → x.taking.outcome ≡ Some out → (leaves_unsure out ≡ false) ⊎ (late ≡ None)
-    → IsOneOf x (closed_by job late (record l { accounts = xs }))
+    → IsOneOf x (closed_by job late (record l { current = xs }))
 closed_has repeats None None taken l xs opens x i out is sure = i
 closed_has repeats (Some job) None taken l (y ∷ xs) opens x (inr i) out is sure = i
 closed_has repeats (Some job) None taken l (y ∷ xs) opens x (inl same) out is sure =
@@ -232,12 +232,12 @@ closed_has repeats None (Some q) taken l [] opens x i out is sure = absurd opens
 closed_has repeats (Some job) (Some q) taken l xs opens x i out is sure = absurd opens
 closed_has repeats (Some job) None taken l [] opens x i out is sure = absurd opens
 
-others_rest : (job : Option Job) (x : Account) (xs : List Account) (z : Account) → IsOneOf z xs
+others_rest : (job : Option Job) (x : Owner) (xs : List Owner) (z : Owner) → IsOneOf z xs
     → IsOneOf z (not_under_way job (x ∷ xs))
 others_rest None x xs z i = inr i
 others_rest (Some job) x xs z i = i
 
-others_all : (job : Option Job) (xs : List Account) (z : Account)
+others_all : (job : Option Job) (xs : List Owner) (z : Owner)
     → IsOneOf z (not_under_way job xs) → IsOneOf z xs
 others_all None xs z i = i
 others_all (Some job) [] z i = i
@@ -245,14 +245,14 @@ others_all (Some job) (x ∷ xs) z i = inr i
 
 -- What a step does from there on
 
-pub record Goes (allowance : Allowance) (s : Session) (l : Ledger) (next : BookState)
-    (t : Session) (m : Ledger) : Type 0 where
+pub record Goes (allowance : Allowance) (s : Session) (l : Owners) (next : BookState)
+    (t : Session) (m : Owners) : Type 0 where
   pub sound : Sound allowance next t m
   pub same : (m.given ≡ l.given) × (m.before ≡ l.before)
   pub on : GoOn (all l) (all m)
-  pub stays : (x : Account) → IsOneOf x (closed s l) → IsOneOf x (closed t m)
+  pub stays : (x : Owner) → IsOneOf x (closed s l) → IsOneOf x (closed t m)
 
-pub goes_then : {allowance : Allowance} {s t u : Session} {l m n : Ledger} {b c : BookState}
+pub goes_then : {allowance : Allowance} {s t u : Session} {l m n : Owners} {b c : BookState}
     → Goes allowance s l b t m → Goes allowance t m c u n → Goes allowance s l c u n
 goes_then one two = record {
   sound = two.sound;
@@ -261,13 +261,13 @@ goes_then one two = record {
   stays = λ x i. two.stays x (one.stays x i);
 }
 
-pub goes_itself : {allowance : Allowance} {b : BookState} {s : Session} {l : Ledger}
+pub goes_itself : {allowance : Allowance} {b : BookState} {s : Session} {l : Owners}
     → Sound allowance b s l → Goes allowance s l b s l
 goes_itself sound =
     record { sound = sound; same = (refl, refl); on = go_on_itself; stays = λ x i. i }
 
 -- another book, of the same takings
-pub goes_book : {allowance : Allowance} {b next : BookState} {s : Session} {l : Ledger}
+pub goes_book : {allowance : Allowance} {b next : BookState} {s : Session} {l : Owners}
     → IsReplayed next → next.standing.taken ≡ b.standing.taken → next.unsure ≡ b.unsure
     → takings next.journal ≡ takings b.journal
     → ((n : ℕ) → times_ever n next l ≤ times_ever n b l)
@@ -290,25 +290,25 @@ goes_book {allowance} replayed taken unsure same fewer outcomes sound = goes_its
 
 -- The step ends or answers the request that was taken last, or takes one
 
-module _ {allowance : Allowance} {b : BookState} {s : Session} (l : Ledger) (x : Account)
-    (xs : List Account) (sound : Sound allowance b s (record l { accounts = x ∷ xs })) where
+module _ {allowance : Allowance} {b : BookState} {s : Session} (l : Owners) (x : Owner)
+    (xs : List Owner) (sound : Sound allowance b s (record l { current = x ∷ xs })) where
   fits_x : Fits allowance x
   fits_x = sound.fits.fit x (inl refl)
 
-  -- the account goes on as another
-  first_goes : {next : BookState} {t : Session} {y : Account} → GoesOn x y
+  -- the owner goes on as another
+  first_goes : {next : BookState} {t : Session} {y : Owner} → GoesOn x y
       → IsReplayed next → takings next.journal ≡ y.taking ∷ map (λ a. a.taking) xs
       → t.carried ≡ l.before ++ pairs_of (y ∷ xs ++ l.archived) → Fits allowance y
-      → ((z : Account) → IsOneOf z (not_under_way t.job (y ∷ xs ++ l.archived))
+      → ((z : Owner) → IsOneOf z (not_under_way t.job (y ∷ xs ++ l.archived))
       → IsSome z.taking.outcome)
       → IsOpen allowance.repeats t.job t.late next.standing.taken (y ∷ xs)
       → (next.unsure ≡ false → t.late ≡ None)
-      → ((n : ℕ) → times_ever n next (record l { accounts = y ∷ xs })
-      ≤ times_ever n b (record l { accounts = x ∷ xs }))
+      → ((n : ℕ) → times_ever n next (record l { current = y ∷ xs })
+      ≤ times_ever n b (record l { current = x ∷ xs }))
       → Each (IsOutcome allowance.isdu (y ∷ xs ++ l.archived)) next.standing.outcomes
-      → ((z : Account) → IsOneOf z (closed s (record l { accounts = x ∷ xs }))
-      → IsOneOf z (closed t (record l { accounts = y ∷ xs })))
-      → Goes allowance s (record l { accounts = x ∷ xs }) next t (record l { accounts = y ∷ xs })
+      → ((z : Owner) → IsOneOf z (closed s (record l { current = x ∷ xs }))
+      → IsOneOf z (closed t (record l { current = y ∷ xs })))
+      → Goes allowance s (record l { current = x ∷ xs }) next t (record l { current = y ∷ xs })
   first_goes {y = y} goes replayed same record_is fits ended_are opens sure fewer outcomes
       stays = record {
         sound = record {
@@ -325,7 +325,7 @@ module _ {allowance : Allowance} {b : BookState} {s : Session} (l : Ledger) (x :
         stays = stays;
       }
     where
-      by : (a : Account) → IsOneOf a (y ∷ xs ++ l.archived) → Fits allowance a
+      by : (a : Owner) → IsOneOf a (y ∷ xs ++ l.archived) → Fits allowance a
       by a (inl is) = subst (Fits allowance) is fits
       by a (inr i) = sound.fits.fit a (inr i)
 
@@ -335,14 +335,14 @@ module _ {allowance : Allowance} {b : BookState} {s : Session} (l : Ledger) (x :
       → (out : Option Outcome) → x.taking.outcome ≡ out
       → ((answer : Answer) → out ≡ Some (outcome.Done answer) → ⊥) → (out ≡ Some outcome.NoIsdu → ⊥)
       → t.carried ≡ grown_by s.carried x.taking.request a
-      → ((z : Account) → IsOneOf z (not_under_way t.job (answered a x ∷ xs ++ l.archived))
+      → ((z : Owner) → IsOneOf z (not_under_way t.job (answered a x ∷ xs ++ l.archived))
       → IsSome z.taking.outcome)
       → IsOpen allowance.repeats t.job t.late b.standing.taken (answered a x ∷ xs)
       → (b.unsure ≡ false → t.late ≡ None)
-      → ((z : Account) → IsOneOf z (closed s (record l { accounts = x ∷ xs }))
-      → IsOneOf z (closed t (record l { accounts = answered a x ∷ xs })))
-      → Goes allowance s (record l { accounts = x ∷ xs }) b t
-      (record l { accounts = answered a x ∷ xs })
+      → ((z : Owner) → IsOneOf z (closed s (record l { current = x ∷ xs }))
+      → IsOneOf z (closed t (record l { current = answered a x ∷ xs })))
+      → Goes allowance s (record l { current = x ∷ xs }) b t
+      (record l { current = answered a x ∷ xs })
   answers_goes a may out is none never grown ended_are opens sure stays =
       first_goes goes sound.replayed sound.fits.takings_are
       (grown ∙ simp (sound.fits.record_is, append_assoc))
@@ -381,10 +381,10 @@ module _ {allowance : Allowance} {b : BookState} {s : Session} (l : Ledger) (x :
       → t.carried ≡ s.carried
       → IsOpen allowance.repeats t.job t.late None (settled out x ∷ xs)
       → ((posted b out).unsure ≡ false → t.late ≡ None)
-      → ((z : Account) → IsOneOf z (closed s (record l { accounts = x ∷ xs }))
-      → IsOneOf z (closed t (record l { accounts = settled out x ∷ xs })))
-      → Goes allowance s (record l { accounts = x ∷ xs }) (posted b out) t
-      (record l { accounts = settled out x ∷ xs })
+      → ((z : Owner) → IsOneOf z (closed s (record l { current = x ∷ xs }))
+      → IsOneOf z (closed t (record l { current = settled out x ∷ xs })))
+      → Goes allowance s (record l { current = x ∷ xs }) (posted b out) t
+      (record l { current = settled out x ∷ xs })
   ends_goes out {q} {t} taken none leaves ends new same opens sure stays =
       first_goes goes (posted_replayed b out leaves sound.replayed)
       (posted_takings b (x.taking.ticket, q) out sound.replayed taken
@@ -397,7 +397,7 @@ module _ {allowance : Allowance} {b : BookState} {s : Session} (l : Ledger) (x :
       (each_more b.standing.outcomes (outcome_on allowance.isdu (go_on_first goes))
       sound.outcomes))) stays
     where
-      ended_are : (z : Account) → IsOneOf z (settled out x ∷ xs ++ l.archived)
+      ended_are : (z : Owner) → IsOneOf z (settled out x ∷ xs ++ l.archived)
           → IsSome z.taking.outcome
       ended_are z (inl is) = subst (λ y. IsSome y.taking.outcome) is refl
       ended_are z (inr i) = sound.fits.ended z (others_rest s.job x (xs ++ l.archived) z i)
@@ -412,12 +412,12 @@ module _ {allowance : Allowance} {b : BookState} {s : Session} (l : Ledger) (x :
       }
 
 -- only the session changes, and whether it is sure
-session_goes : {allowance : Allowance} {b : BookState} {s t : Session} {l : Ledger} {unsure : Bool}
+session_goes : {allowance : Allowance} {b : BookState} {s t : Session} {l : Owners} {unsure : Bool}
     → Sound allowance b s l → t.carried ≡ s.carried
-    → ((z : Account) → IsOneOf z (not_under_way t.job (all l)) → IsSome z.taking.outcome)
-    → IsOpen allowance.repeats t.job t.late b.standing.taken l.accounts
+    → ((z : Owner) → IsOneOf z (not_under_way t.job (all l)) → IsSome z.taking.outcome)
+    → IsOpen allowance.repeats t.job t.late b.standing.taken l.current
     → (unsure ≡ false → t.late ≡ None)
-    → ((z : Account) → IsOneOf z (closed s l) → IsOneOf z (closed t l))
+    → ((z : Owner) → IsOneOf z (closed s l) → IsOneOf z (closed t l))
     → Goes allowance s l (record b { unsure = unsure }) t l
 session_goes sound same ended_are opens sure stays = record {
   sound = record {
@@ -440,13 +440,13 @@ session_goes sound same ended_are opens sure stays = record {
 }
 
 -- the same request is under way, with the answers that it had
-job_goes : {allowance : Allowance} {b : BookState} (s : Session) (l : Ledger) (x : Account)
-    (xs : List Account) (job next : Job) → next.request ≡ job.request
+job_goes : {allowance : Allowance} {b : BookState} (s : Session) (l : Owners) (x : Owner)
+    (xs : List Owner) (job next : Job) → next.request ≡ job.request
     → (AnswersFit (allowance.repeats job.request) job.answer x.answers
     → AnswersFit (allowance.repeats job.request) next.answer x.answers)
-    → Sound allowance b (record s { job = Some job; late = None }) (record l { accounts = x ∷ xs })
-    → Goes allowance (record s { job = Some job; late = None }) (record l { accounts = x ∷ xs }) b
-    (record s { job = Some next; late = None }) (record l { accounts = x ∷ xs })
+    → Sound allowance b (record s { job = Some job; late = None }) (record l { current = x ∷ xs })
+    → Goes allowance (record s { job = Some job; late = None }) (record l { current = x ∷ xs }) b
+    (record s { job = Some next; late = None }) (record l { current = x ∷ xs })
 job_goes s l x xs job next same answers sound = session_goes sound refl sound.fits.ended (record {
   taken_is = rw same sound.opens.taken_is;
   request_is = sound.opens.request_is ∙ sym same;
@@ -454,16 +454,16 @@ job_goes s l x xs job next same answers sound = session_goes sound refl sound.fi
   answers = rw same (answers sound.opens.answers);
 }) (λ _. refl) (λ z i. i)
 
-module _ {allowance : Allowance} {b : BookState} (s : Session) (l : Ledger) (x : Account)
-    (xs : List Account) (job : Job) (sound : Sound allowance b
-    (record s { job = Some job; late = None }) (record l { accounts = x ∷ xs })) where
+module _ {allowance : Allowance} {b : BookState} (s : Session) (l : Owners) (x : Owner)
+    (xs : List Owner) (job : Job) (sound : Sound allowance b
+    (record s { job = Some job; late = None }) (record l { current = x ∷ xs })) where
   open sound use {opens}
 
   -- a request that is cut off, of which nothing is late
   cut_goes : (cause : Cause) → Goes allowance (record s { job = Some job; late = None })
-      (record l { accounts = x ∷ xs }) (posted b (outcome.Unknown cause))
+      (record l { current = x ∷ xs }) (posted b (outcome.Unknown cause))
       (record s { job = None; late = None })
-      (record l { accounts = settled (outcome.Unknown cause) x ∷ xs })
+      (record l { current = settled (outcome.Unknown cause) x ∷ xs })
   cut_goes cause = ends_goes l x xs sound (outcome.Unknown cause) opens.taken_is opens.none
       (λ t standing. refl) tt (settled (outcome.Unknown cause) x, inl refl, refl, refl) refl refl
       (λ _. refl) (λ z i. inr i)
@@ -472,9 +472,9 @@ module _ {allowance : Allowance} {b : BookState} (s : Session) (l : Ledger) (x :
   lost_goes : (cause : Cause) (answer : Option Answer) → job.answer ≡ answer
       → leaves_unsure (outcome.Unknown cause) ≡ true
       → Goes allowance (record s { job = Some job; late = None })
-      (record l { accounts = x ∷ xs }) (posted b (outcome.Unknown cause))
+      (record l { current = x ∷ xs }) (posted b (outcome.Unknown cause))
       (record s { job = None; late = unanswered answer job.request })
-      (record l { accounts = settled (outcome.Unknown cause) x ∷ xs })
+      (record l { current = settled (outcome.Unknown cause) x ∷ xs })
   lost_goes cause (Some a) is unsure = cut_goes cause
   lost_goes cause None is unsure =
       ends_goes l x xs sound (outcome.Unknown cause) opens.taken_is opens.none
@@ -494,26 +494,26 @@ module _ {allowance : Allowance} {b : BookState} (s : Session) (l : Ledger) (x :
       never u v unsure sure = grind arith
 
   pub unknown_goes : (cause : Cause) → Goes allowance (record s { job = Some job; late = None })
-      (record l { accounts = x ∷ xs }) (posted b (outcome.Unknown cause))
+      (record l { current = x ∷ xs }) (posted b (outcome.Unknown cause))
       (cut_for cause (record s { job = Some job; late = None }))
-      (record l { accounts = settled (outcome.Unknown cause) x ∷ xs })
+      (record l { current = settled (outcome.Unknown cause) x ∷ xs })
   unknown_goes LinkLost = lost_goes LinkLost job.answer refl refl
   unknown_goes Restarted = lost_goes Restarted job.answer refl refl
   unknown_goes cause = cut_goes cause
 
--- the mark, the mode and a restart are no business of the ledger, but that a restart cuts off
+-- the mark, the mode and a restart are no business of the owners, but that a restart cuts off
 
-pub moved_goes : {allowance : Allowance} {b : BookState} {s : Session} {l : Ledger} (mode : Mode)
+pub moved_goes : {allowance : Allowance} {b : BookState} {s : Session} {l : Owners} (mode : Mode)
     (why : Option Why) → Sound allowance b s l
     → Goes allowance s l b (record s { mode = mode; why = why }) l
 moved_goes mode why sound = session_goes sound refl sound.fits.ended sound.opens sound.sure
     (λ z i. i)
 
 pub marked_goes : {allowance : Allowance} {b : BookState} (s : Session) (job : Option Job)
-    (late : Option Request) (l : Ledger) (xs : List Account)
-    → Sound allowance b (record s { job = job; late = late }) (record l { accounts = xs })
-    → Goes allowance (record s { job = job; late = late }) (record l { accounts = xs }) b
-    (record s { job = marked job; late = late }) (record l { accounts = xs })
+    (late : Option Request) (l : Owners) (xs : List Owner)
+    → Sound allowance b (record s { job = job; late = late }) (record l { current = xs })
+    → Goes allowance (record s { job = job; late = late }) (record l { current = xs }) b
+    (record s { job = marked job; late = late }) (record l { current = xs })
 marked_goes s None late l xs sound = goes_itself sound
 marked_goes s (Some job) None l (x ∷ xs) sound =
     job_goes s l x xs job (record job { asked = true }) refl (λ is. is) sound
@@ -521,12 +521,12 @@ marked_goes s (Some job) None l [] sound = absurd sound.opens
 marked_goes s (Some job) (Some q) l xs sound = absurd sound.opens
 
 pub restart_goes : {allowance : Allowance} {b : BookState} (s : Session) (job : Option Job)
-    (late : Option Request) (l : Ledger) (xs : List Account)
-    → Sound allowance b (record s { job = job; late = late }) (record l { accounts = xs })
-    → Goes allowance (record s { job = job; late = late }) (record l { accounts = xs })
+    (late : Option Request) (l : Owners) (xs : List Owner)
+    → Sound allowance b (record s { job = job; late = late }) (record l { current = xs })
+    → Goes allowance (record s { job = job; late = late }) (record l { current = xs })
     (book_through (restart_steps (request_of job)) b)
     (session_through (restart_steps (request_of job)) (record s { job = job; late = late }))
-    (ledger_through (restart_steps (request_of job)) (record l { accounts = xs }))
+    (owners_through (restart_steps (request_of job)) (record l { current = xs }))
 restart_goes s None late l xs sound = moved_goes Down None sound
 restart_goes s (Some job) None l (x ∷ xs) sound =
     let cut = unknown_goes s l x xs job sound Restarted in
@@ -536,12 +536,12 @@ restart_goes s (Some job) (Some q) l xs sound = absurd sound.opens
 
 -- an archive begins a new journal: nothing is open
 pub archive_goes : {allowance : Allowance} {b : BookState} (s : Session) (job : Option Job)
-    (late : Option Request) (l : Ledger) (xs : List Account)
+    (late : Option Request) (l : Owners) (xs : List Owner)
     → (b.standing ≡ nothing) × (b.unsure ≡ false)
-    → Sound allowance b (record s { job = job; late = late }) (record l { accounts = xs })
-    → Goes allowance (record s { job = job; late = late }) (record l { accounts = xs })
+    → Sound allowance b (record s { job = job; late = late }) (record l { current = xs })
+    → Goes allowance (record s { job = job; late = late }) (record l { current = xs })
     (record b { journal = [] }) (record s { job = job; late = late })
-    (archiving (record l { accounts = xs }))
+    (archiving (record l { current = xs }))
 archive_goes s None None l xs (free, sure) sound = record {
   sound = record {
     replayed = free;
@@ -569,13 +569,13 @@ archive_goes s (Some job) None l [] free sound = absurd sound.opens
 archive_goes s (Some job) (Some q) l xs free sound = absurd sound.opens
 
 -- one more is taken
-take_goes : {allowance : Allowance} {b : BookState} (s : Session) (l : Ledger) (t : Ticket)
+take_goes : {allowance : Allowance} {b : BookState} (s : Session) (l : Owners) (t : Ticket)
     (q : Request) → next_taken b.standing ≡ Some (t, q) → allowance.isdu ≡ true
     → Sound allowance b (record s { job = None; late = None }) l
     → Goes allowance (record s { job = None; late = None }) l (took b (t, q)) (record s {
       job = Some (record { request = q; answer = None; busy = 0; asked = false });
       late = None;
-    }) (record l { accounts = record { taking = taking_of t q; answers = [] } ∷ l.accounts })
+    }) (record l { current = record { taking = taking_of t q; answers = [] } ∷ l.current })
 take_goes {allowance} {b} s l t q next isdu sound = record {
   sound = record {
     replayed = took_replayed b t q next sound.replayed;
@@ -597,33 +597,33 @@ take_goes {allowance} {b} s l t q next isdu sound = record {
   stays = λ z i. i;
 }
   where
-    x : Account
+    x : Owner
     x = record { taking = taking_of t q; answers = [] }
 
     on : GoOn (all l) (x ∷ all l)
     on = go_on_behind (x ∷ []) (all l)
 
-    fit : (a : Account) → IsOneOf a (x ∷ all l) → Fits allowance a
+    fit : (a : Owner) → IsOneOf a (x ∷ all l) → Fits allowance a
     fit a (inl is) = subst (Fits allowance) is
         (record { once = inl (omega arith); ends = tt; isdu = isdu })
     fit a (inr i) = sound.fits.fit a i
 
-    fewer : (n : ℕ) → times_ever n (took b (t, q)) (record l { accounts = x ∷ l.accounts })
+    fewer : (n : ℕ) → times_ever n (took b (t, q)) (record l { current = x ∷ l.current })
         ≤ times_ever n b l
     fewer n = let is = next_is b.standing t q next in rw (is.urgent, is.others)
         (grind (arith, common_steps, waiting_next n b.standing t q next))
 
 pub step_goes : (m : Moment) (step : Step) (b : BookState) (s : Session)
-    (job : Option Job) (late : Option Request) (l : Ledger) (xs : List Account)
+    (job : Option Job) (late : Option Request) (l : Owners) (xs : List Owner)
     → MayBook step b
     → MaySession m step (record s { job = job; late = late })
     → Sound (allowance_of m.terms) b (record s { job = job; late = late })
-    (record l { accounts = xs })
-    → Goes (allowance_of m.terms) (record s { job = job; late = late }) (record l { accounts = xs })
+    (record l { current = xs })
+    → Goes (allowance_of m.terms) (record s { job = job; late = late }) (record l { current = xs })
     (book_after step b) (session_after step (record s { job = job; late = late }))
-    (ledger_after step (record l { accounts = xs }))
+    (owners_after step (record l { current = xs }))
 step_goes m (Take t q) b s None None l xs next may sound =
-    take_goes s (record l { accounts = xs }) (ticket_of t) q next may.0 sound
+    take_goes s (record l { current = xs }) (ticket_of t) q next may.0 sound
 step_goes m (Deny t) b s job late l xs head may sound =
     let (q, next) = next_ticket_is (next_taken b.standing) (ticket_of t) head in
     let is = next_is b.standing (ticket_of t) q next in
@@ -667,7 +667,7 @@ step_goes m (LateCarry a) b s None (Some q) l (x ∷ xs) next may sound =
     (ap (λ r. grown_by s.carried r a) (sym late.request_is)) ended_are sound.opens.0 (λ _. refl)
     (λ z i. inr i)
   where
-    ended_are : (z : Account) → IsOneOf z (answered a x ∷ xs ++ l.archived)
+    ended_are : (z : Owner) → IsOneOf z (answered a x ∷ xs ++ l.archived)
         → IsSome z.taking.outcome
     ended_are z (inl is) = subst (λ y. IsSome y.taking.outcome) is (sound.fits.ended x (inl refl))
     ended_are z (inr i) = sound.fits.ended z (inr i)

@@ -1,4 +1,5 @@
--- The ledger of a whole run: it stays sound, its requests were submitted in the run, and none that
+-- The owners in a whole run: it stays sound, their requests were submitted in the run, and none
+-- that
 -- was cut off before a reset of the device, or for good, has more answers then.
 use Rattle.std.proofs.Common.{◌≡◌, ◌⊎◌, ◌∷◌, ◌++◌, [], List, ℕ, ◌+◌, ◌≤◌, true, false, Option, Some, None, append-nil, refl, sym, ap, ◌∙◌, inl, inr, subst, arith}
 use Rattle.std.proofs.lemmas.Bool.{eq-eqb}
@@ -21,7 +22,7 @@ use Rattle.iol_steps.specs.Kinds.{restart_steps}
 use Rattle.iol_port.specs.declared.call.Call.TheVariants as call
 use Rattle.iol_port.specs.declared.call.Answered.{Answered}
 use Rattle.iol_port.specs.declared.call.Answered.TheVariants as answered
-use Rattle.iol_port.specs.Ledger.{Account, Ledger, all, pairs_of, answered as answer_more, settled, ledger_after, ledger_through, IsOneOf, Fits, HasEnded, allowance_of, times_of}
+use Rattle.iol_port.specs.Owners.{Owner, Owners, all, pairs_of, answered as answer_more, settled, owners_after, owners_through, IsOneOf, Fits, HasEnded, allowance_of, times_of}
 use Rattle.iol_port.specs.Steps.{ticket_of, MayBook, book_after, book_through}
 use Rattle.iol_port.specs.Run.{PortState, Piece, Whole, PieceOf, Pieces, opened, request_of}
 use Rattle.iol_port.specs.Sound.{Each, IsOutcome, IsSound, times_ever}
@@ -30,14 +31,14 @@ use Rattle.iol_port.specs.Denials.{CarriesNone, IsDeniedWithoutIsdu}
 use Rattle.iol_port.specs.Promises.{OpensSound, PiecesSound, RunsSound}
 use Rattle.iol_port.proofs.PieceLemmas.{Did, Stays, Submits, Urges, Collects, Withdraws, Cancels, Restarts, Archives, Moves, piece_did, told_outcome, pieces_join}
 use Rattle.iol_port.proofs.Replaying.{entered_replayed, entered_takings, free_archive, next_is, next_ticket_is, steps_keep}
-use Rattle.iol_port.proofs.LedgerSteps.{each_removed, each_push, each_inserted, each_looked, waiting_push, waiting_left, counted, go_on_then, go_on_each, outcome_on, closed, closed_of, closed_has, Goes, goes_then, goes_itself, goes_book, marked_goes, restart_goes, archive_goes, step_goes}
+use Rattle.iol_port.proofs.OwnerSteps.{each_removed, each_push, each_inserted, each_looked, waiting_push, waiting_left, counted, go_on_then, go_on_each, outcome_on, closed, closed_of, closed_has, Goes, goes_then, goes_itself, goes_book, marked_goes, restart_goes, archive_goes, step_goes}
 
 -- The pieces
 
 -- the one port leads on to the other
 pub record Leads (a b : PortState) : Type 0 where
   pub terms_are : allowance_of b.terms ≡ allowance_of a.terms
-  pub goes : Goes (allowance_of a.terms) a.session a.ledger b.book b.session b.ledger
+  pub goes : Goes (allowance_of a.terms) a.session a.owners b.book b.session b.owners
 
 leads_then : {a b c : PortState} → Leads a b → Leads b c → Leads a c
 leads_then one two = record {
@@ -52,12 +53,12 @@ leads_sound leads = rw leads.terms_are leads.goes.sound
 entry_goes : (a : PortState) (e : Entry) {last : ℕ}
     → takings_after a.book.standing e (takings a.book.journal) ≡ takings a.book.journal
     → (entered a.book e).standing.taken ≡ a.book.standing.taken
-    → ((n : ℕ) → times_ever n (record (entered a.book e) { last = last }) a.ledger
-    ≤ times_ever n a.book a.ledger)
-    → Each (IsOutcome (allowance_of a.terms).isdu (all a.ledger))
+    → ((n : ℕ) → times_ever n (record (entered a.book e) { last = last }) a.owners
+    ≤ times_ever n a.book a.owners)
+    → Each (IsOutcome (allowance_of a.terms).isdu (all a.owners))
     (entered a.book e).standing.outcomes → IsSound a
-    → Goes (allowance_of a.terms) a.session a.ledger (record (entered a.book e) { last = last })
-    a.session a.ledger
+    → Goes (allowance_of a.terms) a.session a.owners (record (entered a.book e) { last = last })
+    a.session a.owners
 entry_goes a e none taken fewer outcomes sound =
     goes_book (entered_replayed a.book e sound.replayed) taken refl
     (entered_takings a.book e sound.replayed ∙ none) fewer outcomes sound
@@ -69,7 +70,7 @@ piece_leads a b c reply is sound = by b (piece_did a b c reply is)
     open a.book.standing use {urgent, waiting, outcomes}
 
     Stands : Ticket → Outcome → Type 0
-    Stands t out = IsOutcome (allowance_of a.terms).isdu (all a.ledger) t out
+    Stands t out = IsOutcome (allowance_of a.terms).isdu (all a.owners) t out
 
     by : (b : PortState) → Did a c reply b → Leads a b
     by _ (Submits q e told) = let t : Ticket = next_ticket a.book in record {
@@ -95,23 +96,23 @@ piece_leads a b c reply is sound = by b (piece_did a b c reply is)
     }
     by _ (Cancels t e r) = record {
       terms_are = refl;
-      goes = marked_goes a.session a.session.job a.session.late a.ledger a.ledger.accounts sound;
+      goes = marked_goes a.session a.session.job a.session.late a.owners a.owners.current sound;
     }
     by _ Restarts = record {
       terms_are = refl;
-      goes = restart_goes a.session a.session.job a.session.late a.ledger a.ledger.accounts sound;
+      goes = restart_goes a.session a.session.job a.session.late a.owners a.owners.current sound;
     }
     by _ (Archives may) = record {
       terms_are = refl;
-      goes = archive_goes a.session a.session.job a.session.late a.ledger a.ledger.accounts
+      goes = archive_goes a.session a.session.job a.session.late a.owners a.owners.current
           (free_archive a.book may) sound;
     }
-    by _ (Moves m steps w) = rw (w.book, w.session, w.ledger) record {
+    by _ (Moves m steps w) = rw (w.book, w.session, w.owners) record {
       terms_are = ap allowance_of w.terms;
-      goes = rw w.at at (steps_keep (Goes (allowance_of m.terms) a.session a.ledger) m
-          (λ step d s l next may g. goes_then g (step_goes m step d s s.job s.late l l.accounts next
+      goes = rw w.at at (steps_keep (Goes (allowance_of m.terms) a.session a.owners) m
+          (λ step d s l next may g. goes_then g (step_goes m step d s s.job s.late l l.current next
           may g.sound))
-          steps a.book a.session a.ledger w.may_book w.may_session (goes_itself (rw w.at sound)));
+          steps a.book a.session a.owners w.may_book w.may_session (goes_itself (rw w.at sound)));
     }
     by _ (Stays kept images expected) = record { terms_are = refl; goes = goes_itself sound }
 
@@ -121,7 +122,7 @@ run_leads : (a b : PortState) (pieces : List Piece) (replies : List Answered)
     → Pieces a pieces replies b → IsSound a
     → Leads a b × ((t : Ticket) (out : Outcome)
     → Happens pieces replies (Whole (call.Collect t)) (answered.Outcome out)
-    → IsOutcome (allowance_of a.terms).isdu (all b.ledger) t out)
+    → IsOutcome (allowance_of a.terms).isdu (all b.owners) t out)
 run_leads a b [] [] run sound =
     (rw run (record { terms_are = refl; goes = goes_itself sound }), λ t out no. absurd no)
 run_leads a b (c ∷ pieces) (reply ∷ replies) (mid, first, rest) sound =
@@ -132,7 +133,7 @@ run_leads a b (c ∷ pieces) (reply ∷ replies) (mid, first, rest) sound =
         | inl is ↦ outcome_on _ (go_on_then one.goes.on more.goes.on) t out
             (each_looked _ a.book.standing.outcomes t out
             (told_outcome a mid t out (rw (is.0, is.1) at first)) sound.outcomes)
-        | inr later ↦ subst (λ isdu. IsOutcome isdu (all b.ledger) t out)
+        | inr later ↦ subst (λ isdu. IsOutcome isdu (all b.owners) t out)
             (ap (λ x. x.isdu) one.terms_are) (told t out later)
       ],
     )
@@ -150,8 +151,8 @@ opened_sound devices limits far silence = record {
   fits = record {
     takings_are = refl;
     record_is = sym (append-nil far.carried);
-    fit = λ account i. absurd i;
-    ended = λ account i. absurd i;
+    fit = λ owner i. absurd i;
+    ended = λ owner i. absurd i;
   };
   opens = refl;
   sure = λ _. refl;
@@ -162,9 +163,9 @@ opened_sound devices limits far silence = record {
 
 -- What waits or was taken was submitted
 
-abbrev Asked : (Ticket → Request → Type 0) → BookState → Ledger → Type 0
+abbrev Asked : (Ticket → Request → Type 0) → BookState → Owners → Type 0
 Asked P b l = Each P b.standing.urgent × Each P b.standing.waiting
-    × ((x : Account) → IsOneOf x (all l) → P x.taking.ticket x.taking.request)
+    × ((x : Owner) → IsOneOf x (all l) → P x.taking.ticket x.taking.request)
 
 module _ (P : Ticket → Request → Type 0) where
   -- the request of a ticket waits no longer
@@ -178,30 +179,30 @@ module _ (P : Ticket → Request → Type 0) where
       let found : request_waiting s t ≡ Some q = (next_is s t q next).found in
       grind (arith, common_steps, each_looked P s.urgent t q, each_looked P s.waiting t q)
 
-  -- the account that is first has another outcome, or more answers
-  asked_first : (change : Account → Account)
-      → ((x : Account) → ((change x).taking.ticket ≡ x.taking.ticket)
+  -- the owner that is first has another outcome, or more answers
+  asked_first : (change : Owner → Owner)
+      → ((x : Owner) → ((change x).taking.ticket ≡ x.taking.ticket)
       × ((change x).taking.request ≡ x.taking.request))
-      → (xs ys : List Account)
-      → ((x : Account) → IsOneOf x (xs ++ ys) → P x.taking.ticket x.taking.request)
-      → (x : Account) → IsOneOf x (first_with change xs ++ ys) → P x.taking.ticket x.taking.request
+      → (xs ys : List Owner)
+      → ((x : Owner) → IsOneOf x (xs ++ ys) → P x.taking.ticket x.taking.request)
+      → (x : Owner) → IsOneOf x (first_with change xs ++ ys) → P x.taking.ticket x.taking.request
   asked_first change same [] ys asked x i = asked x i
   asked_first change same (y ∷ xs) ys asked x (inl is) = subst
       (λ z. P z.taking.ticket z.taking.request) is
       (rw (same y).0 (rw (same y).1 (asked y (inl refl))))
   asked_first change same (y ∷ xs) ys asked x (inr i) = asked x (inr i)
 
-  asked_ended : (out : Outcome) (b : BookState) (l : Ledger) → Asked P b l
-      → Asked P (posted b out) (record l { accounts = first_with (settled out) l.accounts })
+  asked_ended : (out : Outcome) (b : BookState) (l : Owners) → Asked P b l
+      → Asked P (posted b out) (record l { current = first_with (settled out) l.current })
   asked_ended out b l (urgent, waiting, taken) = (
     grind (arith, common_steps),
     grind (arith, common_steps),
-    asked_first (settled out) (λ x. (refl, refl)) l.accounts l.archived taken,
+    asked_first (settled out) (λ x. (refl, refl)) l.current l.archived taken,
   )
 
-  asked_step : (m : Moment) (step : Step) (b : BookState) (s : Session) (l : Ledger)
+  asked_step : (m : Moment) (step : Step) (b : BookState) (s : Session) (l : Owners)
       → MayBook step b → MaySession m step s → Asked P b l
-      → Asked P (book_after step b) (ledger_after step l)
+      → Asked P (book_after step b) (owners_after step l)
   asked_step m (Take t q) b s l next may (urgent, waiting, taken) =
       let is = next_is b.standing (ticket_of t) q next in
       let left = asked_left (ticket_of t) b.standing (urgent, waiting) in
@@ -220,9 +221,9 @@ module _ (P : Ticket → Request → Type 0) where
       let left = asked_left (ticket_of t) b.standing (urgent, waiting) in
       rw (is.urgent, is.others) (left.0, left.1, taken)
   asked_step m (Carry a) b s l next may (urgent, waiting, taken) =
-      (urgent, waiting, asked_first (answer_more a) (λ x. (refl, refl)) l.accounts l.archived taken)
+      (urgent, waiting, asked_first (answer_more a) (λ x. (refl, refl)) l.current l.archived taken)
   asked_step m (LateCarry a) b s l next may (urgent, waiting, taken) =
-      (urgent, waiting, asked_first (answer_more a) (λ x. (refl, refl)) l.accounts l.archived taken)
+      (urgent, waiting, asked_first (answer_more a) (λ x. (refl, refl)) l.current l.archived taken)
   asked_step m (Done a) b s l next may asked = asked_ended (outcome.Done a) b l asked
   asked_step m (Unknown cause) b s l next may asked =
       asked_ended (outcome.Unknown cause) b l asked
@@ -231,7 +232,7 @@ module _ (P : Ticket → Request → Type 0) where
   asked_piece : (a b : PortState) (c : Piece) (reply : Answered) → PieceOf a c reply b
       → ((t : Ticket) (q : Request) → reply ≡ answered.Ticket t
       → (c ≡ Whole (call.Submit q)) ⊎ (c ≡ Whole (call.SubmitUrgent q)) → P t q)
-      → Asked P a.book a.ledger → Asked P b.book b.ledger
+      → Asked P a.book a.owners → Asked P b.book b.owners
   asked_piece a b c reply is submits (asked_urgent, asked_waiting, taken) =
       by b (piece_did a b c reply is)
     where
@@ -242,12 +243,12 @@ module _ (P : Ticket → Request → Type 0) where
 
       cut : (job : Option Job)
           → Asked P (book_through (restart_steps (request_of job)) a.book)
-          (ledger_through (restart_steps (request_of job)) a.ledger)
+          (owners_through (restart_steps (request_of job)) a.owners)
       cut None = (asked_urgent, asked_waiting, taken)
-      cut (Some job) = asked_ended (outcome.Unknown Restarted) a.book a.ledger
+      cut (Some job) = asked_ended (outcome.Unknown Restarted) a.book a.owners
           (asked_urgent, asked_waiting, taken)
 
-      by : (b : PortState) → Did a c reply b → Asked P b.book b.ledger
+      by : (b : PortState) → Did a c reply b → Asked P b.book b.owners
       by _ (Submits q e told) =
           (asked_urgent, each_push P waiting t q (submits t q told (inl e)) asked_waiting, taken)
       by _ (Urges q e told) =
@@ -257,16 +258,16 @@ module _ (P : Ticket → Request → Type 0) where
           let left = asked_left k a.book.standing (asked_urgent, asked_waiting) in
           rw is (left.0, left.1, taken)
       by _ Restarts = cut a.session.job
-      by _ (Moves m steps w) = rw (w.book, w.ledger) (steps_keep (λ d s l. Asked P d l) m
-          (λ step d s l next may. asked_step m step d s l next may) steps a.book a.session a.ledger
+      by _ (Moves m steps w) = rw (w.book, w.owners) (steps_keep (λ d s l. Asked P d l) m
+          (λ step d s l next may. asked_step m step d s l next may) steps a.book a.session a.owners
           w.may_book w.may_session (asked_urgent, asked_waiting, taken))
       by _ _ = (asked_urgent, asked_waiting, taken)
 
 asked_run : (pieces more : List Piece) (replies others : List Answered) (a b : PortState)
     → Pieces a more others b
     → ((c : Piece) (r : Answered) → Happens more others c r → Happens pieces replies c r)
-    → Asked (IsSubmitted pieces replies) a.book a.ledger
-    → Asked (IsSubmitted pieces replies) b.book b.ledger
+    → Asked (IsSubmitted pieces replies) a.book a.owners
+    → Asked (IsSubmitted pieces replies) b.book b.owners
 asked_run pieces [] replies [] a b run are asked = rw run asked
 asked_run pieces (c ∷ more) replies (r ∷ others) a b (mid, first, rest) are asked =
     asked_run pieces more replies others mid b rest (λ d x i. are d x (inr i))
@@ -285,7 +286,7 @@ each_done_has_its_pair devices limits far silence pieces replies b run =
     let (leads, told) = run_leads from b pieces replies run sound in
     let goes = leads.goes in
     record {
-      record_is = goes.sound.fits.record_is ∙ ap (λ c. c ++ pairs_of (all b.ledger)) goes.same.1;
+      record_is = goes.sound.fits.record_is ∙ ap (λ c. c ++ pairs_of (all b.owners)) goes.same.1;
       once = λ n. omega (arith, goes.sound.once n);
       above = λ n low. omega (arith, goes.sound.above n (rw goes.same.0 low));
       fits = goes.sound.fits.fit;
@@ -294,15 +295,15 @@ each_done_has_its_pair devices limits far silence pieces replies b run =
       done = λ t answer happens. told t (outcome.Done answer) happens;
     }
 
--- a number that stands once is that of one account
-times_first : (n : ℕ) (y : Account) (xs : List Account)
+-- a number that stands once is that of one owner
+times_first : (n : ℕ) (y : Owner) (xs : List Owner)
     → times_of n (y ∷ xs) ≡ counted n y.taking.ticket.0 + times_of n xs
 times_first n y xs = grind (arith, common_steps)
 
 counted_same : (n m : ℕ) → n ≡ m → counted n m ≡ 1
 counted_same n m is = rw (eq-eqb n m is) refl
 
-is_there : (x : Account) (xs : List Account) → IsOneOf x xs
+is_there : (x : Owner) (xs : List Owner) → IsOneOf x xs
     → 1 ≤ times_of x.taking.ticket.0 xs
 is_there x [] i = absurd i
 is_there x (y ∷ xs) (inl is) =
@@ -312,7 +313,7 @@ is_there x (y ∷ xs) (inl is) =
 is_there x (y ∷ xs) (inr i) =
     omega (arith, times_first x.taking.ticket.0 y xs, is_there x xs i)
 
-twice : (z : Account) (xs : List Account) (y : Account) → ((n : ℕ) → times_of n (z ∷ xs) ≤ 1)
+twice : (z : Owner) (xs : List Owner) (y : Owner) → ((n : ℕ) → times_of n (z ∷ xs) ≤ 1)
     → IsOneOf y xs → z.taking.ticket.0 ≡ y.taking.ticket.0 → ⊥
 twice z xs y once j is =
     let n : ℕ = y.taking.ticket.0 in
@@ -324,7 +325,7 @@ twice z xs y once j is =
       counted_same n z.taking.ticket.0 (sym is),
     )
 
-one_each : (xs : List Account) (x y : Account) → ((n : ℕ) → times_of n xs ≤ 1)
+one_each : (xs : List Owner) (x y : Owner) → ((n : ℕ) → times_of n xs ≤ 1)
     → IsOneOf x xs → IsOneOf y xs → x.taking.ticket ≡ y.taking.ticket → x ≡ y
 one_each [] x y once i j same = absurd i
 one_each (z ∷ xs) x y once (inl is) (inl also) same = sym is ∙ also
@@ -337,21 +338,21 @@ one_each (z ∷ xs) x y once (inr i) (inl also) same = absurd (twice z xs x once
 
 leaves_out : (IsOut : Ticket → Type 0) (a c : PortState) → Leads a c
     → ((t : Ticket) → IsOut t
-    → (y : Account) × IsOneOf y (closed a.session a.ledger) × (y.taking.ticket ≡ t))
+    → (y : Owner) × IsOneOf y (closed a.session a.owners) × (y.taking.ticket ≡ t))
     → LeavesOut a c IsOut
 leaves_out IsOut a c leads find = record {
   go_on = leads.goes.on;
   left_out = λ x i out.
       let (y, j, same) = find x.taking.ticket out in
-      let k = closed_of c.session c.ledger y (leads.goes.stays y j) in
-      let is = one_each (all c.ledger) y x (λ n. omega (arith, leads.goes.sound.once n)) k i same in
-      subst (λ z. IsOneOf z (all a.ledger)) is (closed_of a.session a.ledger y j);
+      let k = closed_of c.session c.owners y (leads.goes.stays y j) in
+      let is = one_each (all c.owners) y x (λ n. omega (arith, leads.goes.sound.once n)) k i same in
+      subst (λ z. IsOneOf z (all a.owners)) is (closed_of a.session a.owners y j);
 }
 
 -- what was cut off by the end of a run has ended so
 cut_ended : (a b : PortState) (pieces : List Piece) (replies : List Answered)
     → Pieces a pieces replies b → IsSound a → (t : Ticket) (cause : Cause)
-    → IsCutOff pieces replies b t cause → HasEnded (all b.ledger) t (outcome.Unknown cause)
+    → IsCutOff pieces replies b t cause → HasEnded (all b.owners) t (outcome.Unknown cause)
 cut_ended a b pieces replies run sound t cause (inl happens) =
     (run_leads a b pieces replies run sound).1 t (outcome.Unknown cause) happens
 cut_ended a b pieces replies run sound t cause (inr is) =
@@ -369,8 +370,8 @@ cut_for_good_stays_out devices limits far silence pieces more replies others a c
       leaves_out _ a c (run_leads a c more others rest sound).0 (λ t (cause, sure, cut).
           let (x, i, same, is) = cut_ended from a pieces replies run start t cause cut in (
             x,
-            closed_has _ a.session.job a.session.late a.book.standing.taken a.ledger
-                a.ledger.accounts sound.opens x i (outcome.Unknown cause) is (inl sure),
+            closed_has _ a.session.job a.session.late a.book.standing.taken a.owners
+                a.owners.current sound.opens x i (outcome.Unknown cause) is (inl sure),
             same,
           )),
     )
@@ -383,32 +384,32 @@ below_stays : (m : Moment) (step : Step) (s : Session) → IsBelow m.terms.devic
 below_stays m step s below may = grind (arith, common_steps)
 
 -- what had ended at this port has no more answers
-abbrev IsPast : PortState → Session → Ledger → Type 0
-IsPast a s l = (x : Account) → IsOneOf x (all a.ledger) → (out : Outcome)
+abbrev IsPast : PortState → Session → Owners → Type 0
+IsPast a s l = (x : Owner) → IsOneOf x (all a.owners) → (out : Outcome)
     → x.taking.outcome ≡ Some out
-    → (y : Account) × IsOneOf y (closed s l) × (y.taking.ticket ≡ x.taking.ticket)
+    → (y : Owner) × IsOneOf y (closed s l) × (y.taking.ticket ≡ x.taking.ticket)
 
 module _ (a : PortState) (m : Moment) where
-  abbrev Wakes : BookState → Session → Ledger → Type 0
-  Wakes d s l = Goes (allowance_of m.terms) a.session a.ledger d s l
+  abbrev Wakes : BookState → Session → Owners → Type 0
+  Wakes d s l = Goes (allowance_of m.terms) a.session a.owners d s l
       × (IsBelow m.terms.devices s.mode ⊎ IsPast a s l)
 
-  wake_step : (step : Step) (d : BookState) (s : Session) (l : Ledger) → MayBook step d
+  wake_step : (step : Step) (d : BookState) (s : Session) (l : Owners) → MayBook step d
       → MaySession m step s → Wakes d s l
-      → Wakes (book_after step d) (session_after step s) (ledger_after step l)
+      → Wakes (book_after step d) (session_after step s) (owners_after step l)
   wake_step step d s l next may (g, left) = (all_goes, by left)
     where
       one : Goes (allowance_of m.terms) s l (book_after step d) (session_after step s)
-          (ledger_after step l)
-      one = step_goes m step d s s.job s.late l l.accounts next may g.sound
+          (owners_after step l)
+      one = step_goes m step d s s.job s.late l l.current next may g.sound
 
-      all_goes : Goes (allowance_of m.terms) a.session a.ledger (book_after step d)
-          (session_after step s) (ledger_after step l)
+      all_goes : Goes (allowance_of m.terms) a.session a.owners (book_after step d)
+          (session_after step s) (owners_after step l)
       all_goes = goes_then g one
 
       by : IsBelow m.terms.devices s.mode ⊎ IsPast a s l
           → IsBelow m.terms.devices (session_after step s).mode
-          ⊎ IsPast a (session_after step s) (ledger_after step l)
+          ⊎ IsPast a (session_after step s) (owners_after step l)
       by (inr past) = inr (λ x i out is. let (y, j, same) = past x i out is in
           (y, one.stays y j, same))
       by (inl below) = elim (below_stays m step s below may) [
@@ -417,8 +418,8 @@ module _ (a : PortState) (m : Moment) where
             let (y, j, goes) = go_on_each all_goes.on x i in (
               y,
               closed_has _ (session_after step s).job (session_after step s).late
-                  (book_after step d).standing.taken (ledger_after step l)
-                  (ledger_after step l).accounts one.sound.opens y j out (goes.ends out is)
+                  (book_after step d).standing.taken (owners_after step l)
+                  (owners_after step l).current one.sound.opens y j out (goes.ends out is)
                   (inr none),
               goes.ticket_is,
             ))
@@ -427,16 +428,16 @@ module _ (a : PortState) (m : Moment) where
 -- one that leads on from below the reset had one
 piece_wakes : (a b : PortState) (c : Piece) (reply : Answered) → PieceOf a c reply b
     → IsBelow a.terms.devices a.session.mode → (IsBelow b.terms.devices b.session.mode → ⊥)
-    → IsSound a → IsPast a b.session b.ledger
+    → IsSound a → IsPast a b.session b.owners
 piece_wakes a b c reply is below left sound = by b (piece_did a b c reply is) left
   where
     by : (b : PortState) → Did a c reply b → (IsBelow b.terms.devices b.session.mode → ⊥)
-        → IsPast a b.session b.ledger
+        → IsPast a b.session b.owners
     by _ Restarts left = absurd (left (grind (arith, common_steps)))
     by b (Moves m steps w) left =
         let (g, ends) = steps_keep (Wakes a m) m (wake_step a m) steps a.book a.session
-        a.ledger w.may_book w.may_session (goes_itself (rw w.at sound), inl (rw w.at below)) in
-        rw (w.session, w.ledger) (elim ends [
+        a.owners w.may_book w.may_session (goes_itself (rw w.at sound), inl (rw w.at below)) in
+        rw (w.session, w.owners) (elim ends [
           | inl still ↦ absurd (left (rw (w.terms, w.session) (rw w.at at still)))
           | inr past ↦ past
         ])
@@ -461,17 +462,17 @@ late_ends devices limits far silence pieces more piece replies others a b c run 
 
 pub carries_none : CarriesNone
 carries_none devices limits far silence pieces replies b run none =
-    by (all b.ledger) done.fits done.record_is
+    by (all b.owners) done.fits done.record_is
   where
     done : CarriesOut (opened devices limits far silence) pieces replies b
     done = each_done_has_its_pair devices limits far silence pieces replies b run
 
-    by : (accounts : List Account)
-        → ((x : Account) → IsOneOf x accounts
+    by : (owners : List Owner)
+        → ((x : Owner) → IsOneOf x owners
         → Fits (allowance_of (opened devices limits far silence).terms) x)
-        → b.session.carried ≡ far.carried ++ pairs_of accounts → b.session.carried ≡ far.carried
+        → b.session.carried ≡ far.carried ++ pairs_of owners → b.session.carried ≡ far.carried
     by [] fits is = is ∙ append-nil far.carried
-    by (x ∷ accounts) fits is =
+    by (x ∷ owners) fits is =
         let known = (fits x (inl refl)).isdu in
         absurd (let never : true ≡ false = sym known ∙ none in cc)
 

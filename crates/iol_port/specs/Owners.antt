@@ -1,0 +1,123 @@
+-- The owners of the pairs in the device's record, as an abstract port has them: each request that
+-- was taken, how it ended, and what the device answered it.
+use Rattle.std.specs.Prelude.{◌≡◌, ◌≤◌, ◌⊎◌, ℕ, Bool, true, false, List, [], ◌∷◌, ◌++◌, length, Option, Some, IsTrue, nat_eq, count_by}
+use Rattle.iol_isdu.specs.declared.values.Request.{Request}
+use Rattle.iol_isdu.specs.declared.values.Answer.{Answer}
+use Rattle.iol_far.specs.declared.carried.Carried.{Carried}
+use Rattle.iol_page.specs.Page.{knows_isdu}
+use Rattle.iol_far.specs.Level.{grown_by}
+use Rattle.iol_book.specs.declared.entries.Outcome.{Outcome}
+use Rattle.iol_book.specs.declared.entries.Outcome.TheVariants as outcome
+use Rattle.iol_book.specs.declared.entries.Outcome.TheVariants.{NoIsdu}
+use Rattle.iol_book.specs.declared.entries.Ticket.{Ticket}
+use Rattle.iol_book.specs.Takings.{Taking, taking_of, ended, first_with}
+use Rattle.iol_steps.specs.Step.{Step, Take, Carry, Done, Unknown, LateCarry, Terms, may_repeat, may_misread}
+use Rattle.iol_port.specs.Steps.{ticket_of}
+
+-- an owner: a request that was taken, and what the device answered it, the last answer first. Each
+-- answer with the request is a pair
+pub record Owner : Type 0 where
+  pub taking : Taking
+  pub answers : List Answer
+
+-- the last ticket and the record at the opening; and the owners since, the one taken last first:
+-- those of the journal, and those of archived ones
+pub record Owners : Type 0 where
+  pub given : ℕ
+  pub before : List Carried
+  pub current : List Owner
+  pub archived : List Owner
+
+abbrev pub all : Owners → List Owner
+all owners = owners.current ++ owners.archived
+
+-- the pairs of a request, and of these owners, in the order of the record
+abbrev pub pairs_for : Request → List Answer → List Carried
+pairs_for request [] = []
+pairs_for request (answer ∷ earlier) = grown_by (pairs_for request earlier) request answer
+
+abbrev pub pairs_of : List Owner → List Carried
+pairs_of [] = []
+pairs_of (owner ∷ earlier) =
+    pairs_of earlier ++ pairs_for owner.taking.request owner.answers
+
+abbrev pub answered : Answer → Owner → Owner
+answered answer owner = record owner { answers = answer ∷ owner.answers }
+
+abbrev pub settled : Outcome → Owner → Owner
+settled result owner = record owner { taking = ended result owner.taking }
+
+-- What a step does: whatever is carried out, or ends, is the request that was taken last
+-- REQ-12
+abbrev pub owners_after : Step → Owners → Owners
+owners_after (Take ticket request) owners = record owners {
+  current =
+      record { taking = taking_of (ticket_of ticket) request; answers = [] } ∷ owners.current;
+}
+owners_after (Carry answer) owners =
+    record owners { current = first_with (answered answer) owners.current }
+owners_after (LateCarry answer) owners =
+    record owners { current = first_with (answered answer) owners.current }
+owners_after (Done answer) owners =
+    record owners { current = first_with (settled (outcome.Done answer)) owners.current }
+owners_after (Unknown cause) owners =
+    record owners { current = first_with (settled (outcome.Unknown cause)) owners.current }
+owners_after step owners = owners
+
+abbrev pub owners_through : List Step → Owners → Owners
+owners_through [] owners = owners
+owners_through (step ∷ steps) owners = owners_through steps (owners_after step owners)
+
+-- an archive begins a new journal
+-- BOOK-8
+abbrev pub archiving : Owners → Owners
+archiving owners = record owners { current = []; archived = all owners }
+
+-- What is said of owners
+
+abbrev pub IsOneOf : {X : Type 0} → X → List X → Type 0
+IsOneOf x [] = ⊥
+IsOneOf x (y ∷ ys) = (y ≡ x) ⊎ IsOneOf x ys
+
+-- the request of this ticket was taken, and ended so
+abbrev pub HasEnded : List Owner → Ticket → Outcome → Type 0
+HasEnded owners ticket result = (owner : Owner) × IsOneOf owner owners
+    × (owner.taking.ticket ≡ ticket) × (owner.taking.outcome ≡ Some result)
+
+-- how often a number stands among the tickets of these requests
+abbrev pub times_of : ℕ → List Owner → ℕ
+times_of number owners = count_by (λ owner. nat_eq number owner.taking.ticket.0) owners
+
+-- What a record may have beside one pair for each request, by the device: more pairs of some
+-- requests; and answers that are told may be others than the device gave. Without ISDU it has none
+pub record Allowance : Type 0 where
+  pub repeats : Request → Bool
+  pub misreads : Bool
+  pub isdu : Bool
+
+-- what the record may have by the device that is there
+abbrev pub allowance_of : Terms → Allowance
+allowance_of terms = record {
+  repeats = may_repeat terms;
+  misreads = may_misread terms;
+  isdu = knows_isdu terms.page;
+}
+
+-- the device gave the answer that is told, unless another may be told
+abbrev pub IsToldAs : Bool → Answer → Answer → Type 0
+IsToldAs true told carried = Unit {0}
+IsToldAs false told carried = carried ≡ told
+
+-- how a request ended fits the device's last answer: one that is done has one, which is told
+abbrev pub EndsAs : Bool → Option Outcome → List Answer → Type 0
+EndsAs misreads (Some (outcome.Done told)) [] = ⊥
+EndsAs misreads (Some (outcome.Done told)) (answer ∷ earlier) = IsToldAs misreads told answer
+EndsAs misreads (Some NoIsdu) (answer ∷ earlier) = ⊥
+EndsAs misreads result answers = Unit {0}
+
+-- the record has at most one pair of a request, or more where it may be carried out more than once;
+-- and none is taken for a device without ISDU
+pub record Fits (allowance : Allowance) (owner : Owner) : Type 0 where
+  pub once : (length owner.answers ≤ 1) ⊎ IsTrue (allowance.repeats owner.taking.request)
+  pub ends : EndsAs allowance.misreads owner.taking.outcome owner.answers
+  pub isdu : allowance.isdu ≡ true
