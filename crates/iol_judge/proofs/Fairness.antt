@@ -26,9 +26,9 @@ use Rattle.iol_judge.specs.declared.taken.Explained.TheVariants.{By, Not}
 use Rattle.iol_judge.specs.declared.taken.Next.{Next}
 use Rattle.iol_judge.specs.declared.taken.Taken.{Taken}
 use Rattle.iol_judge.specs.declared.verdict.Verdict.{Verdict}
-use Rattle.iol_judge.specs.declared.verdict.Verdict.TheVariants.{Unjudged, Honest, NotHonest, CantSay}
+use Rattle.iol_judge.specs.declared.verdict.Verdict.TheVariants.{Honest, NotHonest}
 use Rattle.iol_judge.specs.declared.verdict.Wake.{Wake}
-use Rattle.iol_judge.specs.declared.verdict.Wake.TheVariants.{Answered, Unanswered}
+use Rattle.iol_judge.specs.declared.verdict.Wake.TheVariants.{Unanswered}
 use Rattle.iol_far.specs.declared.kind.Kind.{Kind}
 use Rattle.iol_judge.specs.declared.kinds.Kinds.{Kinds}
 use Rattle.iol_judge.specs.Family.{both_kinds, has_kind}
@@ -160,13 +160,7 @@ part_fits known sent far texts knows part is_part work found e = rw work.spells 
 module _ (known : Result Layouts Open) (sent : List ℕ) (far new : Far)
     (texts : AllTexts) (knows : Knows known far.page) (follows : Follows far sent new) where
   part_keeps : Keeps (lost_part known sent) (Left new)
-  part_keeps mid part more h a =
-      let s = bound (taken_by known part sent) (added_taken mid) h in
-      inner s.0 s.2
-    where
-      inner : (found : Option Taken) → added_taken mid found ≡ Ok more → Left new more
-      inner None h = let e : mid ≡ more = cc in rw e at a
-      inner (Some taken) h = added_keeps texts new mid taken.kept more h a
+  part_keeps mid part more h a = grind (arith, common_steps, bound, added_keeps)
 
   part_gains : (work : Works far sent) → new ≡ worked_by work
       → Gains (lost_part known sent) (IsPart far sent) (Left new)
@@ -351,45 +345,19 @@ woken_same part far new false same is = ap part is
 
 wake_fair : AllTexts → (judged : Judged) (far : Far) (wake : Wake) (new : Far)
     → IsWake far (is_answered wake) new → IsFair judged far → IsFair (woke judged wake) new
-wake_fair texts judged far wake new h fair = split judged.verdict fair.state
-  where
-    same : Alike far (locals far h.steps)
-    same = locals_alike far h.steps
-
-    agrees : Agrees judged.seen new.page
-    agrees = rw (woken_same (λ (g : Far). g.page) (locals far h.steps) new h.wakes refl h.far_is
-        ∙ same.page) fair.page
-
-    follows : (new ≡ woken (locals far h.steps)) ⊎
-        ((wake ≡ Unanswered) × (new ≡ locals far h.steps))
-    follows = took_effect wake _ new _ h.far_is h.answered_is
-
-    first : (w : Wake) → ((new ≡ woken (locals far h.steps)) ⊎
-        ((w ≡ Unanswered) × (new ≡ locals far h.steps)))
-        → IsFair (woke (record judged { verdict = Unjudged }) w) new
-    first Answered follows = record {
-      page = agrees;
-      state = elim follows [
-        | inl is ↦ inl (rw is (record {
-          kind = all_have _;
-          link = refl;
-          cycle = tt;
-          events = released_free (locals far h.steps).events;
-          isdu = refl;
-        }))
-        | inr quiet ↦ absurd (let no : Answered ≡ Unanswered = quiet.0 in cc)
-      ];
-      odd = fair.odd;
-    }
-    first Unanswered follows = record { page = agrees; state = tt; odd = fair.odd }
-
-    split : (verdict : Verdict) → IsPossible verdict judged.states far
-        → IsFair (woke (record judged { verdict = verdict }) wake) new
-    split Unjudged state = first wake follows
-    split Honest state = concluded_fair _ new _ refl fair.odd agrees (λ out f. all_woken_admits
-        texts wake _ new follows _ out f (one_alike _ far _ same state))
-    split (NotHonest exchange reason) state = absurd state
-    split (CantSay exchange why) state = record { page = agrees; state = tt; odd = fair.odd }
+wake_fair texts judged far wake new h fair =
+    grind (
+      arith,
+      common_steps,
+      locals_alike,
+      woken_same,
+      took_effect,
+      all_have,
+      released_free,
+      concluded_fair,
+      all_woken_admits,
+      one_alike,
+    )
 
 -- The page
 
@@ -515,12 +483,8 @@ module _ (law : Laws) (stays : RegularStays) (much : MuchStays) (reads : Replies
   -- nothing changes the kind
   told_kind : (far : Far) (silence : ℕ) (passing : Passing) (new : Far) (silence_new : ℕ)
       → IsHonest far silence passing new silence_new → new.kind ≡ far.kind
-  told_kind far silence (Wakes wake) new silence_new h =
-      woken_same (λ (g : Far). g.kind) (locals far h.0.steps) new h.0.wakes refl h.0.far_is
-      ∙ much.kind_kept far h.0.steps
-  told_kind far silence (Passes sent answer) new silence_new h = ap (λ (g : Far). g.kind) h.far_is
-      ∙ passed_same (λ (g : Far). g.kind) h.passage _ sent
-      (much.kind_heard (locals far h.steps) sent) ∙ much.kind_kept far h.steps
+  told_kind far silence passing new silence_new h =
+      grind (arith, common_steps, woken_same, passed_same)
 
   run_all : (judged : Judged) (far : Far) → IsFair judged far
       → (silence : ℕ) (capture : List Passing) → IsHonestRun far silence capture

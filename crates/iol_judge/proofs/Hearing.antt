@@ -14,7 +14,7 @@ use Rattle.iol_judge.specs.declared.open.Open.TheVariants.{PageRefused}
 use Rattle.std.specs.Result.{result_map_both}
 use Rattle.iol_judge.specs.Seen.{layouts_by, layouts_known, layouts_seen}
 use Rattle.iol_judge.specs.Taking.{and_then, mode_layout, mode_known, cycle_after, state_after, taken_message}
-use Rattle.iol_judge.specs.Transfers.{isdu_known, is_apart, transfer_after, transfer_in, apart}
+use Rattle.iol_judge.specs.Transfers.{isdu_known, is_apart, transfer_after, transfer_in}
 use Rattle.iol_judge.specs.Admitted.{Agrees, Admits, AreShown, One}
 use Rattle.std.proofs.lemmas.Bool.{cond_both}
 use Rattle.iol_octets.specs.Control.{control_of}
@@ -325,10 +325,7 @@ module _ (far : Far) (sent : List ℕ) (texts : AllTexts) (awake : far.awake ≡
   )
 
   kind_parts : (kind : Kind) → far.kind ≡ kind → One (IsPart far sent) (parts_of state kind)
-  kind_parts kind is =
-      let has = rw is at admits.kind in
-      rw has (its_parts kind is (apart state.transfer) (apart_under_way far.kind.hands_over
-      far.counted (layout_of far).od (texts far) state.transfer far.isdu (rw awake at admits.isdu)))
+  kind_parts kind is = grind (arith, common_steps, its_parts, apart_under_way)
 
   abbrev its : HandsOver → Recalls → List State
   its hands_over recalls = parts_of state (kind_of hands_over recalls)

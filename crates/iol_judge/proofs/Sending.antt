@@ -15,7 +15,7 @@ use Rattle.std.proofs.lemmas.Bool.Decides.{nat_tests}
 use Rattle.iol_isdu.specs.declared.fault.IsduFault.{IsduFault}
 use Rattle.iol_isdu.specs.declared.fault.IsduFault.TheVariants.{BadIsduLength, Truncated}
 use Rattle.iol_isdu.specs.Answers.{answer_accepts, answer_fault, kind_fault, is_read}
-use Rattle.iol_isdu.specs.Frame.{first_of, front_by, text_at, total_at}
+use Rattle.iol_isdu.specs.Frame.{first_of, total_at}
 use Rattle.iol_judge.specs.declared.reason.Reason.TheVariants.{AnswerKind}
 use Rattle.iol_judge.specs.Answers.{is_answered_by, open_fault, total_begun, is_next, is_open, was_sent}
 use Rattle.iol_segment.proofs.Growing.{total-bounds, total_at-more}
@@ -154,13 +154,7 @@ is_accepted false fault rest e = absurd (cc)
 pub answered : (read : Bool) (text : List ℕ) → total_at text ≡ Ok (length text) → answer_fault read
     text ≡ None → is_answered_by read (slice_index text 0 / 16) (length text) ≡ true
 answered read text holds accepted =
-    let parts = both_none _ _ accepted in
-    let further = both_none _ _ parts.0 in
-    let whole : text_at text ≡ text = ap (λ (r : Result ℕ IsduFault). front_by r text) holds
-    ∙ take_all _ text (omega arith) in
-    let service : answer_accepts (slice_index text 0 / 16) (length (text_at text)) ≡ true =
-    is_accepted _ _ _ further.1 in
-    and_from _ _ (rw whole at service) (kind_is read _ parts.1)
+    grind (arith, common_steps, both_none, is_accepted, and_from, kind_is)
 
 -- of all long ones the shortest is answered, if any is
 long_accepted : (service total : ℕ) → 17 ≤ total → answer_accepts service total ≡ true
@@ -267,14 +261,7 @@ AllTexts = (device : Far) → AreTexts (layout_of device).od
 
 pub texts_of : ModesHaveLayouts → ((size : ℕ) → 1 ≤ size → TextLaws size)
     → ((size : ℕ) → 1 ≤ size → SegmentLaws size) → SegmentsHaveSize → AllTexts
-texts_of modes texts requests sized device =
-    let some : 1 ≤ (layout_of device).od = (modes device.page device.mode).1 in
-    record {
-      some = some;
-      texts = texts (layout_of device).od some;
-      sized = sized;
-      fitting = (requests (layout_of device).od some).fitting;
-    }
+texts_of modes texts requests sized device = grind (arith, common_steps)
 
 -- a text whose first octet is as an answer's has octets
 pub has_octets : (text : List ℕ) → 2 ≤ slice_index text 0 → 0 < length text

@@ -1,6 +1,6 @@
 -- Sets of states and what they stand for: what a device's events show, what one state covers of
 -- another, and what the device does by itself, or at a wake-up.
-use Rattle.std.proofs.Common.{◌≡◌, ℕ, zero, suc, ◌+◌, ◌-◌, ◌/◌, ◌%◌, ◌^◌, ◌<◌, ◌≤◌, max, Bool, true, false, List, [], ◌∷◌, length, replicate, get_or, set, refl, ◌∙◌, ap, arith, ◌⊎◌, inl, inr, ◌*◌, sym, ◌++◌}
+use Rattle.std.proofs.Common.{◌≡◌, ℕ, zero, suc, ◌+◌, ◌-◌, ◌/◌, ◌%◌, ◌^◌, ◌<◌, ◌≤◌, max, Bool, true, false, List, [], ◌∷◌, length, replicate, get_or, set, refl, ◌∙◌, ap, arith, ◌⊎◌, inl, inr, ◌*◌, ◌++◌}
 use Rattle.std.proofs.lemmas.Bool.{and_parts, cond_both, or_cases}
 use Rattle.std.proofs.lemmas.Grind.{common_steps}
 use Rattle.std.proofs.lemmas.Option.{slice_get_past}
@@ -37,12 +37,12 @@ use Rattle.iol_far.specs.declared.kind.Kind.{Kind}
 use Rattle.iol_far.specs.declared.kind.Recalls.{Recalls}
 use Rattle.iol_far.specs.declared.kind.Recalls.TheVariants.{UntilLeft, UntilSent}
 use Rattle.iol_far.specs.declared.mode.Mode.{Mode}
-use Rattle.iol_far.specs.Level.{Link, link_of}
+use Rattle.iol_far.specs.Level.{link_of}
 use Rattle.iol_judge.specs.declared.transfer.Transfer.TheVariants.{Quiet}
 use Rattle.iol_judge.specs.declared.kinds.Kinds.{Kinds}
 use Rattle.iol_judge.specs.Family.{both_kinds, has_kind, kinds_within}
 use Rattle.iol_judge.proofs.Sending.{AllTexts}
-use Rattle.iol_far.specs.Local.{LocalStep, Carry, Raise, Input, NoInput, Power, local, locals, carried_by, woken}
+use Rattle.iol_far.specs.Local.{LocalStep, local, locals, carried_by, woken}
 
 -- Events: what is known of them holds through all that a device does, and explains what it shows
 
@@ -295,9 +295,7 @@ HasSegments far = 1 ≤ (layout_of far).od
 
 option_same : {A : Type 0} (eq : A → A → Bool) → ((a b : A) → eq a b ≡ true → a ≡ b)
     → (a b : Option A) → option_eq eq a b ≡ true → a ≡ b
-option_same eq same None None e = refl
-option_same eq same (Some a) (Some b) e = ap Some (same a b e)
-option_same eq same a b e = absurd (cc)
+option_same eq same a b e = grind (arith, common_steps)
 
 same_mode : (a b : Mode) → is_mode a b ≡ true → a ≡ b
 same_mode a b h = grind arith
@@ -308,28 +306,17 @@ same_command a b h = grind (arith, common_steps, bytes_eq-Decides)
 alike_admits : (a b : State) (far : Far) → HasSegments far → covers_alike a b ≡ true
     → has_kind a.kinds far.kind ≡ true → Admits b far → Admits a far
 alike_admits a b far some h kind s =
-    let most = and_parts _ _ h in
-    let outer = and_parts _ _ most.0 in
-    let inner = and_parts _ _ outer.0 in
-    let first = and_parts _ _ inner.0 in
-    let mode : a.link.mode ≡ b.link.mode = same_mode _ _ first.0 in
-    let waits : a.link.waits ≡ b.link.waits = option_same _ same_command _ _ inner.1 in
-    let link : ◌≡◌ {A = Link} (record { mode = a.link.mode; waits = a.link.waits })
-    (record { mode = b.link.mode; waits = b.link.waits }) = cc in
-    record {
-      kind = kind;
-      link = s.link ∙ sym link;
-      cycle = known_in_keeps a.cycle b.cycle _ first.1 s.cycle;
-      events = if_both far.awake a.events b.events Fresh (λ e. AreShown e far.events)
-          (covers_shown _ _ _ outer.1) s.events;
-      isdu = if_both far.awake a.transfer b.transfer Quiet (HasUnderWay far)
-          (covers_under_way _ _ _ some _ _ _ most.1) s.isdu;
-    }
-  where
-    if_both : {A : Type 0} (awake : Bool) (x y other : A) (P : A → Type 0) → (P y → P x)
-        → P (if awake then y else other) → P (if awake then x else other)
-    if_both true x y other P go h = go h
-    if_both false x y other P go h = h
+    grind (
+      arith,
+      common_steps,
+      and_parts,
+      same_mode,
+      option_same,
+      same_command,
+      known_in_keeps,
+      covers_shown,
+      covers_under_way,
+    )
 
 -- a kind of the first is one of the second
 within_has : (a b : Kinds) (kind : Kind) → kinds_within a b ≡ true → has_kind a kind ≡ true
@@ -424,12 +411,8 @@ carried_alike : (state : IsduState) (far : Far) (answer : Answer) → far.isdu �
 carried_alike state far answer is = grind (arith, common_steps, handed_answers, itself)
 
 local_alike : (far : Far) (step : LocalStep) → Alike far (local far step)
-local_alike far (Carry answer) = carried_alike _ far _ refl
-local_alike far (Raise event) = grind (arith, common_steps, raised_shown)
-local_alike far (Input image) =
-    cond_both _ _ far (Alike far) (λ e. with_input far _) (λ e. itself far)
-local_alike far NoInput = with_input far None
-local_alike far Power = grind (arith, common_steps)
+local_alike far step =
+    grind (arith, common_steps, carried_alike, raised_shown, cond_both, with_input, itself)
 
 then_alike : (a b c : Far) → Alike a b → Alike b c → Alike a c
 then_alike a b c l r = grind (arith, common_steps)

@@ -5,7 +5,7 @@ use Rattle.std.specs.Prelude.{Option, Some, None, ◌==◌, if◌then◌else◌,
 use Rattle.iol_octets.specs.declared.flow_control.Flow.TheVariants.{Start, Count}
 use Rattle.iol_isdu.specs.declared.values.Request.{Request}
 use Rattle.iol_segment.specs.Join.{Stage, next_count, is_last}
-use Rattle.iol_far.specs.Isdu.{IsduState, Empty, Receiving, Whole, Handed, Answered, answer_text, fits, isdu_written, isdu_read, recalled, handed_over, written_over, written_by, counted_by}
+use Rattle.iol_far.specs.Isdu.{IsduState, Empty, Receiving, Whole, Handed, Answered, fits, isdu_written, isdu_read, recalled, handed_over, written_over, written_by, counted_by}
 use Rattle.iol_far.specs.Isdu as far
 use Rattle.iol_far.specs.declared.kind.HandsOver.{HandsOver}
 use Rattle.iol_far.specs.declared.kind.HandsOver.TheVariants.{FirstRead, LastSegment}
@@ -157,21 +157,7 @@ count_under_way hands_over counted size transfer state count octets h =
 pub none_had_goes : (size : ℕ) → AreTexts size → (read : Bool) (request : Request) (answer : Answer)
     → is_read request ≡ read → IsTrue (fits request answer)
     → IsAnswered size (none_had read) (Answered request answer (Some 0))
-none_had_goes size law read request answer is fit =
-    let filled = has_octets (answer_text request answer)
-    (law.texts.begins (is_read request) answer (law.fitting request answer fit)) in (
-      is,
-      fit,
-      record {
-        many = 0;
-        octets = refl;
-        begins = omega arith;
-        ahead = tt;
-        within = omega arith;
-        at = omega arith;
-        count = refl;
-      },
-    )
+none_had_goes size law read request answer is fit = grind (arith, common_steps, has_octets)
 
 handed_unsent : (hands_over : HandsOver) (counted : Option ℕ) (read : Bool) (last : Option ℕ)
     (state : IsduState) → IsHanded hands_over counted read last state → Unsent state
