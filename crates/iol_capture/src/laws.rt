@@ -33,7 +33,7 @@ pub fn honest_octets_are_never_blamed()
 /// read of one.
 ///
 /// Rule LINK-1.
-#[tactic(auto, unfolding(iol_octets::specs::Checksum::has_checksum, iol_octets::specs::Checksum::checksum_of, iol_octets::specs::Checksum::compressed, iol_octets::specs::Control::control_of))]
+#[tactic(auto, unfolding(iol_octets::specs::Checksum::has_checksum, iol_octets::specs::Checksum::checksum_of, iol_octets::specs::Checksum::compressed, iol_octets::specs::Control::control_of, iol_far::specs::Codec::message_in))]
 pub fn unseen_wakes_are_fair()
     ensures { UnseenWakesAreFair }
 {}

@@ -1,14 +1,13 @@
 -- A state explains each reply of a device that it stands for, and what is known of an ISDU transfer
 -- holds once the reply was had.
+use Rattle.std.proofs.lemmas.Grind.{common_steps}
 use Rattle.std.proofs.Common.{◌≡◌, inl, inr, ℕ, zero, suc, ◌+◌, ◌-◌, ◌*◌, ◌%◌, ◌<◌, ◌≤◌, Bool, true, false, List, ◌∷◌, ◌++◌, length, take, drop, replicate, refl, sym, ◌∙◌, ap, arith, eqb-true, ⊎_elim, []}
 use Rattle.std.proofs.Math.Nat.{add-mul}
 use Rattle.std.proofs.lemmas.Bool.{and_parts, cases_lt, cond_both, leb-false, ltb-true, leb-true}
-use Rattle.std.specs.Prelude.{Option, Some, None, Result, Ok, Err, is_some, not, IfSome, ◌&&◌, ◌||◌, ◌==◌, nat_eq, nat_lt, nat_le, IsTrue, if◌then◌else◌, unwrap_or, slice_index}
-use Rattle.std.specs.Cmp.Lexicographic.{pointwise}
+use Rattle.std.specs.Prelude.{Option, Some, None, Result, Ok, Err, is_some, not, IfSome, ◌&&◌, ◌||◌, ◌==◌, nat_lt, nat_le, IsTrue, if◌then◌else◌, unwrap_or, slice_index}
 use Rattle.iol_octets.specs.declared.control.Channel.{Channel}
-use Rattle.iol_octets.specs.declared.control.Channel.TheVariants.{Process, Isdu, Page, Diagnosis}
+use Rattle.iol_octets.specs.declared.control.Channel.TheVariants.{Process, Isdu, Diagnosis}
 use Rattle.iol_octets.specs.declared.flow_control.Flow.{Flow}
-use Rattle.iol_octets.specs.declared.flow_control.Flow.TheVariants.{Start, Count}
 use Rattle.iol_isdu.specs.declared.values.Request.{Request}
 use Rattle.iol_isdu.specs.declared.values.Answer.{Answer}
 use Rattle.iol_isdu.specs.Answers.{is_read, answer_fault}
@@ -17,11 +16,10 @@ use Rattle.iol_segment.specs.Cut.{segment}
 use Rattle.iol_segment.specs.TextLaws.{joined, HoldsLength}
 use Rattle.iol_far.specs.declared.kind.Kind.{Kind}
 use Rattle.iol_far.specs.declared.kind.HandsOver.{HandsOver}
-use Rattle.iol_far.specs.Isdu.{IsduState, Empty, Receiving, Whole, Handed, Answered, answer_text, fits, has_segment, isdu_read, isdu_data}
+use Rattle.iol_far.specs.Isdu.{IsduState, Empty, Receiving, Whole, Handed, Answered, answer_text, fits, isdu_read, isdu_data}
 use Rattle.iol_far.specs.Far.{Far, isdu_after, layout_of, worked, reply_to, data_of, page_octet}
-use Rattle.iol_far.specs.Codec.{flow_of, message_in, octets_of}
+use Rattle.iol_far.specs.Codec.{message_in, octets_of}
 use Rattle.iol_mseq.specs.declared.master.MasterMsg.{MasterMsg}
-use Rattle.iol_page.specs.Page.{knows_isdu}
 use Rattle.std.specs.Option.{option_or}
 use Rattle.iol_isdu.specs.declared.fault.IsduFault.{IsduFault}
 use Rattle.iol_segment.specs.Join.{Stage}
@@ -29,34 +27,31 @@ use Rattle.iol_judge.specs.declared.had.Ahead.{Ahead}
 use Rattle.iol_judge.specs.declared.had.Had.{Had}
 use Rattle.iol_judge.specs.declared.had.TheConstants.{MOST_HAD}
 use Rattle.iol_judge.specs.declared.reason.Reason.{Reason}
-use Rattle.iol_judge.specs.declared.reason.Reason.TheVariants.{SegmentChanged, AnswerPadding, InvalidNotZero, PageZero, CycleTime}
+use Rattle.iol_judge.specs.declared.reason.Reason.TheVariants.{AnswerPadding, InvalidNotZero}
 use Rattle.iol_judge.specs.declared.transfer.Transfer.{Transfer}
 use Rattle.iol_judge.specs.declared.transfer.Transfer.TheVariants as known
 use Rattle.iol_judge.specs.Octets.{are_zeros}
-use Rattle.iol_judge.specs.Answers.{ahead_fault, behind_fault, first_had, had_with, is_busy, next_fault, open_fault, same_fault, segment_fault, text_fault, text_fault_at, again_fault, ahead_told, ahead_with, one_ahead}
+use Rattle.iol_judge.specs.Answers.{ahead_fault, behind_fault, first_had, had_with, is_busy, next_fault, open_fault, same_fault, segment_fault, text_fault, text_fault_at, ahead_told, ahead_with, one_ahead}
 use Rattle.iol_judge.specs.Transfers.{asked_told, isdu_fault, told_by, transfer_told}
-use Rattle.iol_judge.specs.UnderWay.{AreHad, first_ones, IsUnderWay, IsAnswered, IsAsked, AreAhead, later_ones}
+use Rattle.iol_judge.specs.UnderWay.{AreHad, IsUnderWay, IsAnswered, IsAsked, AreAhead, later_ones}
 use Rattle.iol_segment.proofs.TextLaws.{joined-front}
 use Rattle.iol_judge.proofs.Sending.{begun_fits, first_grow, length_first, part_of_first, pointwise_self, zeros_behind, zeros_within, length_later, part_of_later, total_of_first, AreTexts, below_by, has_octets, same_by}
 use Rattle.std.proofs.lemmas.Bool.Decides.{nat_tests}
 use Rattle.iol_mseq.specs.Shape.{Shape}
 use Rattle.iol_mseq.specs.Replies.{reply_in}
 use Rattle.iol_mseq.specs.declared.reply.Reply.{Reply}
-use Rattle.iol_page.specs.Page as sheet
 use Rattle.iol_event.specs.Memory.{IsEventMemory, is_empty}
 use Rattle.iol_judge.specs.declared.verdict.Odd.{Odd}
-use Rattle.iol_judge.specs.declared.verdict.Odd.TheVariants.{Blamed, PassedOver}
 use Rattle.iol_judge.specs.declared.taken.Taken.{Taken}
-use Rattle.iol_judge.specs.declared.taken.Explained.TheVariants.{By}
+use Rattle.iol_judge.specs.declared.taken.Explained.TheVariants.{By, Not}
 use Rattle.iol_judge.specs.declared.events.Shown.{Shown}
-use Rattle.iol_judge.specs.Events.{flag_told}
-use Rattle.iol_judge.specs.Seen.{page_noted}
+use Rattle.iol_judge.specs.Seen.{is_of_page, page_noted}
 use Rattle.iol_judge.specs.State.{State}
-use Rattle.iol_judge.specs.Replies.{cycle_told, data_fault, data_oddity, explained, explained_by, explained_if, held_against, is_of_page, learned, no_zeros, other_than, page_fault, page_oddity, reply_fault, reply_oddity, shown_told}
+use Rattle.iol_judge.specs.Replies.{cycle_told, data_fault, data_oddity, explained, held_against, learned, no_zeros, page_fault, page_oddity, reply_fault, reply_oddity, shown_told}
 use Rattle.iol_judge.specs.Judged.{noted, noted_at}
 use Rattle.iol_judge.specs.Admitted.{Admits, Agrees, AreShown}
 use Rattle.iol_judge.proofs.Hearing.{control_is, shown_awake, under_way_awake}
-use Rattle.iol_judge.proofs.Shown.{events_fit, flag_fits, flagged_shown, same_known, set_agrees, told_shown}
+use Rattle.iol_judge.proofs.Sets.{events_fit, flag_fits, flagged_shown, same_known, set_agrees, told_shown}
 
 -- Behind a read of the ISDU channel an answer was sent, if there is one
 
@@ -70,30 +65,17 @@ IsSentBy true Isdu state = IsSent state
 IsSentBy read channel state = Unit {0}
 
 read_sent : (size : ℕ) (state : IsduState) (flow : Flow) → IsSent (isdu_read size state flow)
-read_sent size Empty Start = tt
-read_sent size (Receiving text last) Start = tt
-read_sent size (Whole request last) Start = tt
-read_sent size (Handed request) Start = tt
-read_sent size (Answered request answer last) Start = tt
-read_sent size (Answered request answer (Some i)) (Count count) =
-    let more = (count == (i + 1) % 16) && has_segment size (answer_text request answer) (i + 1) in
-    cond_both (nat_lt 0 i && (count == i % 16)) (Answered request answer (Some i))
-    (if more then Answered request answer (Some (i + 1)) else Empty) IsSent (λ e. tt)
-    (λ e. cond_both more (Answered request answer (Some (i + 1))) Empty IsSent (λ e. tt) (λ e. tt))
-read_sent size state flow = tt
+read_sent size state flow = grind (arith, common_steps)
 
 sent_by : (kind : Kind) (counted : Option ℕ) (knows : Bool) (size : ℕ) (state : IsduState)
     (channel : Channel) (read : Bool) (flow : Flow) (octets : List ℕ)
     → IsSentBy read channel (isdu_after kind counted knows size state channel read flow octets)
-sent_by kind counted true size state Isdu true flow octets = read_sent size _ flow
-sent_by kind counted false size state Isdu true flow octets = tt
-sent_by kind counted knows size state channel read flow octets = tt
+sent_by kind counted knows size state channel read flow octets =
+    grind (arith, common_steps, read_sent)
 
 pub worked_sent : (there : Far) (octets : List ℕ) (message : MasterMsg)
     → IsSentBy message.mc.read message.mc.channel (worked there octets message).isdu
-worked_sent there octets message = sent_by there.kind there.counted (knows_isdu there.page)
-    (layout_of there).od there.isdu message.mc.channel message.mc.read
-    (flow_of message.mc.address) message.od.items
+worked_sent there octets message = grind (arith, common_steps, sent_by)
 
 -- What it brings
 
@@ -164,9 +146,7 @@ module _ (size : ℕ) (law : AreTexts size) (request : Request) (answer : Answer
     -- it is the same as octets that begin with it
     same_part : (octets : List ℕ) → take size octets ≡ its_segment
         → same_fault octets its_segment ≡ None
-    same_part octets part = ap (λ (b : Bool). if b then None else Some SegmentChanged)
-        (ap (λ (l : List ℕ). pointwise nat_eq its_segment l) (ap (λ n. take n octets)
-        (law.sized size its_text sent) ∙ part) ∙ pointwise_self its_segment)
+    same_part octets part = grind (arith, common_steps, pointwise_self)
 
     -- a segment that was had before
     same_again : had.at < length had.text.items → same_fault (drop had.at had.text.items)
@@ -203,10 +183,7 @@ module _ (size : ℕ) (law : AreTexts size) (request : Request) (answer : Answer
 
     ahead_again : (ahead : Option Ahead) → IfSome ahead (AreAhead size its_text)
         → ahead_fault ahead had.at its_segment ≡ None
-    ahead_again None is = refl
-    ahead_again (Some ahead) is =
-        cond_both _ _ _ (λ (p : Option ℕ). again_fault ahead p its_segment ≡ None)
-        (λ e. let within = and_parts _ _ e in again_fits ahead is within.0 within.1) (λ e. refl)
+    ahead_again ahead is = grind (arith, common_steps, again_fits)
 
     -- the next one
     next_is : had.at ≡ length had.text.items → sent ≡ are.many
@@ -214,9 +191,7 @@ module _ (size : ℕ) (law : AreTexts size) (request : Request) (answer : Answer
 
     grown : had.at ≡ length had.text.items → (had.text.items ++ its_segment)
         ≡ joined size its_text are.many
-    grown e = ap (λ (l : List ℕ). l ++ its_segment) are.octets
-        ∙ ap (λ i. first_ones size its_text are.many ++ segment size its_text i) (next_is e)
-        ∙ first_grow law.sized size its_text are.many
+    grown e = grind (arith, common_steps, next_is, first_grow)
 
     begins_next : had.at ≡ length had.text.items → are.many * size < length its_text
     begins_next e = rw (next_is e) at are.within
@@ -344,15 +319,7 @@ answered_fits size law had (Answered request answer (Some i)) h =
 answered_fits size law had state h = absurd h
 
 had_read : (had : Had) (od : List ℕ) → (had_with had od).read ≡ had.read
-had_read had od = split (nat_lt (length had.text.items) had.at)
-    (had.at == length had.text.items && nat_le (length had.text.items + length od) MOST_HAD)
-  where
-    split : (missed b : Bool) → (if missed
-        then record had { ahead = Some (ahead_told had.ahead had.at od) } else if b
-        then record had { text = record { items = had.text.items ++ od } } else had).read ≡ had.read
-    split true b = refl
-    split false true = refl
-    split false false = refl
+had_read had od = grind (arith, common_steps)
 
 told_answered : (size : ℕ) → AreTexts size → (had : Had) (state : IsduState)
     → IsAnswered size had state → IsAnswered size (had_with had (isdu_data size state)) state
@@ -418,28 +385,15 @@ module _ (hands_over : HandsOver) (counted : Option ℕ) (size : ℕ) (law : Are
 -- The checks of a reply
 
 status_fits : (a b : Bool) → ((not a && b) && a) ≡ false
-status_fits true b = refl
-status_fits false true = refl
-status_fits false false = refl
+status_fits a b = grind (arith, common_steps)
 
 invalid_zeros : (input : Option (List ℕ)) (size : ℕ) → (if not (size == 0) && not (is_some input)
     then no_zeros (if size == 0 then [] else unwrap_or input (replicate size 0)) InvalidNotZero
     else None) ≡ None
-invalid_zeros input size = split (size == 0) input
-  where
-    split : (b : Bool) (input : Option (List ℕ)) → (if not b && not (is_some input) then no_zeros
-        (if b then [] else unwrap_or input (replicate size 0)) InvalidNotZero else None) ≡ None
-    split true input = refl
-    split false None = rw (zeros_are size) refl
-    split false (Some image) = refl
+invalid_zeros input size = grind (arith, common_steps, zeros_are)
 
 one_outside : (address : ℕ) → is_of_page address ≡ true → (address == 1) ≡ false
 one_outside address e = grind (arith, nat_tests)
-
--- the octet at an address, by whether that is the cycle time's, and one of the page
-abbrev octet_if : Far → ℕ → Bool → Bool → ℕ
-octet_if far address one range =
-    if one then far.cycle_time else if range then slice_index far.page (address - 2) else 0
 
 -- an address of the page reads as its octet there
 page_at : (far : Far) (address : ℕ) → is_of_page address ≡ true
@@ -455,14 +409,7 @@ seen_fits seen far address agrees = cond_both _ _ _ IsNone
 -- and nothing is odd in it
 page_even : (cycle : Option ℕ) (far : Far) (address : ℕ) → IfSome cycle (λ o. far.cycle_time ≡ o)
     → page_oddity cycle address (page_octet far address) ≡ None
-page_even cycle far address at = split (address == 1) (is_of_page address)
-  where
-    split : (one range : Bool) → (if one then other_than cycle (octet_if far address one range)
-        CycleTime else if range then None else other_than (Some 0) (octet_if far address one range)
-        PageZero) ≡ None
-    split true range = rw (same_known cycle _ at) refl
-    split false true = refl
-    split false false = refl
+page_even cycle far address at = grind (arith, common_steps, same_known)
 
 -- the data that a reply brings, where it brings some
 abbrev brought : Far → ℕ → Bool → Channel → ℕ → List ℕ
@@ -475,30 +422,21 @@ module _ (seen : List (Option ℕ)) (state : State) (far : Far) (size : ℕ) (la
   data_fits : (read : Bool) (channel : Channel) (address : ℕ) → IsSentBy read channel far.isdu
       → (if read then data_fault seen state (not (is_empty far.events.frozen)) channel address
       (brought far size read channel address) else None) ≡ None
-  data_fits true Page address sent = seen_fits seen far address agrees
-  data_fits true Diagnosis address sent = events_fit _ _ six shown address
-  data_fits true Isdu address sent = isdu_fits _ _ size law _ _ under_way sent
-  data_fits read channel address sent = refl
+  data_fits read channel address sent =
+      grind (arith, common_steps, seen_fits, events_fit, isdu_fits)
 
 data_even : (cycle : Option ℕ) (far : Far) (size : ℕ) (read : Bool) (channel : Channel)
     (address : ℕ) → IfSome cycle (λ o. far.cycle_time ≡ o) → (if read
     then data_oddity cycle channel address (brought far size read channel address) else None) ≡ None
-data_even cycle far size true Process address at = rw (zeros_are size) refl
-data_even cycle far size true Page address at =
-    neither _ _ (page_even cycle far address at) (rw (zeros_are (size - 1)) refl)
-data_even cycle far size true Diagnosis address at = rw (zeros_are _) refl
-data_even cycle far size read channel address at = refl
-
-none_held : (odd : Odd) → held_against odd None None ≡ None
-none_held Blamed = refl
-none_held PassedOver = refl
+data_even cycle far size read channel address at =
+    grind (arith, common_steps, zeros_are, neither, page_even)
 
 nothing_said : (odd : Odd) (kept : State) (fault oddity : Option Reason) → fault ≡ None
-    → oddity ≡ None → explained_if kept oddity (held_against odd fault oddity) ≡ By kept None
-nothing_said odd kept fault oddity e f =
-    ap (λ (x : Option Reason). explained_if kept x (held_against odd fault x)) f
-    ∙ ap (λ (x : Option Reason). explained_if kept None (held_against odd x None)) e
-    ∙ ap (λ (x : Option Reason). explained_if kept None x) (none_held odd)
+    → oddity ≡ None → (elim (held_against odd fault oddity) [
+      | None ↦ By kept oddity
+      | Some reason ↦ Not reason
+    ]) ≡ By kept None
+nothing_said odd kept fault oddity e f = grind arith
 
 module _ (seen : List (Option ℕ)) (there : Far) (octets : List ℕ) (message : MasterMsg)
     (law : AreTexts (layout_of there).od) (awake : there.awake ≡ true)
@@ -523,20 +461,14 @@ module _ (seen : List (Option ℕ)) (there : Far) (octets : List ℕ) (message :
   -- nor is anything odd
   no_oddity : (state : State) → Admits state worked_far
       → reply_oddity state.cycle message.mc its_answer ≡ None
-  no_oddity state admits = neither _ _ (invalid_zeros there.input (layout_of there).pd_in)
-      (data_even state.cycle worked_far (layout_of there).od message.mc.read message.mc.channel
-      message.mc.address admits.cycle)
+  no_oddity state admits = grind (arith, common_steps, neither, invalid_zeros, data_even)
 
   pub explains : (odd : Odd) (found : Taken) (reply : List ℕ) → found.message ≡ message
       → found.layout ≡ layout_of there → Admits found.kept worked_far
       → reply_in (layout_of there) message.mc.read reply ≡ Some its_answer
       → explained odd seen (Some found) reply ≡ By (learned found.kept message.mc its_answer) None
   explains odd found reply same_message same_layout admits reads =
-      ap (λ (m : MasterMsg). explained_by odd seen found.kept found.layout m
-      (reply_in found.layout m.mc.read reply)) same_message ∙ ap (λ (l : Shape). explained_by odd
-      seen found.kept l message (reply_in l message.mc.read reply)) same_layout ∙ ap
-      (λ (r : Option Reply). explained_by odd seen found.kept (layout_of there) message r) reads
-      ∙ nothing_said odd _ _ _ (no_fault _ admits) (no_oddity _ admits)
+      grind (arith, common_steps, nothing_said, no_fault, no_oddity)
 
 -- What a reply tells
 
@@ -544,15 +476,7 @@ cycle_said : (old : Option ℕ) (far : Far) (size : ℕ) (read : Bool) (channel 
     (address : ℕ) → IfSome old (λ o. far.cycle_time ≡ o)
     → IfSome (cycle_told old read channel address
     (slice_index (brought far size read channel address) 0)) (λ o. far.cycle_time ≡ o)
-cycle_said None far size true Page address h = split (address == 1)
-  where
-    split : (b : Bool) → IfSome (if b then Some (if b then far.cycle_time
-        else sheet.page_octet far.page address) else None) (λ o. far.cycle_time ≡ o)
-    split true = refl
-    split false = tt
-cycle_said (Some old) far size true Page address h = cond_both (address == 1) (Some old) (Some old)
-    (λ (c : Option ℕ). IfSome c (λ o. far.cycle_time ≡ o)) (λ e. h) (λ e. h)
-cycle_said old far size read channel address h = h
+cycle_said old far size read channel address h = grind (arith, common_steps)
 
 events_said : (events : Shown) (far : Far) (size : ℕ) (read : Bool) (channel : Channel)
     (address : ℕ) → length far.events.frozen ≤ 6 → AreShown events far.events
@@ -575,22 +499,16 @@ pub learned_admits : (state : State) (far : Far) (message : MasterMsg)
     → IsSentBy message.mc.read message.mc.channel far.isdu → Admits state far
     → Admits (learned state message.mc (reply_to far (layout_of far) message)) far
 learned_admits state far message law awake memory sent h =
-    let shown : AreShown state.events far.events = shown_awake state far awake h in
-    let flag = not (is_empty far.events.frozen) in
-    let size = (layout_of far).od in
-    let said = events_said (flag_told state.events flag) far size message.mc.read
-    message.mc.channel message.mc.address memory.frozen
-    (flagged_shown state.events far.events memory.frozen shown) in
-    let isdu = isdu_said (layout_of far).od law state.transfer far message.mc.read
-    message.mc.channel message.mc.address (under_way_awake state far awake h) sent in
-    record {
-      kind = h.kind;
-      link = h.link;
-      cycle = cycle_said state.cycle far (layout_of far).od message.mc.read message.mc.channel
-          message.mc.address h.cycle;
-      events = rw awake said;
-      isdu = rw awake isdu;
-    }
+    grind (
+      arith,
+      common_steps,
+      shown_awake,
+      events_said,
+      flagged_shown,
+      isdu_said,
+      under_way_awake,
+      cycle_said,
+    )
 
 page_told : (seen : List (Option ℕ)) (far : Far) (address : ℕ) → Agrees seen far.page
     → Agrees (page_noted seen address (page_octet far address)) far.page
@@ -602,12 +520,8 @@ noted_told : (seen : List (Option ℕ)) (far : Far) (reply : Reply) (size : ℕ)
     → Agrees seen far.page
     → Agrees (noted_at seen read channel address (slice_index (octets_of reply) 0)) far.page
 unfolding octets_of
-noted_told seen far reply size true Page address e agrees =
-    let first : slice_index (octets_of reply) 0 ≡ page_octet far address =
-    ap (λ (od : List ℕ). slice_index (octets_of (record reply { od = record { items = od } })) 0) e
-    in
-    rw first (page_told seen far address agrees)
-noted_told seen far reply size read channel address e agrees = agrees
+noted_told seen far reply size read channel address e agrees =
+    grind (arith, common_steps, page_told)
 
 pub noted_agrees : (seen : List (Option ℕ)) (far : Far) (sent : List ℕ) (layout : Shape)
     (message : MasterMsg) → message_in layout sent ≡ Some message → (size : Shape)

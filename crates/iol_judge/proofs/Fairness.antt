@@ -1,5 +1,6 @@
 -- The law of the judge.
-use Rattle.std.proofs.Common.{◌≡◌, ℕ, ◌+◌, ◌-◌, min, Bool, true, false, List, length, refl, sym, ◌∙◌, ap, subst, leb-true, ◌⊎◌, inl, inr, zero, suc, [], ◌∷◌}
+use Rattle.std.proofs.lemmas.Grind.{common_steps}
+use Rattle.std.proofs.Common.{arith, ◌≡◌, ℕ, ◌+◌, ◌-◌, min, Bool, true, false, List, length, refl, sym, ◌∙◌, ap, subst, leb-true, ◌⊎◌, inl, inr, [], ◌∷◌}
 use Rattle.std.specs.Prelude.{Option, Some, None, is_some, Result, Ok, Err, ◌&&◌, ◌||◌, nat_le, slice_index, if◌then◌else◌, IsTrue, option_map}
 use Rattle.iol_mseq.specs.Shape.{Shape, IsLayout, is_size, shape, operate_shape}
 use Rattle.iol_mseq.specs.Master.{master_in}
@@ -8,7 +9,7 @@ use Rattle.iol_mseq.specs.declared.fault.MseqFault.{MseqFault}
 use Rattle.iol_mseq.specs.declared.fault.MseqFault.TheVariants.{BadLength}
 use Rattle.iol_mseq.specs.declared.master.MasterMsg.{MasterMsg}
 use Rattle.iol_link.specs.Honest.{IsUnread, HonestExchange, Passage, OutLost, BackLost, Clean, IsAnswer, far_after}
-use Rattle.iol_judge.specs.Replies.{is_read_as, is_read_by, is_read_with, is_readable, explained, learned}
+use Rattle.iol_judge.specs.Replies.{is_read_in, is_read_with, is_readable, explained, learned}
 use Rattle.std.proofs.lemmas.Bool.{cond_both}
 use Rattle.iol_page.specs.Page.{PagesAskForLayouts}
 use Rattle.iol_page.specs.declared.page.Layouts.{Layouts}
@@ -25,9 +26,9 @@ use Rattle.iol_judge.specs.declared.taken.Explained.TheVariants.{By, Not}
 use Rattle.iol_judge.specs.declared.taken.Next.{Next}
 use Rattle.iol_judge.specs.declared.taken.Taken.{Taken}
 use Rattle.iol_judge.specs.declared.verdict.Verdict.{Verdict}
-use Rattle.iol_judge.specs.declared.verdict.Verdict.TheVariants.{Unjudged, Honest, NotHonest, CantSay}
+use Rattle.iol_judge.specs.declared.verdict.Verdict.TheVariants.{Honest, NotHonest}
 use Rattle.iol_judge.specs.declared.verdict.Wake.{Wake}
-use Rattle.iol_judge.specs.declared.verdict.Wake.TheVariants.{Answered, Unanswered}
+use Rattle.iol_judge.specs.declared.verdict.Wake.TheVariants.{Unanswered}
 use Rattle.iol_far.specs.declared.kind.Kind.{Kind}
 use Rattle.iol_judge.specs.declared.kinds.Kinds.{Kinds}
 use Rattle.iol_judge.specs.Family.{both_kinds, has_kind}
@@ -35,12 +36,10 @@ use Rattle.iol_judge.specs.Numbers.{later}
 use Rattle.iol_judge.specs.Seen.{nothing_seen, whole_page, layouts_seen}
 use Rattle.iol_judge.specs.State.{State, parts}
 use Rattle.iol_judge.specs.Taking.{taken_by}
-use Rattle.iol_judge.specs.Judged.{Judged, added, added_taken, lost_into, lost_part, all_lost, all_lost_parts, next_states, explained_into, replied_part, replied_into, concluded_lost, concluded_with, concluded_replied, odd_for_all, unanswered, answered, counted, judged_by, exchanged, woken_states, woken_into, all_woken, woke_by, woke, kinds_by, kinds_left, kinds_with}
+use Rattle.iol_judge.specs.Judged.{Judged, added, added_taken, each_in_turn, lost_into, lost_part, explained_into, replied_part, replied_into, concluded_lost, concluded_replied, odd_for_all, unanswered, answered, one_more, exchanged, woken_states, woken_into, woke, kinds_left, kinds_with}
 use Rattle.iol_judge.specs.Judged as judging
-use Rattle.iol_judge.specs.Admitted.{Agrees, Admits, AdmitsOne, IsPossible, IsFair, Passing, Wakes, Passes, told, told_all, is_answered, IsHonest, IsHonestRun, IsWake, NeverBlamed}
-use Rattle.iol_judge.proofs.Sets.{Gains, Keeps, bound, each_admits, each_gains, each_keeps, Left, added_keeps, added_admits, both_has, other_has}
-use Rattle.iol_judge.proofs.Shown.{nothing_known, released_free}
-use Rattle.iol_judge.proofs.Alone.{Alike, locals_alike, one_alike, woken_admits}
+use Rattle.iol_judge.specs.Admitted.{Agrees, Admits, IsPossible, IsFair, Passing, Wakes, Passes, told, told_all, is_answered, IsHonest, IsHonestRun, IsWake, NeverBlamed}
+use Rattle.iol_judge.proofs.Sets.{Gains, Keeps, bound, each_gains, each_keeps, Left, added_keeps, added_admits, both_has, other_has, nothing_known, released_free, Alike, locals_alike, one_alike, woken_admits}
 use Rattle.iol_judge.proofs.Hearing.{IsPart, all_have, parts_admit, Knows, knows, Accepting, accepting, Fits, state_fits}
 use Rattle.iol_judge.proofs.Answering.{explains, learned_admits, noted_agrees, worked_sent}
 use Rattle.iol_judge.proofs.Sending.{AllTexts}
@@ -49,33 +48,24 @@ use Rattle.iol_judge.proofs.Sending.{AllTexts}
 
 module _ (sent reply : List ℕ) (unread : IsUnread sent (Some reply)) where
   not_as : (layout : Shape) → IsLayout layout → (message : Option MasterMsg)
-      → master_in layout sent ≡ message → is_read_as layout reply message ≡ true → ⊥
-  not_as layout is None e h = cc
-  not_as layout is (Some message) e h =
-      let bad : reply_in layout message.mc.read reply ≡ None = unread layout message is e in
-      let no : false ≡ true = sym (ap is_some bad) ∙ h in cc
+      → master_in layout sent ≡ message → (elim message [
+        | None ↦ false
+        | Some message ↦ is_some (reply_in layout message.mc.read reply)
+      ]) ≡ true → ⊥
+  not_as layout is message e h = grind (arith, common_steps)
 
   not_by : (found : Result Shape MseqFault) → ((layout : Shape) → found ≡ Ok layout
-      → IsLayout layout) → is_read_by found sent reply ≡ true → ⊥
+      → IsLayout layout) → (elim found [
+        | Ok layout ↦ is_read_in layout sent reply
+        | Err fault ↦ false
+      ]) ≡ true → ⊥
   not_by (Err fault) is h = cc
   not_by (Ok layout) is h = not_as _ (is layout refl) _ refl h
 
   shaped : (od i o : ℕ) → IsTrue (is_size od) → (layout : Shape)
       → ◌≡◌ {A = Result Shape MseqFault} (if (nat_le i 32 && nat_le o 32) then Ok (shape od i o)
       else Err BadLength) (Ok layout) → IsLayout layout
-  shaped od i o size layout h = split (nat_le i 32) (nat_le o 32) refl refl h
-    where
-      split : (a b : Bool) → nat_le i 32 ≡ a → nat_le o 32 ≡ b → ◌≡◌ {A = Result Shape MseqFault}
-          (if (a && b) then Ok (shape od i o) else Err BadLength) (Ok layout) → IsLayout layout
-      split true true e f h =
-          let is : shape od i o ≡ layout = cc in
-          subst IsLayout is (record {
-            kind = refl;
-            od = size;
-            pd_in = leb-true i 32 e;
-            pd_out = leb-true o 32 f;
-          })
-      split a b e f h = absurd (cc)
+  shaped od i o size layout h = grind (arith, common_steps, leb-true)
 
   either : (a b : Bool) → (a ≡ true → ⊥) → (b ≡ true → ⊥) → (a || b) ≡ true → ⊥
   either true b f g h = f refl
@@ -167,45 +157,33 @@ part_fits known sent far texts knows part is_part work found e = rw work.spells 
 
 -- Without a reply that can be read
 
-took : (taken : Result (Option Taken) Open) (mid more : List State) → added_taken taken mid
-    ≡ Ok more → (found : Option Taken) × (taken ≡ Ok found) × (added_taken (Ok found) mid ≡ Ok more)
-took (Ok found) mid more h = (found, refl, h)
-took (Err why) mid more h = absurd (cc)
-
 module _ (known : Result Layouts Open) (sent : List ℕ) (far new : Far)
     (texts : AllTexts) (knows : Knows known far.page) (follows : Follows far sent new) where
   part_keeps : Keeps (lost_part known sent) (Left new)
-  part_keeps mid part more h a =
-      let s = took _ mid more h in
-      inner s.0 s.2
-    where
-      inner : (found : Option Taken) → added_taken (Ok found) mid ≡ Ok more → Left new more
-      inner None h = let e : mid ≡ more = cc in rw e at a
-      inner (Some taken) h = added_keeps texts new mid taken.kept more h a
+  part_keeps mid part more h a = grind (arith, common_steps, bound, added_keeps)
 
   part_gains : (work : Works far sent) → new ≡ worked_by work
       → Gains (lost_part known sent) (IsPart far sent) (Left new)
   unfolding Fits
   part_gains work is mid part more h is_part =
-      let s = took _ mid more h in
+      let s = bound (taken_by known part sent) (added_taken mid) h in
       inner s.0 s.2 (part_fits known sent far texts knows part is_part work s.0 s.1)
     where
-      inner : (found : Option Taken) → added_taken (Ok found) mid ≡ Ok more
+      inner : (found : Option Taken) → added_taken mid found ≡ Ok more
           → Fits work.there sent (Some work.message) found → Left new more
       inner None h fits = absurd fits
       inner (Some taken) h fits = added_admits texts new mid taken.kept more h (rw is fits.2)
 
   lost_keeps : Keeps (lost_into known sent) (Left new)
   lost_keeps next state more h a =
-      let s = bound (added next state)
-      (λ mid. all_lost_parts known sent mid (parts state sent)) h in
+      let s = bound _ _ h in
       each_keeps part_keeps (parts state sent) s.0 more s.2
       (added_keeps texts new next state s.0 s.1 a)
 
   lost_gains : Gains (lost_into known sent) (λ state. Admits state far) (Left new)
   lost_gains next state more h a =
       let s = bound (added next state)
-      (λ mid. all_lost_parts known sent mid (parts state sent)) h in
+      (λ mid. each_in_turn (lost_part known sent) mid (parts state sent)) h in
       elim follows [
         | inl is ↦ each_keeps part_keeps (parts state sent) s.0 more s.2
             (rw is (added_admits texts far next state s.0 s.1 a))
@@ -213,36 +191,22 @@ module _ (known : Result Layouts Open) (sent : List ℕ) (far new : Far)
             s.2 (parts_admit far sent texts work.0.accepting.hears state a)
       ]
 
-  lost_admits : (states out : List State) → all_lost known sent [] states ≡ Ok out
-      → AdmitsOne states far → Left new out
-  lost_admits states out h admits = each_admits lost_keeps lost_gains _ [] out h admits
-
-said_fair : (judged : Judged) (said : Verdict) (new : Far) → judged.verdict ≡ said
-    → IsPossible said judged.states new → Agrees judged.seen new.page → judged.oddities ≡ 0
-    → IsFair judged new
-said_fair judged said new e is agrees even = record {
-  page = agrees;
-  state = rw e is;
-  odd = even;
-}
+  lost_admits : (states out : List State)
+      → each_in_turn (lost_into known sent) [] states ≡ Ok out → Left far states → Left new out
+  lost_admits states out h admits = each_gains lost_keeps lost_gains states [] out h admits
 
 concluded_fair : (judged : Judged) (new : Far) (found : Result (List State) Open)
     → judged.verdict ≡ Honest → judged.oddities ≡ 0 → Agrees judged.seen new.page
-    → ((out : List State) → found ≡ Ok out → AdmitsOne out new)
+    → ((out : List State) → found ≡ Ok out → Left new out)
     → IsFair (concluded_lost judged found) new
-concluded_fair judged new (Ok out) honest even agrees admits =
-    said_fair _ _ new honest (admits out refl) agrees even
-concluded_fair judged new (Err why) honest even agrees admits =
-    record { page = agrees; state = tt; odd = even }
+concluded_fair judged new found honest even agrees admits = grind (arith, common_steps)
 
 -- With one
 
 -- where a state was admitted, and nothing odd found, nothing odd is found for all
-old_even : (states : List State) (old oddity : Option Reason) (far : Far) → AdmitsOne states far
+old_even : (states : List State) (old oddity : Option Reason) (far : Far) → Left far states
     → old ≡ None → odd_for_all states old oddity ≡ None
-old_even [] old oddity far h e = absurd h
-old_even (state ∷ states) old None far h e = refl
-old_even (state ∷ states) old (Some reason) far h e = e
+old_even states old oddity far h e = grind (arith, common_steps)
 
 now_even : (states : List State) (old : Option Reason) → odd_for_all states old None ≡ None
 now_even [] old = refl
@@ -250,7 +214,7 @@ now_even (state ∷ states) old = refl
 
 module _ (law : Laws) (reads : RepliesAreRead) (judged : Judged)
     (honest : judged.verdict ≡ Honest) (even : judged.oddities ≡ 0) (far : Far)
-    (agrees : Agrees judged.seen far.page) (admits : AdmitsOne judged.states far) (sent : List ℕ)
+    (agrees : Agrees judged.seen far.page) (admits : Left far judged.states) (sent : List ℕ)
     (work : Works far sent) (sized : IsSized (worked_by work))
     (memory : IsEventMemory (worked_by work).events) where
   abbrev its_reply : List ℕ
@@ -268,30 +232,22 @@ module _ (law : Laws) (reads : RepliesAreRead) (judged : Judged)
 
   -- and nothing odd is found
   abbrev AdmitsNext : Next → Type 0
-  AdmitsNext next = AdmitsOne next.states.items (worked_by work) × (next.oddity ≡ None)
+  AdmitsNext next = Left (worked_by work) next.states.items × (next.oddity ≡ None)
 
-  next_admits : (next : Next) (found : Result (List State) Open) (more : Next) → next.oddity ≡ None
-      → ((out : List State) → found ≡ Ok out → AdmitsOne out (worked_by work))
-      → next_states next found ≡ Ok more → AdmitsNext more
-  next_admits next (Ok out) more even admits h =
-      let e : ◌≡◌ {A = Next} (record next { states = record { items = out } }) more = cc in
-      subst AdmitsNext e (admits out refl, even)
-  next_admits next (Err why) more even admits h = absurd (cc)
-
-  part_explained : (next : Next) (state : State) (more : Next) → part_into next state ≡ Ok more
-      → (found : Option Taken) × (taken_by known state sent ≡ Ok found)
-      × (explained_into next (explained judged.odd judged.seen found its_reply) ≡ Ok more)
-  part_explained next state more h = bound _ _ h
+  next_admits : (next : Next) (kept : State) (oddity : Option Reason) (more : Next)
+      → odd_for_all next.states.items next.oddity oddity ≡ None
+      → ((out : List State) → added next.states.items kept ≡ Ok out → Left (worked_by work) out)
+      → explained_into next (By kept oddity) ≡ Ok more → AdmitsNext more
+  next_admits next kept oddity more even admits h = grind (arith, common_steps, bound)
 
   part_kept : Keeps part_into AdmitsNext
   part_kept next state more h a =
-      let s = part_explained next state more h in
+      let s = bound (taken_by known state sent)
+      (λ found. explained_into next (explained judged.odd judged.seen found its_reply)) h in
       inner (explained judged.odd judged.seen s.0 its_reply) s.2
     where
       inner : (by : Explained) → explained_into next by ≡ Ok more → AdmitsNext more
-      inner (By found oddity) h =
-          next_admits (record next { oddity = odd_for_all next.states.items next.oddity oddity }) _
-          more (old_even _ _ _ _ a.0 a.1)
+      inner (By found oddity) h = next_admits next found oddity more (old_even _ _ _ _ a.0 a.1)
           (λ out e. added_keeps law.texts _ next.states.items found out e a.0) h
       inner (Not reason) h =
           let e : ◌≡◌ {A = Next} (record next { reason = later next.reason reason }) more = cc in
@@ -303,7 +259,8 @@ module _ (law : Laws) (reads : RepliesAreRead) (judged : Judged)
   part_gained : Gains part_into (IsPart far sent) AdmitsNext
   unfolding Fits
   part_gained next state more h a =
-      let s = part_explained next state more h in
+      let s = bound (taken_by known state sent)
+      (λ found. explained_into next (explained judged.odd judged.seen found its_reply)) h in
       inner s.0 (part_fits known sent far law.texts
       (knows law.pages _ _ agrees) state a work s.0 s.1) s.2
     where
@@ -317,8 +274,8 @@ module _ (law : Laws) (reads : RepliesAreRead) (judged : Judged)
           let by : explained judged.odd judged.seen (Some found) its_reply ≡ By new None =
           explains _ work.there sent _ (law.texts work.there) work.accepting.awake memory
           there_agrees _ found _ fits.0 fits.1 fits.2 (reads (worked_by work) work.message sized) in
-          next_admits (record next { oddity = odd_for_all next.states.items next.oddity None }) _
-          more (now_even _ _) (λ out e. added_admits law.texts _ next.states.items new out e
+          next_admits next new None more (now_even _ _)
+          (λ out e. added_admits law.texts _ next.states.items new out e
           (learned_admits _ _ work.message (law.texts work.there) work.accepting.awake memory
           (worked_sent work.there sent work.message) fits.2))
           (sym (ap (λ (x : Explained). explained_into next x) by) ∙ h)
@@ -336,9 +293,10 @@ module _ (law : Laws) (reads : RepliesAreRead) (judged : Judged)
   concluded_next (Ok out) admits =
       split out.states.items (admits out refl).0 out.oddity (admits out refl).1
     where
-      split : (states : List State) → AdmitsOne states (worked_by work)
+      split : (states : List State) → Left (worked_by work) states
           → (oddity : Option Reason) → oddity ≡ None
-          → IsFair (concluded_with judged sent its_reply (record out { oddity = oddity }) states)
+          → IsFair (concluded_replied judged sent its_reply
+          (Ok (record out { states = record { items = states }; oddity = oddity })))
           (worked_by work)
       split [] h oddity e = absurd h
       split (state ∷ states) h (Some reason) e = absurd (cc)
@@ -351,7 +309,7 @@ module _ (law : Laws) (reads : RepliesAreRead) (judged : Judged)
 
   replied_fair : IsFair (judging.replied judged sent its_reply) (worked_by work)
   replied_fair =
-      concluded_next _ (λ out e. each_admits replied_keeps replied_gains _ _ out e admits)
+      concluded_next _ (λ out e. each_gains replied_keeps replied_gains _ _ out e admits)
 
 -- A wake-up request
 
@@ -362,31 +320,22 @@ module _ (texts : AllTexts) (wake : Wake) (far new : Far)
       each_keeps (added_keeps texts new) (woken_states wake state) next more h a
 
   -- the device after the wake-up request is one of those that are added
-  woken_one : (state : State) → Admits state far → AdmitsOne (woken_states wake state) new
-  woken_one state admits = elim follows [
-    | inl is ↦ rw is (took wake)
-    | inr quiet ↦ rw quiet.0 (inl (rw quiet.1 admits))
-  ]
-    where
-      took : (w : Wake) → AdmitsOne (woken_states w state) (woken far)
-      took Answered = woken_admits state far admits
-      took Unanswered = inr (woken_admits state far admits)
+  woken_one : (state : State) → Admits state far → Left new (woken_states wake state)
+  woken_one state admits = grind (arith, common_steps, woken_admits)
 
   woken_gains : Gains (woken_into wake) (λ state. Admits state far) (Left new)
-  woken_gains next state more h a = each_admits (added_keeps texts new) (added_admits texts new)
+  woken_gains next state more h a = each_gains (added_keeps texts new) (added_admits texts new)
       _ next more h (woken_one state a)
 
-  all_woken_admits : (states out : List State) → all_woken wake [] states ≡ Ok out
-      → AdmitsOne states far → Left new out
-  all_woken_admits states out h admits = each_admits woken_keeps woken_gains _ [] out h admits
+  all_woken_admits : (states out : List State) → each_in_turn (woken_into wake) [] states ≡ Ok out
+      → Left far states → Left new out
+  all_woken_admits states out h admits = each_gains woken_keeps woken_gains states [] out h admits
 
 -- the wake took effect, or wasn't answered and was lost
 took_effect : (wake : Wake) (far new : Far) (wakes : Bool) → new
     ≡ (if wakes then woken far else far) → (is_answered wake ≡ true → wakes ≡ true)
     → (new ≡ woken far) ⊎ ((wake ≡ Unanswered) × (new ≡ far))
-took_effect wake far new true is answers = inl is
-took_effect Unanswered far new false is answers = inr (refl, is)
-took_effect Answered far new false is answers = absurd (let no : false ≡ true = answers refl in cc)
+took_effect wake far new wakes is answers = grind (arith, common_steps)
 
 -- what waking leaves as it is, a wake-up request leaves
 woken_same : {A : Type 0} (part : Far → A) (far new : Far) (wakes : Bool)
@@ -396,46 +345,19 @@ woken_same part far new false same is = ap part is
 
 wake_fair : AllTexts → (judged : Judged) (far : Far) (wake : Wake) (new : Far)
     → IsWake far (is_answered wake) new → IsFair judged far → IsFair (woke judged wake) new
-wake_fair texts judged far wake new h fair = split judged.verdict refl
-  where
-    same : Alike far (locals far h.steps)
-    same = locals_alike far h.steps
-
-    agrees : Agrees judged.seen new.page
-    agrees = rw (woken_same (λ (g : Far). g.page) (locals far h.steps) new h.wakes refl h.far_is
-        ∙ same.page) fair.page
-
-    follows : (new ≡ woken (locals far h.steps)) ⊎
-        ((wake ≡ Unanswered) × (new ≡ locals far h.steps))
-    follows = took_effect wake _ new _ h.far_is h.answered_is
-
-    first : (w : Wake) → ((new ≡ woken (locals far h.steps)) ⊎
-        ((w ≡ Unanswered) × (new ≡ locals far h.steps)))
-        → judged.verdict ≡ Unjudged → IsFair (woke_by Unjudged judged w) new
-    first Answered follows e = record {
-      page = agrees;
-      state = elim follows [
-        | inl is ↦ inl (rw is (record {
-          kind = all_have _;
-          link = refl;
-          cycle = tt;
-          events = released_free (locals far h.steps).events.frozen
-              _ (locals far h.steps).events.held;
-          isdu = refl;
-        }))
-        | inr quiet ↦ absurd (let no : Answered ≡ Unanswered = quiet.0 in cc)
-      ];
-      odd = fair.odd;
-    }
-    first Unanswered follows e = said_fair _ _ new e tt agrees fair.odd
-
-    split : (verdict : Verdict) → judged.verdict ≡ verdict
-        → IsFair (woke_by verdict judged wake) new
-    split Unjudged e = first wake follows e
-    split Honest e = concluded_fair _ new _ e fair.odd agrees (λ out f. all_woken_admits texts
-        wake _ new follows _ out f (one_alike _ far _ same (rw e at fair.state)))
-    split (NotHonest exchange reason) e = absurd (rw e at fair.state)
-    split (CantSay exchange why) e = said_fair _ _ new e tt agrees fair.odd
+wake_fair texts judged far wake new h fair =
+    grind (
+      arith,
+      common_steps,
+      locals_alike,
+      woken_same,
+      took_effect,
+      all_have,
+      released_free,
+      concluded_fair,
+      all_woken_admits,
+      one_alike,
+    )
 
 -- The page
 
@@ -443,17 +365,7 @@ none_seen : (far : Far) → Agrees nothing_seen far.page
 none_seen far place = nothing_known 10 place _
 
 whole_agrees : (page : List ℕ) → Agrees (whole_page page) page
-whole_agrees page zero = refl
-whole_agrees page (suc zero) = refl
-whole_agrees page (suc (suc zero)) = refl
-whole_agrees page (suc (suc (suc zero))) = refl
-whole_agrees page (suc (suc (suc (suc zero)))) = refl
-whole_agrees page (suc (suc (suc (suc (suc zero))))) = refl
-whole_agrees page (suc (suc (suc (suc (suc (suc zero)))))) = refl
-whole_agrees page (suc (suc (suc (suc (suc (suc (suc zero))))))) = refl
-whole_agrees page (suc (suc (suc (suc (suc (suc (suc (suc zero)))))))) = refl
-whole_agrees page (suc (suc (suc (suc (suc (suc (suc (suc (suc zero))))))))) = refl
-whole_agrees page (suc (suc (suc (suc (suc (suc (suc (suc (suc (suc k)))))))))) = tt
+whole_agrees page place = grind (arith, common_steps)
 
 -- Kinds
 
@@ -463,7 +375,7 @@ with_keeps [] kinds kind h = h
 with_keeps (state ∷ states) kinds kind h = with_keeps states (both_kinds kinds state.kinds) kind
     (both_has kinds _ kind h)
 
-with_gains : (states : List State) (kinds : Kinds) (far : Far) → AdmitsOne states far
+with_gains : (states : List State) (kinds : Kinds) (far : Far) → Left far states
     → has_kind (kinds_with kinds states) far.kind ≡ true
 with_gains [] kinds far h = absurd h
 with_gains (state ∷ states) kinds far (inl here) =
@@ -473,14 +385,7 @@ with_gains (state ∷ states) kinds far (inr there) = with_gains states _ far th
 -- a device's kind is among those that are left
 fair_kinds : (judged : Judged) (far : Far) → IsFair judged far
     → has_kind (kinds_left judged) far.kind ≡ true
-fair_kinds judged far fair = split judged.verdict fair.state
-  where
-    split : (verdict : Verdict) → IsPossible verdict judged.states far
-        → has_kind (kinds_by verdict judged.states) far.kind ≡ true
-    split Unjudged h = all_have _
-    split Honest h = with_gains _ _ far h
-    split (NotHonest exchange reason) h = absurd h
-    split (CantSay exchange why) h = all_have _
+fair_kinds judged far fair = grind (arith, common_steps, all_have, with_gains)
 
 -- An exchange
 
@@ -498,11 +403,12 @@ regular_all law far (step ∷ steps) h = regular_all law (local far step) steps 
 module _ (law : Laws) (stays : RegularStays) (much : MuchStays) (reads : RepliesAreRead) where
   module _ (judged : Judged) (honest : judged.verdict ≡ Honest) (even : judged.oddities ≡ 0)
       (far : Far) (regular : IsRegular far) (agrees : Agrees judged.seen far.page)
-      (admits : AdmitsOne judged.states far) (sent : List ℕ) where
+      (admits : Left far judged.states) (sent : List ℕ) where
     quiet_fair : (new : Far) → Follows far sent new → new.page ≡ far.page
         → IsFair (unanswered judged sent) new
     quiet_fair new follows page =
-        concluded_fair judged new (all_lost (layouts_seen judged.seen) sent [] judged.states) honest
+        concluded_fair judged new (each_in_turn (lost_into (layouts_seen judged.seen) sent) []
+        judged.states) honest
         even (rw page agrees) (λ out e. lost_admits (layouts_seen judged.seen) sent far new
         law.texts (knows law.pages judged.seen far.page agrees) follows judged.states out e admits)
 
@@ -543,7 +449,8 @@ module _ (law : Laws) (stays : RegularStays) (much : MuchStays) (reads : Replies
       (answer : Option (List ℕ)) (new : Far) (silence_new : ℕ)
       → HonestExchange far silence sent answer new silence_new → IsFair judged far
       → IsFair (exchanged judged sent answer) new
-  exchange_fair judged far silence sent answer new silence_new h fair = split judged.verdict refl
+  exchange_fair judged far silence sent answer new silence_new h fair =
+      split judged.verdict fair.state
     where
       same : Alike far (locals far h.steps)
       same = locals_alike far h.steps
@@ -552,14 +459,16 @@ module _ (law : Laws) (stays : RegularStays) (much : MuchStays) (reads : Replies
       agrees = rw (ap (λ (g : Far). g.page) h.far_is ∙ passed_same (λ (g : Far). g.page)
           _ _ sent (much.page_heard (locals far h.steps) sent) ∙ same.page) fair.page
 
-      split : (verdict : Verdict) → judged.verdict ≡ verdict
-          → IsFair (judged_by verdict (counted judged) sent answer) new
-      split Unjudged e = said_fair _ _ new e tt agrees fair.odd
-      split Honest e = rw h.far_is (passed_fair (counted judged) e fair.odd _ (regular_all stays far
-          h.steps h.regular) (rw same.page fair.page) (one_alike judged.states far
-          (locals far h.steps) same (rw e at fair.state)) sent _ _ h.answer_is)
-      split (NotHonest exchange reason) e = absurd (rw e at fair.state)
-      split (CantSay exchange why) e = said_fair _ _ new e tt agrees fair.odd
+      split : (verdict : Verdict) → IsPossible verdict judged.states far
+          → IsFair (exchanged (record judged { verdict = verdict }) sent answer) new
+      split Honest state = rw h.far_is (passed_fair (record judged {
+        verdict = Honest;
+        exchanges = one_more judged.exchanges;
+        oddity = None;
+      }) refl fair.odd _ (regular_all stays far h.steps h.regular) (rw same.page fair.page)
+          (one_alike judged.states far (locals far h.steps) same state) sent _ _ h.answer_is)
+      split (NotHonest exchange reason) state = absurd state
+      split verdict state = record { page = agrees; state = tt; odd = fair.odd }
 
   -- A capture
 
@@ -574,12 +483,8 @@ module _ (law : Laws) (stays : RegularStays) (much : MuchStays) (reads : Replies
   -- nothing changes the kind
   told_kind : (far : Far) (silence : ℕ) (passing : Passing) (new : Far) (silence_new : ℕ)
       → IsHonest far silence passing new silence_new → new.kind ≡ far.kind
-  told_kind far silence (Wakes wake) new silence_new h =
-      woken_same (λ (g : Far). g.kind) (locals far h.0.steps) new h.0.wakes refl h.0.far_is
-      ∙ much.kind_kept far h.0.steps
-  told_kind far silence (Passes sent answer) new silence_new h = ap (λ (g : Far). g.kind) h.far_is
-      ∙ passed_same (λ (g : Far). g.kind) h.passage _ sent
-      (much.kind_heard (locals far h.steps) sent) ∙ much.kind_kept far h.steps
+  told_kind far silence passing new silence_new h =
+      grind (arith, common_steps, woken_same, passed_same)
 
   run_all : (judged : Judged) (far : Far) → IsFair judged far
       → (silence : ℕ) (capture : List Passing) → IsHonestRun far silence capture

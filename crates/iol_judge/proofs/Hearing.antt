@@ -1,25 +1,26 @@
 -- What a state makes of octets is what the device makes of them that it stands for.
-use Rattle.std.proofs.Common.{◌≡◌, ℕ, Bool, true, false, List, [], ◌∷◌, refl, sym, ◌∙◌, ap, subst, ◌⊎◌, inl, inr, ◌++◌, map}
-use Rattle.std.specs.Prelude.{Option, Some, None, IfSome, Result, Ok, Err, is_some, not, slice_index, if◌then◌else◌, ◌==◌, bytes_eq}
+use Rattle.std.proofs.lemmas.Grind.{common_steps}
+use Rattle.std.proofs.Common.{arith, ◌≡◌, ℕ, Bool, true, false, List, [], ◌∷◌, refl, sym, ◌∙◌, ap, subst, ◌⊎◌, inl, inr, ◌++◌, map}
+use Rattle.std.specs.Prelude.{Option, Some, None, IfSome, Result, Ok, Err, slice_index, if◌then◌else◌, ◌==◌, bytes_eq}
 use Rattle.iol_mseq.specs.Shape.{Shape}
-use Rattle.iol_page.specs.Page.{layouts_of, is_old, knows_isdu, IsAskedBy, PagesAskForLayouts}
+use Rattle.iol_page.specs.Page.{layouts_of, knows_isdu, IsAskedBy, PagesAskForLayouts}
 use Rattle.iol_page.specs.declared.page.Layouts.{Layouts}
 use Rattle.iol_page.specs.declared.fault.PageFault.{PageFault}
 use Rattle.iol_far.specs.declared.mode.Mode.{Mode}
-use Rattle.iol_far.specs.declared.mode.Mode.TheVariants.{Startup, Preoperate, Operate}
 use Rattle.iol_far.specs.Codec.{layout_in, layout_by, flow_of, message_in}
 use Rattle.iol_far.specs.Far.{known_mode, Far, WaitingCommand, layout_of, accepted, accepted_by, accepted_now, moved, worked, command_in, mode_asked, waits_after, cycle_time_after, is_confirm}
 use Rattle.iol_judge.specs.declared.open.Open.{Open}
-use Rattle.iol_judge.specs.Seen.{asked_for, layouts_by, layouts_known, layouts_seen}
-use Rattle.iol_judge.specs.Taking.{mode_layout, mode_known, cycle_after, state_after, taken_message, taken_asked}
-use Rattle.iol_judge.specs.Transfers.{isdu_known, is_apart, transfer_after, transfer_in, apart}
-use Rattle.iol_judge.specs.Admitted.{Agrees, Admits, AreShown}
+use Rattle.iol_judge.specs.declared.open.Open.TheVariants.{PageRefused}
+use Rattle.std.specs.Result.{result_map_both}
+use Rattle.iol_judge.specs.Seen.{layouts_by, layouts_known, layouts_seen}
+use Rattle.iol_judge.specs.Taking.{and_then, mode_layout, mode_known, cycle_after, state_after, taken_message}
+use Rattle.iol_judge.specs.Transfers.{isdu_known, is_apart, transfer_after, transfer_in}
+use Rattle.iol_judge.specs.Admitted.{Agrees, Admits, AreShown, One}
 use Rattle.std.proofs.lemmas.Bool.{cond_both}
 use Rattle.iol_octets.specs.Control.{control_of}
 use Rattle.iol_octets.specs.declared.flow_control.Flow.{Flow}
 use Rattle.iol_octets.specs.declared.control.Channel.{Channel}
-use Rattle.iol_octets.specs.declared.control.Channel.TheVariants.{Page, Isdu}
-use Rattle.iol_mseq.specs.Master.{master_fault, message_of}
+use Rattle.iol_octets.specs.declared.control.Channel.TheVariants.{Isdu}
 use Rattle.iol_mseq.specs.declared.master.MasterMsg.{MasterMsg}
 use Rattle.iol_far.specs.declared.kind.Kind.{Kind}
 use Rattle.iol_far.specs.Level.{Link, link_of, taken, taken_by}
@@ -30,8 +31,7 @@ use Rattle.iol_judge.specs.Family.{has_kind, kind_in, all_kinds, has_by, only_by
 use Rattle.iol_judge.specs.State.{State, tells_apart, all_parts, parts, parts_of, state_of}
 use Rattle.iol_judge.specs.Taking as take
 use Rattle.iol_judge.specs.UnderWay.{HasUnderWay}
-use Rattle.iol_judge.proofs.Sets.{bound, One, of_kinds}
-use Rattle.iol_judge.proofs.Shown.{worked_shown}
+use Rattle.iol_judge.proofs.Sets.{bound, of_kinds, worked_shown}
 use Rattle.iol_judge.proofs.Sending.{AllTexts, manner}
 use Rattle.iol_judge.proofs.Transferring.{transfer_worked, alike_after, OneUnderWay, apart_under_way}
 use Rattle.iol_far.specs.declared.kind.HandsOver.{HandsOver}
@@ -48,8 +48,8 @@ pub record Knows (known : Result Layouts Open) (page : List ℕ) : Type 0 where
       → known_mode page asked ≡ found
   pub isdu : IfSome (isdu_known known) (λ there. knows_isdu page ≡ there)
 
-asked_ok : (asked : Result Layouts PageFault) (layouts : Layouts) → asked_for asked ≡ Ok layouts
-    → asked ≡ Ok layouts
+asked_ok : (asked : Result Layouts PageFault) (layouts : Layouts)
+    → result_map_both (λ l. l) (λ fault. PageRefused) asked ≡ Ok layouts → asked ≡ Ok layouts
 asked_ok (Ok l) layouts h = let e : l ≡ layouts = cc in ap Ok e
 asked_ok (Err fault) layouts h = absurd (cc)
 
@@ -72,39 +72,16 @@ seen_layouts seen page layouts agrees h =
 layout_known : (page : List ℕ) (layouts : Layouts) → layouts_of page ≡ Ok layouts
     → (mode : Mode) (layout : Shape) → mode_layout (Ok layouts) mode ≡ Ok layout
     → layout_by mode (layouts_of page) ≡ layout
-layout_known page layouts asks mode layout h = rw asks (split mode h)
-  where
-    split : (mode : Mode) → mode_layout (Ok layouts) mode ≡ Ok layout → layout_by mode (Ok layouts)
-        ≡ layout
-    split Startup h = cc
-    split mode h = cc
+layout_known page layouts asks mode layout h = grind (arith, common_steps)
 
 mode_found : (page : List ℕ) (layouts : Layouts) → IsAskedBy page layouts
     → (asked found : Option Mode) → mode_known (Ok layouts) asked ≡ Ok found
     → known_mode page asked ≡ found
-mode_found page layouts asks (Some Preoperate) found h = split (is_old page) (rw asks.old at h)
-  where
-    split : (old : Bool) → ◌≡◌ {A = Result (Option Mode) Open}
-        (Ok (if not old then Some Preoperate else None)) (Ok found)
-        → (if old then None else Some Preoperate) ≡ found
-    split true h = cc
-    split false h = cc
-mode_found page layouts asks asked found h = cc
+mode_found page layouts asks asked found h = grind (arith, common_steps)
 
 knows_none : (page : List ℕ) (why : Open) → Knows (Err why) page
 unfolding layout_in
-knows_none page why = record { layout = layouts; mode = modes; isdu = tt }
-  where
-    layouts : (mode : Mode) (layout : Shape) → mode_layout (Err why) mode ≡ Ok layout
-        → layout_by mode (layouts_of page) ≡ layout
-    layouts Startup layout h = cc
-    layouts mode layout h = absurd (cc)
-
-    modes : (asked found : Option Mode) → mode_known (Err why) asked ≡ Ok found
-        → known_mode page asked ≡ found
-    modes (Some Preoperate) found h = absurd (cc)
-    modes (Some Operate) found h = absurd (cc)
-    modes asked found h = cc
+knows_none page why = grind (arith, common_steps)
 
 pub knows : PagesAskForLayouts → (seen : List (Option ℕ)) (page : List ℕ) → Agrees seen page
     → Knows (layouts_seen seen) page
@@ -146,49 +123,13 @@ pub record Accepting (far there : Far) (octets : List ℕ) : Type 0 where
 
 accepting_by : (waits : Option WaitingCommand) (far : Far) (octets : List ℕ)
     → (there : Far) × AcceptingBy waits far there octets
-accepting_by None far octets = (
-  far,
-  record {
-    link = refl;
-    page = refl;
-    kind = refl;
-    cycle = refl;
-    events = refl;
-    isdu = λ transfer h. h;
-    awake = refl;
-    accepts = refl;
-  },
-)
+accepting_by None far octets = (far, grind (arith, common_steps))
 accepting_by (Some command) far octets = split (bytes_eq octets command.octets) refl
   where
     split : (b : Bool) → bytes_eq octets command.octets ≡ b
         → (there : Far) × AcceptingBy (Some command) far there octets
-    split true e = (
-      far,
-      record {
-        link = rw e refl;
-        page = refl;
-        kind = refl;
-        cycle = refl;
-        events = refl;
-        isdu = λ transfer h. rw e h;
-        awake = refl;
-        accepts = rw e refl;
-      },
-    )
-    split false e = (
-      moved far command.into,
-      record {
-        link = rw e refl;
-        page = refl;
-        kind = refl;
-        cycle = refl;
-        events = refl;
-        isdu = λ transfer h. rw e refl;
-        awake = refl;
-        accepts = rw e refl;
-      },
-    )
+    split true e = (far, grind (arith, common_steps))
+    split false e = (moved far command.into, grind (arith, common_steps))
 
 pub accepting : (far : Far) (octets : List ℕ) → far.awake ≡ true
     → (there : Far) × Accepting far there octets
@@ -214,13 +155,7 @@ Fits there octets (Some message) (Some found) = (found.message ≡ message)
 cycle_admits : (old : ℕ) (known : Option ℕ) (channel : Channel) (read : Bool) (address octet : ℕ)
     → IfSome known (λ o. old ≡ o) → IfSome (cycle_after known channel read address octet)
     (λ o. cycle_time_after old channel read address octet ≡ o)
-cycle_admits old known Page false address octet h = split (address == 1)
-  where
-    split : (b : Bool) → IfSome (if b then Some octet else known)
-        (λ o. (if b then octet else old) ≡ o)
-    split true = refl
-    split false = h
-cycle_admits old known channel read address octet h = h
+cycle_admits old known channel read address octet h = grind (arith, common_steps)
 
 -- the link once the message was worked
 worked_link : (there : Far) (link : Link) (octets : List ℕ) (asked : Option Mode)
@@ -239,13 +174,7 @@ Moves state kind octets = (kind_in state.kinds ≡ kind)
 pub control_is : (layout : Shape) (octets : List ℕ) (message : MasterMsg)
     → message_in layout octets ≡ Some message → message.mc ≡ control_of (slice_index octets 0)
 unfolding message_in
-control_is layout octets message h = split (is_some (master_fault layout octets)) h
-  where
-    split : (b : Bool) → (if b then None else Some (message_of layout octets)) ≡ Some message
-        → message.mc ≡ control_of (slice_index octets 0)
-    split true h = absurd (cc)
-    split false h = let e : message_of layout octets
-        ≡ message = cc in ap (λ (m : MasterMsg). m.mc) (sym e)
+control_is layout octets message h = grind (arith, common_steps)
 
 -- a transfer that is dropped tells no kinds apart
 quiet_alike : (channel : Channel) (read : Bool) (flow : Flow)
@@ -256,10 +185,7 @@ quiet_alike channel read flow = refl
 in_alike : (waits : Option WaitingCommand) (octets : List ℕ) (transfer : Transfer)
     (channel : Channel) (read : Bool) (flow : Flow) → is_apart transfer channel read flow ≡ false
     → is_apart (transfer_in waits octets transfer) channel read flow ≡ false
-in_alike None octets transfer channel read flow e = e
-in_alike (Some command) octets transfer channel read flow e =
-    cond_both _ _ Quiet (λ (t : Transfer). is_apart t channel read flow ≡ false) (λ same. e)
-    (λ other. quiet_alike _ read flow)
+in_alike waits octets transfer channel read flow e = grind (arith, common_steps, quiet_alike)
 
 -- the events of a device that is awake
 pub shown_awake : (state : State) (far : Far) → far.awake ≡ true → Admits state far
@@ -291,13 +217,7 @@ module _ (known : Result Layouts Open) (far there : Far) (octets : List ℕ) (st
   -- its transfer moves as that of a device of this kind does
   moves_alike : (size : ℕ) (message : MasterMsg) → message.mc ≡ control_of (slice_index octets 0)
       → moved_by there.kind size message ≡ moved_by (kind_in state.kinds) size message
-  moves_alike size message mc = elim moves [
-    | inl is ↦ ap (λ (k : Kind). moved_by k size message) (accepting.by.kind ∙ sym is)
-    | inr same ↦ alike_after there.kind (kind_in state.kinds) (isdu_known known) size
-        its_transfer message.mc.channel message.mc.read
-        (flow_of message.mc.address) message.od.items (in_alike state.link.waits octets
-        state.transfer message.mc.channel message.mc.read (flow_of message.mc.address) (rw mc same))
-  ]
+  moves_alike size message mc = grind (arith, common_steps, alike_after, in_alike)
 
   transfer_after_it : (layout : Shape) (message : MasterMsg)
       → message.mc ≡ control_of (slice_index octets 0) → layout ≡ layout_of there
@@ -313,8 +233,11 @@ module _ (known : Result Layouts Open) (far there : Far) (octets : List ℕ) (st
   fits_asked : (layout : Shape) (message : MasterMsg) (asked : Result (Option Mode) Open)
       → message.mc ≡ control_of (slice_index octets 0)
       → mode_known known (mode_asked (command_in message)) ≡ asked → layout ≡ layout_of there
-      → (found : Option Taken) → taken_asked known its_link state octets layout message asked
-      ≡ Ok found → Fits there octets (Some message) found
+      → (found : Option Taken) → and_then asked (λ mode. Ok (Some (record {
+        kept = state_after known its_link state octets layout message mode;
+        layout = layout;
+        message = message;
+      }))) ≡ Ok found → Fits there octets (Some message) found
   unfolding Fits
   fits_asked layout message (Ok asked) mc e l (Some found) h =
       let is : ◌≡◌ {A = Taken} (record {
@@ -345,7 +268,7 @@ module _ (known : Result Layouts Open) (far there : Far) (octets : List ℕ) (st
   unfolding Fits
   fits_message layout None e l found h = cc
   fits_message layout (Some message) e l found h =
-      fits_asked _ _ _ (control_is _ _ _ e) refl l found h
+      fits_asked layout message _ (control_is layout octets message e) refl l found h
 
   -- a state that stands for the device makes of the octets what it makes of them
   pub state_fits : (found : Option Taken) → take.taken_by known state octets ≡ Ok found
@@ -397,21 +320,12 @@ module _ (far : Far) (sent : List ℕ) (texts : AllTexts) (awake : far.awake ≡
   its_parts kind is [] h = absurd h
   its_parts kind is (transfer ∷ transfers) (inr h) = inr (its_parts kind is transfers h)
   its_parts kind is (transfer ∷ transfers) (inl h) = inl (
-    record {
-      kind = rw is (only_has kind);
-      link = admits.link;
-      cycle = admits.cycle;
-      events = admits.events;
-      isdu = rw awake h;
-    },
+    grind (arith, common_steps, only_has),
     inl (only_in kind ∙ sym is),
   )
 
   kind_parts : (kind : Kind) → far.kind ≡ kind → One (IsPart far sent) (parts_of state kind)
-  kind_parts kind is =
-      let has = rw is at admits.kind in
-      rw has (its_parts kind is (apart state.transfer) (apart_under_way far.kind.hands_over
-      far.counted (layout_of far).od (texts far) state.transfer far.isdu (rw awake at admits.isdu)))
+  kind_parts kind is = grind (arith, common_steps, its_parts, apart_under_way)
 
   abbrev its : HandsOver → Recalls → List State
   its hands_over recalls = parts_of state (kind_of hands_over recalls)

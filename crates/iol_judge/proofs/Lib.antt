@@ -1,7 +1,5 @@
-mod Shown
 mod Sending
 mod Transferring
-mod Alone
 mod Sets
 mod Hearing
 mod Answering

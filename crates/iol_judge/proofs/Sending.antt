@@ -1,8 +1,10 @@
 -- Which segments of an answer were sent, once a device worked a read, and what they say.
+use Rattle.std.proofs.lemmas.Grind.{common_steps}
 use Rattle.std.proofs.Common.{◌≡◌, ℕ, zero, suc, ◌*◌, ◌<◌, ◌≤◌, ⊎_elim, true, List, [], ◌∷◌, length, take, drop, refl, sym, ◌∙◌, ap, arith, replicate, ◌-◌, ◌+◌, ◌++◌, ◌/◌, ◌%◌, Bool, false, Result, Ok, Err, inl, inr, eqb-true}
+use Rattle.std.specs.Bool.{beq}
 use Rattle.std.specs.Prelude.{nat_eq, Option, Some, None, not, ◌&&◌, ◌==◌, nat_le, if◌then◌else◌, slice_index, ◌/◌, nat_lt, IsTrue}
 use Rattle.std.specs.Cmp.Lexicographic.{pointwise}
-use Rattle.std.proofs.lemmas.Bool.{and_from, cases_lt, eq-eqb, and_parts, cond_both, lt-ltb, ltb-true, ltb-false}
+use Rattle.std.proofs.lemmas.Bool.{and_from, cases_lt, eq-eqb, cond_both, ltb-true, ltb-false}
 use Rattle.std.proofs.lemmas.List.{length-append, length-drop, drop_at, drop-append-le, take-append-le, take_all, drop-drop, drop-take}
 use Rattle.std.proofs.Math.Nat.{mul-le-mul_right}
 use Rattle.iol_segment.specs.Cut.{segment, SegmentsHaveSize}
@@ -13,9 +15,9 @@ use Rattle.std.proofs.lemmas.Bool.Decides.{nat_tests}
 use Rattle.iol_isdu.specs.declared.fault.IsduFault.{IsduFault}
 use Rattle.iol_isdu.specs.declared.fault.IsduFault.TheVariants.{BadIsduLength, Truncated}
 use Rattle.iol_isdu.specs.Answers.{answer_accepts, answer_fault, kind_fault, is_read}
-use Rattle.iol_isdu.specs.Frame.{first_of, front_by, text_at, total_at}
+use Rattle.iol_isdu.specs.Frame.{first_of, total_at}
 use Rattle.iol_judge.specs.declared.reason.Reason.TheVariants.{AnswerKind}
-use Rattle.iol_judge.specs.Answers.{is_answered_by, open_fault, same_read, total_begun, is_next, is_open, was_sent}
+use Rattle.iol_judge.specs.Answers.{is_answered_by, open_fault, total_begun, is_next, is_open, was_sent}
 use Rattle.iol_segment.proofs.Growing.{total-bounds, total_at-more}
 use Rattle.iol_segment.proofs.TextLaws.{joined-front, joined-whole}
 use Rattle.iol_judge.specs.Transfers.{longest_answer, answered_read, first_again, further, missed_further, or_ended, sent_again, while_further}
@@ -23,7 +25,7 @@ use Rattle.iol_octets.specs.declared.flow_control.Flow.{Flow}
 use Rattle.iol_octets.specs.declared.flow_control.Flow.TheVariants.{Start, Count}
 use Rattle.iol_isdu.specs.declared.values.Request.{Request}
 use Rattle.iol_isdu.specs.declared.values.Answer.{Answer}
-use Rattle.iol_segment.specs.Join.{Open, Complete, stage}
+use Rattle.iol_segment.specs.Join.{stage}
 use Rattle.iol_far.specs.Isdu.{IsduState, Empty, Answered, answer_text, fits, has_segment, isdu_read, recalled}
 use Rattle.iol_far.specs.declared.kind.Kind.{Kind}
 use Rattle.iol_far.specs.declared.kind.HandsOver.{HandsOver}
@@ -94,10 +96,7 @@ module _ (sized : SegmentsHaveSize) (size : ℕ) (text : List ℕ) where
 
   pub part_of_first : (many i : ℕ) → i < many
       → take size (drop (i * size) (first_ones size text many)) ≡ segment size text i
-  part_of_first many i h =
-      let number : 0 + i ≡ i = omega arith in
-      ap (λ (l : List ℕ). take size (drop (i * size) l)) (first_is_later many)
-      ∙ part_of_later 0 many i h ∙ ap (segment size text) number
+  part_of_first many i h = grind (arith, common_steps, first_is_later, part_of_later)
 
   last_of_joined : (last : ℕ) → drop (last * size) (joined size text last) ≡ segment size text last
   last_of_joined zero =
@@ -143,11 +142,8 @@ both_none : (a b : Option IsduFault) → first_of a b ≡ None → (a ≡ None) 
 both_none None b e = (refl, e)
 both_none (Some fault) b e = absurd (cc)
 
-kind_is : (read other : Bool) → kind_fault read other ≡ None → same_read read other ≡ true
-kind_is true true e = refl
-kind_is false false e = refl
-kind_is true false e = absurd (cc)
-kind_is false true e = absurd (cc)
+kind_is : (read other : Bool) → kind_fault read other ≡ None → beq read other ≡ true
+kind_is read other e = grind (arith, common_steps)
 
 is_accepted : (b : Bool) (fault : IsduFault) (rest : Option IsduFault)
     → (if not b then Some fault else rest) ≡ None → b ≡ true
@@ -158,13 +154,7 @@ is_accepted false fault rest e = absurd (cc)
 pub answered : (read : Bool) (text : List ℕ) → total_at text ≡ Ok (length text) → answer_fault read
     text ≡ None → is_answered_by read (slice_index text 0 / 16) (length text) ≡ true
 answered read text holds accepted =
-    let parts = both_none _ _ accepted in
-    let further = both_none _ _ parts.0 in
-    let whole : text_at text ≡ text = ap (λ (r : Result ℕ IsduFault). front_by r text) holds
-    ∙ take_all _ text (omega arith) in
-    let service : answer_accepts (slice_index text 0 / 16) (length (text_at text)) ≡ true =
-    is_accepted _ _ _ further.1 in
-    and_from _ _ (rw whole at service) (kind_is read _ parts.1)
+    grind (arith, common_steps, both_none, is_accepted, and_from, kind_is)
 
 -- of all long ones the shortest is answered, if any is
 long_accepted : (service total : ℕ) → 17 ≤ total → answer_accepts service total ≡ true
@@ -173,9 +163,7 @@ long_accepted service total long e = grind (arith, nat_tests)
 
 long_answered : (read : Bool) (service total : ℕ) → 17 ≤ total
     → is_answered_by read service total ≡ true → is_answered_by read service 17 ≡ true
-long_answered read service total long e =
-    let parts = and_parts _ _ e in
-    and_from _ _ (long_accepted service total long parts.0) parts.1
+long_answered read service total long e = grind (arith, common_steps, long_accepted)
 
 -- its first octet alone
 first_answered : (read : Bool) (a b n : ℕ) (none long fits : Bool) → (fits ≡ true → 17 ≤ b)
@@ -273,14 +261,7 @@ AllTexts = (device : Far) → AreTexts (layout_of device).od
 
 pub texts_of : ModesHaveLayouts → ((size : ℕ) → 1 ≤ size → TextLaws size)
     → ((size : ℕ) → 1 ≤ size → SegmentLaws size) → SegmentsHaveSize → AllTexts
-texts_of modes texts requests sized device =
-    let some : 1 ≤ (layout_of device).od = (modes device.page device.mode).1 in
-    record {
-      some = some;
-      texts = texts (layout_of device).od some;
-      sized = sized;
-      fitting = (requests (layout_of device).od some).fitting;
-    }
+texts_of modes texts requests sized device = grind (arith, common_steps)
 
 -- a text whose first octet is as an answer's has octets
 pub has_octets : (text : List ℕ) → 2 ≤ slice_index text 0 → 0 < length text
@@ -292,10 +273,7 @@ counted_up : (sent : ℕ) → ((sent % 16 + 1) % 16) ≡ ((sent + 1) % 16)
 counted_up sent = grind (arith, nat_tests)
 
 above_zero : (size : ℕ) → 1 ≤ size → (sent at : ℕ) → at ≡ sent * size → nat_lt 0 at ≡ nat_lt 0 sent
-above_zero size some zero at e =
-    let none : at ≡ 0 = omega arith in ap (λ n. nat_lt 0 n) none
-above_zero size some (suc sent) at e =
-    lt-ltb 0 at (omega (arith, some)) ∙ sym (lt-ltb 0 _ (omega arith))
+above_zero size some sent at e = grind (arith, common_steps)
 
 by_lt : (a b : ℕ) → (b ≤ a → ⊥) → a < b
 by_lt a b never = ⊎_elim (λ lt. lt) (λ le. absurd (never le)) (cases_lt a b)
@@ -309,14 +287,7 @@ below_by size some a b h =
     by_lt a b (λ le. let more : b * size ≤ a * size = mul-le-mul_right size le in omega arith)
 
 pub same_by : (size : ℕ) → 1 ≤ size → (a b : ℕ) → a * size ≡ b * size → a ≡ b
-same_by size some a b h =
-    let le = by_le b a (λ lt. apart b a lt (sym h)) in
-    let ge = by_le a b (λ lt. apart a b lt h) in
-    omega arith
-  where
-    apart : (a b : ℕ) → a < b → a * size ≡ b * size → ⊥
-    apart a b lt h =
-        let more : suc a * size ≤ b * size = mul-le-mul_right size lt in omega (arith, some)
+same_by size some a b h = grind (arith, common_steps, by_le, mul-le-mul_right)
 
 module _ (size : ℕ) (law : AreTexts size) (request : Request) (answer : Answer) (had : Had)
     (sent : ℕ) (read : is_read request ≡ had.read) (fit : IsTrue (fits request answer))
@@ -335,19 +306,7 @@ module _ (size : ℕ) (law : AreTexts size) (request : Request) (answer : Answer
   sent_at : (number at count : ℕ) → number * size < length its_text → at ≡ number * size
       → count ≡ number % 16 → IsAnswered size (record had { at = at; count = count })
       (Answered request answer (Some number))
-  sent_at number at count within e f = (
-    read,
-    fit,
-    record {
-      many = are.many;
-      octets = are.octets;
-      begins = are.begins;
-      ahead = are.ahead;
-      within = within;
-      at = e;
-      count = f;
-    },
-  )
+  sent_at number at count within e f = grind (arith, common_steps)
 
   counts : ((had.count + 1) % 16) ≡ ((sent + 1) % 16)
   counts = let count = are.count in ap (λ c. (c + 1) % 16) count ∙ counted_up sent
@@ -359,21 +318,12 @@ module _ (size : ℕ) (law : AreTexts size) (request : Request) (answer : Answer
   -- there is a next segment where the octets had are no whole text
   open_within : suc sent ≡ are.many → is_open (stage had.text.items) ≡ true
       → (sent + 1) * size < length its_text
-  open_within same e = by_lt _ _ (λ le.
-      let begins = are.within in
-      let most : length its_text ≤ suc sent * size = omega arith in
-      let ended : stage had.text.items ≡ Complete its_text = ap stage (joined_had same)
-      ∙ law.texts.ends its_text sent holds (begins, most) in
-      let no : false ≡ true = sym (ap is_open ended) ∙ e in cc)
+  open_within same e = grind (arith, common_steps, by_lt, joined_had, holds)
 
   -- and none where they are
   closed_within : suc sent ≡ are.many → is_open (stage had.text.items) ≡ false
       → length its_text ≤ (sent + 1) * size
-  closed_within same e = by_le _ _ (λ lt.
-      let before : suc sent * size < length its_text = omega arith in
-      let grows : stage had.text.items ≡ Open =
-      ap stage (joined_had same) ∙ law.texts.grows its_text sent holds before in
-      let no : true ≡ false = sym (ap is_open grows) ∙ e in cc)
+  closed_within same e = grind (arith, common_steps, by_le, joined_had, holds)
 
   -- whether there is a next segment is as the octets had say
   Says : Further → Type 0
@@ -485,15 +435,7 @@ module _ (size : ℕ) (law : AreTexts size) (request : Request) (answer : Answer
     sent_read : (recalls : Recalls) (count : ℕ) (b : Bool)
         → (nat_lt 0 sent && count == sent % 16) ≡ false → (count == (sent + 1) % 16) ≡ b
         → isdu_read size (recalled recalls size its_state) (Count count) ≡ next_if b
-    sent_read UntilLeft count b p q = rw (p, q) refl
-    sent_read UntilSent count b p q = split (has_segment size its_text (sent + 1)) b q refl
-      where
-        split : (h b : Bool) → (count == (sent + 1) % 16) ≡ b → has_segment size its_text (sent + 1)
-            ≡ h → isdu_read size (if h then its_state else Empty) (Count count)
-            ≡ (if (b && h) then Answered request answer (Some (sent + 1)) else Empty)
-        split true b q e = rw (p, q, e) refl
-        split false true q e = refl
-        split false false q e = refl
+    sent_read recalls count b p q = grind (arith, common_steps)
 
     -- a read under COUNT
     pub count_goes : (recalls : Recalls) (count : ℕ)
@@ -549,15 +491,11 @@ stays recalls size state u = refl
 module _ (by : Manner) where
   pub answered_start : (had : Had) (state : IsduState) → IsAnswered by.size had state
       → Holds by (first_again by.kind.recalls by.size had) (read_by by state Start)
-  answered_start had (Answered request answer (Some sent)) h =
-      start_goes by.size by.law request answer had sent h.0 h.1 h.2 _ _ by.kind.recalls
-  answered_start had state h = absurd h
+  answered_start had state h = grind (arith, common_steps, start_goes)
 
   pub answered_count : (had : Had) (state : IsduState) (count : ℕ) → IsAnswered by.size had state
       → Holds by (answered_read by.kind.recalls by.size had count) (read_by by state (Count count))
-  answered_count had (Answered request answer (Some sent)) count h =
-      count_goes by.size by.law request answer had sent h.0 h.1 h.2 _ _ by.kind.recalls count
-  answered_count had state count h = absurd h
+  answered_count had state count h = grind (arith, common_steps, count_goes)
 
   -- or the answer had ended before
   pub still_goes : (transfer : Transfer) (state : IsduState) → Holds by transfer state
@@ -576,14 +514,7 @@ module _ (by : Manner) where
 
   pub had_ended : (had : Had) (count : ℕ)
       → Holds by (or_ended (answered_read by.kind.recalls by.size had count)) Empty
-  had_ended had count = split (was_sent had count) (is_next had count)
-    where
-      split : (was next : Bool) → Holds by (or_ended (if was then sent_again by.kind.recalls by.size
-          had had else if next then while_further (further had (had.at + by.size))
-          (record had { at = had.at + by.size; count = count }) else known.Quiet)) Empty
-      split true next = again_ended _ had had
-      split false true = further_ended _ _
-      split false false = refl
+  had_ended had count = grind (arith, common_steps, again_ended, further_ended)
 
   -- a segment isn't read of a state that has sent none
   pub none_read : (state : IsduState) (count : ℕ) → Unsent state

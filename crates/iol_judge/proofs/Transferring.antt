@@ -1,21 +1,20 @@
 -- What is known of an ISDU transfer holds once a device worked a message.
-use Rattle.std.proofs.Common.{◌≡◌, inl, inr, ℕ, zero, suc, ◌+◌, Bool, true, false, List, length, refl, sym, ap, eqb-true, ◌⊎◌, ◌∙◌, arith, [], ◌∷◌}
-use Rattle.std.proofs.lemmas.Bool.{cond_both}
-use Rattle.std.specs.Prelude.{Option, Some, None, ◌==◌, nat_le, if◌then◌else◌, ◌++◌, IfSome, IsTrue}
+use Rattle.std.proofs.lemmas.Grind.{common_steps}
+use Rattle.std.proofs.Common.{◌≡◌, inl, inr, ℕ, zero, suc, ◌+◌, Bool, true, false, List, refl, ap, ◌⊎◌, ◌∙◌, arith, [], ◌∷◌}
+use Rattle.std.specs.Prelude.{Option, Some, None, ◌==◌, if◌then◌else◌, ◌++◌, IfSome, IsTrue}
 use Rattle.iol_octets.specs.declared.flow_control.Flow.TheVariants.{Start, Count}
 use Rattle.iol_isdu.specs.declared.values.Request.{Request}
-use Rattle.iol_segment.specs.Join.{Stage, Open, Complete, Wrong, stage, next_count, is_last}
-use Rattle.iol_far.specs.Isdu.{IsduState, Empty, Receiving, Whole, Handed, Answered, answer_text, fits, has_segment, isdu_written, isdu_read, recalled, handed_over, written_over, written_by, counted_by}
+use Rattle.iol_segment.specs.Join.{Stage, next_count, is_last}
+use Rattle.iol_far.specs.Isdu.{IsduState, Empty, Receiving, Whole, Handed, Answered, fits, isdu_written, isdu_read, recalled, handed_over, written_over, written_by, counted_by}
 use Rattle.iol_far.specs.Isdu as far
 use Rattle.iol_far.specs.declared.kind.HandsOver.{HandsOver}
 use Rattle.iol_far.specs.declared.kind.HandsOver.TheVariants.{FirstRead, LastSegment}
 use Rattle.iol_far.specs.declared.kind.Recalls.{Recalls}
-use Rattle.iol_far.specs.declared.kind.Recalls.TheVariants.{UntilSent, UntilLeft}
 use Rattle.iol_judge.specs.declared.had.Had.{Had}
 use Rattle.iol_judge.specs.declared.transfer.Transfer.{Transfer}
 use Rattle.iol_judge.specs.declared.transfer.Transfer.TheVariants as known
-use Rattle.iol_judge.specs.declared.transfer.TheConstants.{LONGEST}
-use Rattle.iol_judge.specs.Transfers.{completed, count_written, received, received_at, answered_read, asked_again, count_read, is_quiet, or_ended, start_read, transfer_after, transfer_on, transfer_unknown, whole_read, apart, is_apart, is_apart_at}
+use Rattle.iol_judge.specs.Transfers.{completed, count_written, received, received_at, answered_read, asked_again, count_read, is_quiet, or_ended, start_read, transfer_after, transfer_on, transfer_unknown, whole_read, apart, is_apart}
+use Rattle.iol_judge.specs.Admitted.{One}
 use Rattle.iol_judge.specs.UnderWay.{IsCounted, IsUnderWay, IsHanded, IsAsked, IsAnswered, IsWhole}
 use Rattle.iol_judge.proofs.Sets.{asked_covers}
 use Rattle.iol_octets.specs.declared.control.Channel.{Channel}
@@ -25,74 +24,50 @@ use Rattle.iol_isdu.specs.declared.values.Answer.{Answer}
 use Rattle.iol_isdu.specs.Answers.{is_read}
 use Rattle.iol_far.specs.declared.kind.Kind.{Kind}
 use Rattle.iol_far.specs.Far.{isdu_after, counted_after}
-use Rattle.iol_judge.specs.Answers.{none_had, was_sent}
+use Rattle.iol_judge.specs.Answers.{none_had}
 use Rattle.iol_judge.proofs.Sending.{AreTexts, Holds, Manner, Unsent, again_ended, answered_count, answered_start, had_ended, has_octets, none_read, read_by, stays, still_goes}
 
 -- A write
 
 -- the COUNT of a write that comes again is kept
 counted_again : (last : Option ℕ) (count : ℕ) → is_last last count ≡ true → Some count ≡ last
-counted_again None count e = absurd (cc)
-counted_again (Some c) count e = ap Some (sym (eqb-true c count e))
+counted_again last count e = grind (arith, common_steps)
 
 -- a request that is whole is handed over with its last segment, or stays
 abbrev left_by : HandsOver → IsduState → IsduState
 left_by FirstRead state = state
 left_by LastSegment state = handed_over state
 
-completed_under_way : (by : HandsOver) (counted : Option ℕ) (size : ℕ) (request : Option Request)
-    (last : Option ℕ) → IsCounted by counted last
-    → IsUnderWay by counted size (completed request last) (left_by by (far.completed request last))
-completed_under_way FirstRead counted size (Some request) last e = (refl, refl)
-completed_under_way LastSegment counted size (Some request) last e = (refl, e)
-completed_under_way by counted size request last e = refl
+module _ (by : HandsOver) (counted : Option ℕ) (size : ℕ) where
+  completed_under_way : (request : Option Request) (last : Option ℕ) → IsCounted by counted last
+      → IsUnderWay by counted size (completed request last)
+      (left_by by (far.completed request last))
+  completed_under_way request last e = grind (arith, common_steps)
 
-received_under_way : (by : HandsOver) (counted : Option ℕ) (size : ℕ) (found : Stage)
-    (octets : List ℕ) (last : Option ℕ) → IsCounted by counted last → IsUnderWay by counted size
-    (received_at found octets last) (left_by by (far.received_at found octets last))
-received_under_way by counted size Open octets last e = split by (nat_le (length octets) LONGEST)
-  where
-    split : (by : HandsOver) (b : Bool) → IsUnderWay by counted size (if b then known.Receiving
-        (record { items = octets }) last else known.Free) (left_by by (Receiving octets last))
-    split FirstRead true = refl
-    split LastSegment true = refl
-    split by b = tt
-received_under_way by counted size (Complete text) octets last e =
-    completed_under_way by _ size _ last e
-received_under_way FirstRead counted size Wrong octets last e = refl
-received_under_way LastSegment counted size Wrong octets last e = refl
+  received_under_way : (found : Stage) (octets : List ℕ) (last : Option ℕ)
+      → IsCounted by counted last → IsUnderWay by counted size
+      (received_at found octets last) (left_by by (far.received_at found octets last))
+  received_under_way found octets last e = grind (arith, common_steps, completed_under_way)
 
-start_over : (counted : Option ℕ) (state : IsduState) (octets : List ℕ)
-    → written_over counted state Start octets ≡ handed_over (far.received octets None)
-start_over counted (Answered request answer (Some sent)) octets = refl
-start_over counted state octets = refl
+  -- a text goes on, by a segment under a COUNT
+  goes_on : (text octets : List ℕ) (last : Option ℕ) (count : ℕ) (same next : Bool)
+      → IsCounted by counted (Some count) → IsUnderWay by counted size
+      (if same then known.Receiving (record { items = text }) last else if next then received
+      (text ++ octets) (Some count) else known.Quiet) (left_by by (if same then Receiving text last
+      else if next then far.received (text ++ octets) (Some count) else Empty))
+  goes_on text octets last count same next e = grind (arith, common_steps, received_under_way)
 
--- a text goes on, by a segment under a COUNT
-goes_on : (by : HandsOver) (counted : Option ℕ) (size : ℕ) (text octets : List ℕ) (last : Option ℕ)
-    (count : ℕ) (same next : Bool) → IsCounted by counted (Some count) → IsUnderWay by counted size
-    (if same then known.Receiving (record { items = text }) last else if next then received
-    (text ++ octets) (Some count) else known.Quiet) (left_by by (if same then Receiving text last
-    else if next then far.received (text ++ octets) (Some count) else Empty))
-goes_on by counted size text octets last count false true e =
-    received_under_way by counted size (stage (text ++ octets)) _ _ e
-goes_on FirstRead counted size text octets last count same next e = refl
-goes_on LastSegment counted size text octets last count same next e = refl
+  pub start_under_way : (state : IsduState) (octets : List ℕ)
+      → IsUnderWay by (counted_by by counted Start) size
+      (received octets None) (written_by by counted state Start octets)
+  start_under_way state octets = grind (arith, common_steps)
 
 -- what is left of an answer doesn't matter to a write
 pub recalled_written : (recalls : Recalls) (size : ℕ) (hands_over : HandsOver) (counted : Option ℕ)
     (state : IsduState) (count : ℕ) (octets : List ℕ)
     → written_by hands_over counted (recalled recalls size state) (Count count) octets
     ≡ written_by hands_over counted state (Count count) octets
-recalled_written UntilSent size hands_over counted (Answered request answer (Some sent)) count
-    octets = split hands_over (has_segment size (answer_text request answer) (sent + 1))
-  where
-    split : (by : HandsOver) (b : Bool) → written_by by counted
-        (if b then Answered request answer (Some sent) else Empty) (Count count) octets
-        ≡ written_by by counted (Answered request answer (Some sent)) (Count count) octets
-    split FirstRead true = refl
-    split LastSegment true = refl
-    split by b = refl
-recalled_written recalls size hands_over counted state count octets = refl
+recalled_written recalls size hands_over counted state count octets = grind (arith, common_steps)
 
 -- what a write under its COUNT keeps
 kept_again : (by : HandsOver) (now : Option ℕ) (size : ℕ) (here : Transfer) (state : IsduState)
@@ -100,13 +75,7 @@ kept_again : (by : HandsOver) (now : Option ℕ) (size : ℕ) (here : Transfer) 
     → (is_last last count ≡ true → IsUnderWay by now size here state)
     → IsUnderWay by now size (if is_last last count then here else known.Quiet)
     (if is_last counted count then state else Empty)
-kept_again by now size here state counted last count same keeps =
-    rw same (split (is_last last count) refl)
-  where
-    split : (b : Bool) → is_last last count ≡ b → IsUnderWay by now size
-        (if b then here else known.Quiet) (if b then state else Empty)
-    split true e = keeps e
-    split false e = refl
+kept_again by now size here state counted last count same keeps = grind (arith, common_steps)
 
 module _ (counted : Option ℕ) (size count : ℕ) (octets : List ℕ) where
   -- a write under COUNT leaves nothing of a request that was handed over at the first read
@@ -115,14 +84,10 @@ module _ (counted : Option ℕ) (size count : ℕ) (octets : List ℕ) where
 
   asked_written : (read : Bool) (last : Option ℕ) (state : IsduState)
       → IsAsked FirstRead counted read last state → Writes state
-  asked_written read last (Handed request) h = refl
-  asked_written read last (Answered request answer None) h = refl
-  asked_written read last (Answered request answer (Some sent)) h = refl
-  asked_written read last state h = absurd h
+  asked_written read last state h = grind (arith, common_steps)
 
   answered_written : (had : Had) (state : IsduState) → IsAnswered size had state → Writes state
-  answered_written had (Answered request answer (Some sent)) h = refl
-  answered_written had state h = absurd h
+  answered_written had state h = grind (arith, common_steps)
 
   count_first : (transfer : Transfer) (state : IsduState)
       → IsUnderWay FirstRead counted size transfer state → IsUnderWay FirstRead counted size
@@ -152,26 +117,15 @@ module _ (counted : Option ℕ) (size count : ℕ) (octets : List ℕ) where
   handed_again : (here : Transfer) (read : Bool) (last : Option ℕ) → ((s : IsduState) → IsHanded
       LastSegment (Some count) read last s → IsUnderWay LastSegment (Some count) size here s)
       → (state : IsduState) → IsHanded LastSegment counted read last state → Again here state last
-  handed_again here read last keeps (Handed request) h =
-      kept_again LastSegment (Some count) size here (Handed request) counted last count h.1
-      (λ e. keeps (Handed request) (h.0, counted_again last count e))
-  handed_again here read last keeps (Answered request answer None) h =
-      kept_again LastSegment (Some count) size here (Answered request answer None) counted last
-      count h.2 (λ e. keeps (Answered request answer None) (h.0, h.1, counted_again last count e))
-  handed_again here read last keeps state h = absurd h
+  handed_again here read last keeps state h = grind (arith, common_steps, kept_again, counted_again)
 
   asked_over : (read : Bool) (last : Option ℕ) (state : IsduState)
       → IsAsked LastSegment counted read last state → Again known.Free state last
-  asked_over read last (Answered request answer (Some zero)) h =
-      cond_both (is_last last count) known.Free known.Quiet
-      (λ (t : Transfer). IsUnderWay LastSegment (Some count) size t Empty) (λ e. tt) (λ e. refl)
-  asked_over read last (Answered request answer (Some (suc sent))) h = absurd h
-  asked_over read last state h = handed_again known.Free read last (λ s k. tt) state h
+  asked_over read last state h = grind (arith, common_steps, handed_again)
 
   answered_over : (had : Had) (state : IsduState) → IsAnswered size had state
       → written_over counted state (Count count) octets ≡ Empty
-  answered_over had (Answered request answer (Some sent)) h = refl
-  answered_over had state h = absurd h
+  answered_over had state h = grind (arith, common_steps)
 
   count_last : (transfer : Transfer) (state : IsduState)
       → IsUnderWay LastSegment counted size transfer state
@@ -191,93 +145,51 @@ module _ (counted : Option ℕ) (size count : ℕ) (octets : List ℕ) where
   ]
   count_last known.Free state h = tt
 
-pub start_under_way : (hands_over : HandsOver) (counted : Option ℕ) (size : ℕ) (state : IsduState)
-    (octets : List ℕ) → IsUnderWay hands_over (counted_by hands_over counted Start) size
-    (received octets None) (written_by hands_over counted state Start octets)
-start_under_way FirstRead counted size state octets =
-    received_under_way FirstRead counted size (stage octets) octets None tt
-start_under_way LastSegment counted size state octets = rw (start_over counted state octets)
-    (received_under_way LastSegment None size (stage octets) octets None refl)
-
 pub count_under_way : (hands_over : HandsOver) (counted : Option ℕ) (size : ℕ) (transfer : Transfer)
     (state : IsduState) (count : ℕ) (octets : List ℕ) → IsUnderWay hands_over counted size transfer
     state → IsUnderWay hands_over (counted_by hands_over counted (Count count)) size (count_written
     hands_over transfer count octets) (written_by hands_over counted state (Count count) octets)
-count_under_way FirstRead counted size transfer state count octets h =
-    count_first counted size count octets _ state h
-count_under_way LastSegment counted size transfer state count octets h =
-    count_last counted size count octets _ state h
+count_under_way hands_over counted size transfer state count octets h =
+    grind (arith, common_steps, count_first, count_last)
 
 -- A read under START, and under COUNT
 
 pub none_had_goes : (size : ℕ) → AreTexts size → (read : Bool) (request : Request) (answer : Answer)
     → is_read request ≡ read → IsTrue (fits request answer)
     → IsAnswered size (none_had read) (Answered request answer (Some 0))
-none_had_goes size law read request answer is fit =
-    let filled = has_octets (answer_text request answer)
-    (law.texts.begins (is_read request) answer (law.fitting request answer fit)) in (
-      is,
-      fit,
-      record {
-        many = 0;
-        octets = refl;
-        begins = omega arith;
-        ahead = tt;
-        within = omega arith;
-        at = omega arith;
-        count = refl;
-      },
-    )
+none_had_goes size law read request answer is fit = grind (arith, common_steps, has_octets)
 
 handed_unsent : (hands_over : HandsOver) (counted : Option ℕ) (read : Bool) (last : Option ℕ)
     (state : IsduState) → IsHanded hands_over counted read last state → Unsent state
-handed_unsent hands_over counted read last (Answered request answer (Some sent)) h = absurd h
-handed_unsent hands_over counted read last state h = tt
+handed_unsent hands_over counted read last state h = grind (arith, common_steps)
 
 whole_unsent : (hands_over : HandsOver) (counted : Option ℕ) (read : Bool) (last : Option ℕ)
     (state : IsduState) → IsWhole hands_over counted read last state → Unsent state
-whole_unsent FirstRead counted read last (Answered request answer (Some sent)) h = absurd h
-whole_unsent LastSegment counted read last state h =
-    handed_unsent LastSegment counted read last state h
-whole_unsent hands_over counted read last state h = tt
+whole_unsent hands_over counted read last state h = grind (arith, common_steps, handed_unsent)
 
 asked_start : (hands_over : HandsOver) (counted : Option ℕ) (recalls : Recalls) (size : ℕ)
     (read : Bool) (last : Option ℕ) (state : IsduState) → IsAsked hands_over counted read last state
     → IsUnderWay hands_over counted size (asked_again recalls read last)
     (isdu_read size (recalled recalls size state) Start)
-asked_start hands_over counted UntilSent size read last state h = tt
-asked_start hands_over counted UntilLeft size read last (Handed request) h = h
-asked_start hands_over counted UntilLeft size read last (Answered request answer None) h =
-    (h.0, h.1)
-asked_start hands_over counted UntilLeft size read last (Answered request answer (Some zero)) h = h
-asked_start hands_over counted recalls size read last state h = absurd h
+asked_start hands_over counted recalls size read last state h = grind (arith, common_steps)
 
 module _ (by : Manner) where
   handed_start : (hands_over : HandsOver) (read : Bool) (last : Option ℕ) (state : IsduState)
       → IsHanded hands_over by.counted read last state
       → IsUnderWay hands_over by.counted by.size (known.Asked read last) (read_by by state Start)
-  handed_start hands_over read last (Handed request) h = rw (stays _ _ _ tt) h
-  handed_start hands_over read last (Answered request answer None) h =
-      rw (stays _ _ _ tt) (h.0, h.1)
-  handed_start hands_over read last state h = absurd h
+  handed_start hands_over read last state h = grind (arith, common_steps)
 
   whole_start : (hands_over : HandsOver) (read : Bool) (last : Option ℕ) (state : IsduState)
       → IsWhole hands_over by.counted read last state → IsUnderWay hands_over by.counted by.size
       (whole_read hands_over read last) (read_by by state Start)
-  whole_start FirstRead read last (Whole request a) h =
-      rw (stays _ _ (Whole request a) tt) (h.0, tt)
-  whole_start LastSegment read last state h = handed_start LastSegment read last state h
-  whole_start hands_over read last state h = absurd h
+  whole_start hands_over read last state h = grind (arith, common_steps, handed_start)
 
   -- of an answer that may have ended before
   perhaps_goes : (transfer : Transfer) (flow : Flow) (had : Had) (state : IsduState)
       → Holds by (or_ended transfer) Empty → isdu_read by.size Empty flow ≡ Empty
       → (IsAnswered by.size had state → Holds by transfer (read_by by state flow)) → IsAnswered
       by.size had state ⊎ (state ≡ Empty) → Holds by (or_ended transfer) (read_by by state flow)
-  perhaps_goes transfer flow had state ended empty goes h = elim h [
-    | inl is ↦ still_goes by _ _ (goes is)
-    | inr none ↦ rw (none, stays _ _ Empty tt, empty) ended
-  ]
+  perhaps_goes transfer flow had state ended empty goes h = grind (arith, common_steps, still_goes)
 
   asked_count : (read : Bool) (last : Option ℕ) (state : IsduState) (count : ℕ)
       → IsAsked by.kind.hands_over by.counted read last state
@@ -331,18 +243,11 @@ IsOther flow = Unit {0}
 -- other writes leave nothing
 other_written : (hands_over : HandsOver) (counted : Option ℕ) (state : IsduState) (flow : Flow)
     (octets : List ℕ) → IsOther flow → written_by hands_over counted state flow octets ≡ Empty
-other_written hands_over counted state Start octets other = absurd other
-other_written hands_over counted state (Count count) octets other = absurd other
-other_written FirstRead counted Empty flow octets other = refl
-other_written LastSegment counted (Answered request answer None) flow octets other = refl
-other_written hands_over counted state flow octets other = refl
+other_written hands_over counted state flow octets other = grind (arith, common_steps)
 
 other_read : (size : ℕ) (state : IsduState) (flow : Flow) → IsOther flow
     → isdu_read size state flow ≡ Empty
-other_read size state Start other = absurd other
-other_read size state (Count count) other = absurd other
-other_read size (Answered request answer None) flow other = refl
-other_read size state flow other = refl
+other_read size state flow other = grind (arith, common_steps)
 
 abbrev IsNoStart : Bool → Flow → Type 0
 IsNoStart false Start = ⊥
@@ -381,40 +286,19 @@ module _ (by : Manner) where
   -- of nothing comes nothing, but by a START write
   still_empty : (knows read : Bool) (flow : Flow) (octets : List ℕ) → IsNoStart read flow
       → after knows Empty read flow octets ≡ Empty
-  still_empty false read flow octets other = refl
-  still_empty true true Start octets other = rw (stays by.kind.recalls by.size Empty tt) refl
-  still_empty true true (Count count) octets other = none_read by Empty count tt
-  still_empty true false Start octets other = absurd other
-  still_empty true false (Count count) octets other =
-      recalled_written _ _ by.kind.hands_over _ Empty count octets ∙ none by.kind.hands_over
-    where
-      none : (hands_over : HandsOver) → written_by hands_over by.counted Empty (Count count) octets
-          ≡ Empty
-      none FirstRead = refl
-      none LastSegment = refl
-  still_empty true read flow octets other = other_worked Empty read flow octets tt
+  still_empty knows read flow octets other =
+      grind (arith, common_steps, none_read, recalled_written, other_worked)
 
   perhaps : (knows : Bool) (transfer : Transfer) (state : IsduState) (read : Bool) (flow : Flow)
       (octets : List ℕ) → IsNoStart read flow → Holds by transfer state
       → Works knows (if is_quiet transfer then known.Quiet else known.Free) state read flow octets
-  perhaps knows known.Quiet state read flow octets other h =
-      rw h (still_empty knows read flow _ other)
-  perhaps knows transfer state read flow octets other h = tt
+  perhaps knows transfer state read flow octets other h = grind (arith, common_steps, still_empty)
 
   unknown_worked : (knows : Bool) (transfer : Transfer) (state : IsduState) (read : Bool)
       (flow : Flow) (octets : List ℕ) → Holds by transfer state
       → Works knows (transfer_unknown transfer read flow) state read flow octets
-  unknown_worked knows transfer state false Start octets h = tt
-  unknown_worked knows transfer state true Start octets h =
-      perhaps knows transfer state true Start octets tt h
-  unknown_worked knows transfer state read (Count count) octets h =
-      perhaps knows transfer state read (Count count) octets (counts read) h
-    where
-      counts : (read : Bool) → IsNoStart read (Count count)
-      counts true = tt
-      counts false = tt
-  unknown_worked false transfer state read flow octets h = refl
-  unknown_worked true transfer state read flow octets h = other_worked state read flow octets tt
+  unknown_worked knows transfer state read flow octets h =
+      grind (arith, common_steps, perhaps, other_worked)
 
   pub transfer_worked : (isdu : Option Bool) (knows : Bool) → IfSome isdu (λ b. knows ≡ b)
       → (transfer : Transfer) (state : IsduState) (channel : Channel) (read : Bool) (flow : Flow)
@@ -431,58 +315,17 @@ module _ (by : Manner) where
 
 -- Where a message tells no kinds of device apart, all do the same; and else one of the parts holds
 
-last_first : (transfer : Transfer) (count : ℕ) (octets : List ℕ)
-    → is_apart_at transfer false (Count count) ≡ false → count_written LastSegment transfer count
-    octets ≡ count_written FirstRead transfer count octets
-last_first (known.Handed read last) count octets e = rw e refl
-last_first (known.Asked read last) count octets e = rw e refl
-last_first transfer count octets e = refl
-
-alike_written : (a b : HandsOver) (transfer : Transfer) (count : ℕ) (octets : List ℕ)
-    → is_apart_at transfer false (Count count) ≡ false
-    → count_written a transfer count octets ≡ count_written b transfer count octets
-alike_written FirstRead FirstRead transfer count octets e = refl
-alike_written LastSegment LastSegment transfer count octets e = refl
-alike_written FirstRead LastSegment transfer count octets e = sym (last_first _ count _ e)
-alike_written LastSegment FirstRead transfer count octets e = last_first _ count _ e
-
-alike_start : (a b : Kind) (size : ℕ) (transfer : Transfer) → is_apart_at transfer true Start
-    ≡ false → start_read a size transfer ≡ start_read b size transfer
-alike_start a b size (known.Whole read last) e = absurd (cc)
-alike_start a b size (known.Asked read last) e = absurd (cc)
-alike_start a b size (known.Answered had) e = absurd (cc)
-alike_start a b size (known.Perhaps had) e = absurd (cc)
-alike_start a b size transfer e = refl
-
-alike_answered : (a b : Recalls) (size : ℕ) (had : Had) (count : ℕ) → was_sent had count ≡ false
-    → answered_read a size had count ≡ answered_read b size had count
-alike_answered a b size had count e = rw e refl
-
-alike_read : (a b : Recalls) (size : ℕ) (transfer : Transfer) (count : ℕ) → is_apart_at transfer
-    true (Count count) ≡ false → count_read a size transfer count ≡ count_read b size transfer count
-alike_read a b size (known.Asked read last) count e =
-    ap or_ended (alike_answered a b size (none_had read) count refl)
-alike_read a b size (known.Answered had) count e = alike_answered a b size had count e
-alike_read a b size (known.Perhaps had) count e = ap or_ended (alike_answered a b size had count e)
-alike_read a b size transfer count e = refl
-
 pub alike_after : (a b : Kind) (isdu : Option Bool) (size : ℕ) (transfer : Transfer)
     (channel : Channel) (read : Bool) (flow : Flow) (octets : List ℕ)
     → is_apart transfer channel read flow ≡ false → transfer_after a isdu size transfer channel read
     flow octets ≡ transfer_after b isdu size transfer channel read flow octets
-alike_after a b (Some true) size transfer Isdu false (Count count) octets e =
-    alike_written a.hands_over b.hands_over transfer count octets e
-alike_after a b (Some true) size transfer Isdu true Start octets e = alike_start a b size transfer e
-alike_after a b (Some true) size transfer Isdu true (Count count) octets e =
-    alike_read a.recalls b.recalls size transfer count e
-alike_after a b isdu size transfer channel read flow octets e = refl
+alike_after a b isdu size transfer channel read flow octets e = grind (arith, common_steps)
 
 -- What a transfer is told apart into holds of one of the parts
 
 abbrev pub OneUnderWay : HandsOver → Option ℕ → ℕ → List Transfer → IsduState → Type 0
-OneUnderWay hands_over counted size [] state = ⊥
-OneUnderWay hands_over counted size (transfer ∷ transfers) state = IsUnderWay hands_over counted
-    size transfer state ⊎ OneUnderWay hands_over counted size transfers state
+OneUnderWay hands_over counted size transfers state =
+    One (λ transfer. IsUnderWay hands_over counted size transfer state) transfers
 
 module _ (hands_over : HandsOver) (counted : Option ℕ) (size : ℕ) (law : AreTexts size) where
   asked_apart : (read : Bool) (last : Option ℕ) (state : IsduState)

@@ -60,17 +60,16 @@ pub record Admits (state : State) (far : Far) : Type 0 where
   pub events : AreShown (if far.awake then state.events else Fresh) far.events
   pub isdu : HasUnderWay far (if far.awake then state.transfer else Quiet)
 
--- one of the states stands for it
-abbrev pub AdmitsOne : List State → Far → Type 0
-AdmitsOne [] far = ⊥
-AdmitsOne (state ∷ states) far = Admits state far ⊎ AdmitsOne states far
+-- so it is of one of them
+abbrev pub One : {S : Type 0} → (S → Type 0) → List S → Type 0
+One Q [] = ⊥
+One Q (item ∷ items) = Q item ⊎ One Q items
 
--- a device is among those that a verdict leaves possible
+-- a device is among those that a verdict leaves possible: one of the states stands for it
 abbrev pub IsPossible : Verdict → List State → Far → Type 0
-IsPossible Unjudged states far = Unit {0}
-IsPossible Honest states far = AdmitsOne states far
+IsPossible Honest states far = One (λ state. Admits state far) states
 IsPossible (NotHonest exchange reason) states far = ⊥
-IsPossible (CantSay exchange why) states far = Unit {0}
+IsPossible verdict states far = Unit {0}
 
 -- the judge says nothing against the device, and found nothing odd
 pub record IsFair (judged : Judged) (far : Far) : Type 0 where

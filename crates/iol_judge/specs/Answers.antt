@@ -1,7 +1,8 @@
 -- What is known of an answer, once a segment was sent.
-use Rattle.std.specs.Prelude.{ℕ, ◌+◌, ◌-◌, ◌/◌, ◌%◌, Bool, true, false, ◌&&◌, ◌||◌, ◌==◌, nat_eq, nat_lt, nat_le, bytes_eq, if◌then◌else◌, List, [], ◌++◌, length, drop, slice_index, Option, Some, None, is_some, Result, Ok, Err}
+use Rattle.std.specs.Bool.{beq}
+use Rattle.std.specs.Prelude.{ℕ, ◌+◌, ◌-◌, ◌/◌, ◌%◌, Bool, true, false, ◌&&◌, ◌||◌, ◌==◌, nat_eq, nat_lt, nat_le, bytes_eq, if◌then◌else◌, List, [], ◌++◌, length, drop, slice_index, Option, Some, None, is_some, option_and_then, Result, Ok, Err}
 use Rattle.std.specs.List.{starts_with}
-use Rattle.std.specs.Option.{option_or}
+use Rattle.std.specs.Option.{option_eq, option_or}
 use Rattle.iol_isdu.specs.Answers.{answer_accepts, answer_fault, answers_read}
 use Rattle.iol_isdu.specs.Frame.{total_at}
 use Rattle.iol_isdu.specs.declared.fault.IsduFault.{IsduFault}
@@ -22,22 +23,12 @@ first_had read od =
 abbrev pub none_had : Bool → Had
 none_had read = first_had read []
 
-abbrev pub same_read : Bool → Bool → Bool
-same_read true true = true
-same_read false false = true
-same_read a b = false
-
 abbrev pub is_ahead : Ahead → Ahead → Bool
 is_ahead a b = a.at == b.at && bytes_eq a.octets.items b.octets.items
 
-abbrev pub same_ahead : Option Ahead → Option Ahead → Bool
-same_ahead None None = true
-same_ahead (Some a) (Some b) = is_ahead a b
-same_ahead a b = false
-
 abbrev pub same_had : Had → Had → Bool
-same_had a b = same_read a.read b.read && bytes_eq a.text.items b.text.items && a.at == b.at
-    && a.count == b.count && same_ahead a.ahead b.ahead
+same_had a b = beq a.read b.read && bytes_eq a.text.items b.text.items && a.at == b.at
+    && a.count == b.count && option_eq is_ahead a.ahead b.ahead
 
 -- the segment sent last, behind the first, has this COUNT
 -- DEV-13
@@ -51,8 +42,7 @@ is_next had count = count == (had.count + 1) % 16
 
 abbrev pub is_open : Stage → Bool
 is_open Open = true
-is_open (Complete text) = false
-is_open Wrong = false
+is_open found = false
 
 -- busy: 01 and zeros
 -- ISDU-11
@@ -79,7 +69,7 @@ whole_fault read text rest =
 -- ISDU-4, ISDU-8
 abbrev pub is_answered_by : Bool → ℕ → ℕ → Bool
 is_answered_by read service total =
-    answer_accepts service total && same_read read (answers_read service)
+    answer_accepts service total && beq read (answers_read service)
 
 -- the total length, the least of the long ones before it came
 -- ISDU-2
@@ -117,15 +107,12 @@ place_in ahead at =
     if nat_le ahead.at at && nat_lt (at - ahead.at) (length ahead.octets.items)
     then Some (at - ahead.at) else None
 
-abbrev pub again_fault : Ahead → Option ℕ → List ℕ → Option Reason
-again_fault ahead None od = None
-again_fault ahead (Some place) od = same_fault (drop place ahead.octets.items) od
-
 -- why the segment at a place can't have these, where it was had behind one that wasn't
 -- DEV-13
 abbrev pub ahead_fault : Option Ahead → ℕ → List ℕ → Option Reason
 ahead_fault None at od = None
-ahead_fault (Some ahead) at od = again_fault ahead (place_in ahead at) od
+ahead_fault (Some ahead) at od =
+    option_and_then (λ place. same_fault (drop place ahead.octets.items) od) (place_in ahead at)
 
 -- why an answer of this total length can't have these octets at a place
 -- SEG-1

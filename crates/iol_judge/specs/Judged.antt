@@ -1,6 +1,7 @@
 -- The judge: the states of a device that a capture so far admits, and the verdict.
 use Rattle.std.specs.Prelude.{ℕ, ◌+◌, ◌-◌, ◌^◌, min, Bool, true, not, ◌==◌, if◌then◌else◌, List, [], ◌∷◌, ◌++◌, length, filter, slice_index, Option, Some, None, Result, Ok, Err}
 use Rattle.std.specs.List.{list_any}
+use Rattle.std.specs.Result.{result_and}
 use Rattle.iol_octets.specs.Control.{control_of}
 use Rattle.iol_octets.specs.declared.control.Mc.{Mc}
 use Rattle.iol_octets.specs.declared.control.Channel.{Channel}
@@ -25,7 +26,7 @@ use Rattle.iol_judge.specs.Family.{all_kinds, both_kinds, no_kinds}
 use Rattle.iol_judge.specs.Numbers.{later}
 use Rattle.iol_judge.specs.Seen.{nothing_seen, layouts_seen, page_noted}
 use Rattle.iol_judge.specs.State.{State, are_alike, first_state, parts, woken_state, powered_state, covers}
-use Rattle.iol_judge.specs.Taking.{taken_by}
+use Rattle.iol_judge.specs.Taking.{and_then, taken_by}
 use Rattle.iol_judge.specs.Replies.{is_readable, explained}
 
 pub record Judged : Type 0 where
@@ -88,89 +89,57 @@ added states state =
 abbrev pub each_in_turn : {S A : Type 0} → (A → S → Result A Open) → A → List S → Result A Open
 each_in_turn step next [] = Ok next
 each_in_turn step next (item ∷ items) =
-    elim (step next item) [ Ok more ↦ each_in_turn step more items | Err why ↦ Err why ]
+    and_then (step next item) (λ more. each_in_turn step more items)
 
 -- a call that gives nothing but its error, with what it wrote
 abbrev pub result_with : {U A : Type 0} → Result U Open → A → Result A Open
-result_with (Ok done) written = Ok written
-result_with (Err why) written = Err why
+result_with result written = result_and result (Ok written)
 
 -- Without a reply that can be read
 
-abbrev pub added_taken : Result (Option Taken) Open → List State → Result (List State) Open
-added_taken (Ok None) next = Ok next
-added_taken (Ok (Some taken)) next = added next taken.kept
-added_taken (Err why) next = Err why
+abbrev pub added_taken : List State → Option Taken → Result (List State) Open
+added_taken next None = Ok next
+added_taken next (Some taken) = added next taken.kept
 
 -- with the message worked, for the reply may be lost
 abbrev pub lost_part : Result Layouts Open → List ℕ → List State → State
     → Result (List State) Open
-lost_part known sent next part = added_taken (taken_by known part sent) next
-
-abbrev pub all_lost_parts : Result Layouts Open → List ℕ → List State → List State
-    → Result (List State) Open
-all_lost_parts known sent next parts = each_in_turn (lost_part known sent) next parts
-
-abbrev pub lost_with : Result Layouts Open → List ℕ → List State → Result (List State) Open
-    → Result (List State) Open
-lost_with known sent parts (Ok next) = all_lost_parts known sent next parts
-lost_with known sent parts (Err why) = Err why
+lost_part known sent next part = and_then (taken_by known part sent) (added_taken next)
 
 -- a state as it was, for the message may be lost, and with the message worked
 -- WIRE-1
 abbrev pub lost_into : Result Layouts Open → List ℕ → List State → State
     → Result (List State) Open
-lost_into known sent next state = lost_with known sent (parts state sent) (added next state)
-
-abbrev pub all_lost : Result Layouts Open → List ℕ → List State → List State
-    → Result (List State) Open
-all_lost known sent next states = each_in_turn (lost_into known sent) next states
+lost_into known sent next state = and_then (added next state)
+    (λ more. each_in_turn (lost_part known sent) more (parts state sent))
 
 -- With one
-
-abbrev pub next_states : Next → Result (List State) Open → Result Next Open
-next_states next (Ok states) = Ok (record next { states = record { items = states } })
-next_states next (Err why) = Err why
 
 -- what is odd for each of the states that explain the reply: these did, and one more does
 abbrev pub odd_for_all : List State → Option Reason → Option Reason → Option Reason
 odd_for_all [] old oddity = oddity
-odd_for_all (state ∷ states) old None = None
-odd_for_all (state ∷ states) old (Some reason) = old
+odd_for_all states old None = None
+odd_for_all states old oddity = old
 
 abbrev pub explained_into : Next → Explained → Result Next Open
-explained_into next (By state oddity) = next_states
-    (record next { oddity = odd_for_all next.states.items next.oddity oddity })
-    (added next.states.items state)
+explained_into next (By state oddity) = and_then (added next.states.items state) (λ states. Ok
+    (record next {
+      states = record { items = states };
+      oddity = odd_for_all next.states.items next.oddity oddity;
+    }))
 explained_into next (Not reason) = Ok (record next { reason = later next.reason reason })
-
-abbrev pub replied_taken : Odd → List (Option ℕ) → List ℕ → Next → Result (Option Taken) Open
-    → Result Next Open
-replied_taken odd seen reply next (Ok taken) =
-    explained_into next (explained odd seen taken reply)
-replied_taken odd seen reply next (Err why) = Err why
 
 abbrev pub replied_part : Result Layouts Open → Odd → List (Option ℕ) → List ℕ → List ℕ → Next
     → State → Result Next Open
-replied_part known odd seen sent reply next part =
-    replied_taken odd seen reply next (taken_by known part sent)
-
-abbrev pub all_replied_parts : Result Layouts Open → Odd → List (Option ℕ) → List ℕ → List ℕ
-    → Next → List State → Result Next Open
-all_replied_parts known odd seen sent reply next parts =
-    each_in_turn (replied_part known odd seen sent reply) next parts
-
-abbrev pub replied_into : Result Layouts Open → Odd → List (Option ℕ) → List ℕ → List ℕ → Next
-    → State → Result Next Open
-replied_into known odd seen sent reply next state =
-    all_replied_parts known odd seen sent reply next (parts state sent)
+replied_part known odd seen sent reply next part = and_then (taken_by known part sent)
+    (λ taken. explained_into next (explained odd seen taken reply))
 
 -- each state that explains the reply
 -- WIRE-2
-abbrev pub all_replied : Result Layouts Open → Odd → List (Option ℕ) → List ℕ → List ℕ → Next
-    → List State → Result Next Open
-all_replied known odd seen sent reply next states =
-    each_in_turn (replied_into known odd seen sent reply) next states
+abbrev pub replied_into : Result Layouts Open → Odd → List (Option ℕ) → List ℕ → List ℕ → Next
+    → State → Result Next Open
+replied_into known odd seen sent reply next state =
+    each_in_turn (replied_part known odd seen sent reply) next (parts state sent)
 
 -- An exchange
 
@@ -196,15 +165,13 @@ with_oddity judged (Some reason) =
     record judged { oddity = Some reason; oddities = one_more judged.oddities }
 
 -- where no state is left, none explains the reply
-abbrev pub concluded_with : Judged → List ℕ → List ℕ → Next → List State → Judged
-concluded_with judged sent reply next [] =
-    record judged { verdict = NotHonest judged.exchanges next.reason }
-concluded_with judged sent reply next (state ∷ states) = with_oddity
-    (record judged { seen = noted judged.seen sent reply; states = state ∷ states }) next.oddity
-
 abbrev pub concluded_replied : Judged → List ℕ → List ℕ → Result Next Open → Judged
-concluded_replied judged sent reply (Ok next) =
-    concluded_with judged sent reply next next.states.items
+concluded_replied judged sent reply (Ok next) = elim next.states.items [
+  | [] ↦ record judged { verdict = NotHonest judged.exchanges next.reason }
+  | states ↦
+      with_oddity (record judged { seen = noted judged.seen sent reply; states = states })
+      next.oddity
+]
 concluded_replied judged sent reply (Err why) =
     record judged { verdict = CantSay judged.exchanges why }
 
@@ -212,30 +179,28 @@ abbrev pub no_next : Next
 no_next = record { states = record { items = [] }; reason = NotTaken; oddity = None }
 
 abbrev pub unanswered : Judged → List ℕ → Judged
-unanswered judged sent =
-    concluded_lost judged (all_lost (layouts_seen judged.seen) sent [] judged.states)
+unanswered judged sent = concluded_lost judged
+    (each_in_turn (lost_into (layouts_seen judged.seen) sent) [] judged.states)
 
 abbrev pub replied : Judged → List ℕ → List ℕ → Judged
-replied judged sent reply = concluded_replied judged sent reply
-    (all_replied (layouts_seen judged.seen) judged.odd judged.seen sent reply no_next
-    judged.states)
+replied judged sent reply = concluded_replied judged sent reply (each_in_turn
+    (replied_into (layouts_seen judged.seen) judged.odd judged.seen sent reply)
+    no_next judged.states)
 
 abbrev pub answered : Judged → List ℕ → Option (List ℕ) → Judged
 answered judged sent None = unanswered judged sent
 answered judged sent (Some reply) =
     if is_readable sent reply then replied judged sent reply else unanswered judged sent
 
-abbrev pub counted : Judged → Judged
-counted judged = record judged { exchanges = one_more judged.exchanges; oddity = None }
-
-abbrev pub judged_by : Verdict → Judged → List ℕ → Option (List ℕ) → Judged
-judged_by Honest judged sent answer = answered judged sent answer
-judged_by verdict judged sent answer = judged
-
 -- the judge, told an exchange
 -- WIRE-1, WIRE-2
 abbrev pub exchanged : Judged → List ℕ → Option (List ℕ) → Judged
-exchanged judged sent answer = judged_by judged.verdict (counted judged) sent answer
+exchanged judged sent answer =
+    let counted = record judged { exchanges = one_more judged.exchanges; oddity = None } in
+    elim judged.verdict [
+      | Honest ↦ answered counted sent answer
+      | _ ↦ counted
+    ]
 
 -- A wake-up request
 
@@ -249,19 +214,17 @@ woken_states Unanswered state = state ∷ woken_state state ∷ powered_state st
 abbrev pub woken_into : Wake → List State → State → Result (List State) Open
 woken_into wake next state = each_in_turn added next (woken_states wake state)
 
-abbrev pub all_woken : Wake → List State → List State → Result (List State) Open
-all_woken wake next states = each_in_turn (woken_into wake) next states
-
-abbrev pub woke_by : Verdict → Judged → Wake → Judged
-woke_by Unjudged judged Answered =
-    record judged { states = first_state ∷ []; verdict = Honest }
-woke_by Honest judged wake = concluded_lost judged (all_woken wake [] judged.states)
-woke_by verdict judged wake = judged
-
 -- the judge, told a wake-up request
 -- DEV-1, WIRE-3
 abbrev pub woke : Judged → Wake → Judged
-woke judged wake = woke_by judged.verdict judged wake
+woke judged wake = elim judged.verdict [
+  | Unjudged ↦ elim wake [
+    | Answered ↦ record judged { states = first_state ∷ []; verdict = Honest }
+    | Unanswered ↦ judged
+  ]
+  | Honest ↦ concluded_lost judged (each_in_turn (woken_into wake) [] judged.states)
+  | _ ↦ judged
+]
 
 -- Kinds
 
@@ -270,14 +233,11 @@ abbrev pub kinds_with : Kinds → List State → Kinds
 kinds_with kinds [] = kinds
 kinds_with kinds (state ∷ states) = kinds_with (both_kinds kinds state.kinds) states
 
--- those that a verdict leaves possible
--- DEV-20
-abbrev pub kinds_by : Verdict → List State → Kinds
-kinds_by Honest states = kinds_with no_kinds states
-kinds_by (NotHonest exchange reason) states = no_kinds
-kinds_by verdict states = all_kinds
-
 -- those that the exchanges so far admit
 -- DEV-20
 abbrev pub kinds_left : Judged → Kinds
-kinds_left judged = kinds_by judged.verdict judged.states
+kinds_left judged = elim judged.verdict [
+  | Honest ↦ kinds_with no_kinds judged.states
+  | NotHonest exchange reason ↦ no_kinds
+  | _ ↦ all_kinds
+]

@@ -1,15 +1,14 @@
 -- Octets that may be known, and zeros.
-use Rattle.std.specs.Prelude.{ℕ, Bool, true, false, not, ◌==◌, List, Option, Some, None}
+use Rattle.std.specs.Prelude.{ℕ, Bool, false, not, ◌||◌, ◌==◌, nat_eq, List, Option, Some, None, is_none}
 use Rattle.std.specs.List.{list_all}
+use Rattle.std.specs.Option.{option_eq}
 
 abbrev pub are_zeros : List ℕ → Bool
 are_zeros octets = list_all (λ octet. octet == 0) octets
 
 -- what is known in the first is known in the second
 abbrev pub is_known_in : Option ℕ → Option ℕ → Bool
-is_known_in None known = true
-is_known_in (Some a) (Some b) = a == b
-is_known_in (Some a) None = false
+is_known_in a b = is_none a || option_eq nat_eq a b
 
 -- another octet is known
 abbrev pub is_other : Option ℕ → ℕ → Bool

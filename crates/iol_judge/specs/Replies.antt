@@ -1,5 +1,5 @@
 -- Which replies a device in a kept state may have sent.
-use Rattle.std.specs.Prelude.{ℕ, ◌+◌, ◌-◌, min, Bool, true, false, ◌&&◌, ◌||◌, ◌==◌, nat_le, if◌then◌else◌, List, length, drop, slice_index, Option, Some, None, is_some, Result, Ok, Err}
+use Rattle.std.specs.Prelude.{ℕ, ◌+◌, ◌-◌, min, Bool, true, false, ◌&&◌, ◌||◌, ◌==◌, nat_le, if◌then◌else◌, List, length, drop, slice_index, Option, Some, None, is_some, Ok, Err}
 use Rattle.std.specs.Option.{option_or}
 use Rattle.iol_octets.specs.declared.control.Channel.{Channel}
 use Rattle.iol_octets.specs.declared.control.Channel.TheVariants.{Process, Page, Diagnosis, Isdu}
@@ -7,7 +7,6 @@ use Rattle.iol_octets.specs.declared.control.Mc.{Mc}
 use Rattle.iol_mseq.specs.Shape.{Shape, operate_shape}
 use Rattle.iol_mseq.specs.Master.{master_in}
 use Rattle.iol_mseq.specs.Replies.{reply_in}
-use Rattle.iol_mseq.specs.declared.fault.MseqFault.{MseqFault}
 use Rattle.iol_mseq.specs.declared.master.MasterMsg.{MasterMsg}
 use Rattle.iol_mseq.specs.declared.reply.Reply.{Reply}
 use Rattle.iol_judge.specs.declared.reason.Reason.{Reason}
@@ -22,32 +21,29 @@ use Rattle.iol_judge.specs.declared.events.Shown.{Shown}
 use Rattle.iol_judge.specs.Octets.{are_zeros, is_other}
 use Rattle.iol_judge.specs.Transfers.{isdu_fault, transfer_told}
 use Rattle.iol_judge.specs.Events.{flag_fault, flag_told, events_fault, events_told}
-use Rattle.iol_judge.specs.Seen.{octet_seen}
+use Rattle.iol_judge.specs.Seen.{is_of_page, octet_seen}
 use Rattle.iol_judge.specs.State.{State}
 
 -- Which can be read
 
-abbrev pub is_read_as : Shape → List ℕ → Option MasterMsg → Bool
-is_read_as layout reply None = false
-is_read_as layout reply (Some message) = is_some (reply_in layout message.mc.read reply)
-
 -- what was sent is a message in this layout, and the reply a good one to it
 abbrev pub is_read_in : Shape → List ℕ → List ℕ → Bool
-is_read_in layout sent reply = is_read_as layout reply (master_in layout sent)
-
-abbrev pub is_read_by : Result Shape MseqFault → List ℕ → List ℕ → Bool
-is_read_by (Ok layout) sent reply = is_read_in layout sent reply
-is_read_by (Err fault) sent reply = false
+is_read_in layout sent reply = elim (master_in layout sent) [
+  | None ↦ false
+  | Some message ↦ is_some (reply_in layout message.mc.read reply)
+]
 
 -- in the layout of OPERATE with this code, which has so many octets of on-request data: the
 -- lengths of both say how many octets of process data there are
 abbrev pub is_read_with : ℕ → ℕ → List ℕ → List ℕ → Bool
 is_read_with code size sent reply =
     let read = nat_le 128 (slice_index sent 0) in
-    is_read_by
-    (operate_shape code (min (length reply - (1 + (if read then size else 0))) 255)
-    (min (length sent - (2 + (if read then 0 else size))) 255))
-    sent reply
+    let pd_in = min (length reply - (1 + (if read then size else 0))) 255 in
+    let pd_out = min (length sent - (2 + (if read then 0 else size))) 255 in
+    elim (operate_shape code pd_in pd_out) [
+      | Ok layout ↦ is_read_in layout sent reply
+      | Err fault ↦ false
+    ]
 
 -- the codes 4 to 7 with all lengths have every layout
 -- WIRE-2
@@ -67,9 +63,6 @@ no_zeros octets reason = if are_zeros octets then None else Some reason
 -- PAGE-1
 abbrev pub page_fault : List (Option ℕ) → ℕ → ℕ → Option Reason
 page_fault seen address octet = other_than (octet_seen seen address) octet PageChanged
-
-abbrev pub is_of_page : ℕ → Bool
-is_of_page address = nat_le 2 address && nat_le address 11
 
 -- the on-request data of the reply to a read, once its Event flag was had
 -- DEV-7, EVT-4
@@ -148,17 +141,15 @@ abbrev pub held_against : Odd → Option Reason → Option Reason → Option Rea
 held_against Blamed fault oddity = first_of fault oddity
 held_against PassedOver fault oddity = fault
 
-abbrev pub explained_if : State → Option Reason → Option Reason → Explained
-explained_if state oddity None = By state oddity
-explained_if state oddity (Some reason) = Not reason
-
 abbrev pub explained_by : Odd → List (Option ℕ) → State → Shape → MasterMsg → Option Reply
     → Explained
 explained_by odd seen state layout message None = Not ReplyLength
 explained_by odd seen state layout message (Some reply) =
-    explained_if (learned state message.mc reply) (reply_oddity state.cycle message.mc reply)
-    (held_against odd (reply_fault seen state layout message.mc reply)
-    (reply_oddity state.cycle message.mc reply))
+    let oddity = reply_oddity state.cycle message.mc reply in
+    elim (held_against odd (reply_fault seen state layout message.mc reply) oddity) [
+      | None ↦ By (learned state message.mc reply) oddity
+      | Some reason ↦ Not reason
+    ]
 
 -- whether a state explains the reply that came, by what it makes of the message
 abbrev pub explained : Odd → List (Option ℕ) → Option Taken → List ℕ → Explained

@@ -1,5 +1,6 @@
 -- What is kept of a device.
-use Rattle.std.specs.Prelude.{ℕ, Bool, true, false, ◌&&◌, if◌then◌else◌, bytes_eq, List, [], ◌∷◌, ◌++◌, map, slice_index, Option, Some, None}
+use Rattle.std.specs.Prelude.{ℕ, Bool, false, ◌&&◌, if◌then◌else◌, bytes_eq, List, [], ◌∷◌, ◌++◌, map, slice_index, Option, None}
+use Rattle.std.specs.Option.{option_eq}
 use Rattle.iol_octets.specs.Control.{control_of}
 use Rattle.iol_octets.specs.declared.control.Mc.{Mc}
 use Rattle.iol_far.specs.declared.kind.Kind.{Kind}
@@ -82,15 +83,13 @@ parts state sent =
 
 -- What the first stands for whatever the second does
 
-abbrev pub same_waiting : Option WaitingCommand → Option WaitingCommand → Bool
-same_waiting None None = true
-same_waiting (Some a) (Some b) = is_mode a.into b.into && bytes_eq a.octets b.octets
-same_waiting a b = false
+abbrev pub is_command : WaitingCommand → WaitingCommand → Bool
+is_command a b = is_mode a.into b.into && bytes_eq a.octets b.octets
 
 -- of devices of the same kind
 abbrev pub covers_alike : State → State → Bool
 covers_alike a b = is_mode a.link.mode b.link.mode && is_known_in a.cycle b.cycle
-    && same_waiting a.link.waits b.link.waits && covers_events a.events b.events
+    && option_eq is_command a.link.waits b.link.waits && covers_events a.events b.events
     && covers_transfer a.transfer b.transfer
 
 abbrev pub covers : State → State → Bool

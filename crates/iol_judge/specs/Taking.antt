@@ -17,6 +17,11 @@ use Rattle.iol_judge.specs.Family.{kind_in}
 use Rattle.iol_judge.specs.Transfers.{isdu_known, transfer_after, transfer_in}
 use Rattle.iol_judge.specs.State.{State}
 
+-- what goes on with a result, where there is one
+abbrev pub and_then : {A B : Type 0} → Result A Open → (A → Result B Open) → Result B Open
+and_then (Ok found) go = go found
+and_then (Err why) go = Err why
+
 -- the layout of a mode, where it is known
 -- DEV-2
 abbrev pub mode_layout : Result Layouts Open → Mode → Result Shape Open
@@ -57,31 +62,21 @@ state_after known link state octets layout message asked = record {
       (flow_of message.mc.address) message.od.items;
 }
 
-abbrev pub taken_asked : Result Layouts Open → Link → State → List ℕ → Shape → MasterMsg
-    → Result (Option Mode) Open → Result (Option Taken) Open
-taken_asked known link state octets layout message (Ok asked) = Ok (Some (record {
-  kept = state_after known link state octets layout message asked;
-  layout = layout;
-  message = message;
-}))
-taken_asked known link state octets layout message (Err why) = Err why
-
 abbrev pub taken_message : Result Layouts Open → Link → State → List ℕ → Shape
     → Option MasterMsg → Result (Option Taken) Open
 taken_message known link state octets layout None = Ok None
 taken_message known link state octets layout (Some message) =
-    taken_asked known link state octets layout message
-    (mode_known known (mode_asked (command_in message)))
-
-abbrev pub taken_in : Result Layouts Open → Link → State → List ℕ → Result Shape Open
-    → Result (Option Taken) Open
-taken_in known link state octets (Ok layout) =
-    taken_message known link state octets layout (message_in layout octets)
-taken_in known link state octets (Err why) = Err why
+    and_then (mode_known known (mode_asked (command_in message))) (λ asked. Ok (Some (record {
+      kept = state_after known link state octets layout message asked;
+      layout = layout;
+      message = message;
+    })))
 
 -- what a state makes of octets, none where it doesn't take them; open where the page's layouts
 -- would have to be known
 -- DEV-2
 abbrev pub taken_by : Result Layouts Open → State → List ℕ → Result (Option Taken) Open
-taken_by known state octets = taken_in known (taken state.link octets) state octets
-    (mode_layout known (taken state.link octets).mode)
+taken_by known state octets =
+    let link = taken state.link octets in
+    and_then (mode_layout known link.mode)
+    (λ layout. taken_message known link state octets layout (message_in layout octets))

@@ -1,6 +1,8 @@
 -- What is known of an ISDU transfer.
-use Rattle.std.specs.Prelude.{ℕ, ◌+◌, Bool, true, false, not, ◌&&◌, ◌==◌, nat_eq, nat_lt, nat_le, bytes_eq, if◌then◌else◌, List, [], ◌∷◌, ◌++◌, length, Option, Some, None, is_some, Result, Ok, Err}
+use Rattle.std.specs.Bool.{beq}
+use Rattle.std.specs.Prelude.{ℕ, ◌+◌, Bool, true, false, not, ◌&&◌, ◌==◌, nat_eq, nat_lt, nat_le, bytes_eq, if◌then◌else◌, List, [], ◌∷◌, ◌++◌, length, Option, Some, None, is_some, option_map, Result, Ok, Err}
 use Rattle.std.specs.Option.{option_eq}
+use Rattle.std.specs.Result.{result_ok}
 use Rattle.iol_octets.specs.declared.control.Channel.{Channel}
 use Rattle.iol_octets.specs.declared.control.Channel.TheVariants.{Isdu}
 use Rattle.iol_octets.specs.declared.flow_control.Flow.{Flow}
@@ -28,7 +30,7 @@ use Rattle.iol_judge.specs.declared.transfer.Transfer.{Transfer}
 use Rattle.iol_judge.specs.declared.transfer.Transfer.TheVariants.{Quiet, Receiving, Whole, Handed, Asked, Answered, Perhaps, Free}
 use Rattle.iol_judge.specs.declared.transfer.TheConstants.{LONGEST, LONGEST_TO_READ, LONGEST_TO_WRITE, SHORTEST}
 use Rattle.iol_judge.specs.Octets.{are_zeros}
-use Rattle.iol_judge.specs.Answers.{first_had, had_with, is_busy, is_next, is_open, none_had, same_had, same_read, segment_fault, text_fault, was_sent}
+use Rattle.iol_judge.specs.Answers.{first_had, had_with, is_busy, is_next, is_open, none_had, same_had, segment_fault, text_fault, was_sent}
 
 -- what the first allows whatever the second does
 abbrev pub covers_transfer : Transfer → Transfer → Bool
@@ -37,13 +39,13 @@ covers_transfer Quiet Quiet = true
 covers_transfer (Receiving text last) (Receiving others other) =
     bytes_eq text.items others.items && option_eq nat_eq last other
 covers_transfer (Whole read last) (Whole reads other) =
-    same_read read reads && option_eq nat_eq last other
+    beq read reads && option_eq nat_eq last other
 covers_transfer (Handed read last) (Handed reads other) =
-    same_read read reads && option_eq nat_eq last other
+    beq read reads && option_eq nat_eq last other
 covers_transfer (Asked read last) (Handed reads other) =
-    same_read read reads && option_eq nat_eq last other
+    beq read reads && option_eq nat_eq last other
 covers_transfer (Asked read last) (Asked reads other) =
-    same_read read reads && option_eq nat_eq last other
+    beq read reads && option_eq nat_eq last other
 covers_transfer (Asked read last) (Answered had) = same_had (none_had read) had
 covers_transfer (Answered had) (Answered other) = same_had had other
 covers_transfer (Perhaps had) (Answered other) = same_had had other
@@ -203,19 +205,18 @@ transfer_unknown old true Start = if is_quiet old then Quiet else Free
 transfer_unknown old read (Count count) = if is_quiet old then Quiet else Free
 transfer_unknown old read flow = Quiet
 
-abbrev pub transfer_by : Kind → Option Bool → ℕ → Transfer → Bool → Flow → List ℕ → Transfer
-transfer_by kind (Some true) size old read flow octets =
-    transfer_on kind size old read flow octets
-transfer_by kind (Some false) size old read flow octets = Quiet
-transfer_by kind None size old read flow octets = transfer_unknown old read flow
-
 -- once a message was worked
 -- DEV-10
 abbrev pub transfer_after : Kind → Option Bool → ℕ → Transfer → Channel → Bool → Flow → List ℕ
     → Transfer
-transfer_after kind isdu size old Isdu read flow octets =
-    transfer_by kind isdu size old read flow octets
-transfer_after kind isdu size old channel read flow octets = old
+transfer_after kind isdu size old channel read flow octets = elim channel [
+  | Isdu ↦ elim isdu [
+    | Some true ↦ transfer_on kind size old read flow octets
+    | Some false ↦ Quiet
+    | None ↦ transfer_unknown old read flow
+  ]
+  | _ ↦ old
+]
 
 -- Kinds that a message tells apart
 
@@ -245,8 +246,7 @@ apart old = old ∷ []
 
 -- whether the device has ISDU, where that is known
 abbrev pub isdu_known : Result Layouts Unsaid → Option Bool
-isdu_known (Ok layouts) = Some layouts.isdu
-isdu_known (Err why) = None
+isdu_known known = option_map (λ layouts. layouts.isdu) (result_ok known)
 
 -- in the layout in which the octets are taken: a device that changes it drops the transfer
 -- DEV-3

@@ -67,13 +67,9 @@ IsWhole FirstRead counted read last state = ⊥
 
 -- the application has it, or has answered it, or the answer's first segment was sent
 abbrev pub IsAsked : HandsOver → Option ℕ → Bool → Option ℕ → IsduState → Type 0
-IsAsked hands_over counted read last (Handed request) =
-    (is_read request ≡ read) × IsCounted hands_over counted last
-IsAsked hands_over counted read last (Answered request answer None) =
-    (is_read request ≡ read) × IsTrue (fits request answer) × IsCounted hands_over counted last
 IsAsked hands_over counted read last (Answered request answer (Some zero)) =
     (is_read request ≡ read) × IsTrue (fits request answer)
-IsAsked hands_over counted read last state = ⊥
+IsAsked hands_over counted read last state = IsHanded hands_over counted read last state
 
 -- segments of an answer were sent
 abbrev pub IsAnswered : ℕ → Had → IsduState → Type 0

@@ -61,7 +61,7 @@ fn whole_fault(read: bool, text: &[u8], rest: &[u8]) -> Option<Reason>
 }
 
 /// Some read, or write.
-fn request_of(read: bool) -> Request
+pub fn request_of(read: bool) -> Request
     ensures { is_read result ≡ read }
 {
     let place = Place { index: 0, sub: 0 };

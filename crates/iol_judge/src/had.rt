@@ -1,8 +1,9 @@
 //! What is known of an answer, once a segment was sent.
 ghost use Rattle.std.specs.Prelude.{◌≡◌, ◌⊎◌, ◌<◌, ◌≤◌, ◌++◌, length, true, ◌&&◌, ◌==◌, nat_lt};
+ghost use Rattle.std.specs.Option.{option_eq};
 ghost use Rattle.iol_isdu.specs.Frame.{total_at};
 ghost use Rattle.iol_segment.specs.Join.{stage};
-ghost use Rattle.iol_judge.specs.Answers.{ahead_fault, ahead_told, ahead_with, first_had, had_with, is_ahead, is_busy, is_next, is_open, next_fault, none_had, one_ahead, padding_fault, place_in, same_ahead, same_fault, same_had, segment_fault, was_sent};
+ghost use Rattle.iol_judge.specs.Answers.{ahead_fault, ahead_told, ahead_with, first_had, had_with, is_ahead, is_busy, is_next, is_open, next_fault, none_had, one_ahead, padding_fault, place_in, same_fault, same_had, segment_fault, was_sent};
 ghost use Rattle.iol_judge.specs.declared.had.Further.TheVariants.{Ends};
 ghost use Rattle.iol_judge.specs.declared.had.TheConstants.{MOST_HAD};
 ghost use Rattle.iol_judge.specs.Transfers.{further, missed_further};
@@ -172,7 +173,7 @@ impl Had {
     }
 
     fn ahead_as(&self, other: &Had) -> bool
-        ensures { result ≡ same_ahead self.now.ahead other.now.ahead }
+        ensures { result ≡ option_eq is_ahead self.now.ahead other.now.ahead }
     {
         match (&self.ahead, &other.ahead) {
             (None, None) => true,

@@ -149,7 +149,7 @@ impl Judge {
     ghost use Rattle.std.specs.Prelude.{◌∷◌};
     ghost use Rattle.iol_judge.specs.Seen.{layouts_seen};
     ghost use Rattle.iol_judge.specs.State.{first_state};
-    ghost use Rattle.iol_judge.specs.Judged.{all_woken, replied, unanswered, with_oddity};
+    ghost use Rattle.iol_judge.specs.Judged.{each_in_turn, replied, unanswered, with_oddity, woken_into};
     ghost use Rattle.iol_judge.specs.declared.verdict.Verdict.TheVariants.{Honest};
 
     /// The first answered wake-up request.
@@ -163,7 +163,8 @@ impl Judge {
     }
 
     fn wake_all(&mut self, answer: Wake)
-        ensures { self.new ≡ concluded_lost self.old (all_woken answer [] self.old.states) }
+        ensures { self.new
+            ≡ concluded_lost self.old (each_in_turn (woken_into answer) [] self.old.states) }
     {
         self.next.clear();
         match wake(&self.states, answer, &mut self.next.states) {

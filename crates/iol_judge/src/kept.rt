@@ -2,7 +2,7 @@
 ghost use Rattle.std.specs.Prelude.{◌≡◌, ◌≤◌, ◌+◌, ◌++◌, None, Some, Option, slice_index};
 ghost use Rattle.arrayvec.specs.ArrayVec.{array_vec_len};
 ghost use Rattle.iol_octets.specs.Control.{control_of};
-ghost use Rattle.iol_judge.specs.State.{all_parts, first_state, parts_of, startup_state, state_of, tells_apart};
+ghost use Rattle.iol_judge.specs.State.{all_parts, first_state, is_command, parts_of, startup_state, state_of, tells_apart};
 
 use crate::events::{Shown, is_known_in};
 use crate::had::Had;
@@ -33,12 +33,8 @@ impl Model for Waiting {
 }
 
 impl Waiting {
-    ghost use Rattle.std.specs.Prelude.{bytes_eq, ◌&&◌};
-    ghost use Rattle.iol_far.specs.Far.{is_mode};
-
     fn is(&self, other: &Waiting) -> bool
-        ensures { result ≡ (is_mode self.now.into other.now.into
-            && bytes_eq self.now.octets other.now.octets) }
+        ensures { result ≡ is_command self.now other.now }
     {
         self.into == other.into && self.octets.as_slice() == other.octets.as_slice()
     }
@@ -99,7 +95,8 @@ impl Default for Kept {
 }
 
 impl Kept {
-    ghost use Rattle.iol_judge.specs.State.{are_alike, covers, covers_alike, powered_state, same_waiting, woken_state};
+    ghost use Rattle.std.specs.Option.{option_eq};
+    ghost use Rattle.iol_judge.specs.State.{are_alike, covers, covers_alike, powered_state, woken_state};
 
     /// A device of any kind right after the first answered wake-up request.
     ///
@@ -250,7 +247,7 @@ impl Kept {
     }
 
     fn waits_as(&self, other: &Kept) -> bool
-        ensures { result ≡ same_waiting self.now.link.waits other.now.link.waits }
+        ensures { result ≡ option_eq is_command self.now.link.waits other.now.link.waits }
     {
         match (&self.waits, &other.waits) {
             (None, None) => true,

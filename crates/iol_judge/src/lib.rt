@@ -38,6 +38,7 @@ mod taken;
 mod transfer;
 mod verdict;
 
+pub use answer::request_of;
 pub use judge::Judge;
 pub use kinds::Kinds;
 pub use laws::honest_lines_are_never_blamed;
@@ -45,6 +46,6 @@ pub use octets::are_zeros;
 pub use open::Open;
 pub use reason::Reason;
 pub use seen::{Known, Seen};
-pub use take::{command_in, layout_in, mode_asked};
+pub use take::{command_in, layout_in, message_in, mode_asked};
 pub use transfer::next_count;
 pub use verdict::{Odd, Verdict, Wake};

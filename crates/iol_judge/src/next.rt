@@ -3,7 +3,7 @@ ghost use Rattle.std.specs.Prelude.{◌≡◌, [], Ok, Err, ◌≤◌, ◌++◌,
 ghost use Rattle.std.specs.Result.{result_err};
 ghost use Rattle.arrayvec.specs.ArrayVec.{array_vec_len};
 ghost use Rattle.iol_judge.specs.State.{all_parts};
-ghost use Rattle.iol_judge.specs.Judged.{added, added_whole, all_lost, all_lost_parts, all_replied, all_replied_parts, all_woken, has_state, lost_into, lost_part, replied_into, replied_part, result_with, uncovered, united, woken_into};
+ghost use Rattle.iol_judge.specs.Judged.{added, added_whole, each_in_turn, has_state, lost_into, lost_part, replied_into, replied_part, result_with, uncovered, united, woken_into};
 
 use crate::kept::Kept;
 use crate::open::Open;
@@ -86,7 +86,7 @@ pub(crate) fn lose(
     next: &mut States,
 ) -> Result<(), Open>
     ensures { result_with result next.new.items
-        ≡ all_lost layouts.now sent.now next.old.items states.now }
+        ≡ each_in_turn (lost_into layouts.now sent.now) next.old.items states.now }
 {
     for kept in states {
         lose_one(kept, layouts, sent, next)?;
@@ -115,7 +115,7 @@ fn lose_one(kept: &Kept, layouts: &Known, sent: &[u8], next: &mut States) -> Res
 #[inline(never)]
 fn lose_apart(kept: &Kept, layouts: &Known, sent: &[u8], next: &mut States) -> Result<(), Open>
     ensures { result_with result next.new.items
-        ≡ all_lost_parts layouts.now sent.now next.old.items (all_parts kept.now) }
+        ≡ each_in_turn (lost_part layouts.now sent.now) next.old.items (all_parts kept.now) }
 {
     for part in kept.parts().as_slice() {
         lose_part(part, layouts, sent, next)?;
@@ -181,8 +181,8 @@ pub(crate) fn reply(
     octets: &[u8],
     next: &mut Next,
 ) -> Result<(), Open>
-    ensures { result_with result next.new
-        ≡ all_replied layouts.now odd seen.now sent.now octets.now next.old states.now }
+    ensures { result_with result next.new ≡ each_in_turn
+        (replied_into layouts.now odd seen.now sent.now octets.now) next.old states.now }
 {
     for kept in states {
         reply_one(kept, layouts, odd, seen, sent, octets, next)?;
@@ -224,9 +224,8 @@ fn reply_apart(
     octets: &[u8],
     next: &mut Next,
 ) -> Result<(), Open>
-    ensures { result_with result next.new
-        ≡ all_replied_parts layouts.now odd seen.now sent.now octets.now next.old
-        (all_parts kept.now) }
+    ensures { result_with result next.new ≡ each_in_turn
+        (replied_part layouts.now odd seen.now sent.now octets.now) next.old (all_parts kept.now) }
 {
     for part in kept.parts().as_slice() {
         reply_part(part, layouts, odd, seen, sent, octets, next)?;
@@ -262,7 +261,8 @@ fn reply_part(
 ///
 /// Rules DEV-16, WIRE-3.
 pub(crate) fn wake(states: &[Kept], wake: Wake, next: &mut States) -> Result<(), Open>
-    ensures { result_with result next.new.items ≡ all_woken wake next.old.items states.now }
+    ensures { result_with result next.new.items
+        ≡ each_in_turn (woken_into wake) next.old.items states.now }
 {
     for kept in states {
         wake_one(kept, wake, next)?;

@@ -104,7 +104,7 @@ pub fn layout_in(layouts: &Known, mode: Mode) -> Result<Layout, Open>
 ///
 /// Rule DEV-2.
 #[tactic(auto, unfolding(iol_far::specs::Codec::message_in))]
-fn message_in<'a>(layout: &Layout, octets: &'a [u8]) -> Option<MasterView<'a>>
+pub fn message_in<'a>(layout: &Layout, octets: &'a [u8]) -> Option<MasterView<'a>>
     ensures value { result ≡ message_in layout.now octets.now }
     ensures length { OnSome result (length octets.now ≤ 66) }
 {

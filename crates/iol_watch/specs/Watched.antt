@@ -3,14 +3,13 @@ use Rattle.std.specs.Prelude.{ℕ, ◌+◌, ◌-◌, ◌^◌, min, Bool, true, f
 use Rattle.std.specs.Result.{result_map_both}
 use Rattle.iol_octets.specs.declared.control.Channel.{Channel}
 use Rattle.iol_octets.specs.declared.control.Channel.TheVariants.{Process, Page, Diagnosis, Isdu}
-use Rattle.iol_mseq.specs.Master.{master_in}
 use Rattle.iol_mseq.specs.Replies.{reply_in}
 use Rattle.iol_mseq.specs.declared.master.MasterMsg.{MasterMsg}
 use Rattle.iol_mseq.specs.declared.reply.Reply.{Reply}
 use Rattle.iol_page.specs.declared.page.Layouts.{Layouts}
 use Rattle.iol_page.specs.declared.master_command.MasterCommand.{MasterCommand}
 use Rattle.iol_page.specs.declared.master_command.MasterCommand.TheVariants.{MasterIdent}
-use Rattle.iol_far.specs.Codec.{flow_of}
+use Rattle.iol_far.specs.Codec.{flow_of, message_in}
 use Rattle.iol_far.specs.Far.{command_in}
 use Rattle.iol_judge.specs.Seen.{nothing_seen, octet_seen, page_noted, layouts_seen}
 use Rattle.iol_judge.specs.declared.verdict.Wake.{Wake}
@@ -116,7 +115,7 @@ sent_at phase master message = sent_in_startup master message
 
 -- MSG-3
 abbrev pub sent_new : Master → List ℕ → Result Master MasterFault
-sent_new master octets = elim (master_in (phase_layout master.phase) octets) [
+sent_new master octets = elim (message_in (phase_layout master.phase) octets) [
   | Some message ↦ sent_at master.phase master message
   | None ↦ Err NotWellFormed
 ]
@@ -216,7 +215,7 @@ heard_reply master octets message (Some reply) = replied master message reply
 abbrev pub heard : Master → List ℕ → Option (List ℕ) → Master
 heard master octets answer =
     let layout = phase_layout master.phase in
-    elim (master_in layout octets) [
+    elim (message_in layout octets) [
       | Some message ↦ heard_reply master octets message
           (option_and_then (reply_in layout message.mc.read) answer)
       | None ↦ master

@@ -6,12 +6,12 @@ ghost use Rattle.iol_watch.specs.Results.{result_with};
 ghost use Rattle.iol_watch.specs.Watched.{asked_instead, command_sent, cycle_sent, heard, missed, mode_entered, new_master, replied, sent, sent_in_startup, sent_new, sent_on, sent_to_page, woken};
 
 use crate::fault::MasterFault;
-use crate::message::{message_in, reply_in};
+use crate::message::reply_in;
 use crate::output::Output;
 use crate::phase::Phase;
 use crate::reading::Events;
 use crate::transfer::Transfer;
-use iol_judge::{Seen, Wake, command_in};
+use iol_judge::{Seen, Wake, command_in, message_in};
 use iol_mseq::{MasterView, Message, ReplyView, first};
 use iol_octets::Channel;
 use iol_page::{Layouts, MasterCommand};

@@ -1,20 +1,8 @@
-//! Messages and replies, as a master sends and takes them.
-ghost use Rattle.std.specs.Prelude.{◌≡◌, ◌≤◌, length, OnSome, option_and_then, option_copied};
-ghost use Rattle.iol_mseq.specs.Master.{master_in};
+//! Replies, as a master takes them.
+ghost use Rattle.std.specs.Prelude.{◌≡◌, option_and_then, option_copied};
 ghost use Rattle.iol_mseq.specs.Replies.{reply_in};
 
-use iol_mseq::{Layout, MasterView, ReplyView, view_master, view_reply};
-
-/// The message that octets are in a layout.
-///
-/// Rule MSG-3.
-pub(crate) fn message_in<'a>(layout: &Layout, octets: &'a [u8]) -> Option<MasterView<'a>>
-    ensures value { result ≡ master_in layout.now octets.now }
-    ensures length { OnSome result (length octets.now ≤ 66) }
-{
-    let _ = layout.od();
-    view_master(layout, octets).ok()
-}
+use iol_mseq::{Layout, ReplyView, view_reply};
 
 /// The good reply that came, if one did.
 ///

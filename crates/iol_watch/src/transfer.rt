@@ -1,14 +1,13 @@
 //! The ISDU transfer of a master.
 ghost use Rattle.std.specs.Prelude.{◌≡◌, ◌≤◌, ◌++◌, length};
-ghost use Rattle.iol_isdu.specs.Answers.{is_read};
 ghost use Rattle.iol_isdu.specs.Parse.{request_of};
 ghost use Rattle.iol_far.specs.Codec.{flow_of};
 ghost use Rattle.iol_watch.specs.Transfers.{abort_sent, answer_begun, answer_joined, answered, asked_again, asked_told, asks_instead, begun, count_asked, count_sent, doubted, doubted_told, idle_sent, moved, start_asked, start_sent, told, whole, written};
 
 use crate::fault::MasterFault;
 use arrayvec::ArrayVec;
-use iol_isdu::{IsduFault, Octets, Place, Request, Text, read_answer, read_request, total_of};
-use iol_judge::{are_zeros, next_count};
+use iol_isdu::{IsduFault, Request, Text, read_answer, read_request, total_of};
+use iol_judge::{are_zeros, next_count, request_of};
 use iol_mseq::first;
 use iol_octets::{Flow, Mc};
 
@@ -316,17 +315,5 @@ fn answer_joined(read: bool, text: &[u8]) -> Transfer
     match read_answer(&request_of(read), text) {
         Ok(_) => Transfer::Quiet,
         Err(_) => Transfer::Refused,
-    }
-}
-
-/// Some read, or write.
-fn request_of(read: bool) -> Request
-    ensures { is_read result ≡ read }
-{
-    let place = Place { index: 0, sub: 0 };
-    if read {
-        Request::Read(place)
-    } else {
-        Request::Write(place, Octets::new())
     }
 }

@@ -1,7 +1,8 @@
 use Rattle.std.proofs.Common.{◌≡◌, drop}
-use Rattle.iol_judge.specs.Judged.{all_replied}
+use Rattle.iol_judge.specs.Judged.{each_in_turn, replied_into}
 use Rattle.iol_judge.proofs.next.reply.Given as goal
 
 abbrev pub invariant-loop-kept : goal.invariant-loop-kept
-invariant-loop-kept l = all_replied l.layouts l.odd l.seen l.sent l.octets l.fn.next l.states
-    ≡ all_replied l.layouts l.odd l.seen l.sent l.octets l.next (drop l.kept-index l.states)
+invariant-loop-kept l =
+    let step = replied_into l.layouts l.odd l.seen l.sent l.octets in
+    each_in_turn step l.fn.next l.states ≡ each_in_turn step l.next (drop l.kept-index l.states)
