@@ -26,7 +26,7 @@ module _ {W : Type 0} (facts : WireFacts W) (o : Opening W) (p : Parts W) where
     carries = each_done_has_its_pair o.devices o.limits o.far o.silence
         (map Whole (earlier ++ calls)) (answered ++ replies) b run;
     in_order = (runs_sound (opened_with o) b (earlier ++ calls) (answered ++ replies) run
-        (opened_sound o.devices o.limits o.far o.silence)).fits.takings_are;
+        (opened_sound o.devices o.limits o.far o.silence)).fits;
   }
 
   pub claim_holds : IsRun facts o p → OpensWell o → Claim facts o [] [] p

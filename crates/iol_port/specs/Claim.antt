@@ -1,12 +1,13 @@
 -- The claim, in one record: what those who use a port may rely on over a lossy line.
 use Rattle.std.specs.Prelude.{◌≡◌, List, ◌++◌, map}
 use Rattle.iol_far.specs.Far.{output_of}
-use Rattle.iol_book.specs.Takings.{takings}
 use Rattle.iol_link.specs.WireFacts.{WireFacts}
 use Rattle.iol_app.specs.StationState.{wire_of}
 use Rattle.iol_port.specs.declared.call.Call.{Call}
 use Rattle.iol_port.specs.declared.call.Answered.{Answered}
 use Rattle.iol_port.specs.Run.{PortState, Whole, Run, opened}
+use Rattle.iol_port.specs.Owners.{allowance_of}
+use Rattle.iol_port.specs.Sound.{RecordFits}
 use Rattle.iol_port.specs.CarriesOut.{CarriesOut}
 use Rattle.iol_port.specs.View.{Parts, Opening}
 
@@ -31,7 +32,7 @@ module _ {W : Type 0} (facts : WireFacts W) where
   -- abstract port, which has what is there. The device carried out only whole requests of these
   -- calls, each at most once, in the order taken; and each Done tells its answer to that very
   -- request. Otherwise is only what the allowance says, which is none at a port for any device. The
-  -- journal has the requests that were taken since it began.
+  -- journal has the requests that were taken since it began, which all ended but the one under way.
   -- PORT-4, BOOK-10
   pub record Claim (o : Opening W) (calls : List Call) (replies : List Answered) (p : Parts W) :
       Type 0 where
@@ -42,5 +43,4 @@ module _ {W : Type 0} (facts : WireFacts W) where
     pub has : Has port p
     pub carries :
         CarriesOut (opened_with o) (map Whole (earlier ++ calls)) (answered ++ replies) port
-    pub in_order :
-        takings port.book.journal ≡ map (λ owner. owner.taking) port.owners.current
+    pub in_order : RecordFits (allowance_of port.terms) port.book port.session port.owners
