@@ -1,6 +1,6 @@
 -- A judge that is told the lines of an honest capture, for `honest_captures_are_never_blamed`.
 -- Begin at the end, with `captures`.
-use Rattle.std.proofs.Common.{◌≡◌, ℕ, ◌==◌, Option, Some, None, Result, Ok, Err, List, [], ◌∷◌, fold, sym, refl, subst, arith}
+use Rattle.std.proofs.Common.{◌≡◌, ℕ, ◌==◌, Option, Some, None, Result, Ok, Err, List, [], ◌∷◌, sym, refl, subst, arith}
 use Rattle.std.proofs.lemmas.Bool.{cond_both, eqb-true}
 use Rattle.std.specs.List.{cons_option, filter_map}
 use Rattle.std.specs.Prelude.{IfSome}
@@ -18,7 +18,6 @@ use Rattle.iol_capture.specs.declared.trace_line.TraceLine.{TraceLine}
 use Rattle.iol_capture.specs.declared.trace_line.TraceLine.TheVariants.{Other, Page, Wake, Sent, Came}
 use Rattle.iol_capture.specs.TraceLines.{trace_form}
 use Rattle.iol_capture.specs.Judging.{Judging, answered, called, came_to, new_judging, one_more, or_bad_form, page_told, told, wake_told}
-use Rattle.iol_capture.specs.Capture.{Reading, ended, line_read}
 use Rattle.iol_capture.specs.HonestCapture.{CapturesNeverBlamed, IsFromHonest, IsHonestTrace}
 use Rattle.iol_capture.proofs.ReadLemmas.{judged_from, stays_bad}
 
@@ -75,14 +74,11 @@ record Ends (judging : Judging) : Type 0 where
   far : Far
   fair : IsFair judging.judged far
 
-abbrev reading : ℕ → Judging → Reading
-reading number judging = record { lines = number; telling = telling.Trace judging }
-
 module _ (law : NeverBlamed) (judging : Judging) where
   -- the judge is fair at the end of lines, whatever was read before
   abbrev Later : List (List ℕ) → Type 0
   Later lines = (number : ℕ) (old : Judging) → Goes old (filter_map trace_form lines)
-      → ended (fold line_read (Ok (reading number old)) lines) ≡ Ok judging → Ends judging
+      → judged_from telling.Trace (Ok old) number lines ≡ Ok judging → Ends judging
 
   told_goes : (line : TraceLine) (old : Judging) (number : ℕ) (lines : List (List ℕ))
       → Later lines → Goes old (line ∷ filter_map trace_form lines)

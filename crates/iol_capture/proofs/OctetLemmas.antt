@@ -1,12 +1,10 @@
 -- A judge that is told the octets of a device by the rules, for `honest_octets_are_never_blamed`.
 -- Begin at the end, with `octet_texts`.
-use Rattle.std.proofs.Common.{◌≡◌, ◌≢◌, ℕ, Option, Some, None, Result, Ok, List, [], ◌∷◌, fold, sym, ap, ◌∙◌, arith}
+use Rattle.std.proofs.Common.{◌≡◌, ℕ, Option, Some, None, Result, Ok, List, [], ◌∷◌, sym, ap, ◌∙◌, arith}
 use Rattle.std.specs.Prelude.{IfOk, map, option_and_then}
 use Rattle.std.specs.List.{cons_option}
 use Rattle.std.specs.Option.{option_map_or}
 use Rattle.std.specs.Result.{result_map_both}
-use Rattle.iol_judge.specs.declared.reason.Reason.{Reason}
-use Rattle.iol_judge.specs.declared.verdict.Verdict.TheVariants.{NotHonest}
 use Rattle.iol_judge.specs.Judged.{Judged, new_judge}
 use Rattle.iol_judge.specs.Admitted.{told_all}
 use Rattle.iol_script.specs.Text.{lines_of}
@@ -22,8 +20,7 @@ use Rattle.iol_splitter.specs.Written.{all_split, stream_of, with_told}
 use Rattle.iol_capture.specs.declared.telling.Telling.TheVariants.{Octets}
 use Rattle.iol_capture.specs.Judging.{Judging, one_more, or_bad_form}
 use Rattle.iol_capture.specs.Octets.{Hearing, new_hearing, octet_form, passed_by_octet, passed_by_request, shown, step_heard}
-use Rattle.iol_capture.specs.Capture.{Reading, ended, line_read}
-use Rattle.iol_capture.specs.HonestCapture.{OctetTextsNeverBlamed, shown_by, shown_in}
+use Rattle.iol_capture.specs.HonestCapture.{IsUnblamed, OctetTextsNeverBlamed, shown_by, shown_in}
 use Rattle.iol_capture.proofs.ReadLemmas.{judged_from, stays_bad}
 
 -- the judge is told what was split
@@ -49,14 +46,11 @@ by_request old passed = grind arith
 
 -- Lines
 
-abbrev reading : ℕ → Hearing → Reading
-reading number hearing = record { lines = number; telling = Octets hearing }
-
 module _ (judging : Judging) where
   -- lines are split, whatever was read before
   abbrev Later : List (List ℕ) → Type 0
   Later lines = (number : ℕ) (old : Hearing)
-      → ended (fold line_read (Ok (reading number old)) lines) ≡ Ok judging
+      → judged_from Octets (Ok old) number lines ≡ Ok judging
       → split_told old.judging.judged (all_split old.splitting (shown_in lines))
       ≡ Ok judging.judged
 
@@ -93,12 +87,9 @@ module _ (judging : Judging) where
 
 -- The law
 
-abbrev Unblamed : Judged → Type 0
-Unblamed judged = (exchange : ℕ) (reason : Reason) → judged.verdict ≢ NotHonest exchange reason
-
 unblamed : (old end : Judged) (result : Result (List Passed) SplitFault)
-    → IfOk result (λ what. Unblamed (told_all old (map passing_of what)))
-    → split_told old result ≡ Ok end → Unblamed end
+    → IfOk result (λ what. IsUnblamed (told_all old (map passing_of what)))
+    → split_told old result ≡ Ok end → IsUnblamed end
 unblamed old end result never is exchange reason blamed = grind arith
 
 pub octet_texts : OctetsNeverBlamed → OctetTextsNeverBlamed

@@ -9,6 +9,7 @@ use Rattle.iol_judge.specs.Admitted.{IsHonestRun, IsWake, is_answered}
 use Rattle.iol_judge.specs.declared.reason.Reason.{Reason}
 use Rattle.iol_judge.specs.declared.verdict.Odd.{Odd}
 use Rattle.iol_judge.specs.declared.verdict.Verdict.TheVariants.{NotHonest}
+use Rattle.iol_judge.specs.Judged.{Judged}
 use Rattle.iol_script.specs.Text.{lines_of}
 use Rattle.iol_splitter.specs.declared.octet_line.OctetLine.{OctetLine}
 use Rattle.iol_splitter.specs.declared.octet_line.OctetLine.TheVariants as line
@@ -22,6 +23,10 @@ use Rattle.iol_capture.specs.TraceLines.{trace_form}
 use Rattle.iol_capture.specs.Judging.{Judging}
 use Rattle.iol_capture.specs.Octets.{octet_form}
 use Rattle.iol_capture.specs.Capture.{capture_judged}
+
+-- it's never called not honest
+abbrev pub IsUnblamed : Judged → Type 0
+IsUnblamed judged = (exchange : ℕ) (reason : Reason) → judged.verdict ≢ NotHonest exchange reason
 
 -- A trace
 
@@ -53,7 +58,7 @@ pub record IsFromHonest (odd : Odd) (text : List ℕ) (judging : Judging) : Type
 -- the law: such a text is never called not honest, and nothing in it is called odd
 pub record CapturesNeverBlamed : Type 0 where
   pub unblamed : (odd : Odd) (text : List ℕ) (judging : Judging) → IsFromHonest odd text judging
-      → (exchange : ℕ) (reason : Reason) → judging.judged.verdict ≢ NotHonest exchange reason
+      → IsUnblamed judging.judged
   pub none_odd : (odd : Odd) (text : List ℕ) (judging : Judging) → IsFromHonest odd text judging
       → judging.judged.oddities ≡ 0
 
@@ -84,5 +89,4 @@ pub record AreFromHonest (odd : Odd) (rate : Rate) (text : List ℕ)
 -- the law: such a text is never called not honest
 abbrev pub OctetTextsNeverBlamed : Type 0
 OctetTextsNeverBlamed = (odd : Odd) (rate : Rate) (text : List ℕ) (judging : Judging)
-    → AreFromHonest odd rate text judging
-    → (exchange : ℕ) (reason : Reason) → judging.judged.verdict ≢ NotHonest exchange reason
+    → AreFromHonest odd rate text judging → IsUnblamed judging.judged
