@@ -37,11 +37,8 @@ told_first : (judged : Judged) (passed : Option Passed)
     → split_told judged (with_told (Ok passed) later) ≡ split_told (told_of judged passed) later
 told_first judged passed later = grind arith
 
--- a judge is told so all that a step tells
-abbrev IsTold : Judging → (Option Passed → Judging) → Type 0
-IsTold old new = (passed : Option Passed) → told_of old.judged passed ≡ (new passed).judged
-
-by_request : (old : Judging) → IsTold old (passed_by_request old)
+by_request : (old : Judging) (passed : Option Passed)
+    → told_of old.judged passed ≡ (passed_by_request old passed).judged
 by_request old passed = grind arith
 
 -- Lines
@@ -54,7 +51,9 @@ module _ (judging : Judging) where
       → split_told old.judging.judged (all_split old.splitting (shown_in lines))
       ≡ Ok judging.judged
 
-  step_splits : (old : Judging) (new : Option Passed → Judging) → IsTold old new
+  -- the judge is told so all that a step tells
+  step_splits : (old : Judging) (new : Option Passed → Judging)
+      → ((passed : Option Passed) → told_of old.judged passed ≡ (new passed).judged)
       → (state : Splitting) (result : Result (Option Passed) SplitFault) (number : ℕ)
       (lines : List (List ℕ)) → Later lines
       → judged_from Octets (step_heard new (record { state = state; told = result })) number lines

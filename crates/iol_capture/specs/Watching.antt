@@ -37,12 +37,7 @@ page_watched watching octets =
 -- a wake-up request was made
 abbrev pub wake_watched : Watching → Wake → Watching
 wake_watched watching answer = if is_blamed watching.watched.verdict then watching else
-    record watching {
-      watched = woke watching.watched answer;
-      asked = false;
-      tests = false;
-      unsure = None;
-    }
+    record new_watching { watched = woke watching.watched answer; call = watching.call }
 
 -- octets of a write of DeviceOperate or DevicePreoperate to page address 0x00 in STARTUP
 abbrev pub asks_mode : List ℕ → Bool
