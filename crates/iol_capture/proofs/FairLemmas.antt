@@ -70,51 +70,41 @@ module _ (law : NeverBlamed) (lines : List TraceLine) (next : Judging) where
 
 -- All lines
 
-record Ends (judging : Judging) : Type 0 where
-  far : Far
-  fair : IsFair judging.judged far
-
 module _ (law : NeverBlamed) (judging : Judging) where
   -- the judge is fair at the end of lines, whatever was read before
   abbrev Later : List (List ℕ) → Type 0
   Later lines = (number : ℕ) (old : Judging) → Goes old (filter_map trace_form lines)
-      → judged_from telling.Trace (Ok old) number lines ≡ Ok judging → Ends judging
+      → judged_from telling.Trace (Ok old) number lines ≡ Ok judging → Goes judging []
 
   told_goes : (line : TraceLine) (old : Judging) (number : ℕ) (lines : List (List ℕ))
       → Later lines → Goes old (line ∷ filter_map trace_form lines)
       → (result : Result Judging LineFault) → told old line ≡ result
-      → judged_from telling.Trace result number lines ≡ Ok judging → Ends judging
-  told_goes line old number lines later h (Err fault) is e =
-      absurd (grind (arith, stays_bad))
+      → judged_from telling.Trace result number lines ≡ Ok judging → Goes judging []
+  told_goes line old number lines later h (Err fault) is e = absurd (grind (arith, stays_bad))
   told_goes line old number lines later h (Ok next) is e =
       later number next (line_goes law (filter_map trace_form lines) next line old h is) e
 
   form_goes : (form : Option TraceLine) (old : Judging) (number : ℕ) (lines : List (List ℕ))
       → Later lines → Goes old (cons_option form (filter_map trace_form lines))
       → judged_from telling.Trace (or_bad_form (told old) form) number lines ≡ Ok judging
-      → Ends judging
+      → Goes judging []
   form_goes None old number lines later h e = absurd (grind (arith, stays_bad))
   form_goes (Some line) old number lines later h e =
       told_goes line old number lines later h (told old line) refl e
 
   lines_go : (lines : List (List ℕ)) → Later lines
   lines_go [] number old h e =
-      let same : old ≡ judging = grind arith in
-      record { far = h.far; fair = subst (λ (j : Judging). IsFair j.judged h.far) same h.fair }
+      let same : old ≡ judging = grind arith in subst (λ (j : Judging). Goes j []) same h
   lines_go (line ∷ lines) number old h e =
       form_goes (trace_form line) old (one_more number) lines (lines_go lines) h e
 
 module _ (law : NeverBlamed) where
   capture_ends : (odd : Odd) (text : List ℕ) (judging : Judging) → IsFromHonest odd text judging
-      → Ends judging
+      → Goes judging []
   capture_ends odd text judging h =
       lines_go law judging (lines_of text) 0 (new_judging odd)
-      (record {
-        far = h.far;
-        silence = h.silence;
-        fair = law.begins odd h.far;
-        honest = h.honest;
-      }) h.judged
+      (record { far = h.far; silence = h.silence; fair = law.begins odd h.far; honest = h.honest })
+      h.judged
 
   pub captures : CapturesNeverBlamed
   captures = record {
