@@ -37,10 +37,6 @@ told_first : (judged : Judged) (passed : Option Passed)
     → split_told judged (with_told (Ok passed) later) ≡ split_told (told_of judged passed) later
 told_first judged passed later = grind arith
 
-by_request : (old : Judging) (passed : Option Passed)
-    → told_of old.judged passed ≡ (passed_by_request old passed).judged
-by_request old passed = grind arith
-
 -- Lines
 
 module _ (judging : Judging) where
@@ -76,11 +72,11 @@ module _ (judging : Judging) where
       step.state step.told number lines later e
   form_splits (Some (line.Wake time)) old number lines later e =
       let step : Step = wake_split old.splitting time in
-      step_splits old.judging (passed_by_request old.judging) (by_request old.judging) step.state
-      step.told number lines later e
+      step_splits old.judging (passed_by_request old.judging) (λ passed. grind arith)
+      step.state step.told number lines later e
 
   lines_split : (lines : List (List ℕ)) → Later lines
-  lines_split [] number old e = grind (arith, told_first, by_request)
+  lines_split [] number old e = grind (arith, told_first)
   lines_split (line ∷ lines) number old e =
       form_splits (octet_form line) old (one_more number) lines (lines_split lines) e
 

@@ -17,7 +17,7 @@ use Rattle.iol_capture.specs.declared.fault.LineFault.TheVariants.{BadForm}
 use Rattle.iol_capture.specs.declared.telling.Form.{Form}
 use Rattle.iol_capture.specs.declared.telling.Telling.{Telling}
 use Rattle.iol_capture.specs.Judging.{Judging, one_more}
-use Rattle.iol_capture.specs.Capture.{IsOpenLine, Opened, capture_judged, ended, judged_with, line_read, line_told, read_as}
+use Rattle.iol_capture.specs.Capture.{IsOpenLine, Opened, capture_judged, ended, judged_with, line_read, read_as}
 
 -- The line that is open, and the lines of the text behind it
 
@@ -79,10 +79,6 @@ pub fed : {U : Type 0} (result : Result U CaptureFault) (old new : Opened) (c : 
 fed (Ok done) old new c is h read empty rest = grind (arith, lines_ended)
 fed (Err fault) old new c is h read empty rest = grind (arith, lines_ended, stays_bad)
 
-too_long : (telling : Telling) (line : List ℕ) → 1024 < length line
-    → line_told telling line ≡ Err BadForm
-too_long telling line long = grind (arith, nat_tests)
-
 -- another one, behind 1,024: no room is left
 pub overfull : (inside old : Opened) (c number : ℕ) → inside ≡ old → IsOpenLine inside.line
     → (c ≡ 10 → ⊥) → length inside.line ≡ 1024 → number ≡ one_more inside.reading.lines
@@ -94,7 +90,7 @@ overfull inside old c number same h other full is rest =
     lines_longer inside.line c rest h no_feed in
     let long : 1024 < length (front ++ begins.more) =
     omega (arith, length-append inside.line (c ∷ []), length-append front begins.more) in
-    grind (arith, too_long, stays_bad)
+    grind (arith, nat_tests, stays_bad)
 
 -- The end
 
