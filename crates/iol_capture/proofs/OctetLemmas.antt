@@ -32,11 +32,6 @@ split_told judged = result_map_both (λ what. told_all judged (map passing_of wh
 abbrev told_of : Judged → Option Passed → Judged
 told_of judged passed = option_map_or (judged_with judged) passed judged
 
-told_first : (judged : Judged) (passed : Option Passed)
-    (later : Result (List Passed) SplitFault)
-    → split_told judged (with_told (Ok passed) later) ≡ split_told (told_of judged passed) later
-told_first judged passed later = grind arith
-
 -- Lines
 
 module _ (judging : Judging) where
@@ -57,7 +52,7 @@ module _ (judging : Judging) where
       → split_told old.judged (with_told result (all_split state (shown_in lines)))
       ≡ Ok judging.judged
   step_splits old new told state result number lines later e =
-      grind (arith, told_first, stays_bad)
+      grind (arith, stays_bad)
 
   form_splits : (form : Option OctetLine) (old : Hearing) (number : ℕ) (lines : List (List ℕ))
       → Later lines → judged_from Octets (or_bad_form (shown old) form) number lines ≡ Ok judging
@@ -76,7 +71,7 @@ module _ (judging : Judging) where
       step.state step.told number lines later e
 
   lines_split : (lines : List (List ℕ)) → Later lines
-  lines_split [] number old e = grind (arith, told_first)
+  lines_split [] number old e = grind arith
   lines_split (line ∷ lines) number old e =
       form_splits (octet_form line) old (one_more number) lines (lines_split lines) e
 

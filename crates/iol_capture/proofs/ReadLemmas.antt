@@ -99,8 +99,7 @@ pub end_line : (inside opened : Opened) (empty : Bool) → inside ≡ opened
     → IsOpenLine opened.line → empty ≡ (length inside.line == 0) → empty ≡ false
     → judged_with opened [] ≡ ended (line_read (Ok opened.reading) opened.line)
 end_line inside opened empty same h is some =
-    let long : 0 < length inside.line = grind (arith, nat_tests) in
-    grind (arith, lines_last, append-nil {A = ℕ})
+    grind (arith, nat_tests, lines_last, append-nil {A = ℕ})
 
 -- From a reader
 
