@@ -1,30 +1,25 @@
 -- A judge that is told the lines of an honest capture, for `honest_captures_are_never_blamed`.
 -- Begin at the end, with `captures`.
-use Rattle.std.proofs.Common.{◌≡◌, ◌≢◌, ℕ, ◌==◌, Option, Some, None, Result, Ok, Err, List, [], ◌∷◌, fold, sym, refl, subst, arith}
+use Rattle.std.proofs.Common.{◌≡◌, ℕ, ◌==◌, Option, Some, None, Result, Ok, Err, List, [], ◌∷◌, sym, refl, subst, arith}
 use Rattle.std.proofs.lemmas.Bool.{cond_both, eqb-true}
-use Rattle.std.specs.Result.{result_map_both}
+use Rattle.std.specs.List.{cons_option, filter_map}
+use Rattle.std.specs.Prelude.{IfSome}
 use Rattle.iol_far.specs.Far.{Far}
 use Rattle.iol_far.specs.Octets.{octets_in}
-use Rattle.iol_judge.specs.declared.reason.Reason.{Reason}
+use Rattle.iol_link.specs.Honest.{HonestExchange}
 use Rattle.iol_judge.specs.declared.verdict.Odd.{Odd}
 use Rattle.iol_judge.specs.declared.verdict.Verdict.{Verdict}
-use Rattle.iol_judge.specs.declared.verdict.Verdict.TheVariants.{NotHonest}
 use Rattle.iol_judge.specs.Seen.{whole_page}
-use Rattle.iol_judge.specs.Judged.{Judged}
 use Rattle.iol_judge.specs.Admitted.{IsFair, IsPossible, NeverBlamed}
 use Rattle.iol_script.specs.Text.{lines_of}
 use Rattle.iol_capture.specs.declared.fault.LineFault.{LineFault}
-use Rattle.iol_capture.specs.declared.fault.LineFault.TheVariants.{BadForm}
-use Rattle.iol_capture.specs.declared.fault.CaptureFault.TheVariants.{Line}
 use Rattle.iol_capture.specs.declared.telling.Telling.TheVariants as telling
 use Rattle.iol_capture.specs.declared.trace_line.TraceLine.{TraceLine}
 use Rattle.iol_capture.specs.declared.trace_line.TraceLine.TheVariants.{Other, Page, Wake, Sent, Came}
 use Rattle.iol_capture.specs.TraceLines.{trace_form}
-use Rattle.iol_capture.specs.Judging.{Judging, answered, called, came_to, new_judging, one_more, page_told, told, wake_told}
-use Rattle.iol_capture.specs.Telling.{told_as}
-use Rattle.iol_capture.specs.Capture.{Reading, ended, line_read, read_as}
-use Rattle.iol_capture.specs.HonestCapture.{CapturesNeverBlamed, IsFromHonest, IsHonestReply, IsHonestTrace, said_before, said_in}
-use Rattle.iol_capture.proofs.ReadLemmas.{bad}
+use Rattle.iol_capture.specs.Judging.{Judging, answered, called, came_to, new_judging, one_more, or_bad_form, page_told, told, wake_told}
+use Rattle.iol_capture.specs.HonestCapture.{CapturesNeverBlamed, IsFromHonest, IsHonestTrace}
+use Rattle.iol_capture.proofs.ReadLemmas.{judged_from, stays_bad}
 
 -- the judge is fair to a device that brings the lines that are left
 record Goes (judging : Judging) (lines : List TraceLine) : Type 0 where
@@ -44,7 +39,7 @@ module _ (law : NeverBlamed) (lines : List TraceLine) (next : Judging) where
 
   comes : (waits : Option (List ℕ)) (old : Judging) (number : ℕ) (came : Option (List ℕ))
       (far : Far) (silence : ℕ) → IsFair old.judged far → (far_new : Far) (silence_new : ℕ)
-      → IsHonestReply waits far silence came far_new silence_new
+      → IfSome waits (λ sent. HonestExchange far silence sent came far_new silence_new)
       → IsHonestTrace far_new silence_new old.call None lines
       → came_to waits old number came ≡ Ok next → Goes next lines
   comes None old number came far silence fair far_new silence_new reply honest e = absurd (cc)
@@ -75,67 +70,46 @@ module _ (law : NeverBlamed) (lines : List TraceLine) (next : Judging) where
 
 -- All lines
 
-record Ends (judging : Judging) : Type 0 where
-  far : Far
-  fair : IsFair judging.judged far
-
-abbrev reading : ℕ → Judging → Reading
-reading number judging = record { lines = number; telling = telling.Trace judging }
-
 module _ (law : NeverBlamed) (judging : Judging) where
   -- the judge is fair at the end of lines, whatever was read before
   abbrev Later : List (List ℕ) → Type 0
-  Later lines = (number : ℕ) (old : Judging) → Goes old (said_in lines)
-      → ended (fold line_read (Ok (reading number old)) lines) ≡ Ok judging → Ends judging
+  Later lines = (number : ℕ) (old : Judging) → Goes old (filter_map trace_form lines)
+      → judged_from telling.Trace (Ok old) number lines ≡ Ok judging → Goes judging []
 
   told_goes : (line : TraceLine) (old : Judging) (number : ℕ) (lines : List (List ℕ))
-      → Later lines → Goes old (line ∷ said_in lines) → (result : Result Judging LineFault)
-      → told old line ≡ result
-      → ended (fold line_read (read_as number
-      (result_map_both telling.Trace (λ (fault : LineFault). fault) result)) lines) ≡ Ok judging
-      → Ends judging
-  told_goes line old number lines later h (Err fault) is e =
-      absurd (bad (Line number fault) lines judging e)
+      → Later lines → Goes old (line ∷ filter_map trace_form lines)
+      → (result : Result Judging LineFault) → told old line ≡ result
+      → judged_from telling.Trace result number lines ≡ Ok judging → Goes judging []
+  told_goes line old number lines later h (Err fault) is e = absurd (grind (arith, stays_bad))
   told_goes line old number lines later h (Ok next) is e =
-      later number next (line_goes law (said_in lines) next line old h is) e
+      later number next (line_goes law (filter_map trace_form lines) next line old h is) e
 
   form_goes : (form : Option TraceLine) (old : Judging) (number : ℕ) (lines : List (List ℕ))
-      → Later lines → Goes old (said_before form (said_in lines))
-      → ended (fold line_read (read_as number
-      (result_map_both telling.Trace (λ (fault : LineFault). fault) (told_as old form))) lines)
-      ≡ Ok judging → Ends judging
-  form_goes None old number lines later h e = absurd (bad (Line number BadForm) lines judging e)
+      → Later lines → Goes old (cons_option form (filter_map trace_form lines))
+      → judged_from telling.Trace (or_bad_form (told old) form) number lines ≡ Ok judging
+      → Goes judging []
+  form_goes None old number lines later h e = absurd (grind (arith, stays_bad))
   form_goes (Some line) old number lines later h e =
       told_goes line old number lines later h (told old line) refl e
 
   lines_go : (lines : List (List ℕ)) → Later lines
   lines_go [] number old h e =
-      let same : old ≡ judging = grind arith in
-      record { far = h.far; fair = subst (λ (j : Judging). IsFair j.judged h.far) same h.fair }
+      let same : old ≡ judging = grind arith in subst (λ (j : Judging). Goes j []) same h
   lines_go (line ∷ lines) number old h e =
       form_goes (trace_form line) old (one_more number) lines (lines_go lines) h e
 
 module _ (law : NeverBlamed) where
-  unblamed : (verdict : Verdict) (far : Far) (judged : Judged) (exchange : ℕ) (reason : Reason)
-      → IsPossible verdict judged.states far → verdict ≢ NotHonest exchange reason
-  unblamed verdict far judged exchange reason possible e =
-      subst (λ (v : Verdict). IsPossible v judged.states far) e possible
-
   capture_ends : (odd : Odd) (text : List ℕ) (judging : Judging) → IsFromHonest odd text judging
-      → Ends judging
+      → Goes judging []
   capture_ends odd text judging h =
       lines_go law judging (lines_of text) 0 (new_judging odd)
-      (record {
-        far = h.far;
-        silence = h.silence;
-        fair = law.begins odd h.far;
-        honest = h.honest;
-      }) h.judged
+      (record { far = h.far; silence = h.silence; fair = law.begins odd h.far; honest = h.honest })
+      h.judged
 
   pub captures : CapturesNeverBlamed
   captures = record {
-    unblamed = λ odd text judging h exchange reason.
+    unblamed = λ odd text judging h exchange reason e.
         let end = capture_ends odd text judging h in
-        unblamed judging.judged.verdict end.far judging.judged exchange reason end.fair.state;
+        subst (λ (v : Verdict). IsPossible v judging.judged.states end.far) e end.fair.state;
     none_odd = λ odd text judging h. (capture_ends odd text judging h).fair.odd;
   }

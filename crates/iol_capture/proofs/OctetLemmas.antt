@@ -1,10 +1,10 @@
 -- A judge that is told the octets of a device by the rules, for `honest_octets_are_never_blamed`.
 -- Begin at the end, with `octet_texts`.
-use Rattle.std.proofs.Common.{◌≡◌, ◌≢◌, ℕ, Option, Some, None, Result, Ok, Err, List, [], ◌∷◌, fold, sym, ap, ◌∙◌, arith}
-use Rattle.std.specs.Prelude.{IfOk, map}
+use Rattle.std.proofs.Common.{◌≡◌, ℕ, Option, Some, None, Result, Ok, List, [], ◌∷◌, sym, ap, ◌∙◌, arith}
+use Rattle.std.specs.Prelude.{IfOk, map, option_and_then}
+use Rattle.std.specs.List.{cons_option}
+use Rattle.std.specs.Option.{option_map_or}
 use Rattle.std.specs.Result.{result_map_both}
-use Rattle.iol_judge.specs.declared.reason.Reason.{Reason}
-use Rattle.iol_judge.specs.declared.verdict.Verdict.TheVariants.{NotHonest}
 use Rattle.iol_judge.specs.Judged.{Judged, new_judge}
 use Rattle.iol_judge.specs.Admitted.{told_all}
 use Rattle.iol_script.specs.Text.{lines_of}
@@ -17,99 +17,69 @@ use Rattle.iol_splitter.specs.Splitting.{octet_split, wake_split}
 use Rattle.iol_splitter.specs.State.{Splitting, new_splitter}
 use Rattle.iol_splitter.specs.Steps.{Step}
 use Rattle.iol_splitter.specs.Written.{all_split, stream_of, with_told}
-use Rattle.iol_capture.specs.declared.fault.CaptureFault.{CaptureFault}
-use Rattle.iol_capture.specs.declared.fault.CaptureFault.TheVariants.{Line}
-use Rattle.iol_capture.specs.declared.fault.LineFault.{LineFault}
-use Rattle.iol_capture.specs.declared.fault.LineFault.TheVariants.{BadForm}
 use Rattle.iol_capture.specs.declared.telling.Telling.TheVariants.{Octets}
-use Rattle.iol_capture.specs.Judging.{Judging, one_more}
-use Rattle.iol_capture.specs.Octets.{Hearing, new_hearing, octet_form, passed_by_octet, passed_by_request, shown_as, step_heard}
-use Rattle.iol_capture.specs.Capture.{Reading, ended, line_read, read_as}
-use Rattle.iol_capture.specs.HonestOctets.{OctetTextsNeverBlamed, shown_before, shown_in}
-use Rattle.iol_capture.proofs.ReadLemmas.{bad, stays_bad}
+use Rattle.iol_capture.specs.Judging.{Judging, one_more, or_bad_form}
+use Rattle.iol_capture.specs.Octets.{Hearing, new_hearing, octet_form, passed_by_octet, passed_by_request, shown, step_heard}
+use Rattle.iol_capture.specs.HonestCapture.{IsUnblamed, OctetTextsNeverBlamed, shown_by, shown_in}
+use Rattle.iol_capture.proofs.ReadLemmas.{judged_from, stays_bad}
 
 -- the judge is told what was split
 abbrev split_told : Judged → Result (List Passed) SplitFault → Result Judged SplitFault
-split_told judged (Ok what) = Ok (told_all judged (map passing_of what))
-split_told judged (Err fault) = Err fault
+split_told judged = result_map_both (λ what. told_all judged (map passing_of what)) (λ fault. fault)
 
 -- What one step tells
 
 abbrev told_of : Judged → Option Passed → Judged
-told_of judged None = judged
-told_of judged (Some passed) = judged_with judged passed
-
-told_first : (judged : Judged) (passed : Option Passed)
-    (later : Result (List Passed) SplitFault)
-    → split_told judged (with_told (Ok passed) later) ≡ split_told (told_of judged passed) later
-told_first judged passed later = grind arith
-
--- a judge is told so all that a step tells
-abbrev IsTold : Judging → (Option Passed → Judging) → Type 0
-IsTold old new = (passed : Option Passed) → told_of old.judged passed ≡ (new passed).judged
-
-by_octet : (old : Judging) → IsTold old (passed_by_octet old)
-by_octet old passed = grind arith
-
-by_request : (old : Judging) → IsTold old (passed_by_request old)
-by_request old passed = grind arith
+told_of judged passed = option_map_or (judged_with judged) passed judged
 
 -- Lines
-
-abbrev reading : ℕ → Hearing → Reading
-reading number hearing = record { lines = number; telling = Octets hearing }
-
--- what is judged in the end, if this line is the first of these
-abbrev judged_from : Result Hearing LineFault → ℕ → List (List ℕ) → Result Judging CaptureFault
-judged_from hearing number lines = ended (fold line_read
-    (read_as number (result_map_both Octets (λ (fault : LineFault). fault) hearing)) lines)
 
 module _ (judging : Judging) where
   -- lines are split, whatever was read before
   abbrev Later : List (List ℕ) → Type 0
   Later lines = (number : ℕ) (old : Hearing)
-      → ended (fold line_read (Ok (reading number old)) lines) ≡ Ok judging
+      → judged_from Octets (Ok old) number lines ≡ Ok judging
       → split_told old.judging.judged (all_split old.splitting (shown_in lines))
       ≡ Ok judging.judged
 
-  step_splits : (old : Judging) (new : Option Passed → Judging) → IsTold old new
+  -- the judge is told so all that a step tells
+  step_splits : (old : Judging) (new : Option Passed → Judging)
+      → ((passed : Option Passed) → told_of old.judged passed ≡ (new passed).judged)
       → (state : Splitting) (result : Result (Option Passed) SplitFault) (number : ℕ)
       (lines : List (List ℕ)) → Later lines
-      → judged_from (step_heard new (record { state = state; told = result })) number lines
+      → judged_from Octets (step_heard new (record { state = state; told = result })) number lines
       ≡ Ok judging
       → split_told old.judged (with_told result (all_split state (shown_in lines)))
       ≡ Ok judging.judged
   step_splits old new told state result number lines later e =
-      grind (arith, told_first, stays_bad)
+      grind (arith, stays_bad)
 
   form_splits : (form : Option OctetLine) (old : Hearing) (number : ℕ) (lines : List (List ℕ))
-      → Later lines → judged_from (shown_as old form) number lines ≡ Ok judging
+      → Later lines → judged_from Octets (or_bad_form (shown old) form) number lines ≡ Ok judging
       → split_told old.judging.judged
-      (all_split old.splitting (shown_before form (shown_in lines))) ≡ Ok judging.judged
-  form_splits None old number lines later e = absurd (bad (Line number BadForm) lines judging e)
+      (all_split old.splitting (cons_option (option_and_then shown_by form) (shown_in lines)))
+      ≡ Ok judging.judged
+  form_splits None old number lines later e = absurd (grind (arith, stays_bad))
   form_splits (Some line.Other) old number lines later e = later number old e
   form_splits (Some (line.Octet time octet)) old number lines later e =
       let step : Step = octet_split old.splitting time octet in
-      step_splits old.judging (passed_by_octet old.judging) (by_octet old.judging) step.state
-      step.told number lines later e
+      step_splits old.judging (passed_by_octet old.judging) (λ passed. grind arith)
+      step.state step.told number lines later e
   form_splits (Some (line.Wake time)) old number lines later e =
       let step : Step = wake_split old.splitting time in
-      step_splits old.judging (passed_by_request old.judging) (by_request old.judging) step.state
-      step.told number lines later e
+      step_splits old.judging (passed_by_request old.judging) (λ passed. grind arith)
+      step.state step.told number lines later e
 
   lines_split : (lines : List (List ℕ)) → Later lines
-  lines_split [] number old e = grind (arith, told_first, by_request)
+  lines_split [] number old e = grind arith
   lines_split (line ∷ lines) number old e =
       form_splits (octet_form line) old (one_more number) lines (lines_split lines) e
 
 -- The law
 
-abbrev Unblamed : Judged → Type 0
-Unblamed judged = (exchange : ℕ) (reason : Reason) → judged.verdict ≢ NotHonest exchange reason
-
 unblamed : (old end : Judged) (result : Result (List Passed) SplitFault)
-    → IfOk result (λ what. Unblamed (told_all old (map passing_of what)))
-    → split_told old result ≡ Ok end → Unblamed end
+    → IfOk result (λ what. IsUnblamed (told_all old (map passing_of what)))
+    → split_told old result ≡ Ok end → IsUnblamed end
 unblamed old end result never is exchange reason blamed = grind arith
 
 pub octet_texts : OctetsNeverBlamed → OctetTextsNeverBlamed

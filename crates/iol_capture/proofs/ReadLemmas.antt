@@ -1,21 +1,66 @@
--- A capture that is read in pieces: what an `Opened` makes of one more octet, of the end, and of
--- one more piece of a reader. The calls of `Opened`, and `judge_capture`, need them.
-use Rattle.std.proofs.Common.{◌≡◌, ℕ, ◌<◌, Bool, false, ◌==◌, Option, Result, Ok, Err, IfErr, List, [], ◌∷◌, ◌++◌, length, fold, refl, append-nil, append_assoc, length-append, arith}
+-- A capture that is read in pieces: the line that is open, and what an `Opened` makes of one more
+-- octet, of the end, and of one more piece of a reader. The calls of `Opened`, and `judge_capture`,
+-- need them.
+use Rattle.std.proofs.Common.{◌≡◌, ℕ, ◌<◌, Bool, false, ◌==◌, Option, Result, Ok, Err, OnOk, List, [], ◌∷◌, ◌++◌, length, fold, refl, append-nil, append_assoc, length-append, arith}
+use Rattle.std.proofs.lemmas.Bool.{or_parts}
 use Rattle.std.proofs.lemmas.Bool.Decides.{nat_tests}
 use Rattle.std.specs.Io.KnownBytes.{Consumes}
+use Rattle.std.specs.List.{list_any, onto_first}
+use Rattle.std.specs.Result.{result_and, result_map_both}
 use Rattle.std.proofs.KnownBytes.{Consumes-trans}
 use Rattle.iol_judge.specs.declared.verdict.Odd.{Odd}
 use Rattle.iol_script.specs.Text.{lines_of}
 use Rattle.iol_capture.specs.declared.fault.CaptureFault.{CaptureFault}
 use Rattle.iol_capture.specs.declared.fault.CaptureFault.TheVariants.{Line}
+use Rattle.iol_capture.specs.declared.fault.LineFault.{LineFault}
 use Rattle.iol_capture.specs.declared.fault.LineFault.TheVariants.{BadForm}
 use Rattle.iol_capture.specs.declared.telling.Form.{Form}
 use Rattle.iol_capture.specs.declared.telling.Telling.{Telling}
 use Rattle.iol_capture.specs.Judging.{Judging, one_more}
-use Rattle.iol_capture.specs.Telling.{line_told}
-use Rattle.iol_capture.specs.OpenLine.{IsOpenLine}
-use Rattle.iol_capture.specs.Capture.{Opened, line_read, ended, judged_with, capture_judged}
-use Rattle.iol_capture.proofs.LineLemmas.{BeginsWith, lines_ended, lines_last, lines_longer}
+use Rattle.iol_capture.specs.Capture.{IsOpenLine, Opened, capture_judged, ended, judged_with, line_read, read_as}
+
+-- The line that is open, and the lines of the text behind it
+
+-- a line feed ends it
+lines_ended : (line rest : List ℕ) → IsOpenLine line
+    → lines_of (line ++ 10 ∷ rest) ≡ line ∷ lines_of rest
+lines_ended [] rest h = refl
+lines_ended (c ∷ line) rest h = grind (arith, lines_ended line rest)
+
+-- so does the end of the text
+lines_last : (line : List ℕ) → IsOpenLine line → 0 < length line → lines_of line ≡ line ∷ []
+lines_last [] h some = absurd (omega arith)
+lines_last (c ∷ []) h some = grind arith
+lines_last (c ∷ d ∷ line) h some = grind (arith, lines_last (d ∷ line))
+
+-- the first line of a text, and the others
+record BeginsWith (lines : List (List ℕ)) (front : List ℕ) : Type 0 where
+  more : List ℕ
+  others : List (List ℕ)
+  is : lines ≡ (front ++ more) ∷ others
+
+onto_begins : (c : ℕ) (lines : List (List ℕ)) → BeginsWith (onto_first c lines) (c ∷ [])
+onto_begins c [] = record { more = []; others = []; is = refl }
+onto_begins c (first ∷ others) = record { more = first; others = others; is = refl }
+
+-- it goes on in the first line of what follows
+lines_longer : (line : List ℕ) (c : ℕ) (rest : List ℕ) → IsOpenLine line → (c == 10) ≡ false
+    → BeginsWith (lines_of (line ++ c ∷ rest)) (line ++ c ∷ [])
+lines_longer [] c rest h e =
+    let begins = onto_begins c (lines_of rest) in
+    record { more = begins.more; others = begins.others; is = grind (arith, begins.is) }
+lines_longer (d ∷ line) c rest h e =
+    let parts = or_parts (d == 10) (list_any (λ b. b == 10) line) h in
+    let later = lines_longer line c rest parts.1 e in
+    record { more = later.more; others = later.others; is = grind (arith, later.is) }
+
+-- Bad lines
+
+-- what is judged in the end, where the line of this number is told so, and these come behind it
+abbrev pub judged_from : {J : Type 0} → (J → Telling) → Result J LineFault → ℕ
+    → List (List ℕ) → Result Judging CaptureFault
+judged_from form told number lines =
+    ended (fold line_read (read_as number (result_map_both form (λ fault. fault) told)) lines)
 
 -- a bad line stays the first
 pub stays_bad : (fault : CaptureFault) (lines : List (List ℕ))
@@ -23,23 +68,16 @@ pub stays_bad : (fault : CaptureFault) (lines : List (List ℕ))
 stays_bad fault [] = refl
 stays_bad fault (line ∷ lines) = stays_bad fault lines
 
--- and nothing is judged
-pub bad : (fault : CaptureFault) (lines : List (List ℕ)) (judging : Judging)
-    → ended (fold line_read (Err fault) lines) ≡ Ok judging → ⊥
-bad fault lines judging e = grind (arith, stays_bad)
-
 -- One more octet
 
--- a line feed behind a bad line, of a call's result
-pub fed_bad : {U : Type 0} (result : Result U CaptureFault) (old : Opened) (c : ℕ) → c ≡ 10
-    → IsOpenLine old.line → IfErr result (λ fault. line_read (Ok old.reading) old.line ≡ Err fault)
-    → IfErr result (λ fault. (rest : List ℕ) → judged_with old (c ∷ rest) ≡ Err fault)
-fed_bad (Ok done) old c is h read = tt
-fed_bad (Err fault) old c is h read = λ rest. grind (arith, lines_ended, stays_bad)
-
-too_long : (telling : Telling) (line : List ℕ) → 1024 < length line
-    → line_told telling line ≡ Err BadForm
-too_long telling line long = grind (arith, nat_tests)
+-- a line feed ends a line, by a call with this result
+pub fed : {U : Type 0} (result : Result U CaptureFault) (old new : Opened) (c : ℕ) → c ≡ 10
+    → IsOpenLine old.line
+    → result_and result (Ok new.reading) ≡ line_read (Ok old.reading) old.line
+    → OnOk result (new.line ≡ []) → (rest : List ℕ)
+    → result_and result (judged_with new rest) ≡ judged_with old (c ∷ rest)
+fed (Ok done) old new c is h read empty rest = grind (arith, lines_ended)
+fed (Err fault) old new c is h read empty rest = grind (arith, lines_ended, stays_bad)
 
 -- another one, behind 1,024: no room is left
 pub overfull : (inside old : Opened) (c number : ℕ) → inside ≡ old → IsOpenLine inside.line
@@ -52,7 +90,7 @@ overfull inside old c number same h other full is rest =
     lines_longer inside.line c rest h no_feed in
     let long : 1024 < length (front ++ begins.more) =
     omega (arith, length-append inside.line (c ∷ []), length-append front begins.more) in
-    grind (arith, too_long, stays_bad)
+    grind (arith, nat_tests, stays_bad)
 
 -- The end
 
@@ -61,8 +99,7 @@ pub end_line : (inside opened : Opened) (empty : Bool) → inside ≡ opened
     → IsOpenLine opened.line → empty ≡ (length inside.line == 0) → empty ≡ false
     → judged_with opened [] ≡ ended (line_read (Ok opened.reading) opened.line)
 end_line inside opened empty same h is some =
-    let long : 0 < length inside.line = grind (arith, nat_tests) in
-    grind (arith, lines_last, append-nil {A = ℕ})
+    grind (arith, nat_tests, lines_last, append-nil {A = ℕ})
 
 -- From a reader
 
@@ -77,7 +114,7 @@ pub record IsReadOf (form : Form) (odd : Odd) (before after : Option (List ℕ))
 pub read_more : (form : Form) (odd : Odd) (before mid after : Option (List ℕ))
     (old new : Opened) (piece : List ℕ) → IsReadOf form odd before mid old
     → Consumes mid after piece
-    → ((rest : List ℕ) → judged_with old (piece ++ rest) ≡ judged_with new rest)
+    → ((rest : List ℕ) → judged_with new rest ≡ judged_with old (piece ++ rest))
     → IsReadOf form odd before after new
 read_more form odd before mid after old new piece was taken good = record {
   bytes = was.bytes ++ piece;

@@ -1,25 +1,45 @@
 -- A whole text, told to a judge line by line.
-use Rattle.std.specs.Prelude.{ℕ, Result, Ok, Err, List, [], ◌++◌, fold}
+use Rattle.std.specs.Prelude.{◌≡◌, ℕ, false, ◌==◌, is_some, Result, Ok, Err, List, [], ◌++◌, fold, if◌then◌else◌}
+use Rattle.std.specs.List.{list_any}
 use Rattle.std.specs.Result.{result_map_both}
 use Rattle.iol_judge.specs.declared.verdict.Odd.{Odd}
 use Rattle.iol_script.specs.Text.{lines_of}
 use Rattle.iol_capture.specs.declared.fault.LineFault.{LineFault}
+use Rattle.iol_capture.specs.declared.fault.LineFault.TheVariants.{ReplyMissing}
 use Rattle.iol_capture.specs.declared.fault.CaptureFault.{CaptureFault}
 use Rattle.iol_capture.specs.declared.fault.CaptureFault.TheVariants.{Line}
 use Rattle.iol_capture.specs.declared.telling.Form.{Form}
+use Rattle.iol_capture.specs.declared.telling.Form.TheVariants as form
 use Rattle.iol_capture.specs.declared.telling.Telling.{Telling}
-use Rattle.iol_capture.specs.Judging.{Judging, one_more}
-use Rattle.iol_capture.specs.Telling.{line_told, new_telling, whole}
+use Rattle.iol_capture.specs.declared.telling.Telling.TheVariants.{Trace, Octets}
+use Rattle.iol_capture.specs.TraceLines.{trace_form}
+use Rattle.iol_capture.specs.Judging.{Judging, new_judging, one_more, or_bad_form, told}
+use Rattle.iol_capture.specs.Octets.{heard_whole, new_hearing, octet_form, shown}
+
+-- A judge, told lines in one form or the other
+
+abbrev pub new_telling : Form → Odd → Telling
+new_telling form.Trace odd = Trace (new_judging odd)
+new_telling (form.Octets rate) odd = Octets (new_hearing rate odd)
+
+-- one more line
+abbrev pub line_told : Telling → List ℕ → Result Telling LineFault
+line_told (Trace judging) line =
+    result_map_both Trace (λ fault. fault) (or_bad_form (told judging) (trace_form line))
+line_told (Octets hearing) line =
+    result_map_both Octets (λ fault. fault) (or_bad_form (shown hearing) (octet_form line))
+
+-- the capture has ended: no message of a trace waits for what came back
+abbrev pub whole : Telling → Result Judging LineFault
+whole (Trace judging) = if is_some judging.sent then Err ReplyMissing else Ok judging
+whole (Octets hearing) = Ok (heard_whole hearing)
+
+-- Lines
 
 -- a capture, as far as its lines are read: their number, and the judge
 pub record Reading : Type 0 where
   pub lines : ℕ
   pub telling : Telling
-
-abbrev pub new_reading : Form → Odd → Reading
-new_reading form odd = record { lines = 0; telling = new_telling form odd }
-
--- Lines
 
 -- the line of this number was told
 abbrev pub read_as : ℕ → Result Telling LineFault → Result Reading CaptureFault
@@ -39,25 +59,25 @@ ended (Ok reading) = result_map_both (λ judging. judging) (Line (one_more readi
     (whole reading.telling)
 ended (Err fault) = Err fault
 
--- what a judge makes of lines
-abbrev pub lines_judged : Reading → List (List ℕ) → Result Judging CaptureFault
-lines_judged reading lines = ended (fold line_read (Ok reading) lines)
-
--- what a judge makes of a capture in this form, by what it does with odd replies; or its first bad
--- line
-abbrev pub capture_judged : Form → Odd → List ℕ → Result Judging CaptureFault
-capture_judged form odd text = lines_judged (new_reading form odd) (lines_of text)
-
--- A text that is read in pieces
-
 -- the lines that ended, and the line that is open
 pub record Opened : Type 0 where
   pub reading : Reading
   pub line : List ℕ
 
 abbrev pub new_opened : Form → Odd → Opened
-new_opened form odd = record { reading = new_reading form odd; line = [] }
+new_opened form odd =
+    record { reading = record { lines = 0; telling = new_telling form odd }; line = [] }
+
+-- the line that is open has no line feed
+abbrev pub IsOpenLine : List ℕ → Type 0
+IsOpenLine line = list_any (λ b. b == 10) line ≡ false
 
 -- what the judge makes of a capture of which this was read, once the rest is read too
 abbrev pub judged_with : Opened → List ℕ → Result Judging CaptureFault
-judged_with opened rest = lines_judged opened.reading (lines_of (opened.line ++ rest))
+judged_with opened rest =
+    ended (fold line_read (Ok opened.reading) (lines_of (opened.line ++ rest)))
+
+-- what a judge makes of a capture in this form, by what it does with odd replies; or its first bad
+-- line
+abbrev pub capture_judged : Form → Odd → List ℕ → Result Judging CaptureFault
+capture_judged form odd text = judged_with (new_opened form odd) text

@@ -1,5 +1,5 @@
 -- What is printed of a judged capture.
-use Rattle.std.specs.Prelude.{ℕ, Bool, true, false, not, ◌&&◌, ◌||◌, ◌==◌, Option, Some, None, List, [], ◌∷◌, ◌++◌, if◌then◌else◌, codes}
+use Rattle.std.specs.Prelude.{◌≡◌, ℕ, Bool, false, not, ◌&&◌, ◌||◌, ◌==◌, Option, Some, None, Result, OnOk, List, [], ◌++◌, if◌then◌else◌, String, string_bytes, codes, flat_map}
 use Rattle.std.specs.Fmt.{decimal}
 use Rattle.iol_judge.specs.declared.open.Open.{Open}
 use Rattle.iol_judge.specs.declared.open.Open.TheVariants as «open»
@@ -16,11 +16,14 @@ use Rattle.iol_capture.specs.declared.printing.Finding.{Finding}
 use Rattle.iol_capture.specs.declared.printing.Finding.TheVariants as found
 use Rattle.iol_watch.specs.declared.fault.MasterFault.{MasterFault}
 use Rattle.iol_watch.specs.declared.fault.MasterFault.TheVariants as fault
-use Rattle.iol_watch.specs.declared.verdict.Verdict.{Verdict as MasterVerdict}
 use Rattle.iol_watch.specs.declared.verdict.Verdict.TheVariants as master
 use Rattle.iol_watch.specs.Numbers.{fault_number}
 use Rattle.iol_capture.specs.Judging.{Judging}
 use Rattle.iol_capture.specs.Watching.{Watching}
+
+-- where it's `Ok`, this text was added
+abbrev pub Prints : {T E A : Type 0} → Result T E → String A → String A → List ℕ → Type 0
+Prints result old new text = OnOk result (string_bytes new ≡ string_bytes old ++ text)
 
 -- the name of a reason, what a device by the rules doesn't send, and the rule
 abbrev pub reason_text : Reason → List ℕ
@@ -81,14 +84,9 @@ because_text call joint number text =
     decimal call ++ joint ++ decimal number ++ codes " " ++ text ++ codes "\n"
 
 -- how many exchanges were judged, and in how many of them nothing came back
-abbrev pub judged_text : ℕ → List ℕ
-judged_text count = codes "honest " ++ decimal count ++ codes " exchanges"
-
-abbrev pub lost_text : ℕ → List ℕ
-lost_text count = codes ", " ++ decimal count ++ codes " lost\n"
-
 abbrev pub honest_text : ℕ → ℕ → List ℕ
-honest_text judged lost = judged_text judged ++ lost_text lost
+honest_text judged lost = codes "honest " ++ decimal judged ++ codes " exchanges"
+    ++ (codes ", " ++ decimal lost ++ codes " lost\n")
 
 -- the verdict, with the call on which it rests
 abbrev pub verdict_text : Verdict → ℕ → Counts → List ℕ
@@ -134,16 +132,12 @@ blamed_text fault call (Some from) =
     unsure_text from (codes "the read there may be behind a wake-up request that isn't shown")
 
 -- what is said of the master
-abbrev pub master_verdict_text : MasterVerdict → ℕ → Option ℕ → List ℕ
-master_verdict_text master.Unjudged call unsure =
-    codes "master can't be judged: no wake-up request was made\n"
-master_verdict_text master.ByTheRules call unsure = codes "master by the rules\n"
-master_verdict_text (master.NotByTheRules exchange fault) call unsure =
-    blamed_text fault call unsure
-
 abbrev pub master_text : Watching → List ℕ
-master_text watching =
-    master_verdict_text watching.watched.verdict watching.call watching.unsure
+master_text watching = elim watching.watched.verdict [
+  | master.Unjudged ↦ codes "master can't be judged: no wake-up request was made\n"
+  | master.ByTheRules ↦ codes "master by the rules\n"
+  | master.NotByTheRules exchange fault ↦ blamed_text fault watching.call watching.unsure
+]
 
 -- The kinds that a device may be of, where it may be of some, and not of all four
 -- DEV-20
@@ -152,51 +146,37 @@ are_told kinds =
     (kinds.first_left || kinds.first_sent || kinds.last_left || kinds.last_sent)
     && not (kinds.first_left && kinds.first_sent && kinds.last_left && kinds.last_sent)
 
--- what stands before the name of a kind, where one is named before it or not
-abbrev pub joint_text : Bool → List ℕ
-joint_text true = codes " or "
-joint_text false = codes "kind "
-
--- its name in a script, where it is one of them
+-- its name in a script, where it may be of this kind, and one is named before it or not
 abbrev pub kind_text : Bool → Bool → List ℕ → List ℕ
-kind_text true named name = joint_text named ++ name
-kind_text false named name = []
+kind_text may_be named name =
+    if may_be then (if named then codes " or " else codes "kind ") ++ name else []
 
-abbrev pub kinds_line : Kinds → List ℕ
-kinds_line kinds = kind_text kinds.first_left false (codes "first keeps")
+abbrev pub kinds_text : Kinds → List ℕ
+kinds_text kinds = if not (are_told kinds) then [] else
+    kind_text kinds.first_left false (codes "first keeps")
     ++ kind_text kinds.first_sent kinds.first_left (codes "first forgets")
     ++ kind_text kinds.last_left (kinds.first_left || kinds.first_sent) (codes "last keeps")
     ++ kind_text kinds.last_sent (kinds.first_left || kinds.first_sent || kinds.last_left)
     (codes "last forgets")
     ++ codes "\n"
 
-abbrev pub kinds_text : Kinds → List ℕ
-kinds_text kinds = if are_told kinds then kinds_line kinds else []
+-- how many exchanges of this name there are, where there are any
+abbrev pub count_text : List ℕ → ℕ → List ℕ
+count_text name count = if count == 0 then [] else name ++ decimal count ++ codes "\n"
 
--- the exchanges before the first answered wake-up request, where there are any
-abbrev pub unjudged_text : ℕ → List ℕ
-unjudged_text count =
-    if count == 0 then [] else codes "unjudged " ++ decimal count ++ codes "\n"
-
--- odd exchanges, a line each, and how many there are, where there are any
-abbrev pub odd_text : OddExchange → List ℕ
-odd_text odd =
-    because_text odd.call (codes " odd: ") (reason_number odd.reason) (reason_text odd.reason)
-
+-- odd exchanges, a line each
 abbrev pub odd_texts : List OddExchange → List ℕ
-odd_texts [] = []
-odd_texts (odd ∷ exchanges) = odd_text odd ++ odd_texts exchanges
-
-abbrev pub odd_count_text : ℕ → List ℕ
-odd_count_text count = if count == 0 then [] else codes "odd " ++ decimal count ++ codes "\n"
+odd_texts = flat_map (λ (odd : OddExchange). because_text odd.call (codes " odd: ")
+    (reason_number odd.reason) (reason_text odd.reason))
 
 -- what is printed
 abbrev pub finding_text : Judging → List ℕ
-finding_text judging = odd_texts judging.odd ++ unjudged_text judging.counts.unjudged
+finding_text judging = odd_texts judging.odd
+    ++ count_text (codes "unjudged ") judging.counts.unjudged
     ++ master_text judging.watching
     ++ kinds_text (kinds_left judging.judged)
     ++ verdict_text judging.judged.verdict judging.decided judging.counts
-    ++ odd_count_text judging.judged.oddities
+    ++ count_text (codes "odd ") judging.judged.oddities
 
 -- what was found
 abbrev pub finding_of : Verdict → Finding

@@ -1,35 +1,34 @@
--- Captures of devices by the rules, and the law: none of them is called not honest.
-use Rattle.std.specs.Prelude.{◌≡◌, ◌≢◌, ℕ, Option, Some, None, Ok, List, [], ◌∷◌}
+-- Captures of devices by the rules, and the laws: none of them is called not honest.
+use Rattle.std.specs.Prelude.{◌≡◌, ◌≢◌, ℕ, Option, Some, None, IfSome, option_and_then, Ok, List, [], ◌∷◌, map}
+use Rattle.std.specs.List.{filter_map}
 use Rattle.iol_far.specs.Far.{Far}
 use Rattle.iol_far.specs.Octets.{octets_in}
 use Rattle.iol_link.specs.Honest.{HonestExchange}
-use Rattle.iol_judge.specs.Admitted.{IsWake, is_answered}
+use Rattle.iol_link.specs.declared.wire.Rate.{Rate}
+use Rattle.iol_judge.specs.Admitted.{IsHonestRun, IsWake, is_answered}
 use Rattle.iol_judge.specs.declared.reason.Reason.{Reason}
 use Rattle.iol_judge.specs.declared.verdict.Odd.{Odd}
 use Rattle.iol_judge.specs.declared.verdict.Verdict.TheVariants.{NotHonest}
+use Rattle.iol_judge.specs.Judged.{Judged}
 use Rattle.iol_script.specs.Text.{lines_of}
+use Rattle.iol_splitter.specs.declared.octet_line.OctetLine.{OctetLine}
+use Rattle.iol_splitter.specs.declared.octet_line.OctetLine.TheVariants as line
+use Rattle.iol_splitter.specs.Fair.{passing_of}
+use Rattle.iol_splitter.specs.State.{new_splitter}
+use Rattle.iol_splitter.specs.Written.{AreWritten, Item, Octet, Request, Shown, items_told, stream_of}
 use Rattle.iol_capture.specs.declared.trace_line.TraceLine.{TraceLine}
 use Rattle.iol_capture.specs.declared.trace_line.TraceLine.TheVariants.{Other, Page, Wake, Sent, Came}
 use Rattle.iol_capture.specs.declared.telling.Form.TheVariants as form
 use Rattle.iol_capture.specs.TraceLines.{trace_form}
 use Rattle.iol_capture.specs.Judging.{Judging}
+use Rattle.iol_capture.specs.Octets.{octet_form}
 use Rattle.iol_capture.specs.Capture.{capture_judged}
 
--- what lines say, where each fits a form
-abbrev pub said_before : Option TraceLine → List TraceLine → List TraceLine
-said_before None later = later
-said_before (Some line) later = line ∷ later
+-- it's never called not honest
+abbrev pub IsUnblamed : Judged → Type 0
+IsUnblamed judged = (exchange : ℕ) (reason : Reason) → judged.verdict ≢ NotHonest exchange reason
 
-abbrev pub said_in : List (List ℕ) → List TraceLine
-said_in [] = []
-said_in (line ∷ lines) = said_before (trace_form line) (said_in lines)
-
--- a device, and a lossy line, bring this to the message that waits
--- WIRE-1
-abbrev pub IsHonestReply : Option (List ℕ) → Far → ℕ → Option (List ℕ) → Far → ℕ → Type 0
-IsHonestReply None far silence came far_new silence_new = Unit {0}
-IsHonestReply (Some sent) far silence came far_new silence_new =
-    HonestExchange far silence sent came far_new silence_new
+-- A trace
 
 -- A device of any kind brings what lines say over a lossy line, behind this call and the message
 -- that waits. A page that stands before the first call is its own.
@@ -46,7 +45,7 @@ IsHonestTrace far silence call waits (Sent number octets ∷ lines) =
     IsHonestTrace far silence number (Some octets.items) lines
 IsHonestTrace far silence call waits (Came number came ∷ lines) =
     (far_new : Far) × (silence_new : ℕ)
-    × IsHonestReply waits far silence (octets_in came) far_new silence_new
+    × IfSome waits (λ sent. HonestExchange far silence sent (octets_in came) far_new silence_new)
     × IsHonestTrace far_new silence_new call None lines
 
 -- the judge is told a text that a device by the rules brings, and this is what it makes of it
@@ -54,11 +53,40 @@ pub record IsFromHonest (odd : Odd) (text : List ℕ) (judging : Judging) : Type
   pub judged : capture_judged form.Trace odd text ≡ Ok judging
   pub far : Far
   pub silence : ℕ
-  pub honest : IsHonestTrace far silence 0 None (said_in (lines_of text))
+  pub honest : IsHonestTrace far silence 0 None (filter_map trace_form (lines_of text))
 
 -- the law: such a text is never called not honest, and nothing in it is called odd
 pub record CapturesNeverBlamed : Type 0 where
   pub unblamed : (odd : Odd) (text : List ℕ) (judging : Judging) → IsFromHonest odd text judging
-      → (exchange : ℕ) (reason : Reason) → judging.judged.verdict ≢ NotHonest exchange reason
+      → IsUnblamed judging.judged
   pub none_odd : (odd : Odd) (text : List ℕ) (judging : Judging) → IsFromHonest odd text judging
       → judging.judged.oddities ≡ 0
+
+-- Octets
+
+abbrev pub shown_by : OctetLine → Option Shown
+shown_by line.Other = None
+shown_by (line.Octet time octet) = Some (Octet (record { time = time; octet = octet }))
+shown_by (line.Wake time) = Some (Request time)
+
+-- what lines show, where each fits a form
+abbrev pub shown_in : List (List ℕ) → List Shown
+shown_in = filter_map (λ line. option_and_then shown_by (octet_form line))
+
+-- The judge is told a text, and this is what it makes of it: octets that are written by the rules,
+-- of what a device by the rules brings
+-- WIRE-1, WIRE-3
+pub record AreFromHonest (odd : Odd) (rate : Rate) (text : List ℕ)
+    (judging : Judging) : Type 0 where
+  pub judged : capture_judged (form.Octets rate) odd text ≡ Ok judging
+  pub items : List Item
+  pub written : AreWritten (new_splitter rate) items
+  pub shown : shown_in (lines_of text) ≡ stream_of items
+  pub far : Far
+  pub silence : ℕ
+  pub honest : IsHonestRun far silence (map passing_of (items_told items))
+
+-- the law: such a text is never called not honest
+abbrev pub OctetTextsNeverBlamed : Type 0
+OctetTextsNeverBlamed = (odd : Odd) (rate : Rate) (text : List ℕ) (judging : Judging)
+    → AreFromHonest odd rate text judging → IsUnblamed judging.judged

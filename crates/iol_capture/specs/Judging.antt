@@ -1,5 +1,6 @@
 -- A judge, told the lines of a trace.
 use Rattle.std.specs.Prelude.{ℕ, ◌+◌, ◌-◌, ◌^◌, min, Bool, true, false, ◌==◌, ◌||◌, nat_lt, Option, Some, None, is_some, Result, Ok, Err, List, [], ◌∷◌, ◌++◌, length, if◌then◌else◌}
+use Rattle.std.specs.Option.{option_map_or}
 use Rattle.std.specs.Result.{result_map_both}
 use Rattle.iol_far.specs.Octets.{octets_in}
 use Rattle.iol_judge.specs.declared.reason.Reason.{Reason}
@@ -13,7 +14,7 @@ use Rattle.iol_judge.specs.Judged.{Judged, new_judge, exchanged, woke}
 use Rattle.iol_splitter.specs.declared.passed.Passed.{Passed}
 use Rattle.iol_splitter.specs.declared.passed.Passed.TheVariants as passed
 use Rattle.iol_capture.specs.declared.fault.LineFault.{LineFault}
-use Rattle.iol_capture.specs.declared.fault.LineFault.TheVariants.{WrongNumber, ReplyMissing, MessageMissing}
+use Rattle.iol_capture.specs.declared.fault.LineFault.TheVariants.{BadForm, WrongNumber, ReplyMissing, MessageMissing}
 use Rattle.iol_capture.specs.declared.judgement.Counts.{Counts}
 use Rattle.iol_capture.specs.declared.judgement.OddExchange.{OddExchange}
 use Rattle.iol_capture.specs.declared.judgement.TheConstants.{ODD_SHOWN}
@@ -132,12 +133,16 @@ paged judging octets = if judging.call == 0 then page_told judging octets else j
 abbrev pub told : Judging → TraceLine → Result Judging LineFault
 told judging Other = Ok judging
 told judging (Page octets) = Ok (paged judging octets)
-told judging (Wake number answer) = result_map_both
-    (λ (new : Judging). wake_told new answer) (λ (fault : LineFault). fault) (begun judging number)
+told judging (Wake number answer) =
+    result_map_both (λ new. wake_told new answer) (λ fault. fault) (begun judging number)
 told judging (Sent number octets) = result_map_both
-    (λ (new : Judging). record new { sent = Some octets.items }) (λ (fault : LineFault). fault)
+    (λ (new : Judging). record new { sent = Some octets.items }) (λ fault. fault)
     (begun judging number)
 told judging (Came number came) = came_to judging.sent judging number (octets_in came)
+
+-- a line is told so, where it fits a form
+abbrev pub or_bad_form : {L J : Type 0} → (L → Result J LineFault) → Option L → Result J LineFault
+or_bad_form tell line = option_map_or tell line (Err BadForm)
 
 -- What a splitter tells
 

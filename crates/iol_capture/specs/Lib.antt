@@ -2,10 +2,6 @@ pub mod TraceLines
 pub mod Watching
 pub mod Judging
 pub mod Octets
-pub mod Telling
-pub mod OpenLine
 pub mod Capture
 pub mod Findings
 pub mod HonestCapture
-pub mod HonestOctets
-pub mod FairWatching

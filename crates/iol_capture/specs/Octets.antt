@@ -1,5 +1,6 @@
 -- A judge, told what a decoder shows.
-use Rattle.std.specs.Prelude.{ℕ, nat_le, Option, Some, None, Result, Ok, Err, List, length, if◌then◌else◌}
+use Rattle.std.specs.Prelude.{ℕ, nat_le, Option, Some, None, Result, Ok, List, length, if◌then◌else◌}
+use Rattle.std.specs.Option.{option_map_or}
 use Rattle.std.specs.Result.{result_map_both}
 use Rattle.iol_judge.specs.declared.verdict.Odd.{Odd}
 use Rattle.iol_judge.specs.declared.verdict.Wake.TheVariants.{Unanswered}
@@ -13,7 +14,7 @@ use Rattle.iol_splitter.specs.State.{Splitting, new_splitter}
 use Rattle.iol_splitter.specs.Splitting.{ended, octet_split, wake_split}
 use Rattle.iol_splitter.specs.Steps.{Step}
 use Rattle.iol_capture.specs.declared.fault.LineFault.{LineFault}
-use Rattle.iol_capture.specs.declared.fault.LineFault.TheVariants.{BadForm, Split}
+use Rattle.iol_capture.specs.declared.fault.LineFault.TheVariants.{Split}
 use Rattle.iol_capture.specs.Judging.{Judging, maybe_woken, new_judging, passed_next}
 
 -- the octets that are split, and what the judge makes of what they are split into
@@ -28,16 +29,15 @@ new_hearing rate odd = record { splitting = new_splitter rate; judging = new_jud
 abbrev pub octet_form : List ℕ → Option OctetLine
 octet_form line = if nat_le (length line) 1024 then line_form line else None
 
+-- what went over the line, told by a wake-up request that is shown, or by the end
+abbrev pub passed_by_request : Judging → Option Passed → Judging
+passed_by_request judging passed = option_map_or (passed_next judging) passed judging
+
 -- What went over the line, told by an octet. An unanswered wake-up request that isn't shown may be
 -- none: the read that may be its test read is the next call, and it has no number of its own
 abbrev pub passed_by_octet : Judging → Option Passed → Judging
-passed_by_octet judging None = judging
 passed_by_octet judging (Some (Wake Unanswered)) = maybe_woken judging
-passed_by_octet judging (Some passed) = passed_next judging passed
-
-abbrev pub passed_by_request : Judging → Option Passed → Judging
-passed_by_request judging None = judging
-passed_by_request judging (Some passed) = passed_next judging passed
+passed_by_octet judging passed = passed_by_request judging passed
 
 -- the judge is told so what a step tells
 abbrev pub step_heard : (Option Passed → Judging) → Step → Result Hearing LineFault
@@ -51,10 +51,6 @@ shown hearing (line.Octet time octet) =
     step_heard (passed_by_octet hearing.judging) (octet_split hearing.splitting time octet)
 shown hearing (line.Wake time) =
     step_heard (passed_by_request hearing.judging) (wake_split hearing.splitting time)
-
-abbrev pub shown_as : Hearing → Option OctetLine → Result Hearing LineFault
-shown_as hearing None = Err BadForm
-shown_as hearing (Some line) = shown hearing line
 
 -- the stream has ended
 abbrev pub heard_whole : Hearing → Judging

@@ -1,6 +1,7 @@
 -- The lines of a trace.
 use Rattle.std.specs.Prelude.{ℕ, ◌-◌, ◌^◌, Bool, false, ◌==◌, ◌||◌, ◌&&◌, nat_le, Option, Some, None, option_map, option_and_then, List, [], ◌∷◌, length, take, if◌then◌else◌, codes}
 use Rattle.std.specs.List.{position}
+use Rattle.std.specs.Option.{option_map_or}
 use Rattle.std.specs.Str.{bytes_eq}
 use Rattle.arrayvec.specs.ArrayVec.{ArrayVec}
 use Rattle.iol_judge.specs.declared.verdict.Wake.{Wake as WakeAnswer}
@@ -10,29 +11,22 @@ use Rattle.iol_script.specs.Text.{text_words}
 use Rattle.iol_capture.specs.declared.trace_line.TraceLine.{TraceLine}
 use Rattle.iol_capture.specs.declared.trace_line.TraceLine.TheVariants.{Other, Page, Wake, Sent, Came}
 
--- Octets
-
-abbrev pub line_octets : List ℕ → ArrayVec ℕ
-line_octets octets = record { items = octets }
+-- The words of a line
 
 -- words of two digits each, up to 128
 abbrev pub octets_form : List (List ℕ) → Option (ArrayVec ℕ)
-octets_form words = option_map line_octets (option_and_then (within 0 128) (octets_of words))
+octets_form words = option_map (λ octets. record { items = octets })
+    (option_and_then (within 0 128) (octets_of words))
 
 -- the one word `none`
 abbrev pub are_none : List (List ℕ) → Bool
 are_none (word ∷ []) = bytes_eq word (codes "none")
 are_none words = false
 
--- The words of a line
-
 -- the words behind `page`: ten octets; without them the line says nothing of a page
-abbrev pub page_of : ArrayVec ℕ → Option TraceLine
-page_of octets = if length octets.items == 10 then Some (Page octets.items) else None
-
 abbrev pub page_form : List (List ℕ) → Option TraceLine
-page_form words =
-    if are_none words then Some Other else option_and_then page_of (octets_form words)
+page_form words = if are_none words then Some Other else option_and_then (λ (octets : ArrayVec ℕ).
+    if length octets.items == 10 then Some (Page octets.items) else None) (octets_form words)
 
 -- whether a wake-up request was answered, by the rate
 abbrev pub rate_form : List (List ℕ) → Option WakeAnswer
@@ -72,13 +66,9 @@ words_form (name ∷ words) = named_form name words
 
 -- A line
 
-abbrev pub cut_at : List ℕ → Option ℕ → List ℕ
-cut_at line None = line
-cut_at line (Some place) = take place line
-
 -- behind a colon the octets are only explained
 abbrev pub before_colon : List ℕ → List ℕ
-before_colon line = cut_at line (position (λ b. b == 58) line)
+before_colon line = option_map_or (λ place. take place line) (position (λ b. b == 58) line) line
 
 -- what a line says, where it fits a form
 abbrev pub trace_form : List ℕ → Option TraceLine

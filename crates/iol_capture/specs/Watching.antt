@@ -1,8 +1,9 @@
 -- A watch of the master's side, told the calls that a judge is told.
-use Rattle.std.specs.Prelude.{ℕ, Bool, true, false, ◌&&◌, ◌||◌, ◌==◌, if◌then◌else◌, List, ◌∷◌, Option, Some, None, is_none}
+use Rattle.std.specs.Prelude.{◌≡◌, ℕ, Bool, true, false, ◌&&◌, ◌||◌, ◌==◌, if◌then◌else◌, List, ◌∷◌, Option, Some, None, is_none}
 use Rattle.iol_judge.specs.declared.verdict.Wake.{Wake}
 use Rattle.iol_judge.specs.declared.verdict.Wake.TheVariants.{Answered}
 use Rattle.iol_judge.specs.Seen.{whole_page}
+use Rattle.iol_splitter.specs.Lengths.{test_read}
 use Rattle.iol_watch.specs.declared.verdict.Verdict.{Verdict}
 use Rattle.iol_watch.specs.declared.verdict.Verdict.TheVariants.{NotByTheRules}
 use Rattle.iol_watch.specs.Watched.{Watched, exchanged, new_watch, paged, woke}
@@ -36,12 +37,7 @@ page_watched watching octets =
 -- a wake-up request was made
 abbrev pub wake_watched : Watching → Wake → Watching
 wake_watched watching answer = if is_blamed watching.watched.verdict then watching else
-    record watching {
-      watched = woke watching.watched answer;
-      asked = false;
-      tests = false;
-      unsure = None;
-    }
+    record new_watching { watched = woke watching.watched answer; call = watching.call }
 
 -- octets of a write of DeviceOperate or DevicePreoperate to page address 0x00 in STARTUP
 abbrev pub asks_mode : List ℕ → Bool
@@ -75,3 +71,10 @@ exchange_watched watching call sent came =
     if is_blamed watching.watched.verdict then watching else
     if watching.tests then read_or_woken watching call sent came
     else followed watching call sent came
+
+-- the law: a test read is never blamed, where a wake-up request may be before it that isn't shown
+-- LINK-1
+abbrev pub UnseenWakesAreFair : Type 0
+UnseenWakesAreFair = (watching : Watching) (call : ℕ) (came : Option (List ℕ))
+    → watching.tests ≡ true → is_blamed watching.watched.verdict ≡ false
+    → is_blamed (exchange_watched watching call test_read came).watched.verdict ≡ false

@@ -1,6 +1,8 @@
 //! A judge, told what a decoder shows.
-ghost use Rattle.std.specs.Prelude.{◌≡◌, Ok, Err, IfErr, OnOk};
-ghost use Rattle.iol_capture.specs.Octets.{heard_whole, new_hearing, octet_form, passed_by_octet, passed_by_request, shown, shown_as};
+ghost use Rattle.std.specs.Prelude.{◌≡◌, Ok};
+ghost use Rattle.std.specs.Result.{result_and};
+ghost use Rattle.iol_capture.specs.Judging.{or_bad_form};
+ghost use Rattle.iol_capture.specs.Octets.{heard_whole, new_hearing, octet_form, passed_by_octet, passed_by_request, shown};
 
 use crate::fault::LineFault;
 use crate::judgement::Judgement;
@@ -38,8 +40,8 @@ impl Hearing {
 
     /// One more line.
     pub fn tell_line(&mut self, line: &[u8]) -> Result<(), LineFault>
-        ensures good { OnOk result (shown_as self.old (octet_form line.now) ≡ Ok self.new) }
-        ensures bad { IfErr result (λ fault. shown_as self.old (octet_form line.now) ≡ Err fault) }
+        ensures { result_and result (Ok self.new)
+            ≡ or_bad_form (shown self.old) (octet_form line.now) }
     {
         match parse(line) {
             Some(line) => self.tell(line),
@@ -49,8 +51,7 @@ impl Hearing {
 
     /// What one more line shows.
     fn tell(&mut self, line: OctetLine) -> Result<(), LineFault>
-        ensures good { OnOk result (shown self.old line ≡ Ok self.new) }
-        ensures bad { IfErr result (λ fault. shown self.old line ≡ Err fault) }
+        ensures { result_and result (Ok self.new) ≡ shown self.old line }
     {
         match line {
             OctetLine::Other => Ok(()),

@@ -1,5 +1,6 @@
 //! A judge, told the lines of a trace.
-ghost use Rattle.std.specs.Prelude.{◌≡◌, ◌≤◌, ◌<◌, Ok, Err, IfErr, OnOk, is_some, option_copied};
+ghost use Rattle.std.specs.Prelude.{◌≡◌, ◌≤◌, ◌<◌, Ok, is_some, option_copied};
+ghost use Rattle.std.specs.Result.{result_and};
 ghost use Rattle.iol_far.specs.Octets.{octets_in};
 ghost use Rattle.iol_capture.specs.Judging.{answered, begun, called, came_to, counted_by, is_next, is_open, maybe_woken, new_judging, no_counts, one_more, paged, passed_next, passed_on, told, wake_told, with_odd};
 
@@ -141,8 +142,7 @@ impl Judgement {
 
     /// What one more line says.
     pub(crate) fn tell(&mut self, line: TraceLine) -> Result<(), LineFault>
-        ensures good { OnOk result (told self.old line ≡ Ok self.new) }
-        ensures bad { IfErr result (λ fault. told self.old line ≡ Err fault) }
+        ensures { result_and result (Ok self.new) ≡ told self.old line }
     {
         match line {
             TraceLine::Other => Ok(()),
@@ -192,8 +192,7 @@ impl Judgement {
 
     /// A call of the wire begins.
     fn begin(&mut self, number: u64) -> Result<(), LineFault>
-        ensures good { OnOk result (begun self.old number ≡ Ok self.new) }
-        ensures bad { IfErr result (λ fault. begun self.old number ≡ Err fault) }
+        ensures { result_and result (Ok self.new) ≡ begun self.old number }
     {
         if self.sent.is_some() {
             return Err(LineFault::ReplyMissing);
@@ -217,10 +216,8 @@ impl Judgement {
 
     /// What came back to the message that waits.
     fn tell_came(&mut self, number: u64, came: Option<LineOctets>) -> Result<(), LineFault>
-        ensures good { OnOk result (came_to self.old.sent self.old number (octets_in came)
-            ≡ Ok self.new) }
-        ensures bad { IfErr result (λ fault. came_to self.old.sent self.old number (octets_in came)
-            ≡ Err fault) }
+        ensures { result_and result (Ok self.new)
+            ≡ came_to self.old.sent self.old number (octets_in came) }
     {
         let Some(sent) = self.sent.take() else {
             return Err(LineFault::MessageMissing);

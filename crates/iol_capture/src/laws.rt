@@ -1,7 +1,6 @@
 //! The laws of captures, each carried by a function that does nothing when it runs.
-ghost use Rattle.iol_capture.specs.FairWatching.{UnseenWakesAreFair};
-ghost use Rattle.iol_capture.specs.HonestCapture.{CapturesNeverBlamed};
-ghost use Rattle.iol_capture.specs.HonestOctets.{OctetTextsNeverBlamed};
+ghost use Rattle.iol_capture.specs.HonestCapture.{CapturesNeverBlamed, OctetTextsNeverBlamed};
+ghost use Rattle.iol_capture.specs.Watching.{UnseenWakesAreFair};
 
 use iol_judge::honest_lines_are_never_blamed;
 use iol_splitter::octets_are_never_blamed;

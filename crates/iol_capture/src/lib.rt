@@ -6,11 +6,11 @@
 //! lines, and a watch of the master. [`judge_capture`] reads them in either [`Form`], of a text of
 //! any length: it keeps one line at a time.
 //!
-//! Definitions begin in `specs/TraceLines`; then `Watching`, what the watch is told, `Judging`, a
-//! line of a trace, `Octets`, a line of an export, `Capture`, a whole text, and `Findings`, what is
-//! printed. A capture is judged exactly where each line is good in its place; else its first bad
-//! line is named. `HonestCapture` and `HonestOctets` have the laws: a capture that a device by the
-//! rules brings over a lossy line is never called not honest. `FairWatching` has the master's.
+//! Definitions begin in `specs/TraceLines`; then `Watching`, what the watch is told, and the law of
+//! the master; `Judging`, a line of a trace; `Octets`, a line of an export; `Capture`, a whole
+//! text; and `Findings`, what is printed. A capture is judged exactly where each line is good in
+//! its place; else its first bad line is named. `HonestCapture` has the laws of the device: a
+//! capture that one by the rules brings over a lossy line is never called not honest.
 #![tactic(auto)]
 
 mod capture;

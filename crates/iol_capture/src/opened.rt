@@ -1,7 +1,7 @@
 //! A capture that is read in pieces: the lines that ended, and the line that is open.
-ghost use Rattle.std.specs.Prelude.{◌≡◌, ◌≤◌, ◌∷◌, ◌++◌, [], ℕ, List, Err, Ok, IfErr, IfOk, OnOk};
-ghost use Rattle.iol_capture.specs.Capture.{ended, judged_with, line_read, new_opened};
-ghost use Rattle.iol_capture.specs.OpenLine.{IsOpenLine};
+ghost use Rattle.std.specs.Prelude.{◌≡◌, ◌≤◌, ◌∷◌, ◌++◌, [], ℕ, List, Ok, OnOk};
+ghost use Rattle.std.specs.Result.{result_and};
+ghost use Rattle.iol_capture.specs.Capture.{IsOpenLine, ended, judged_with, line_read, new_opened};
 
 use crate::fault::{CaptureFault, LineFault};
 use crate::judgement::{Judgement, one_more};
@@ -22,8 +22,7 @@ pub(crate) struct Opened {
 }
 
 impl Model for Opened {
-    ghost use Rattle.iol_capture.specs.Capture.{Opened};
-    ghost use Rattle.iol_capture.specs.OpenLine.{IsOpenLine};
+    ghost use Rattle.iol_capture.specs.Capture.{IsOpenLine, Opened};
 
     ghost Value = { Opened };
 
@@ -49,10 +48,8 @@ impl Opened {
 
     /// More of the text is read.
     pub(crate) fn take(&mut self, text: &[u8]) -> Result<(), CaptureFault>
-        ensures good { OnOk result ((rest : List ℕ)
-            → judged_with self.old (text.now ++ rest) ≡ judged_with self.new rest) }
-        ensures bad { IfErr result (λ fault. (rest : List ℕ)
-            → judged_with self.old (text.now ++ rest) ≡ Err fault) }
+        ensures { (rest : List ℕ) → result_and result (judged_with self.new rest)
+            ≡ judged_with self.old (text.now ++ rest) }
     {
         for octet in text {
             self.take_octet(*octet)?;
@@ -61,12 +58,10 @@ impl Opened {
     }
 
     /// One more octet is read.
-    #[tactic(auto, using(crate::proofs::LineLemmas::lines_ended, crate::proofs::ReadLemmas::overfull))]
+    #[tactic(auto, using(crate::proofs::ReadLemmas::overfull))]
     fn take_octet(&mut self, octet: u8) -> Result<(), CaptureFault>
-        ensures good { OnOk result ((rest : List ℕ)
-            → judged_with self.old (octet ∷ rest) ≡ judged_with self.new rest) }
-        ensures bad { IfErr result (λ fault. (rest : List ℕ)
-            → judged_with self.old (octet ∷ rest) ≡ Err fault) }
+        ensures { (rest : List ℕ) → result_and result (judged_with self.new rest)
+            ≡ judged_with self.old (octet ∷ rest) }
     {
         if octet == b'\n' {
             return self.end_line();
@@ -80,10 +75,8 @@ impl Opened {
 
     /// The open line ends.
     fn end_line(&mut self) -> Result<(), CaptureFault>
-        ensures good { OnOk result (line_read (Ok self.old.reading) self.old.line
-            ≡ Ok self.new.reading) }
-        ensures bad { IfErr result (λ fault. line_read (Ok self.old.reading) self.old.line
-            ≡ Err fault) }
+        ensures line { result_and result (Ok self.new.reading)
+            ≡ line_read (Ok self.old.reading) self.old.line }
         ensures empty { OnOk result (self.new.line ≡ []) }
         ensures no_feed { IsOpenLine self.old.line }
     {

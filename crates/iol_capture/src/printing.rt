@@ -1,7 +1,7 @@
 //! What is printed of a judged capture.
-ghost use Rattle.std.specs.Prelude.{◌≡◌, ◌++◌, IfOk, OnOk};
+ghost use Rattle.std.specs.Prelude.{◌≡◌, IfOk, codes};
 ghost use Rattle.std.specs.String.{string_bytes};
-ghost use Rattle.iol_capture.specs.Findings.{are_told, because_text, blamed_text, fault_text, finding_of, finding_text, from_text, honest_text, kind_text, kinds_text, master_text, odd_count_text, odd_texts, open_text, reason_text, unjudged_text, unsure_text, verdict_text};
+ghost use Rattle.iol_capture.specs.Findings.{Prints, are_told, because_text, blamed_text, count_text, fault_text, finding_of, finding_text, from_text, honest_text, kind_text, kinds_text, master_text, odd_texts, open_text, reason_text, unsure_text, verdict_text};
 
 use crate::judgement::{Counts, Judgement, OddExchange};
 use crate::watching::Watching;
@@ -63,8 +63,7 @@ fn print_odd<A: Allocator>(
     output: &mut String<A>,
     exchanges: &[OddExchange],
 ) -> Result<(), AllocError>
-    ensures { OnOk result (string_bytes output.new
-        ≡ string_bytes output.old ++ odd_texts exchanges.now) }
+    ensures { Prints result output.old output.new (odd_texts exchanges.now) }
 {
     for odd in exchanges {
         print_because(
@@ -80,8 +79,7 @@ fn print_odd<A: Allocator>(
 
 /// How many exchanges are odd, where some are.
 fn print_odd_count<A: Allocator>(output: &mut String<A>, count: u64) -> Result<(), AllocError>
-    ensures { OnOk result (string_bytes output.new
-        ≡ string_bytes output.old ++ odd_count_text count) }
+    ensures { Prints result output.old output.new (count_text (codes "odd ") count) }
 {
     if count == 0 {
         return Ok(());
@@ -91,8 +89,7 @@ fn print_odd_count<A: Allocator>(output: &mut String<A>, count: u64) -> Result<(
 
 /// The exchanges before the first answered wake-up request, where there are any.
 fn print_unjudged<A: Allocator>(output: &mut String<A>, count: u64) -> Result<(), AllocError>
-    ensures { OnOk result (string_bytes output.new
-        ≡ string_bytes output.old ++ unjudged_text count) }
+    ensures { Prints result output.old output.new (count_text (codes "unjudged ") count) }
 {
     if count == 0 {
         return Ok(());
@@ -102,8 +99,7 @@ fn print_unjudged<A: Allocator>(output: &mut String<A>, count: u64) -> Result<()
 
 /// What is said of the master.
 fn print_master<A: Allocator>(output: &mut String<A>, watching: &Watching) -> Result<(), AllocError>
-    ensures { OnOk result (string_bytes output.new
-        ≡ string_bytes output.old ++ master_text watching.now) }
+    ensures { Prints result output.old output.new (master_text watching.now) }
 {
     match watching.verdict() {
         MasterVerdict::Unjudged => {
@@ -123,8 +119,7 @@ fn print_blamed<A: Allocator>(
     call: u64,
     unsure: Option<u64>,
 ) -> Result<(), AllocError>
-    ensures { OnOk result (string_bytes output.new
-        ≡ string_bytes output.old ++ blamed_text fault call unsure) }
+    ensures { Prints result output.old output.new (blamed_text fault call unsure) }
 {
     if let Some(from) = unsure {
         return print_unsure(output, from, UNSEEN_WAKE);
@@ -139,8 +134,7 @@ fn print_unsure<A: Allocator>(
     from: u64,
     why: &str,
 ) -> Result<(), AllocError>
-    ensures { OnOk result (string_bytes output.new
-        ≡ string_bytes output.old ++ unsure_text from why.now) }
+    ensures { Prints result output.old output.new (unsure_text from why.now) }
 {
     output.push_str("master can't be judged from ")?;
     print_from(output, from, why)
@@ -148,8 +142,7 @@ fn print_unsure<A: Allocator>(
 
 /// A call, and why nothing is said from it on.
 fn print_from<A: Allocator>(output: &mut String<A>, from: u64, why: &str) -> Result<(), AllocError>
-    ensures { OnOk result (string_bytes output.new
-        ≡ string_bytes output.old ++ from_text from why.now) }
+    ensures { Prints result output.old output.new (from_text from why.now) }
 {
     writeln!(output, "{from} on: {why}")
 }
@@ -158,8 +151,7 @@ fn print_from<A: Allocator>(output: &mut String<A>, from: u64, why: &str) -> Res
 ///
 /// Rule DEV-20.
 fn print_kinds<A: Allocator>(output: &mut String<A>, kinds: &Kinds) -> Result<(), AllocError>
-    ensures { OnOk result (string_bytes output.new
-        ≡ string_bytes output.old ++ kinds_text kinds.now) }
+    ensures { Prints result output.old output.new (kinds_text kinds.now) }
 {
     if !are_told(kinds) {
         return Ok(());
@@ -198,8 +190,7 @@ fn print_kind<A: Allocator>(
     named: bool,
     name: &str,
 ) -> Result<(), AllocError>
-    ensures { OnOk result (string_bytes output.new
-        ≡ string_bytes output.old ++ kind_text may_be named name.now) }
+    ensures { Prints result output.old output.new (kind_text may_be named name.now) }
 {
     if !may_be {
         return Ok(());
@@ -215,8 +206,7 @@ fn print_verdict<A: Allocator>(
     call: u64,
     counts: &Counts,
 ) -> Result<(), AllocError>
-    ensures { OnOk result (string_bytes output.new
-        ≡ string_bytes output.old ++ verdict_text verdict call counts.now) }
+    ensures { Prints result output.old output.new (verdict_text verdict call counts.now) }
 {
     match verdict {
         Verdict::Unjudged => output.push_str("can't say: no wake-up request was answered\n"),
@@ -238,8 +228,7 @@ fn print_honest<A: Allocator>(
     judged: u64,
     lost: u64,
 ) -> Result<(), AllocError>
-    ensures { OnOk result (string_bytes output.new
-        ≡ string_bytes output.old ++ honest_text judged lost) }
+    ensures { Prints result output.old output.new (honest_text judged lost) }
 {
     write!(output, "honest {judged} exchanges")?;
     writeln!(output, ", {lost} lost")
@@ -253,8 +242,7 @@ fn print_because<A: Allocator>(
     number: u8,
     text: &str,
 ) -> Result<(), AllocError>
-    ensures { OnOk result (string_bytes output.new
-        ≡ string_bytes output.old ++ because_text call joint.now number text.now) }
+    ensures { Prints result output.old output.new (because_text call joint.now number text.now) }
 {
     writeln!(output, "{call}{joint}{number} {text}")
 }

@@ -1,7 +1,9 @@
 //! A judge, told the lines of a capture in one form or the other.
-ghost use Rattle.std.specs.Prelude.{◌≡◌, Ok, Err, IfErr, OnOk};
+ghost use Rattle.std.specs.Prelude.{◌≡◌, Ok};
+ghost use Rattle.std.specs.Result.{result_and};
+ghost use Rattle.iol_capture.specs.Judging.{or_bad_form, told};
 ghost use Rattle.iol_capture.specs.TraceLines.{trace_form};
-ghost use Rattle.iol_capture.specs.Telling.{line_told, new_telling, told_as, whole};
+ghost use Rattle.iol_capture.specs.Capture.{line_told, new_telling, whole};
 
 use crate::fault::LineFault;
 use crate::hearing::Hearing;
@@ -39,8 +41,7 @@ impl Telling {
 
     /// One more line.
     pub fn tell_line(&mut self, line: &[u8]) -> Result<(), LineFault>
-        ensures good { OnOk result (line_told self.old line.now ≡ Ok self.new) }
-        ensures bad { IfErr result (λ fault. line_told self.old line.now ≡ Err fault) }
+        ensures { result_and result (Ok self.new) ≡ line_told self.old line.now }
     {
         match self {
             Telling::Trace(judgement) => tell_trace(judgement, line),
@@ -62,9 +63,8 @@ impl Telling {
 
 /// One more line of a trace.
 fn tell_trace(judgement: &mut Judgement, line: &[u8]) -> Result<(), LineFault>
-    ensures good { OnOk result (told_as judgement.old (trace_form line.now) ≡ Ok judgement.new) }
-    ensures bad { IfErr result (λ fault. told_as judgement.old (trace_form line.now)
-        ≡ Err fault) }
+    ensures { result_and result (Ok judgement.new)
+        ≡ or_bad_form (told judgement.old) (trace_form line.now) }
 {
     match TraceLine::parse(line) {
         Some(line) => judgement.tell(line),
