@@ -2,7 +2,7 @@
 -- and `take_call` need these.
 use Rattle.std.proofs.Common.{◌≡◌, ◌+◌, true, false, Option, Some, None, is_some, option_map, ◌&&◌, refl}
 use Rattle.iol_port.specs.declared.call.Call.{Call}
-use Rattle.iol_script.specs.DraftLines.{after_form}
+use Rattle.iol_script.specs.DraftInside.{after_form}
 use Rattle.iol_script.specs.Numerals.{of_both}
 use Rattle.iol_script.specs.RunLines.{one_call}
 use Rattle.iol_script.specs.Script.{Draft, in_bounds}

@@ -5,7 +5,6 @@ ghost use Rattle.std.specs.Vec.{vec_len};
 ghost use Rattle.iol_book.specs.BookModel.{AreLimits};
 ghost use Rattle.iol_page.specs.Page.{layouts_of};
 ghost use Rattle.iol_script.specs.declared.fault.ScriptFault.TheVariants.{Line};
-ghost use Rattle.iol_script.specs.DraftLines.{after_form, IsTaken};
 ghost use Rattle.iol_script.specs.RunLines.{call_form, devices_form, kind_form, limits_form, one_call, page_line, page_octets, param_form, pulses_form, run_words, turns_form, wire_form};
 ghost use Rattle.iol_script.specs.Text.{words_left};
 ghost use Rattle.iol_sim.specs.Params.{number_of};
@@ -77,6 +76,7 @@ impl<A: Allocator> Model for Draft<A> {
 }
 
 impl<A: Allocator> Draft<A> {
+    ghost use Rattle.iol_script.specs.DraftInside.{after_form, IsTaken};
     ghost use Rattle.iol_script.specs.declared.run_line.RunLine.{RunLine};
     ghost use Rattle.iol_script.specs.declared.setting.Setting.{Setting};
     ghost use Rattle.iol_script.specs.Script.{draft_after, empty_draft, in_bounds, script_after, script_of, takes_param, value_of};
