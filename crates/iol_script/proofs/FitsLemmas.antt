@@ -1,16 +1,11 @@
--- Whether words fit a form, of which no value is built: `fits_urgent`, `fits_image`, `write_fits`
--- and `take_call` need these.
-use Rattle.std.proofs.Common.{◌≡◌, ◌+◌, true, false, Option, Some, None, is_some, option_map, ◌&&◌, refl}
+-- Whether words fit a form, of which no value is built: `write_fits`, `are_pairs` and
+-- `take_call` need these.
+use Rattle.std.proofs.Common.{◌≡◌, ◌+◌, true, false, Option, Some, None, is_some, ◌&&◌, refl}
 use Rattle.iol_port.specs.declared.call.Call.{Call}
 use Rattle.iol_script.specs.DraftInside.{after_form}
 use Rattle.iol_script.specs.Numerals.{of_both}
 use Rattle.iol_script.specs.RunLines.{one_call}
 use Rattle.iol_script.specs.Script.{Draft, in_bounds}
-
-pub mapped_fits : {X Y : Type 0} (make : X → Y) (o : Option X)
-    → is_some (option_map make o) ≡ is_some o
-mapped_fits make (Some x) = refl
-mapped_fits make None = refl
 
 pub both_fit : {X Y Z : Type 0} (make : X → Y → Z) (x : Option X) (y : Option Y)
     → is_some (of_both make x y) ≡ is_some x && is_some y

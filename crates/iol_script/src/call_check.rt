@@ -49,7 +49,7 @@ fn is_bare(name: &[u8]) -> bool
         || is(name, b"archive")
 }
 
-#[tactic(auto, using(crate::proofs::FitsLemmas::mapped_fits))]
+#[tactic(auto, using(iol_sim::proofs::Scripts::mapped_some))]
 fn fits_urgent(mut words: Words) -> bool
     ensures { result ≡ is_some (urgent_form (words_left words.entry)) }
 {

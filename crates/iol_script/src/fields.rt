@@ -81,7 +81,7 @@ pub(crate) fn fits_value(word: &[u8]) -> bool
 }
 
 /// Whether the words give an image, or `none`.
-#[tactic(auto, using(crate::proofs::FitsLemmas::mapped_fits))]
+#[tactic(auto, using(iol_sim::proofs::Scripts::mapped_some))]
 pub(crate) fn fits_image(mut words: Words) -> bool
     ensures { result ≡ is_some (image_form (words_left words.entry)) }
 {
