@@ -1,6 +1,6 @@
 -- A plain word is a number where it is the text of that number. `number_of_digits`, `plain_number`
 -- and `decimal_number` need these, from the first to the last.
-use Rattle.std.proofs.Common.{◌≡◌, ◌≢◌, ℕ, zero, suc, ◌+◌, ◌*◌, ◌<◌, ◌≤◌, ◌^◌, true, false, Option, Some, None, List, [], ◌∷◌, length, get_or, take, refl, sym, ap, ◌∙◌, arith, subst}
+use Rattle.std.proofs.Common.{◌≡◌, ℕ, zero, suc, ◌+◌, ◌*◌, ◌<◌, ◌≤◌, ◌^◌, true, false, Option, Some, None, List, [], ◌∷◌, length, get_or, take, sym, ap, ◌∙◌, arith, subst}
 use Rattle.std.specs.Char.{digit_value}
 use Rattle.std.specs.Option.{SomeIff}
 use Rattle.std.specs.Fmt.{decimal}
@@ -10,6 +10,7 @@ use Rattle.std.proofs.lemmas.Fmt.{decimal-digits_value, digits_value-decimal, di
 use Rattle.std.proofs.lemmas.Grind.{common_steps}
 use Rattle.std.proofs.lemmas.Int.Digits.{digits_value_more}
 use Rattle.std.proofs.lemmas.Slice.Eq.{bytes_eq-Decides}
+use Rattle.std.proofs.lemmas.Str.{digit_value_digit}
 use Rattle.std.proofs.lemmas.Str.Parse.{IsNumeralModel, numerals_by_value, tells_digits, digits_value-take-le, digit_at}
 use Rattle.iol_script.specs.Numerals.{is_plain_of, number_in}
 
@@ -25,12 +26,6 @@ more_digits zero (c ∷ word) short digits digit = (digit, tt)
 more_digits (suc i) (c ∷ word) short digits digit =
     (digits.0, more_digits i word (omega arith) digits.1 digit)
 
-digit_of_all : (i : ℕ) (word : List ℕ) → i < length word → AllDigits 10 word
-    → digit_value (get_or word i 0) < 10
-digit_of_all i [] short digits = absurd (omega arith)
-digit_of_all zero (c ∷ word) short digits = digits.0
-digit_of_all (suc i) (c ∷ word) short digits = digit_of_all i word (omega arith) digits.1
-
 -- where the digits so far and the next one write no number below 2 ^ 64, all of them write none
 pub no_number : (o : Option ℕ) (i number : ℕ) (word : List ℕ) → o ≡ None → i < length word
     → number ≡ digits_value 10 (take i word)
@@ -41,7 +36,9 @@ no_number (Some x) i number word is short value none = cc
 no_number None i number word is short value none = λ all.
     let more = digits_value_more 10 word i short in
     let less = digits_value-take-le 10 word (i + 1) (omega arith) in
-    none (digit_of_all i word short all.0, omega (arith, more, less, all.1))
+    let digit = digit_at word i all.0 short in
+    let its_value = digit_value_digit (get_or word i 0) digit in
+    none (omega (arith, digit.1, its_value), omega (arith, more, less, all.1))
 
 -- there is no digit behind those that were read
 pub whole_number : (i number : ℕ) (word : List ℕ) → length word ≤ i → AllDigits 10 (take i word)
@@ -56,9 +53,7 @@ whole_number i number word long digits value small =
 
 plain_is : (ds : List ℕ) → is_plain_of ds ≡ true
     → (0 < length ds) × (get_or ds 0 0 ≡ 48 → length ds ≡ 1)
-plain_is [] e = cc
-plain_is (c ∷ []) e = (omega arith, λ h. refl)
-plain_is (c ∷ d ∷ rest) e = (omega arith, λ (h : c ≡ 48). absurd (grind (arith, nat_tests)))
+plain_is ds e = (grind (arith, nat_tests), λ first. grind (arith, nat_tests))
 
 pub number_is : (word : List ℕ) (o : Option ℕ)
     → SomeIff o (AllDigits 10 word × (digits_value 10 word < 2 ^ 64)) (digits_value 10 word)
@@ -79,10 +74,7 @@ number_is word None h plain n small = (
 
 plain : (ds : List ℕ) → 0 < length ds → 48 ≤ get_or ds 0 0 → (get_or ds 0 0 ≡ 48 → length ds ≡ 1)
     → is_plain_of ds ≡ true
-plain [] some digit alone = absurd (omega arith)
-plain (c ∷ []) some digit alone = grind (arith, nat_tests)
-plain (c ∷ d ∷ rest) some digit alone =
-    let above : c ≢ 48 = λ e. absurd (omega (arith, alone e)) in grind (arith, nat_tests)
+plain ds some digit alone = grind (arith, nat_tests)
 
 no_zero_first : (n : ℕ) → n < 2 ^ 64 → get_or (decimal n) 0 0 ≡ 48 → length (decimal n) ≡ 1
 no_zero_first zero h e = ap length (decimal_digit 0 (omega arith))

@@ -1,5 +1,5 @@
 -- What octets within bounds say of an image and of a page: `image_of` and `page_of` need these.
-use Rattle.std.proofs.Common.{◌≡◌, ◌↔◌, ℕ, ◌≤◌, true, false, cond, Option, Some, None, Result, Ok, Err, IsOk, IfOk, is_ok, List, length, option_and_then, refl, arith}
+use Rattle.std.proofs.Common.{◌≡◌, ◌↔◌, ℕ, ◌≤◌, Bool, true, false, cond, Option, Some, None, Result, Ok, Err, IsOk, IfOk, is_ok, List, length, option_and_then, refl, arith}
 use Rattle.std.specs.Result.{result_ok}
 use Rattle.std.proofs.lemmas.Bool.Decides.{nat_tests}
 use Rattle.iol_image.specs.Image.{IsImage}
@@ -32,8 +32,9 @@ image-within items (Err e) is all = no_image items (λ some_octet fits.
     let bad : false ≡ true = all.1 (record { some_octet = some_octet; fits = fits }) in cc)
 
 -- the words of a page give its octets
-pub page_read : (words : List (List ℕ)) (items page : List ℕ)
+pub page_read : (words : List (List ℕ)) (items page : List ℕ) (good : Bool)
     → Some items ≡ option_and_then (within 0 10) (octets_of words) → page ≡ items
-    → length items ≡ 10 → cond (is_ok (layouts_of page)) (Some page) None ≡ page_octets words
-page_read words items page given same size =
-    rw (within-is 10 items (octets_of words) given, same) (grind (arith, nat_tests))
+    → length items ≡ 10 → good ≡ is_ok (layouts_of page)
+    → cond good (Some page) None ≡ page_octets words
+page_read words items page good given same size is =
+    rw (within-is 10 items (octets_of words) given, is, same) (grind (arith, nat_tests))

@@ -1,14 +1,12 @@
 -- Pairs of digits, of which only their number is told. `are_pairs` needs these at each return.
-use Rattle.std.proofs.Common.{◌≡◌, ℕ, ◌+◌, Bool, cond, Option, Some, None, List, [], ◌∷◌, length, is_some, option_map, option_and_then, nat_le, ◌&&◌, refl, arith, zero, suc}
+use Rattle.std.proofs.Common.{◌≡◌, ℕ, ◌+◌, ◌*◌, Bool, cond, Option, Some, None, List, [], ◌∷◌, length, is_some, option_map, option_and_then, nat_le, ◌&&◌, refl, arith, zero, suc}
 use Rattle.std.specs.List.{list_all}
 use Rattle.std.proofs.lemmas.Bool.Decides.{nat_tests}
+use Rattle.iol_script.proofs.FitsLemmas.{both_fit}
 use Rattle.iol_script.specs.Numerals.{before, digit_of, octet_of, pairs_of, within}
 
 abbrev is_digit : ℕ → Bool
 is_digit c = is_some (digit_of c)
-
-two_digits : (high low : ℕ) → is_some (octet_of high low) ≡ is_digit high && is_digit low
-two_digits high low = grind arith
 
 before-size : (first : Option ℕ) (later : Option (List ℕ)) (high low all : Bool) (count : ℕ)
     → is_some first ≡ high && low → option_map length later ≡ cond all (Some count) None
@@ -23,7 +21,7 @@ pairs-size count (digit ∷ []) even = absurd (omega (arith, even))
 pairs-size zero (high ∷ low ∷ digits) even = absurd (omega (arith, even))
 pairs-size (suc count) (high ∷ low ∷ digits) even =
     before-size (octet_of high low) (pairs_of digits) (is_digit high) (is_digit low)
-    (list_all is_digit digits) count (two_digits high low)
+    (list_all is_digit digits) count (both_fit (λ h l. h * 16 + l) (digit_of high) (digit_of low))
     (pairs-size count digits (omega (arith, even)))
 
 -- a digit is left over

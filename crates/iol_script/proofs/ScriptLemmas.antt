@@ -1,23 +1,13 @@
 -- Good lines of `run`, and the calls that they make: the clauses `calls` and `forms` of
 -- `Script.read` need these. Begin at `Goods`.
-use Rattle.std.proofs.Common.{◌≡◌, ℕ, ◌+◌, ◌<◌, Bool, true, false, cond, Option, Some, None, IfSome, IsSome, is_none, option_and_then, Ok, Err, List, [], ◌∷◌, length, fold, All, refl, sym, ◌∙◌, subst, arith, length-append}
+use Rattle.std.proofs.Common.{◌≡◌, ℕ, ◌+◌, Option, Some, None, IfSome, IsSome, option_and_then, Ok, Err, List, [], ◌∷◌, length, fold, All, refl, sym, ◌∙◌, subst, arith, length-append}
 use Rattle.std.specs.Option.{ok_or, option_map_or}
-use Rattle.std.proofs.lemmas.Bool.Decides.{nat_tests}
 use Rattle.std.proofs.lemmas.List.Elements.{All-nil, All-cons}
-use Rattle.iol_isdu.specs.declared.values.Place.{Place}
-use Rattle.iol_sim.specs.Params.{number_of}
-use Rattle.iol_sim.specs.declared.params.Entry.{Entry}
 use Rattle.iol_script.specs.RunLines.{run_form}
-use Rattle.iol_script.specs.Script.{Draft, takes_param, with_setting, calls_of, calls_in, script_after, draft_after}
-use Rattle.iol_script.specs.declared.setting.Setting.{Setting}
+use Rattle.iol_script.specs.Script.{Draft, calls_of, calls_in, script_after, draft_after}
 use Rattle.iol_script.specs.declared.run_line.RunLine.{RunLine}
 use Rattle.iol_script.specs.declared.run_line.RunLine.TheVariants as line
 use Rattle.iol_script.proofs.LinesRead.{stays_bad}
-
--- there is room for one more parameter
-pub takes : (params : List Entry) (place : Place) (none : Bool) → length params < 32
-    → none ≡ is_none (number_of params place) → none ≡ takes_param params place
-takes params place none short is = grind (arith, nat_tests)
 
 -- A good line
 
@@ -25,34 +15,17 @@ takes params place none short is = grind (arith, nat_tests)
 abbrev HasMore : Draft → ℕ → Draft → Type 0
 HasMore draft count next = next.calls ≡ draft.calls + count
 
-setting-calls : (draft : Draft) (s : Setting) → IfSome (with_setting draft s) (HasMore draft 0)
-setting-calls draft s = grind arith
-
 -- a good line adds its calls
 after-calls : (draft : Draft) (form : RunLine)
     → IfSome (script_after draft form) (HasMore draft (length (calls_of form)))
-after-calls draft line.Skip = omega arith
-after-calls draft (line.Setting s) = elim draft.begun as (λ b.
-    IfSome (cond b None (with_setting draft s)) (HasMore draft 0))
-    [ true ↦ tt | false ↦ setting-calls draft s ]
-after-calls draft (line.Wire w) = grind arith
-after-calls draft (line.Call c) = grind arith
-
-record Good (draft next : Draft) (o : Option RunLine) : Type 0 where
-  form : IsSome o
-  calls : HasMore draft (length (option_map_or calls_of o [])) next
+after-calls draft form = grind arith
 
 good : (draft next : Draft) (number : ℕ) (o : Option RunLine)
-    → ok_or (option_and_then (script_after draft) o) number ≡ Ok next → Good draft next o
+    → ok_or (option_and_then (script_after draft) o) number ≡ Ok next
+    → IsSome o × HasMore draft (length (option_map_or calls_of o [])) next
 good draft next number None e = cc
 good draft next number (Some form) e =
-    elim (script_after draft form) as
-    (λ r. IfSome r (HasMore draft (length (calls_of form))) → ok_or r number ≡ Ok next
-    → Good draft next (Some form)) [
-      | Some d ↦ λ more is. let same : d ≡ next = cc in
-          record { form = refl; calls = subst (HasMore draft (length (calls_of form))) same more }
-      | None ↦ λ more is. absurd (cc)
-    ] (after-calls draft form) e
+    (refl, let more = after-calls draft form in grind arith)
 
 -- Good lines
 
@@ -76,10 +49,10 @@ goods draft final (line ∷ lines) e =
           let first = good draft next line.0 (run_form line.1) is in
           let later = goods next final lines rest in
           record {
-            forms = All-cons HasForm line lines first.form later.forms;
+            forms = All-cons HasForm line lines first.0 later.forms;
             calls = omega (
               arith,
-              first.calls,
+              first.1,
               later.calls,
               length-append
                   (option_map_or calls_of (run_form line.1) []) (calls_in lines),

@@ -1,7 +1,7 @@
 -- The lines of `check`.
 use Rattle.std.specs.Prelude.{ℕ, Option, Some, None, is_some, option_map, option_and_then, List, [], ◌∷◌, if◌then◌else◌, codes}
 use Rattle.std.specs.Str.{bytes_eq}
-use Rattle.iol_script.specs.Text.{line_words}
+use Rattle.iol_script.specs.Text.{alone, line_words}
 use Rattle.iol_script.specs.Numerals.{of_three, octets_of, number_in, within}
 use Rattle.iol_script.specs.declared.check_line.LayoutLine.{LayoutLine}
 use Rattle.iol_script.specs.declared.check_line.LayoutLine.TheVariants.{Startup, Preoperate, Operate}
@@ -21,11 +21,6 @@ pub data Form : Type 0 where
 abbrev pub message_form : List (List ℕ) → Option (List ℕ)
 message_form words = option_and_then (within 1 128) (octets_of words)
 
--- no word stands behind `startup`
-abbrev pub startup_form : List (List ℕ) → Option LayoutLine
-startup_form [] = Some Startup
-startup_form _ = None
-
 -- the word behind `preoperate`: a code
 abbrev pub preoperate_form : List (List ℕ) → Option LayoutLine
 preoperate_form (code ∷ []) = option_map Preoperate (number_in 0 255 code)
@@ -41,7 +36,7 @@ operate_form _ = None
 abbrev pub layout_form : List (List ℕ) → Option LayoutLine
 layout_form [] = None
 layout_form (mode ∷ words) =
-    if bytes_eq mode (codes "startup") then startup_form words else
+    if bytes_eq mode (codes "startup") then alone (Some Startup) words else
     if bytes_eq mode (codes "preoperate") then preoperate_form words else
     if bytes_eq mode (codes "operate") then operate_form words else None
 

@@ -4,7 +4,6 @@ pub mod CheckLines
 pub mod Cycles
 pub mod RunLines
 pub mod Script
-pub mod DraftLines
 pub mod DraftInside
 pub mod PlanRanges
 pub mod Plan

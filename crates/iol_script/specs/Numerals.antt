@@ -66,10 +66,9 @@ word_code _ = None
 
 -- a decimal number from `least` to `most`: the one whose text is the word
 abbrev pub number_in : ℕ → ℕ → List ℕ → Option ℕ
-number_in least most word = ranged (digits_value 10 word)
-  where
-    ranged : ℕ → Option ℕ
-    ranged n = if nat_le least n && nat_le n most && bytes_eq word (decimal n) then Some n else None
+number_in least most word =
+    let n = digits_value 10 word in
+    if nat_le least n && nat_le n most && bytes_eq word (decimal n) then Some n else None
 
 -- whether a word begins with no sign, and with no zero before another digit
 abbrev pub is_plain_of : List ℕ → Bool

@@ -15,24 +15,21 @@ abbrev pub field_of : List ℕ → List ℕ → ℕ → List (List ℕ) → Opti
 field_of name wanted most (word ∷ []) = if bytes_eq name wanted then number_in 1 most word else None
 field_of name wanted most _ = None
 
--- how many requests each client submits, where the clients of a port submit at most 64
-abbrev pub bounded : ℕ → ℕ → Option ℕ
-bounded clients each = if nat_le (clients * each) 64 then Some each else None
-
 -- what the line behind the four shows: `counters` alone
 abbrev pub shown_by : List ℕ → List (List ℕ) → Option Shown
 shown_by name [] = if bytes_eq name (codes "counters") then Some Counters else None
 shown_by name (word ∷ words) = None
 
 -- the draft after the words of a line: a line without words says nothing, and each
--- other has its place
+-- other has its place; the clients of a port submit at most 64 requests
 abbrev pub words_after : PlanDraft → List (List ℕ) → Option PlanDraft
 words_after draft [] = Some draft
 words_after Empty (name ∷ words) = option_map Ports (field_of name (codes "ports") 32 words)
 words_after (Ports p) (name ∷ words) =
     option_map (Clients p) (field_of name (codes "clients") 16 words)
 words_after (Clients p k) (name ∷ words) =
-    option_map (Each p k) (option_and_then (bounded k) (field_of name (codes "each") 64 words))
+    option_and_then (λ m. if nat_le (k * m) 64 then Some (Each p k m) else None)
+    (field_of name (codes "each") 64 words)
 words_after (Each p k m) (name ∷ words) =
     option_map (λ t. Turns p k m t Tickets) (field_of name (codes "turns") 100000 words)
 words_after (Turns p k m t Tickets) (name ∷ words) =
@@ -43,10 +40,6 @@ words_after (Turns p k m t Counters) (name ∷ words) = None
 abbrev pub draft_after : PlanDraft → List ℕ → Option PlanDraft
 draft_after draft line = option_and_then (words_after draft) (line_words line)
 
--- the draft after a line with its number, or the number of the first bad line
-abbrev pub planned_after : Result PlanDraft ℕ → ℕ × List ℕ → Result PlanDraft ℕ
-planned_after = line_read draft_after
-
 -- the numbers of a plan, and what it shows
 pub record PlanNumbers : Type 0 where
   pub ports : ℕ
@@ -56,14 +49,13 @@ pub record PlanNumbers : Type 0 where
   pub shown : Shown
 
 abbrev pub numbers_of : Plan → PlanNumbers
-numbers_of plan =
-    record {
-      ports = plan.ports;
-      clients = plan.clients;
-      each = plan.each;
-      turns = plan.turns;
-      shown = plan.shown;
-    }
+numbers_of plan = record {
+  ports = plan.ports;
+  clients = plan.clients;
+  each = plan.each;
+  turns = plan.turns;
+  shown = plan.shown;
+}
 
 -- the plan of a draft, or the number of the line behind the last, where a line is missing
 abbrev pub whole_plan : ℕ → Result PlanDraft ℕ → Result PlanNumbers ℕ
@@ -74,7 +66,7 @@ whole_plan behind (Ok draft) = Err behind
 
 -- the plan of lines, or the number of the first bad one
 abbrev pub plan_of : List (ℕ × List ℕ) → Result PlanNumbers ℕ
-plan_of lines = whole_plan (length lines + 1) (fold planned_after (Ok Empty) lines)
+plan_of lines = whole_plan (length lines + 1) (fold (line_read draft_after) (Ok Empty) lines)
 
 -- The numbers of a draft are in their ranges, where 1 stands for each that no line gave yet.
 abbrev pub IsPlanned : PlanDraft → Type 0

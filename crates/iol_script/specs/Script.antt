@@ -77,25 +77,22 @@ line_calls (Turns n) = replicate n Turn
 abbrev pub takes_param : List Entry → Place → Bool
 takes_param params place = nat_lt (length params) 32 && is_none (number_of params place)
 
+-- a draft, where a setting of it is not given yet
+abbrev pub once : {T : Type 0} → Option T → Draft → Option Draft
+once given draft = if is_none given then Some draft else None
+
 -- the draft after a setting: each but a parameter is given at most once
 abbrev pub with_setting : Draft → Setting → Option Draft
-with_setting draft (setting.Page octets) =
-    if is_none draft.page then Some (record draft { page = Some octets }) else None
-with_setting draft (setting.Other octets) =
-    if is_none draft.other then Some (record draft { other = Some octets }) else None
-with_setting draft (setting.Kind kind) =
-    if is_none draft.kind then Some (record draft { kind = Some kind }) else None
+with_setting draft (setting.Page octets) = once draft.page (record draft { page = Some octets })
+with_setting draft (setting.Other octets) = once draft.other (record draft { other = Some octets })
+with_setting draft (setting.Kind kind) = once draft.kind (record draft { kind = Some kind })
 with_setting draft setting.MissesPulses =
     if draft.misses_pulses then None else Some (record draft { misses_pulses = true })
-with_setting draft (setting.Devices devices) =
-    if is_none draft.devices then Some (record draft { devices = Some devices }) else None
-with_setting draft (setting.Limits busy journal queue) =
-    if is_none draft.limits
-    then Some
+with_setting draft (setting.Devices ds) = once draft.devices (record draft { devices = Some ds })
+with_setting draft (setting.Limits busy journal queue) = once draft.limits
     (record draft {
       limits = Some (record { journal = journal; busy = busy; queue = queue; given = 0 });
     })
-    else None
 with_setting draft (setting.Param place writable value) =
     if takes_param draft.params place
     then Some
@@ -149,12 +146,6 @@ pub record ScriptValue : Type 0 where
   -- the steps of the wire
   pub steps : List Step
 
-abbrev pub default_page : List ℕ
-default_page = 0x17 ∷ 0x2D ∷ 0x11 ∷ 0x00 ∷ 0x00 ∷ 0x12 ∷ 0x34 ∷ 0x00 ∷ 0x01 ∷ 0x07 ∷ []
-
-abbrev pub default_limits : Limits
-default_limits = record { journal = 1000; busy = 100; queue = 64; given = 0 }
-
 -- a script without its memory
 abbrev pub value_of : {A : Type 0} → Script A → ScriptValue
 value_of script = record {
@@ -171,13 +162,15 @@ value_of script = record {
 -- a draft with what no line gave
 abbrev pub script_of : Draft → ScriptValue
 script_of draft = record {
-  page = unwrap_or draft.page default_page;
+  page = unwrap_or draft.page
+      (0x17 ∷ 0x2D ∷ 0x11 ∷ 0x00 ∷ 0x00 ∷ 0x12 ∷ 0x34 ∷ 0x00 ∷ 0x01 ∷ 0x07 ∷ []);
   other = draft.other;
   kind = unwrap_or draft.kind own;
   misses_pulses = draft.misses_pulses;
   params = draft.params;
   devices = unwrap_or draft.devices Own;
-  limits = unwrap_or draft.limits default_limits;
+  limits = unwrap_or draft.limits
+      (record { journal = 1000; busy = 100; queue = 64; given = 0 });
   steps = draft.steps;
 }
 

@@ -1,7 +1,6 @@
 -- The lines of a text, and the words of a line.
 use Rattle.std.specs.Prelude.{ℕ, ◌+◌, Option, Some, None, Result, Ok, Err, List, [], ◌∷◌, length, nat_le, ◌==◌, if◌then◌else◌}
-use Rattle.std.specs.Borrow.{Bor}
-use Rattle.std.specs.Option.{ok_or}
+use Rattle.std.specs.Option.{ok_or, option_map_or}
 use Rattle.std.specs.List.{slice_split, onto_first, enumerate_from}
 use Rattle.iol_script.specs.declared.parts.Lines.{Lines}
 use Rattle.iol_script.specs.declared.parts.Words.{Words}
@@ -32,13 +31,14 @@ line_words line = if nat_le (length line) 1024 then Some (text_words line) else 
 abbrev pub lines_left : Lines → List (ℕ × List ℕ)
 lines_left lines = enumerate_from (lines.given + 1) (lines_of lines.left.now)
 
+-- the value, where no word is left
+abbrev pub alone : {T : Type 0} → Option T → List (List ℕ) → Option T
+alone value [] = value
+alone value (word ∷ words) = None
+
 -- the words that an iterator has left
 abbrev pub words_left : Words → List (List ℕ)
-words_left words = words_in words.left
-  where
-    words_in : Option (Bor (List ℕ)) → List (List ℕ)
-    words_in None = []
-    words_in (Some text) = words_of text.now
+words_left words = option_map_or (λ text. words_of text.now) words.left []
 
 -- what is read after one more line with its number, or the number of the first bad line
 abbrev pub line_read : {D : Type 0} → (D → List ℕ → Option D) → Result D ℕ → ℕ × List ℕ

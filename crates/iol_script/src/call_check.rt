@@ -3,7 +3,7 @@
 //! While a script is read its calls are only counted. Nothing is built here: a
 //! request has up to 232 octets.
 ghost use Rattle.std.specs.Prelude.{◌≡◌, is_some};
-ghost use Rattle.iol_script.specs.RunLines.{alone, bare_call, call_form, image_form, read_form};
+ghost use Rattle.iol_script.specs.RunLines.{bare_call, call_form, read_form};
 ghost use Rattle.iol_script.specs.RunLines.{request_form, ticket_form, urgent_form, write_form};
 ghost use Rattle.iol_script.specs.Text.{words_left};
 
@@ -49,6 +49,7 @@ fn is_bare(name: &[u8]) -> bool
         || is(name, b"archive")
 }
 
+#[tactic(auto, using(iol_sim::proofs::Scripts::mapped_some))]
 fn fits_urgent(mut words: Words) -> bool
     ensures { result ≡ is_some (urgent_form (words_left words.entry)) }
 {
@@ -77,6 +78,7 @@ fn read_fits(mut words: Words) -> Option<()>
     end_of(words)
 }
 
+#[tactic(auto, using(crate::proofs::FitsLemmas::both_fit))]
 fn write_fits(mut words: Words) -> Option<()>
     ensures { is_some result ≡ is_some (write_form (words_left words.entry)) }
 {

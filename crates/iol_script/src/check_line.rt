@@ -1,8 +1,9 @@
 //! What a line of `check` says.
-ghost use Rattle.std.specs.Prelude.{◌≡◌, option_map, option_and_then};
-ghost use Rattle.iol_script.specs.Numerals.{number_in, octets_of, within};
-ghost use Rattle.iol_script.specs.CheckLines.{words_form, layout_form, startup_form, preoperate_form, operate_form, parsed_form};
-ghost use Rattle.iol_script.specs.Text.{words_left};
+ghost use Rattle.std.specs.Prelude.{◌≡◌, Some, option_map};
+ghost use Rattle.iol_script.specs.Numerals.{number_in};
+ghost use Rattle.iol_script.specs.CheckLines.{message_form, words_form, layout_form, preoperate_form, operate_form, parsed_form};
+ghost use Rattle.iol_script.specs.Text.{alone, words_left};
+ghost use Rattle.iol_script.specs.declared.check_line.LayoutLine.TheVariants.{Startup};
 
 use crate::numerals::{decimal_number, parted_octets};
 use crate::parts::Words;
@@ -65,8 +66,7 @@ fn parse_words(mut words: Words) -> Option<CheckLine>
 
 /// Words of two digits each: 1 to 128.
 fn parse_octets(words: Words) -> Option<LineOctets>
-    ensures { option_map (λ octets. octets.items) result
-        ≡ option_and_then (within 1 128) (octets_of (words_left words.entry)) }
+    ensures { option_map (λ octets. octets.items) result ≡ message_form (words_left words.entry) }
 {
     let octets: LineOctets = parted_octets(words)?;
     if octets.is_empty() {
@@ -88,7 +88,7 @@ fn parse_layout(mut words: Words) -> Option<LayoutLine>
 }
 
 fn parse_startup(mut words: Words) -> Option<LayoutLine>
-    ensures { result ≡ startup_form (words_left words.entry) }
+    ensures { result ≡ alone (Some Startup) (words_left words.entry) }
 {
     match words.next() {
         None => Some(LayoutLine::Startup),

@@ -1,12 +1,11 @@
 //! A script, as far as its lines are read.
-ghost use Rattle.std.specs.Prelude.{◌≡◌, ◌++◌, ◌+◌, ◌≤◌, ℕ, Some, None, Ok, Err, OnOk, OnErr, IsOk, option_map, replicate};
+ghost use Rattle.std.specs.Prelude.{◌≡◌, ◌++◌, ◌+◌, ◌≤◌, ℕ, Some, None, Ok, Err, OnOk, OnErr, IsOk, option_map, option_and_then, true, replicate};
 ghost use Rattle.std.specs.Option.{ForSome};
 ghost use Rattle.std.specs.Vec.{vec_len};
 ghost use Rattle.iol_book.specs.BookModel.{AreLimits};
 ghost use Rattle.iol_page.specs.Page.{layouts_of};
 ghost use Rattle.iol_script.specs.declared.fault.ScriptFault.TheVariants.{Line};
-ghost use Rattle.iol_script.specs.DraftLines.{after_form, after_line, with_calls};
-ghost use Rattle.iol_script.specs.RunLines.{call_form, devices_form, kind_form, limits_form, one_call, other_form, page_form, page_line, param_form, pulses_form, run_words, turns_form, wire_form};
+ghost use Rattle.iol_script.specs.RunLines.{call_form, devices_form, kind_form, limits_form, one_call, page_line, page_octets, param_form, pulses_form, run_words, turns_form, wire_form};
 ghost use Rattle.iol_script.specs.Text.{words_left};
 ghost use Rattle.iol_sim.specs.Params.{number_of};
 
@@ -77,8 +76,10 @@ impl<A: Allocator> Model for Draft<A> {
 }
 
 impl<A: Allocator> Draft<A> {
+    ghost use Rattle.iol_script.specs.DraftInside.{after_form, IsTaken};
     ghost use Rattle.iol_script.specs.declared.run_line.RunLine.{RunLine};
-    ghost use Rattle.iol_script.specs.Script.{draft_after, empty_draft, script_after, script_of, takes_param, value_of};
+    ghost use Rattle.iol_script.specs.declared.setting.Setting.{Setting};
+    ghost use Rattle.iol_script.specs.Script.{draft_after, empty_draft, in_bounds, script_after, script_of, takes_param, value_of};
 
     /// No line is read.
     pub(crate) fn new(alloc: A) -> Draft<A>
@@ -113,10 +114,8 @@ impl<A: Allocator> Draft<A> {
     /// One more line is read, by its words. Each kind has a function of its own, and
     /// no line is built as a value: of a call it is only asked whether the words fit.
     fn take_words(&mut self, number: u64, mut words: Words) -> Result<(), ScriptFault>
-        ensures good { OnOk result (after_line self.old (run_words (words_left words.entry))
-            ≡ Some self.new) }
-        ensures bad { (n : ℕ) → result ≡ Err (Line n) → (n ≡ number)
-            × (after_line self.old (run_words (words_left words.entry)) ≡ None) }
+        ensures { IsTaken (option_and_then (script_after self.old)
+            (run_words (words_left words.entry))) number result self.new }
     {
         let bad = ScriptFault::Line(number);
         let Some(name) = words.next() else {
@@ -148,7 +147,7 @@ impl<A: Allocator> Draft<A> {
     /// The words behind `page`: with none it is the call.
     fn take_page_line(&mut self, words: Words) -> Option<()>
         ensures { option_map (λ _. self.new) result
-            ≡ after_line self.old (page_line (words_left words.entry)) }
+            ≡ option_and_then (script_after self.old) (page_line (words_left words.entry)) }
     {
         if end_of(words).is_some() {
             self.add_calls(1)
@@ -160,7 +159,8 @@ impl<A: Allocator> Draft<A> {
     /// The words behind `page`, where there are some.
     fn take_page(&mut self, words: Words) -> Option<()>
         ensures { option_map (λ _. self.new) result
-            ≡ after_form RunLine.Setting self.old (page_form (words_left words.entry)) }
+            ≡ after_form (λ octets. RunLine.Setting (Setting.Page octets)) self.old
+            (page_octets (words_left words.entry)) }
     {
         let page = page_of(words)?;
         if self.begun || self.page.is_some() {
@@ -173,7 +173,8 @@ impl<A: Allocator> Draft<A> {
     /// The words behind `other`.
     fn take_other(&mut self, words: Words) -> Option<()>
         ensures { option_map (λ _. self.new) result
-            ≡ after_form RunLine.Setting self.old (other_form (words_left words.entry)) }
+            ≡ after_form (λ octets. RunLine.Setting (Setting.Other octets)) self.old
+            (page_octets (words_left words.entry)) }
     {
         let page = page_of(words)?;
         if self.begun || self.other.is_some() {
@@ -237,10 +238,8 @@ impl<A: Allocator> Draft<A> {
 
     /// The words behind `param`.
     fn take_param(&mut self, number: u64, words: Words) -> Result<(), ScriptFault>
-        ensures good { OnOk result (after_form RunLine.Setting self.old
-            (param_form (words_left words.entry)) ≡ Some self.new) }
-        ensures bad { (n : ℕ) → result ≡ Err (Line n) → (n ≡ number)
-            × (after_form RunLine.Setting self.old (param_form (words_left words.entry)) ≡ None) }
+        ensures { IsTaken (after_form RunLine.Setting self.old
+            (param_form (words_left words.entry))) number result self.new }
     {
         let param = param_of(words).ok_or(ScriptFault::Line(number))?;
         if self.begun || !self.takes_param(param.place) {
@@ -266,10 +265,8 @@ impl<A: Allocator> Draft<A> {
 
     /// The words behind `wire`.
     fn take_wire(&mut self, number: u64, words: Words) -> Result<(), ScriptFault>
-        ensures good { OnOk result (after_form RunLine.Wire self.old
-            (wire_form (words_left words.entry)) ≡ Some self.new) }
-        ensures bad { (n : ℕ) → result ≡ Err (Line n) → (n ≡ number)
-            × (after_form RunLine.Wire self.old (wire_form (words_left words.entry)) ≡ None) }
+        ensures { IsTaken (after_form RunLine.Wire self.old (wire_form (words_left words.entry)))
+            number result self.new }
     {
         let line = parse_wire(words).ok_or(ScriptFault::Line(number))?;
         self.add_steps(number, line)
@@ -298,9 +295,7 @@ impl<A: Allocator> Draft<A> {
     /// Steps are taken up to 1,000,000, and a swap only with a second device. The memory for
     /// all of them is taken before the first.
     fn add_steps(&mut self, number: u64, line: WireLine) -> Result<(), ScriptFault>
-        ensures good { OnOk result (script_after self.old (RunLine.Wire line) ≡ Some self.new) }
-        ensures bad { (n : ℕ) → result ≡ Err (Line n) → (n ≡ number)
-            × (script_after self.old (RunLine.Wire line) ≡ None) }
+        ensures { IsTaken (script_after self.old (RunLine.Wire line)) number result self.new }
     {
         if line.is_swap() && self.other.is_none() {
             return Err(ScriptFault::Line(number));
@@ -318,7 +313,8 @@ impl<A: Allocator> Draft<A> {
 
     /// Calls are counted up to 1,000,000.
     fn add_calls(&mut self, count: u32) -> Option<()>
-        ensures { option_map (λ _. self.new) result ≡ with_calls self.old count }
+        ensures { option_map (λ _. self.new) result
+            ≡ in_bounds (record self.old { calls = self.old.calls + count; begun = true }) }
     {
         let calls = self.calls + count as usize;
         if calls > CALLS {

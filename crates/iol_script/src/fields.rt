@@ -1,8 +1,8 @@
 //! What several lines of `run` have.
 ghost use Rattle.std.specs.Prelude.{◌≡◌, ◌∷◌, ℕ, List, [], is_some, option_map, option_and_then, MatchOption};
 ghost use Rattle.std.specs.Str.{bytes_eq};
-ghost use Rattle.iol_script.specs.Numerals.{within, word_octets};
-ghost use Rattle.iol_script.specs.RunLines.{count_of, image_form, place_of, value_of};
+ghost use Rattle.iol_script.specs.Numerals.{number_in, within, word_octets};
+ghost use Rattle.iol_script.specs.RunLines.{image_form, place_of, value_of};
 ghost use Rattle.iol_script.specs.Text.{words_left};
 
 use crate::numerals::{decimal_number, fits_octets, hexadecimal_octets};
@@ -47,7 +47,7 @@ pub(crate) fn value_of(word: &[u8]) -> Option<Octets>
 
 /// 1 to 100,000.
 pub(crate) fn count_of(word: &[u8]) -> Option<u32>
-    ensures { result ≡ count_of word.now }
+    ensures { result ≡ number_in 1 100000 word.now }
 {
     Some(decimal_number(word, 1, 100_000)? as u32)
 }
@@ -81,6 +81,7 @@ pub(crate) fn fits_value(word: &[u8]) -> bool
 }
 
 /// Whether the words give an image, or `none`.
+#[tactic(auto, using(iol_sim::proofs::Scripts::mapped_some))]
 pub(crate) fn fits_image(mut words: Words) -> bool
     ensures { result ≡ is_some (image_form (words_left words.entry)) }
 {

@@ -1,5 +1,5 @@
 //! A text in its lines, and a line in its words.
-ghost use Rattle.std.specs.Prelude.{◌≡◌, ◌+◌, ◌^◌, ◌<◌, ◌∷◌, ◌==◌, [], length, IfSome, IfNone};
+ghost use Rattle.std.specs.Prelude.{◌≡◌, ◌+◌, ◌^◌, ◌<◌, ◌∷◌, ◌==◌, [], length, IfSome};
 ghost use Rattle.std.specs.List.{after_first, before_first, position, slice_split};
 ghost use Rattle.std.specs.Option.{option_map, option_map_or};
 

@@ -1,7 +1,8 @@
 //! The lines of `run` that make steps of the wire.
 ghost use Rattle.std.specs.Prelude.{◌≡◌, Some};
-ghost use Rattle.iol_script.specs.RunLines.{alone, auto_form, fate_named, fates_form, input_step, raise_form, wire_form};
-ghost use Rattle.iol_script.specs.Text.{words_left};
+ghost use Rattle.std.specs.Option.{option_map_or};
+ghost use Rattle.iol_script.specs.RunLines.{auto_form, fate_named, fates_form, raise_form, wire_form};
+ghost use Rattle.iol_script.specs.Text.{alone, words_left};
 
 use crate::fields::{count_of, end_of, is, parse_image};
 use crate::numerals::{hexadecimal_code, hexadecimal_octet};
@@ -130,7 +131,7 @@ fn parse_raise(mut words: Words) -> Option<Step>
 }
 
 fn input_step(image: Option<Image>) -> Step
-    ensures { result ≡ input_step image }
+    ensures { result ≡ option_map_or Step.Input image Step.NoInput }
 {
     match image {
         Some(image) => Step::Input(image),

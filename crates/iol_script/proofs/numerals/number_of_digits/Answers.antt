@@ -1,6 +1,5 @@
-use Rattle.std.proofs.Common.{rules, arith, sym, ap, ◌+◌, ◌*◌, ◌∙◌, add-one}
+use Rattle.std.proofs.Common.{rules, arith, sym, ap, ◌+◌, ◌*◌, ◌∙◌, add-one, get_or}
 use Rattle.std.specs.Char.{digit_value}
-use Rattle.std.proofs.Common.{get_or}
 use Rattle.std.proofs.lemmas.Int.Digits.{digits_value_more}
 use Rattle.iol_script.proofs.Decimals.{more_digits, no_number, whole_number}
 use Rattle.iol_script.proofs.numerals.number_of_digits.Goals as goal

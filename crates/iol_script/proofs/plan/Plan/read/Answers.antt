@@ -1,5 +1,6 @@
 use Rattle.std.proofs.Common.{◌≡◌, Ok, Err, length, inl, refl, ap, arith, rules}
-use Rattle.iol_script.specs.Plan.{draft_after, planned_after, whole_plan}
+use Rattle.iol_script.specs.Plan.{draft_after, whole_plan}
+use Rattle.iol_script.specs.Text.{line_read}
 use Rattle.iol_script.proofs.LinesRead.{read-bad}
 use Rattle.iol_script.proofs.PlanLemmas.{few_lines}
 use Rattle.iol_script.proofs.plan.Plan.read.Goals as goal
@@ -7,7 +8,8 @@ use Rattle.iol_script.proofs.plan.Plan.read.Goals as goal
 pub returns-in_default-clause-bad_line : goal.returns-in_default-clause-bad_line
 returns-in_default-clause-bad_line c =
     let number = c.in-Some.number in
-    let bad : planned_after (Ok c.loop-number.draft) (number, c.in-Some.line.now) ≡ Err number =
+    let bad : line_read draft_after (Ok c.loop-number.draft) (number, c.in-Some.line.now)
+    ≡ Err number =
     search rules in (
       number,
       refl,
