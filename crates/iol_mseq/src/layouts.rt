@@ -4,7 +4,7 @@ ghost use Rattle.iol_octets.specs.CheckOctets.{type_bits};
 ghost use Rattle.iol_mseq.specs.Shape.{IsLayout, is_size, shape, startup_shape, preoperate_shape, operate_shape};
 
 use crate::fault::MseqFault;
-use iol_octets::SequenceType;
+use iol_octets::{OdLength, SequenceType};
 use std::marker::Model;
 
 /// Of which M-sequence type the messages of a mode are, and how many octets each
@@ -14,7 +14,7 @@ use std::marker::Model;
 #[derive(Clone, Copy, Debug, PartialEq, Eq)]
 pub struct Layout {
     kind: SequenceType,
-    od: u8,
+    od: OdLength,
     pd_in: u8,
     pd_out: u8,
 }
@@ -55,7 +55,7 @@ impl Layout {
         ensures value { result ≡ startup_shape }
         ensures valid { IsLayout result }
     {
-        Layout::of_sizes(1, 0, 0)
+        Layout::of_sizes(OdLength::ONE, 0, 0)
     }
 
     /// The layout of PREOPERATE with this code of the M-sequence Capability (IEC
@@ -67,10 +67,10 @@ impl Layout {
         ensures { result ≡ preoperate_shape code }
     {
         let od = match code {
-            0 => 1,
-            1 => 2,
-            2 => 8,
-            3 => 32,
+            0 => OdLength::ONE,
+            1 => OdLength::TWO,
+            2 => OdLength::EIGHT,
+            3 => OdLength::MOST,
             _ => return Err(MseqFault::UnsupportedCode),
         };
         Ok(Layout::of_sizes(od, 0, 0))
@@ -89,10 +89,10 @@ impl Layout {
     {
         let process = pd_in > 0 || pd_out > 0;
         let od = match (code, process) {
-            (0 | 4, _) => 1,
-            (1, false) | (5, _) => 2,
-            (6, _) => 8,
-            (7, _) => 32,
+            (0 | 4, _) => OdLength::ONE,
+            (1, false) | (5, _) => OdLength::TWO,
+            (6, _) => OdLength::EIGHT,
+            (7, _) => OdLength::MOST,
             _ => return Err(MseqFault::UnsupportedCode),
         };
         if pd_in > 32 || pd_out > 32 {
@@ -102,7 +102,7 @@ impl Layout {
     }
 
     /// Rule LAY-1.
-    fn of_sizes(od: u8, pd_in: u8, pd_out: u8) -> Layout
+    fn of_sizes(od: OdLength, pd_in: u8, pd_out: u8) -> Layout
         requires size { IsTrue (is_size od) }
         requires pd_in { pd_in ≤ 32 }
         requires pd_out { pd_out ≤ 32 }
@@ -110,7 +110,7 @@ impl Layout {
         ensures valid { IsLayout result }
     {
         let kind = match (pd_in, pd_out) {
-            (0, 0) if od == 1 => SequenceType::Type0,
+            (0, 0) if od == OdLength::ONE => SequenceType::Type0,
             (0, 0) => SequenceType::Type1,
             _ => SequenceType::Type2,
         };
@@ -133,9 +133,8 @@ impl Layout {
     }
 
     /// How many octets of on-request data: 1, 2, 8 or 32.
-    pub fn od(&self) -> u8
+    pub fn od(&self) -> OdLength
         ensures value { result ≡ self.now.od }
-        ensures small { result ≤ 32 }
         ensures valid { IsLayout self.now }
     {
         self.od

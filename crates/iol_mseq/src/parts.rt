@@ -6,7 +6,7 @@ ghost use Rattle.iol_mseq.specs.Parts.{first_of_zeros};
 ghost use Rattle.iol_mseq.specs.Texts.{closed_by};
 
 use arrayvec::ArrayVec;
-use iol_octets::checksum6;
+use iol_octets::{OdLength, checksum6};
 
 /// The octets of a master message, at most 66, or of a reply, at most 65.
 pub type Message = ArrayVec<u8, 66>;
@@ -47,16 +47,14 @@ pub fn zeros(size: u8) -> Part
     part_of(&ZEROS[..size as usize])
 }
 
-/// The on-request data of the page and diagnosis channels, 1 to 32 octets: the
-/// first is meant, the others are 0 (profile).
+/// The on-request data of the page and diagnosis channels: the first octet is meant, the others
+/// are 0 (profile).
 ///
 /// Rule MSG-6.
-pub fn first_of_zeros(size: u8, octet: u8) -> Part
-    requires most { size ≤ 32 }
-    requires some { 1 ≤ size }
+pub fn first_of_zeros(size: OdLength, octet: u8) -> Part
     ensures { result.items ≡ first_of_zeros size octet }
 {
-    let mut part = zeros(size);
+    let mut part = zeros(size.get());
     part[0] = octet;
     part
 }
@@ -96,13 +94,12 @@ pub fn append_zeros(message: &mut Message, size: u8)
 /// first octet is meant, the others are 0.
 ///
 /// Rule MSG-6.
-pub fn append_first(message: &mut Message, size: u8, octet: u8)
-    requires most { array_vec_len message.old + size ≤ 66 }
-    requires some { 1 ≤ size }
+pub fn append_first(message: &mut Message, size: OdLength, octet: u8)
+    requires { array_vec_len message.old + size ≤ 66 }
     ensures { message.new.items ≡ message.old.items ++ first_of_zeros size octet }
 {
     message.push(octet);
-    append_zeros(message, size - 1);
+    append_zeros(message, size.get() - 1);
 }
 
 /// Puts an octet into a place.

@@ -178,7 +178,7 @@ fn answered_od(layout: &Layout, read: bool) -> usize
     ensures value { result ≡ answered_od layout.now read }
     ensures small { result ≤ 32 }
 {
-    if read { layout.od() as usize } else { 0 }
+    if read { layout.od().get() as usize } else { 0 }
 }
 
 /// The first part of being well-formed that fails.

@@ -1,5 +1,6 @@
 -- Flow control on the ISDU channel (IEC 61131-9, 7.3.6).
 use Rattle.std.specs.Prelude.{ℕ, ◌≤◌}
+use Rattle.iol_octets.specs.SegmentNumber.{IsSegmentNumber}
 use Rattle.iol_octets.specs.declared.flow_control.Flow.{Flow}
 use Rattle.iol_octets.specs.declared.flow_control.Flow.TheVariants.{Start, Count, Idle1, Idle2, Abort, Reserved}
 
@@ -17,7 +18,7 @@ flow_address (Reserved n) = n
 -- OCT-2
 abbrev pub IsFlow : Flow → Type 0
 IsFlow Start = Unit {0}
-IsFlow (Count n) = n ≤ 15
+IsFlow (Count n) = IsSegmentNumber n
 IsFlow Idle1 = Unit {0}
 IsFlow Idle2 = Unit {0}
 IsFlow Abort = Unit {0}

@@ -3,7 +3,7 @@
 //! A master message begins with the M-sequence control octet ([`Mc`]) and the
 //! checksum / M-sequence type octet ([`Ckt`]); a reply ends with the checksum /
 //! status octet ([`Cks`]). On the ISDU channel the address of the control octet is
-//! the flow control ([`Flow`]). IEC 61131-9, A.1 and 7.3.6.
+//! the flow control ([`Flow`]), and [`OdLength`] how long a segment is. IEC 61131-9, A.1 and 7.3.6.
 //!
 //! Definitions begin in `specs/Checksum`; then `Control`, `CheckOctets` and `Flow`. Each octet is
 //! read as it was written, the checksum is exactly the standard's, and one flipped bit is always
@@ -16,6 +16,8 @@ mod control;
 mod fault;
 mod flow_control;
 mod laws;
+mod od_length;
+mod segment_number;
 
 pub use check_octets::{Cks, Ckt, SequenceType};
 pub use checksum::{checksum6, has_checksum6};
@@ -23,3 +25,5 @@ pub use control::{Channel, Mc};
 pub use fault::OctetFault;
 pub use flow_control::Flow;
 pub use laws::{checksums_fit, control_octets_are_read_back, one_flip_is_seen};
+pub use od_length::OdLength;
+pub use segment_number::SegmentNumber;

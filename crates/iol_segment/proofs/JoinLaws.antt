@@ -4,6 +4,7 @@ use Rattle.std.proofs.Common.{◌≡◌, ℕ, zero, suc, ◌+◌, ◌*◌, ◌%�
 use Rattle.std.proofs.lemmas.Bool.Decides.{nat_tests}
 use Rattle.std.proofs.lemmas.Grind.{common_steps}
 use Rattle.std.proofs.lemmas.List.{take_all}
+use Rattle.iol_octets.specs.SegmentNumber.{segment_number}
 use Rattle.iol_octets.specs.declared.flow_control.Flow.{Flow}
 use Rattle.iol_segment.specs.declared.took.Took.{Took}
 use Rattle.iol_segment.specs.declared.took.Took.TheVariants.{Repeat}
@@ -19,46 +20,46 @@ use Rattle.iol_segment.proofs.TextLaws.{grows, ends, joined-is, joined-front, fr
 
 -- One segment
 
-staged-joined : (requests : Bool) (count : Option ℕ) (size : ℕ) (text : List ℕ) (i : ℕ)
+staged-joined : (count : Option ℕ) (size : ℕ) (text : List ℕ) (i : ℕ)
     → HoldsLength text → i * size < length text
-    → staged requests count (joined size text i) (stage (joined size text i))
+    → staged count (joined size text i) (stage (joined size text i))
     ≡ record {
       took = Ok (took_at size text i);
-      joining = record (standing requests size text i) { count = count };
+      joining = record (standing size text i) { count = count };
     }
-staged-joined requests count size text i e low =
+staged-joined count size text i e low =
     let open_yet = grows size text i e in let whole = ends size text i e in
     let front = joined-front size text i in grind (arith, nat_tests, common_steps)
 
 taken-next : (j : Joining) (i : ℕ) (octets : List ℕ) → j.started ≡ true → j.count ≡ count_at i
     → stage j.text ≡ Open → taken j (flow_at (suc i)) octets
-    ≡ staged j.requests (Some (suc i % 16)) (j.text ++ octets) (stage (j.text ++ octets))
+    ≡ staged (Some (segment_number (suc i))) (j.text ++ octets) (stage (j.text ++ octets))
 taken-next j i octets started count open_yet = grind (arith, nat_tests, common_steps)
 
 pub join-first : (size : ℕ) (j : Joining) (text : List ℕ) → HoldsLength text
     → taken j (flow_at 0) (segment size text 0)
-    ≡ record { took = Ok (took_at size text 0); joining = standing j.requests size text 0 }
-join-first size j text e = staged-joined j.requests None size text 0 e
+    ≡ record { took = Ok (took_at size text 0); joining = standing size text 0 }
+join-first size j text e = staged-joined None size text 0 e
     (omega (arith, (total-bounds text (length text) e).0))
 
-pub join-next : (size : ℕ) (requests : Bool) (text : List ℕ) (i : ℕ) → HoldsLength text
+pub join-next : (size : ℕ) (text : List ℕ) (i : ℕ) → HoldsLength text
     → suc i * size < length text →
-    taken (standing requests size text i) (flow_at (suc i)) (segment size text (suc i))
+    taken (standing size text i) (flow_at (suc i)) (segment size text (suc i))
     ≡ record {
       took = Ok (took_at size text (suc i));
-      joining = standing requests size text (suc i);
+      joining = standing size text (suc i);
     }
-join-next size requests text i e low =
-    taken-next (standing requests size text i) i (segment size text (suc i)) refl refl
+join-next size text i e low =
+    taken-next (standing size text i) i (segment size text (suc i)) refl refl
     (front-open text (length text) (suc i * size) e low (omega arith))
-    ∙ ap (λ xs. staged requests (Some (suc i % 16)) xs (stage xs))
+    ∙ ap (λ xs. staged (Some (segment_number (suc i))) xs (stage xs))
     (sym (joined-is size text (suc i) (omega arith)))
-    ∙ staged-joined requests (Some (suc i % 16)) size text (suc i) e low
+    ∙ staged-joined (Some (segment_number (suc i))) size text (suc i) e low
 
-pub join-again : (size : ℕ) (requests : Bool) (text : List ℕ) (i : ℕ) (octets : List ℕ) →
-    taken (standing requests size text (suc i)) (flow_at (suc i)) octets
-    ≡ record { took = Ok Repeat; joining = standing requests size text (suc i) }
-join-again size requests text i octets = grind (arith, nat_tests, common_steps)
+pub join-again : (size : ℕ) (text : List ℕ) (i : ℕ) (octets : List ℕ) →
+    taken (standing size text (suc i)) (flow_at (suc i)) octets
+    ≡ record { took = Ok Repeat; joining = standing size text (suc i) }
+join-again size text i octets = grind (arith, nat_tests, common_steps)
 
 -- the joiner gives these answers to the pairs, and is the other one after them
 record Runs (j : Joining) (ps : List (Flow × ArrayVec ℕ)) (rs : List (Result Took JoinFault))
@@ -92,23 +93,23 @@ module _ (size : ℕ) (text : List ℕ) (e : HoldsLength text) where
   took-first i last ns same low high = grind (arith, nat_tests, common_steps)
 
   -- the segments behind the i-th, each so many times more
-  run_on : (requests : Bool) (i last : ℕ) (ns : List ℕ) → last ≡ i + length ns
+  run_on : (i last : ℕ) (ns : List ℕ) → last ≡ i + length ns
       → last * size < length text → length text ≤ suc last * size
-      → Runs (standing requests size text i)
+      → Runs (standing size text i)
       (repeated (pairs_from size text (suc i) (length ns)) ns) (answers_behind ns)
-      (standing requests size text last)
-  run_on requests i last [] same low high =
-      record { answers = refl; ends = ap (standing requests size text) (omega arith) }
-  run_on requests i last (n ∷ ns) same low high =
+      (standing size text last)
+  run_on i last [] same low high =
+      record { answers = refl; ends = ap (standing size text) (omega arith) }
+  run_on i last (n ∷ ns) same low high =
       run_step (rw (took-first (suc i) last ns (omega arith) low high) at
-      (join-next size requests text i e (before i last (length ns) size (length text) same low)))
-      (run_repeats n _ (join-again size requests text i (segment size text (suc i)))
-      (run_on requests (suc i) last ns (omega arith) low high))
+      (join-next size text i e (before i last (length ns) size (length text) same low)))
+      (run_repeats n _ (join-again size text i (segment size text (suc i)))
+      (run_on (suc i) last ns (omega arith) low high))
 
   -- the whole cut, with as many numbers as it has pairs
   run_cut : (j : Joining) (more : List ℕ) → 1 ≤ size → length more ≡ length (cut size text)
       → (k : Joining) × Runs j (repeated (cut size text) more) (expected more) k
-      × (k.text ≡ text) × (k.requests ≡ j.requests)
+      × (k.text ≡ text)
   run_cut j [] size_low same =
       let high : length text ≤ 0 * size = segments-past size text 0 size_low
       (omega (arith, length-pairs_from size text 0 (segments size text))) in
@@ -121,14 +122,13 @@ module _ (size : ℕ) (text : List ℕ) (e : HoldsLength text) where
       let high : length text ≤ suc (length ns) * size =
       segments-past size text (suc (length ns)) size_low (omega arith) in
       let first : (k : Joining) → taken k (flow_at 0) (segment size text 0)
-      ≡ record { took = Ok (first_took ns); joining = standing k.requests size text 0 } =
+      ≡ record { took = Ok (first_took ns); joining = standing size text 0 } =
       λ k. rw (took-first 0 (length ns) ns (omega arith) low high) at (join-first size k text e) in
-      let last = standing j.requests size text (length ns) in (
+      let last = standing size text (length ns) in (
         last,
         rw count (run_step (first j) (run_repeats n _ (first last)
-            (run_on j.requests 0 (length ns) ns (omega arith) low high))),
+            (run_on 0 (length ns) ns (omega arith) low high))),
         take_all (suc (length ns) * size) text high,
-        refl,
       )
 
 pub join_laws : (size : ℕ) → 1 ≤ size → JoinLaws size
@@ -136,10 +136,10 @@ join_laws size low =
     record {
       answers = λ j text more e same. (run_cut size text e j more low same).1.answers;
       joins = λ j text more e same. let run = run_cut size text e j more low same in
-          rw run.1.ends (run.2, run.3);
+          rw run.1.ends run.2;
       ready = λ text e. rw e (grind (arith, nat_tests));
       first = join-first size;
       next = join-next size;
       again = join-again size;
-      whole = λ requests text i. take_all (suc i * size) text;
+      whole = λ text i. take_all (suc i * size) text;
     }

@@ -1,7 +1,11 @@
 -- A text cut into segments (IEC 61131-9, 7.3.6).
 use Rattle.std.specs.Prelude.{Bool, true, false, ◌≡◌, ◌≤◌, ◌<◌, ℕ, zero, suc, ◌+◌, ◌-◌, ◌*◌, ◌/◌, ◌%◌, ◌==◌, nat_lt, if◌then◌else◌, List, [], ◌∷◌, ◌++◌, length, take, drop, replicate, Option, Some, None, slice_get}
 use Rattle.arrayvec.specs.ArrayVec.{ArrayVec}
+use Rattle.iol_octets.specs.SegmentNumber.{segment_number}
+use Rattle.iol_octets.specs.OdLength.{IsOdLength}
 use Rattle.iol_octets.specs.declared.flow_control.Flow.{Flow}
+use Rattle.iol_octets.specs.SegmentNumber.{segment_number}
+use Rattle.iol_octets.specs.OdLength.{IsOdLength}
 use Rattle.iol_octets.specs.declared.flow_control.Flow.TheVariants.{Start, Count}
 
 -- segment i: the octets from i * size up to (i + 1) * size, filled up with 0
@@ -12,7 +16,7 @@ segment size text i = take size (drop (i * size) text ++ replicate size 0)
 -- the flow of segment i: START, then COUNT 1, 2 and on, where 15 is followed by 0
 -- SEG-2
 abbrev pub flow_at : ℕ → Flow
-flow_at i = if i == 0 then Start else Count (i % 16)
+flow_at i = if i == 0 then Start else Count (segment_number i)
 
 -- how many segments a text has
 -- SEG-1
@@ -53,8 +57,7 @@ pub record Cutting (S : Type 0) : Type 0 where
 
 -- what always holds of a cutter of a text: the last segment given begins within it
 pub record IsBeingCut (text : List ℕ) (size given : ℕ) : Type 0 where
-  pub low : 1 ≤ size
-  pub high : size ≤ 32
+  pub sized : IsOdLength size
   pub begins : (given - 1) * size ≤ 237
   pub within : (given - 1) * size < length text
 

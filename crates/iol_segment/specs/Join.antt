@@ -1,5 +1,6 @@
 -- A text joined from its segments (IEC 61131-9, 7.3.6).
 use Rattle.std.specs.Prelude.{◌≡◌, ℕ, ◌+◌, ◌%◌, Bool, true, false, not, ◌&&◌, ◌==◌, nat_le, if◌then◌else◌, List, [], ◌++◌, length, take, Option, Some, None, Result, Ok, Err}
+use Rattle.iol_octets.specs.SegmentNumber.{segment_number}
 use Rattle.iol_octets.specs.declared.flow_control.Flow.{Flow}
 use Rattle.iol_octets.specs.declared.flow_control.Flow.TheVariants.{Start, Count}
 use Rattle.iol_isdu.specs.declared.fault.IsduFault.{IsduFault}
@@ -44,17 +45,16 @@ is_whole_by (Ok n) text = nat_le n (length text)
 abbrev pub is_whole : List ℕ → Bool
 is_whole text = is_whole_by (total_at text) text
 
--- What a contract sees of a joiner: what it joins, whether START was taken, the
--- last COUNT behind it, the text so far
+-- What a contract sees of a joiner: whether START was taken, the last COUNT behind it, the text so
+-- far
 pub record Joining : Type 0 where
-  pub requests : Bool
   pub started : Bool
   pub count : Option ℕ
   pub text : List ℕ
 
 -- nothing was taken
-abbrev pub empty : Bool → Joining
-empty requests = record { requests = requests; started = false; count = None; text = [] }
+abbrev pub empty : Joining
+empty = record { started = false; count = None; text = [] }
 
 -- the answer to a segment, and the joiner after it
 pub record Taken : Type 0 where
@@ -63,24 +63,24 @@ pub record Taken : Type 0 where
 
 -- a segment was taken under START, or under a COUNT, and the octets are these
 -- SEG-3, SEG-5
-abbrev pub staged : Bool → Option ℕ → List ℕ → Stage → Taken
-staged requests count octets Open =
+abbrev pub staged : Option ℕ → List ℕ → Stage → Taken
+staged count octets Open =
     record {
       took = Ok More;
-      joining = record { requests = requests; started = true; count = count; text = octets };
+      joining = record { started = true; count = count; text = octets };
     }
-staged requests count octets (Complete text) =
+staged count octets (Complete text) =
     record {
       took = Ok Whole;
-      joining = record { requests = requests; started = true; count = count; text = text };
+      joining = record { started = true; count = count; text = text };
     }
-staged requests count octets Wrong = record { took = Err BadIsduLength; joining = empty requests }
+staged count octets Wrong = record { took = Err BadIsduLength; joining = empty }
 
 -- 1 behind START, 0 behind 15
 -- SEG-2
 abbrev pub next_count : Option ℕ → ℕ
-next_count None = 1
-next_count (Some c) = (c + 1) % 16
+next_count None = segment_number 1
+next_count (Some c) = segment_number (c + 1)
 
 -- the COUNT was the last one taken; right behind START there is none
 -- SEG-4
@@ -94,13 +94,13 @@ abbrev pub counted : Joining → ℕ → List ℕ → Taken
 counted j c octets =
     if is_last j.count c then record { took = Ok Repeat; joining = j } else
     if (c == next_count j.count) && not (is_whole j.text)
-    then staged j.requests (Some c) (j.text ++ octets) (stage (j.text ++ octets)) else
-    record { took = Err WrongCount; joining = empty j.requests }
+    then staged (Some c) (j.text ++ octets) (stage (j.text ++ octets)) else
+    record { took = Err WrongCount; joining = empty }
 
 -- a segment under its flow
 -- SEG-3
 abbrev pub taken : Joining → Flow → List ℕ → Taken
-taken j Start octets = staged j.requests None octets (stage octets)
+taken j Start octets = staged None octets (stage octets)
 taken j (Count c) octets = if j.started then counted j c octets
-    else record { took = Err WrongCount; joining = empty j.requests }
-taken j any octets = record { took = Err WrongCount; joining = empty j.requests }
+    else record { took = Err WrongCount; joining = empty }
+taken j any octets = record { took = Err WrongCount; joining = empty }

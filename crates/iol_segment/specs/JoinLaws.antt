@@ -1,6 +1,7 @@
 -- A joiner and the segments of a text, each given one or more times running.
 use Rattle.std.specs.Prelude.{◌≡◌, ℕ, zero, suc, ◌*◌, ◌%◌, ◌≤◌, ◌<◌, Bool, true, nat_le, if◌then◌else◌, List, [], ◌∷◌, ◌++◌, length, take, replicate, Option, Some, None, Result, Ok, IsTrue}
 use Rattle.arrayvec.specs.ArrayVec.{ArrayVec}
+use Rattle.iol_octets.specs.SegmentNumber.{segment_number}
 use Rattle.iol_octets.specs.declared.flow_control.Flow.{Flow}
 use Rattle.iol_segment.specs.declared.took.Took.{Took}
 use Rattle.iol_segment.specs.declared.took.Took.TheVariants.{Repeat, More, Whole}
@@ -43,13 +44,12 @@ expected (n ∷ ns) = Ok (first_took ns) ∷ replicate n (Ok (first_took ns)) ++
 -- the COUNT of segment i, none for START
 abbrev pub count_at : ℕ → Option ℕ
 count_at zero = None
-count_at (suc i) = Some (suc i % 16)
+count_at (suc i) = Some (segment_number (suc i))
 
 -- the joiner that has the segments up to the i-th
-abbrev pub standing : Bool → ℕ → List ℕ → ℕ → Joining
-standing requests size text i =
+abbrev pub standing : ℕ → List ℕ → ℕ → Joining
+standing size text i =
     record {
-      requests = requests;
       started = true;
       count = count_at i;
       text = take (suc i * size) text;
@@ -68,25 +68,23 @@ pub record JoinLaws (size : ℕ) : Type 0 where
       → results j (repeated (cut size text) more) ≡ expected more
   -- and the joiner after it has the text
   pub joins : (j : Joining) (text more : List ℕ) → HoldsLength text
-      → length more ≡ length (cut size text) →
-      ((fed j (repeated (cut size text) more)).text ≡ text)
-      × ((fed j (repeated (cut size text) more)).requests ≡ j.requests)
+      → length more ≡ length (cut size text) → (fed j (repeated (cut size text) more)).text ≡ text
   -- such a text is whole, so the joiner may be asked for its value
   pub ready : (text : List ℕ) → HoldsLength text → IsTrue (is_whole text)
   -- one step each: START to any joiner, the next COUNT, the same again
   pub first : (j : Joining) (text : List ℕ) → HoldsLength text
       → taken j (flow_at 0) (segment size text 0)
-      ≡ record { took = Ok (took_at size text 0); joining = standing j.requests size text 0 }
-  pub next : (requests : Bool) (text : List ℕ) (i : ℕ) → HoldsLength text
+      ≡ record { took = Ok (took_at size text 0); joining = standing size text 0 }
+  pub next : (text : List ℕ) (i : ℕ) → HoldsLength text
       → suc i * size < length text →
-      taken (standing requests size text i) (flow_at (suc i)) (segment size text (suc i))
+      taken (standing size text i) (flow_at (suc i)) (segment size text (suc i))
       ≡ record {
         took = Ok (took_at size text (suc i));
-        joining = standing requests size text (suc i);
+        joining = standing size text (suc i);
       }
-  pub again : (requests : Bool) (text : List ℕ) (i : ℕ) (octets : List ℕ) →
-      taken (standing requests size text (suc i)) (flow_at (suc i)) octets
-      ≡ record { took = Ok Repeat; joining = standing requests size text (suc i) }
+  pub again : (text : List ℕ) (i : ℕ) (octets : List ℕ) →
+      taken (standing size text (suc i)) (flow_at (suc i)) octets
+      ≡ record { took = Ok Repeat; joining = standing size text (suc i) }
   -- with the last segment the joiner has the text
-  pub whole : (requests : Bool) (text : List ℕ) (i : ℕ) → length text ≤ suc i * size
-      → (standing requests size text i).text ≡ text
+  pub whole : (text : List ℕ) (i : ℕ) → length text ≤ suc i * size
+      → (standing size text i).text ≡ text

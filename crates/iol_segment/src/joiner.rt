@@ -17,7 +17,7 @@ use iol_isdu::{
     Answer, IsduFault, Request, Text, answer_into, read_answer, read_request, request_into,
     total_of,
 };
-use iol_octets::Flow;
+use iol_octets::{Flow, SegmentNumber};
 use std::marker::Model;
 
 /// How many octets the longest text has.
@@ -29,43 +29,34 @@ const LONGEST: usize = 238;
 /// behind it, and the text so far.
 #[derive(Drop)]
 pub struct Joiner {
-    /// Whether it joins requests, else answers.
-    requests: bool,
     started: bool,
     /// The last COUNT taken, none right behind START.
-    count: Option<u8>,
+    count: Option<SegmentNumber>,
     text: Text,
 }
 
 impl Model for Joiner {
-    ghost use Rattle.std.specs.Prelude.{◌<◌, IfSome};
     ghost use Rattle.iol_segment.specs.Join.{Joining};
 
     ghost Value = { Joining };
 
     ghost view = { λ j. record {
-      requests = j.requests;
       started = j.started;
       count = j.count;
       text = j.text.items;
     } };
-
-    ghost invariant = { λ j. IfSome j.count (λ c. c < 16) };
 }
 
 impl Joiner {
-    /// An empty joiner of requests.
-    pub fn requests() -> Joiner
-        ensures { result ≡ empty true }
+    /// A joiner that has taken nothing.
+    pub fn new() -> Joiner
+        ensures { result ≡ empty }
     {
-        Joiner::empty(true)
-    }
-
-    /// An empty joiner of answers.
-    pub fn answers() -> Joiner
-        ensures { result ≡ empty false }
-    {
-        Joiner::empty(false)
+        Joiner {
+            started: false,
+            count: None,
+            text: Text::new(),
+        }
     }
 
     /// Takes a segment under its flow (IEC 61131-9, 7.3.6).
@@ -83,7 +74,6 @@ impl Joiner {
     pub fn take(&mut self, flow: Flow, octets: &[u8]) -> Result<Took, JoinFault>
         ensures took { result ≡ (taken self.old flow octets.now).took }
         ensures joining { self.new ≡ (taken self.old flow octets.now).joining }
-        ensures kind { self.new.requests ≡ self.old.requests }
         ensures whole { result ≡ Ok Whole → IsTrue (is_whole self.new.text) }
         ensures more { result ≡ Ok More → is_whole self.new.text ≡ false }
     {
@@ -111,7 +101,6 @@ impl Joiner {
     /// - 12 `BadService`: the service is no request's, or its texts don't have this total length;
     /// - 13 `BadChkpdu`: the XOR of all octets of the text is not 0.
     pub fn request(&self) -> Result<Request, IsduFault>
-        requires kind { self.now.requests ≡ true }
         requires whole { is_whole self.now.text ≡ true }
         ensures refused { result_err result ≡ isdu_fault request_accepts self.now.text }
         ensures found { IfOk result (BeginsWithRequest self.now.text) }
@@ -126,7 +115,6 @@ impl Joiner {
     /// It reads and refuses as [`request`](Joiner::request) does, with 12 and 13. A refusal gives
     /// the joiner up all the same.
     pub fn into_request(self) -> Result<Request, IsduFault>
-        requires kind { self.requests ≡ true }
         requires whole { is_whole self.text ≡ true }
         ensures refused { result_err result ≡ isdu_fault request_accepts self.text }
         ensures found { IfOk result (BeginsWithRequest self.text) }
@@ -141,7 +129,6 @@ impl Joiner {
     /// It reads and refuses as [`request`](Joiner::request) does, with 12 and 13. A refusal may
     /// leave another request there.
     pub fn request_into(&self, into: &mut Request) -> Result<(), IsduFault>
-        requires kind { self.now.requests ≡ true }
         requires whole { is_whole self.now.text ≡ true }
         ensures refused { result_err result ≡ isdu_fault request_accepts self.now.text }
         ensures found { OnOk result (BeginsWithRequest self.now.text into.new) }
@@ -162,7 +149,6 @@ impl Joiner {
     /// - 14 `WrongAnswerKind`: it answers a write and the request is a read, or the
     ///   other way round.
     pub fn into_answer(self, request: &Request) -> Result<Answer, IsduFault>
-        requires kind { self.requests ≡ false }
         requires whole { is_whole self.text ≡ true }
         ensures refused { result_err result ≡ answer_fault (is_read request.now) self.text }
         ensures found { IfOk result (BeginsWithAnswer (is_read request.now) self.text) }
@@ -177,7 +163,6 @@ impl Joiner {
     /// It reads and refuses as [`into_answer`](Joiner::into_answer) does, with 12 to 14. A
     /// refusal may leave another answer there.
     pub fn answer_into(&self, request: &Request, into: &mut Answer) -> Result<(), IsduFault>
-        requires kind { self.now.requests ≡ false }
         requires whole { is_whole self.now.text ≡ true }
         ensures refused { result_err result ≡ answer_fault (is_read request.now) self.now.text }
         ensures found { OnOk result
@@ -190,28 +175,17 @@ impl Joiner {
 
     /// Empties it, where it lies.
     fn clear(&mut self)
-        ensures { self.new ≡ empty self.old.requests }
+        ensures { self.new ≡ empty }
     {
         self.started = false;
         self.count = None;
         self.text.clear();
     }
 
-    fn empty(requests: bool) -> Joiner
-        ensures { result ≡ empty requests }
-    {
-        Joiner {
-            requests,
-            started: false,
-            count: None,
-            text: Text::new(),
-        }
-    }
-
     /// Rules SEG-3, SEG-5.
     fn refuse(&mut self) -> Result<Took, JoinFault>
         ensures took { result ≡ Err WrongCount }
-        ensures joining { self.new ≡ empty self.old.requests }
+        ensures joining { self.new ≡ empty }
     {
         self.clear();
         Err(JoinFault::WrongCount)
@@ -220,10 +194,9 @@ impl Joiner {
     /// Takes a segment under COUNT.
     ///
     /// Rules SEG-3, SEG-4.
-    fn take_count(&mut self, count: u8, octets: &[u8]) -> Result<Took, JoinFault>
+    fn take_count(&mut self, count: SegmentNumber, octets: &[u8]) -> Result<Took, JoinFault>
         ensures took { result ≡ (counted self.old count octets.now).took }
         ensures joining { self.new ≡ (counted self.old count octets.now).joining }
-        ensures kind { self.new.requests ≡ self.old.requests }
         ensures whole { result ≡ Ok Whole → IsTrue (is_whole self.new.text) }
         ensures more { result ≡ Ok More → is_whole self.new.text ≡ false }
     {
@@ -238,26 +211,23 @@ impl Joiner {
     }
 
     /// Rule SEG-2.
-    fn next_count(&self) -> u8
-        ensures value { result ≡ next_count self.now.count }
-        ensures small { result < 16 }
+    fn next_count(&self) -> SegmentNumber
+        ensures { result ≡ next_count self.now.count }
     {
         match self.count {
-            None => 1,
-            Some(count) => (count + 1) % 16,
+            None => SegmentNumber::of(1),
+            Some(count) => count.next(),
         }
     }
 
     /// Takes the next segment, the COUNT of which is kept.
-    fn add(&mut self, count: Option<u8>, octets: &[u8]) -> Result<Took, JoinFault>
-        requires count { IfSome count (λ c. c < 16) }
+    fn add(&mut self, count: Option<SegmentNumber>, octets: &[u8]) -> Result<Took, JoinFault>
         ensures took { result
-            ≡ (staged self.old.requests count (self.old.text ++ octets.now)
+            ≡ (staged count (self.old.text ++ octets.now)
             (stage (self.old.text ++ octets.now))).took }
         ensures joining { self.new
-            ≡ (staged self.old.requests count (self.old.text ++ octets.now)
+            ≡ (staged count (self.old.text ++ octets.now)
             (stage (self.old.text ++ octets.now))).joining }
-        ensures kind { self.new.requests ≡ self.old.requests }
         ensures whole { result ≡ Ok Whole → IsTrue (is_whole self.new.text) }
         ensures more { result ≡ Ok More → is_whole self.new.text ≡ false }
     {
