@@ -3,7 +3,7 @@ ghost use Rattle.std.specs.Prelude.{◌≡◌, true, ◌+◌, ◌-◌, ◌<◌, 
 
 use crate::app::App;
 use crate::commands::{Waiting, command_in, is_confirm, is_that, mode_asked};
-use crate::data::{copy_of, flow_of, message_in, message_of, size_of, take_image};
+use crate::data::{copy_of, flow_of, message_in, message_of, take_image};
 use crate::fault::DeviceFault;
 use crate::isdu::{IsduSide, is_kind_of};
 use crate::record::{Kept, Record};
@@ -14,7 +14,7 @@ use iol_isdu::{Answer, Request};
 use iol_mseq::{
     Layout, MasterView, Message, append, append_first, append_zeros, close_reply, first,
 };
-use iol_octets::{Channel, Mc};
+use iol_octets::{Channel, Mc, OdLength};
 use iol_page::{Layouts, MasterCommand, Page, pages_ask_for_layouts};
 use std::alloc::Allocator;
 use std::marker::Model;
@@ -101,7 +101,7 @@ impl<R: Record> FarEnd<R> {
             awake: false,
             mode: Mode::Startup,
             waits: None,
-            isdu: IsduSide::new(kind, size_of(&layout)),
+            isdu: IsduSide::new(kind, layout.od()),
             events: EventMemory::new(),
             input: None,
             out: None,
@@ -217,7 +217,7 @@ impl<R: Record> FarEnd<R> {
         self.mode = mode;
         self.layout = layout;
         self.waits = None;
-        self.isdu.resize(size_of(&layout));
+        self.isdu.resize(layout.od());
         self.valid = false;
     }
 
@@ -437,7 +437,7 @@ impl<R: Record> FarEnd<R> {
         let layout = &self.layout;
         let mc = message.mc();
         if mc.read {
-            self.append_data(reply, size_of(layout), mc.channel, mc.address);
+            self.append_data(reply, layout.od(), mc.channel, mc.address);
         }
         self.append_input(reply, layout.pd_in());
         let invalid = layout.pd_in() != 0 && self.input.is_none();
@@ -447,17 +447,15 @@ impl<R: Record> FarEnd<R> {
     /// Puts the on-request data of the reply to a read at the end.
     ///
     /// Rule DEV-7.
-    fn append_data(&self, octets: &mut Message, size: u8, channel: Channel, address: u8)
+    fn append_data(&self, octets: &mut Message, size: OdLength, channel: Channel, address: u8)
         requires size { size ≡ (layout_of self.now).od }
-        requires some { 1 ≤ size }
-        requires most { size ≤ 32 }
         requires empty { octets.old.items ≡ [] }
         ensures value { octets.new.items
             ≡ octets.old.items ++ far.data_of self.now size channel address }
         ensures length { length octets.new.items ≡ size }
     {
         match channel {
-            Channel::Process => append_zeros(octets, size),
+            Channel::Process => append_zeros(octets, size.get()),
             Channel::Page => append_first(octets, size, self.page_octet(address)),
             Channel::Diagnosis => append_first(octets, size, self.events.octet(address)),
             Channel::Isdu => self.isdu.append_data(octets),

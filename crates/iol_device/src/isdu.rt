@@ -16,7 +16,7 @@ use crate::record::Record;
 use iol_far::{HandsOver, Kind, Recalls};
 use iol_isdu::{Answer, Place, Request};
 use iol_mseq::{Message, append_first, append_zeros};
-use iol_octets::Flow;
+use iol_octets::{Flow, OdLength, SegmentNumber};
 use iol_segment::{Cutter, Joiner, Reaction, Took, cut_is_whole};
 use std::marker::Model;
 
@@ -33,7 +33,7 @@ enum Stage {
     /// Its text comes in segments.
     Receiving,
     /// Its text is complete, the last segment under this COUNT.
-    Whole(Option<u8>),
+    Whole(Option<SegmentNumber>),
     /// The application has it, or will have it.
     Handed,
     /// Its answer goes out in segments.
@@ -44,11 +44,11 @@ enum Stage {
 /// have a place each, and stay there.
 #[derive(Drop)]
 pub(crate) struct IsduSide {
-    size: u8,
+    size: OdLength,
     kind: Kind,
     stage: Stage,
     /// The COUNT of the last write, where a text is handed over with its last segment.
-    counted: Option<u8>,
+    counted: Option<SegmentNumber>,
     /// The text of a request, while that comes.
     joiner: Joiner,
     /// The request, from when its text is complete, and then the answer.
@@ -73,8 +73,7 @@ impl Model for IsduSide {
 
 impl IsduSide {
     /// No request, in messages of this size, at a device of this kind.
-    pub fn new(kind: Kind, size: u8) -> IsduSide
-        requires { (1 ≤ size) × (size ≤ 32) }
+    pub fn new(kind: Kind, size: OdLength) -> IsduSide
         ensures { result ≡ record { size = size; state = Empty; kind = kind; counted = None } }
     {
         IsduSide {
@@ -82,19 +81,18 @@ impl IsduSide {
             kind,
             counted: None,
             stage: Stage::Empty,
-            joiner: Joiner::requests(),
-            cutter: Cutter::new(NOTHING, size as usize),
+            joiner: Joiner::new(),
+            cutter: Cutter::new(NOTHING, size),
         }
     }
 
     /// The request is dropped, and messages have this size from now on.
-    pub fn resize(&mut self, size: u8)
-        requires { (1 ≤ size) × (size ≤ 32) }
+    pub fn resize(&mut self, size: OdLength)
         ensures { self.new ≡ record self.old { size = size; state = Empty } }
     {
         self.size = size;
         self.stage = Stage::Empty;
-        self.cutter.resize(size as usize);
+        self.cutter.resize(size);
     }
 
     /// The request is dropped.
@@ -209,7 +207,7 @@ impl IsduSide {
     /// A write under COUNT.
     ///
     /// Rule DEV-11.
-    fn write_count(&mut self, count: u8, octets: &[u8])
+    fn write_count(&mut self, count: SegmentNumber, octets: &[u8])
         ensures { self.new
             ≡ record self.old {
               state = isdu_written self.old.state (Flow.Count count) octets.now;
@@ -270,7 +268,7 @@ impl IsduSide {
     ///
     /// Rule DEV-13.
     #[inline(never)]
-    fn read_count(&mut self, count: u8)
+    fn read_count(&mut self, count: SegmentNumber)
         ensures { self.new
             ≡ record self.old {
               state = isdu_read self.old.size self.old.state (Flow.Count count);
@@ -300,7 +298,7 @@ impl IsduSide {
         match self.stage {
             Stage::Handed => append_first(octets, self.size, 1),
             Stage::Answered => append_segment(&self.cutter, self.size, octets),
-            _ => append_zeros(octets, self.size),
+            _ => append_zeros(octets, self.size.get()),
         }
     }
 
@@ -392,11 +390,9 @@ fn answer_into<P: App>(app: &mut P, reaction: &mut Reaction)
 ///
 /// Rule DEV-11.
 fn take(joiner: &mut Joiner, cutter: &mut Cutter<Reaction>, flow: Flow, octets: &[u8]) -> Stage
-    requires kind { joiner.old.requests ≡ true }
     requires goes_on { GoesOn flow joiner.old }
     ensures state { state_of result joiner.new cutter.new
         ≡ isdu_written (Receiving joiner.old.text joiner.old.count) flow octets.now }
-    ensures kind { joiner.new.requests ≡ true }
     ensures size { cutter.new.size ≡ cutter.old.size }
     ensures kept { IsKeptAt result joiner.new cutter.new }
 {
@@ -415,7 +411,6 @@ fn take(joiner: &mut Joiner, cutter: &mut Cutter<Reaction>, flow: Flow, octets: 
 /// Rule DEV-11.
 #[inline(never)]
 fn complete(joiner: &Joiner, cutter: &mut Cutter<Reaction>, flow: Flow) -> Stage
-    requires kind { joiner.now.requests ≡ true }
     requires whole { is_whole joiner.now.text ≡ true }
     ensures state { state_of result joiner.now cutter.new
         ≡ completed (request_of joiner.now.text) (count_in flow) }
@@ -436,9 +431,8 @@ fn complete(joiner: &Joiner, cutter: &mut Cutter<Reaction>, flow: Flow) -> Stage
 ///
 /// Rule DEV-13.
 #[inline(never)]
-fn append_segment(cutter: &Cutter<Reaction>, size: u8, octets: &mut Message)
+fn append_segment(cutter: &Cutter<Reaction>, size: OdLength, octets: &mut Message)
     requires size { size ≡ cutter.now.size }
-    requires most { size ≤ 32 }
     requires sent { IsSent cutter.now.size
         (answer_text cutter.now.source.request cutter.now.source.answer) cutter.now.given }
     requires room { length octets.old.items ≤ 32 }
@@ -446,7 +440,7 @@ fn append_segment(cutter: &Cutter<Reaction>, size: u8, octets: &mut Message)
         (Answered cutter.now.source.request cutter.now.source.answer (last_sent cutter.now.given)) }
 {
     if !cutter.append_again(octets) {
-        append_zeros(octets, size);
+        append_zeros(octets, size.get());
     }
 }
 
@@ -454,8 +448,7 @@ fn append_segment(cutter: &Cutter<Reaction>, size: u8, octets: &mut Message)
 fn sent_flow(cutter: &Cutter<Reaction>) -> Option<Flow>
     requires { IsSent cutter.now.size
         (answer_text cutter.now.source.request cutter.now.source.answer) cutter.now.given }
-    ensures value { result ≡ sent_flow cutter.now.given }
-    ensures valid { IfSome result IsFlow }
+    ensures { result ≡ sent_flow cutter.now.given }
 {
     cutter.flow()
 }
@@ -463,7 +456,7 @@ fn sent_flow(cutter: &Cutter<Reaction>) -> Option<Flow>
 /// Whether the last segment given went under this COUNT.
 ///
 /// Rule DEV-13.
-fn is_sent(sent: Option<Flow>, count: u8) -> bool
+fn is_sent(sent: Option<Flow>, count: SegmentNumber) -> bool
     ensures { (given : ℕ) → sent ≡ sent_flow given → result ≡ is_sent given count }
 {
     sent == Some(Flow::Count(count))
@@ -472,13 +465,12 @@ fn is_sent(sent: Option<Flow>, count: u8) -> bool
 /// Whether the next one does.
 ///
 /// Rule DEV-13.
-fn is_next(sent: Option<Flow>, count: u8) -> bool
-    requires { IfSome sent IsFlow }
+fn is_next(sent: Option<Flow>, count: SegmentNumber) -> bool
     ensures { (given : ℕ) → sent ≡ sent_flow given → result ≡ is_next given count }
 {
     match sent {
-        Some(Flow::Count(last)) => count == (last + 1) % 16,
-        Some(_) => count == 1,
+        Some(Flow::Count(last)) => count == last.next(),
+        Some(_) => count == SegmentNumber::of(1),
         None => false,
     }
 }

@@ -1,6 +1,7 @@
 -- How far the two ends of the link have come with a request, and with their modes, whatever the
 -- kind of device.
 use Rattle.std.specs.Prelude.{◌≡◌, ◌⊎◌, ℕ, zero, suc, ◌*◌, ◌%◌, ◌<◌, ◌≤◌, Bool, true, false, not, ◌&&◌, List, ◌++◌, length, replicate, Option, Some, None, slice_index, if◌then◌else◌, ◌==◌, nat_le, bytes_eq, IfSome, IsTrue, [], ◌∷◌}
+use Rattle.iol_octets.specs.SegmentNumber.{segment_number}
 use Rattle.iol_octets.specs.declared.control.Channel.{Channel}
 use Rattle.iol_octets.specs.declared.control.Channel.TheVariants.{Process, Page, Diagnosis, Isdu}
 use Rattle.iol_octets.specs.declared.flow_control.Flow.{Flow}
@@ -229,14 +230,14 @@ IsMove size (Begin request) Quiet Isdu false Start octets = IsRequest request
 IsMove size (Begin request) Clear Isdu false Start octets = IsRequest request
     × (octets ≡ segment size (request_text request) 0)
 IsMove size More (Written request i) Isdu false (Count count) octets =
-    (suc i * size < length (request_text request)) × (count ≡ suc i % 16)
+    (suc i * size < length (request_text request)) × (count ≡ segment_number (suc i))
     × (octets ≡ segment size (request_text request) (suc i))
 IsMove size Ask (Perhaps request) Isdu true Start octets = Unit {0}
 IsMove size Ask (Written request i) Isdu true Start octets = IsLast size (request_text request) i
 IsMove size Ask (Busy request) Isdu true Start octets = Unit {0}
 -- the text had so far is no whole answer
 IsMove size Next (Had request i text) Isdu true (Count count) octets =
-    (count ≡ suc i % 16)
+    (count ≡ segment_number (suc i))
     × ((answer : Answer) → IsTrue (fits request answer)
     → text ≡ joined size (answer_text request answer) i
     → suc i * size < length (answer_text request answer))
