@@ -1,5 +1,6 @@
 -- What the messages of OPERATE say (IEC 61131-9, A.1.2 and 7.3.6).
 use Rattle.std.specs.Prelude.{◌≡◌, ℕ, ◌+◌, ◌%◌, Bool, true, false, List, [], Option, Some, None}
+use Rattle.iol_octets.specs.SegmentNumber.{segment_number}
 use Rattle.iol_octets.specs.Control.{control_of}
 use Rattle.iol_octets.specs.declared.control.Mc.{Mc}
 use Rattle.iol_octets.specs.declared.control.Channel.{Channel}
@@ -50,7 +51,7 @@ abbrev pub progress_head : Progress → Head
 progress_head (Sending flow segment) = write_of Isdu (flow_address flow)
 progress_head Doubting = ask_of Start
 progress_head (Asking busy) = ask_of Start
-progress_head (Receiving joining had) = ask_of (Count ((had + 1) % 16))
+progress_head (Receiving joining had) = ask_of (Count (segment_number (had + 1)))
 progress_head Refused = ask_of Idle1
 
 -- REQ-4

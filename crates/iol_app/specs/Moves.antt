@@ -1,6 +1,7 @@
 -- How far a session has come, as the level of both ends of the link sees it: laws
 -- of the definitions.
 use Rattle.std.specs.Prelude.{◌≡◌, ℕ, zero, suc, ◌+◌, ◌*◌, ◌%◌, ◌<◌, Bool, true, false, ◌&&◌, List, ◌++◌, length, Option, Some, None, IsTrue}
+use Rattle.iol_octets.specs.SegmentNumber.{segment_number}
 use Rattle.iol_mseq.specs.Shape.{Shape}
 use Rattle.iol_isdu.specs.Answers.{BeginsWithAnswer, is_read}
 use Rattle.iol_isdu.specs.declared.values.Request.{Request}
@@ -133,7 +134,7 @@ IsTakenUp current answer i octets (HasText text) =
 -- the text is whole with these octets, but a device that has forgotten the answer sends them too
 abbrev pub is_forgotten : Cursor → Bool → List ℕ → Bool
 is_forgotten (Receiving joining had) again od =
-    again && forgotten_by (taken joining (Count ((had + 1) % 16)) od).took od
+    again && forgotten_by (taken joining (Count (segment_number (had + 1))) od).took od
 is_forgotten cursor again od = false
 
 -- no segment of an answer that fits the request is refused but one that may be none: it is taken

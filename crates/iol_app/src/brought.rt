@@ -94,7 +94,7 @@ impl Out {
             ≡ reply_size layout.now (master_text layout.now sent.now.message) }
     {
         let data = if sent.message().mc.read {
-            layout.od()
+            layout.od().get()
         } else {
             0
         };

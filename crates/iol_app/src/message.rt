@@ -11,7 +11,7 @@ use crate::event_work::Events;
 use crate::request::{Current, Progress};
 use crate::session::Exchange;
 use iol_mseq::{MasterMsg, Part, first_of_zeros};
-use iol_octets::{Channel, Flow, Mc};
+use iol_octets::{Channel, Flow, Mc, OdLength, SegmentNumber};
 use iol_page::MasterCommand;
 
 /// The control octet of a START read (IEC 61131-9, A.1.2 and 7.3.6).
@@ -46,13 +46,11 @@ pub(crate) fn put(part: &mut Part, octets: &[u8])
 /// Rule REQ-1.
 pub(crate) fn body_for(
     exchange: Exchange,
-    size: u8,
+    size: OdLength,
     events: &Events,
     current: &Option<Current>,
     od: &mut Part,
 ) -> Mc
-    requires some { 1 ≤ size }
-    requires most { size ≤ 32 }
     requires valid { IfSome current.now IsCurrent }
     requires empty { od.old.items ≡ [] }
     ensures head { head_of result ≡ head_for exchange events.now.reading current.now }
@@ -88,7 +86,7 @@ fn request_body(current: &Option<Current>, od: &mut Part) -> Mc
             write(Channel::Isdu, flow.address())
         }
         Progress::Doubting | Progress::Asking(_) => ask(Flow::Start),
-        Progress::Receiving(_, had) => ask(Flow::Count((*had + 1) % 16)),
+        Progress::Receiving(_, had) => ask(Flow::Count(SegmentNumber::of(*had as usize + 1))),
         Progress::Refused => ask(Flow::Idle1),
     }
 }
@@ -107,9 +105,7 @@ pub(crate) fn question(out: Part) -> MasterMsg
 }
 
 /// The write of a master command.
-fn command(size: u8, command: MasterCommand, od: &mut Part) -> Mc
-    requires some { 1 ≤ size }
-    requires most { size ≤ 32 }
+fn command(size: OdLength, command: MasterCommand, od: &mut Part) -> Mc
     ensures head { head_of result ≡ write_of Page 0 }
     ensures od { od.new.items ≡ octet_and_zeros size (command_octet command) }
 {

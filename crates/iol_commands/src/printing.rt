@@ -67,7 +67,7 @@ fn print_type<A: Allocator>(output: &mut String<A>, layout: &Layout) -> Result<(
         ≡ string_bytes output.old ++ type_text layout.now) }
 {
     print_number(output, "layout type ", layout.kind().bits())?;
-    print_number(output, " od ", layout.od())
+    print_number(output, " od ", layout.od().get())
 }
 
 /// How many octets of process data go in and out.

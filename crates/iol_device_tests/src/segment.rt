@@ -6,7 +6,7 @@ use iol_isdu::{
     Answer, IsduFault, Octets, Place, Request, encode_answer, encode_request, read_answer,
     read_request,
 };
-use iol_octets::Flow;
+use iol_octets::{Flow, OdLength, SegmentNumber};
 use iol_segment::{
     Cutter, JoinFault, Joiner, Reaction, Source, cut_is_whole, segments_join, sources_are_texts,
     texts_join,
@@ -35,12 +35,11 @@ fn brought(octets: &[u8]) -> Result<Reaction, Fail>
 /// Gives a joiner a text, cut by this size.
 fn take_all(joiner: &mut Joiner, text: &[u8], size: usize) -> Result<(), JoinFault>
     requires { 1 ≤ size }
-    ensures { joiner.new.requests ≡ joiner.old.requests }
 {
     for (number, chunk) in text.chunks(size).enumerate() {
         let flow = match number {
             0 => Flow::Start,
-            _ => Flow::Count((number % 16) as u8),
+            _ => Flow::Count(SegmentNumber::of(number)),
         };
         joiner.take(flow, chunk)?;
     }
@@ -49,8 +48,9 @@ fn take_all(joiner: &mut Joiner, text: &[u8], size: usize) -> Result<(), JoinFau
 
 /// Whether a cutter by this size gives the text, filled up with 0.
 fn cuts<S: Source + Drop>(source: S, text: &[u8], size: usize) -> bool {
-    let size = size.clamp(1, 32);
-    let mut cutter = Cutter::new(source, size);
+    let length = OdLength::new(size.clamp(1, 32) as u8).unwrap();
+    let size = length.get() as usize;
+    let mut cutter = Cutter::new(source, length);
     for chunk in text.chunks(size) {
         let Some((_, segment)) = cutter.next() else {
             return false;
@@ -72,7 +72,7 @@ fn is_filled_up(segment: &[u8], octets: &[u8]) -> bool {
 
 /// The request that a text joins to, or the number of its refusal.
 fn joined_request(text: &[u8], size: usize) -> Result<Request, u8> {
-    let mut joiner = Joiner::requests();
+    let mut joiner = Joiner::new();
     take_all(&mut joiner, text, size.max(1)).map_err(|fault| fault.code())?;
     if joiner.is_whole() {
         joiner.into_request().map_err(|fault| fault.code())
@@ -83,7 +83,7 @@ fn joined_request(text: &[u8], size: usize) -> Result<Request, u8> {
 
 /// The answer that a text joins to, or the number of its refusal.
 fn joined_answer(request: &Request, text: &[u8], size: usize) -> Result<Answer, u8> {
-    let mut joiner = Joiner::answers();
+    let mut joiner = Joiner::new();
     take_all(&mut joiner, text, size.max(1)).map_err(|fault| fault.code())?;
     if joiner.is_whole() {
         joiner.into_answer(request).map_err(|fault| fault.code())

@@ -3,6 +3,7 @@ use Rattle.std.specs.Bool.{beq}
 use Rattle.std.specs.Prelude.{ℕ, ◌+◌, ◌-◌, ◌/◌, ◌%◌, Bool, true, false, ◌&&◌, ◌||◌, ◌==◌, nat_eq, nat_lt, nat_le, bytes_eq, if◌then◌else◌, List, [], ◌++◌, length, drop, slice_index, Option, Some, None, is_some, option_and_then, Result, Ok, Err}
 use Rattle.std.specs.List.{starts_with}
 use Rattle.std.specs.Option.{option_eq, option_or}
+use Rattle.iol_octets.specs.SegmentNumber.{segment_number}
 use Rattle.iol_isdu.specs.Answers.{answer_accepts, answer_fault, answers_read}
 use Rattle.iol_isdu.specs.Frame.{total_at}
 use Rattle.iol_isdu.specs.declared.fault.IsduFault.{IsduFault}
@@ -38,7 +39,7 @@ was_sent had count = nat_lt 0 had.at && count == had.count
 -- the segment behind it has
 -- SEG-2
 abbrev pub is_next : Had → ℕ → Bool
-is_next had count = count == (had.count + 1) % 16
+is_next had count = count == segment_number (had.count + 1)
 
 abbrev pub is_open : Stage → Bool
 is_open Open = true

@@ -1,5 +1,6 @@
 -- Which ISDU states of a device are as known of its transfer.
 use Rattle.std.specs.Prelude.{◌≡◌, ◌⊎◌, ◌<◌, ℕ, zero, suc, ◌+◌, ◌*◌, ◌%◌, Bool, List, [], ◌++◌, length, Option, Some, None, IfSome, IsTrue}
+use Rattle.iol_octets.specs.SegmentNumber.{segment_number}
 use Rattle.iol_isdu.specs.Answers.{is_read}
 use Rattle.iol_segment.specs.Cut.{segment}
 use Rattle.iol_segment.specs.TextLaws.{joined}
@@ -41,7 +42,7 @@ pub record AreHad (size : ℕ) (had : Had) (text : List ℕ) (sent : ℕ) : Type
   pub ahead : IfSome had.ahead (AreAhead size text)
   pub within : sent * size < length text
   pub at : had.at ≡ sent * size
-  pub count : had.count ≡ sent % 16
+  pub count : had.count ≡ segment_number sent
 
 -- a device that hands over at the last segment keeps the COUNT of that
 -- DEV-20

@@ -64,9 +64,12 @@ impl Kept {
             waits: waits_after(mode, waits, octets, asked),
             cycle: cycle_after(self.cycle, &message),
             events: self.events.after(is_confirm(&message)),
-            transfer: self
-                .transfer_in(octets)
-                .after(self.kinds.one(), isdu_of(layouts), layout.od(), &message),
+            transfer: self.transfer_in(octets).after(
+                self.kinds.one(),
+                isdu_of(layouts),
+                layout.od().get(),
+                &message,
+            ),
         };
         Ok(Some(Taken {
             kept,

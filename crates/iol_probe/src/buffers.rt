@@ -8,6 +8,7 @@ use iol_mseq::{
     Message, Part, append, append_first, append_zeros, close_reply, first, first_of_zeros, part_of,
     zeros,
 };
+use iol_octets::OdLength;
 use std::alloc::AllocError;
 
 /// Answers a line of parts or of the buffer. Whether it is one.
@@ -71,10 +72,11 @@ fn append_nothing(buffer: &mut Message, line: &mut Line<'_>) {
 fn append_one(buffer: &mut Message, line: &mut Line<'_>) {
     let size = line.small();
     let octet = line.octet();
-    if size == 0 || buffer.len() + usize::from(size) > 66 {
-        line.refuse();
-    } else {
-        append_first(buffer, size, octet);
+    match OdLength::new(size) {
+        Some(size) if buffer.len() + usize::from(size.get()) <= 66 => {
+            append_first(buffer, size, octet);
+        }
+        _ => line.refuse(),
     }
 }
 
@@ -117,10 +119,10 @@ fn given_part(line: &mut Line<'_>) -> Part {
 fn first_part(line: &mut Line<'_>) -> Part {
     let size = size_of_part(line);
     let octet = line.octet();
-    if size == 0 {
+    let Some(size) = OdLength::new(size) else {
         line.refuse();
         return Part::new();
-    }
+    };
     first_of_zeros(size, octet)
 }
 

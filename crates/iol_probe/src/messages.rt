@@ -67,7 +67,7 @@ fn answer_layout(
 /// The sizes of a layout.
 pub(crate) fn print_layout(output: &mut String, layout: &Layout) -> Result<(), AllocError> {
     let kind = layout.kind().bits();
-    let od = layout.od();
+    let od = layout.od().get();
     write!(output, " type {kind} od {od}")?;
     let input = layout.pd_in();
     let out = layout.pd_out();
@@ -237,7 +237,7 @@ fn spell_message(
         out: line.packed(),
         od: line.packed(),
     };
-    let size = if mc.read { 0 } else { layout.od() };
+    let size = if mc.read { 0 } else { layout.od().get() };
     let out = usize::from(layout.pd_out());
     if message.out.len() != out || message.od.len() != usize::from(size) {
         line.refuse();
@@ -263,7 +263,7 @@ fn spell_reply(
         invalid: invalid(line),
     };
     let od = reply.od.len();
-    let is_read = od == usize::from(layout.od());
+    let is_read = od == usize::from(layout.od().get());
     if reply.input.len() != usize::from(layout.pd_in()) || !(is_read || od == 0) {
         line.refuse();
         return Ok(());

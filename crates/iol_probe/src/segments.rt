@@ -1,13 +1,11 @@
 //! The lines of texts that are cut into segments, and of segments that are joined.
-ghost use Rattle.std.specs.Prelude.{◌≡◌, ◌≤◌, true, false};
-
 use crate::isdus::{asked, print_read_answer, print_read_request, reaction};
 use crate::printing::{
     print_flow, print_octets, print_ok, print_pair, print_refused, print_request, yes_or_no,
 };
 use crate::reading::{Line, is};
 use iol_isdu::Request;
-use iol_octets::Flow;
+use iol_octets::{Flow, OdLength};
 use iol_segment::{Cutter, JoinFault, Joiner, Reaction, Segment, Took};
 use std::alloc::AllocError;
 use std::mem;
@@ -24,20 +22,16 @@ enum Cut {
 #[derive(Drop)]
 pub(crate) struct Segments {
     cut: Cut,
-    requests: Joiner,
-    answers: Joiner,
+    joiner: Joiner,
     /// Whether requests are joined, else answers.
     joins_requests: bool,
-    ghost of_requests: { requests.requests ≡ true },
-    ghost of_answers: { answers.requests ≡ false },
 }
 
 impl Segments {
     pub fn new() -> Segments {
         Segments {
             cut: Cut::Nothing,
-            requests: Joiner::requests(),
-            answers: Joiner::answers(),
+            joiner: Joiner::new(),
             joins_requests: true,
         }
     }
@@ -65,7 +59,7 @@ impl Segments {
         } else if is(name, b"request") {
             self.join_request(output, line)
         } else if is(name, b"whole") {
-            let is_whole = yes_or_no(self.is_whole());
+            let is_whole = yes_or_no(self.joiner.is_whole());
             writeln!(output, "whole {is_whole}")
         } else {
             self.begin(name, line);
@@ -75,53 +69,37 @@ impl Segments {
 
     /// The lines of one word that begin anew.
     fn begin(&mut self, name: &[u8], line: &mut Line<'_>) {
-        if is(name, b"requests") {
-            self.requests = Joiner::requests();
-            self.joins_requests = true;
-        } else if is(name, b"answers") {
-            self.answers = Joiner::answers();
-            self.joins_requests = false;
+        if is(name, b"requests") || is(name, b"answers") {
+            self.joiner = Joiner::new();
+            self.joins_requests = is(name, b"requests");
         } else {
             line.refuse();
-        }
-    }
-
-    fn is_whole(&self) -> bool {
-        if self.joins_requests {
-            self.requests.is_whole()
-        } else {
-            self.answers.is_whole()
         }
     }
 
     fn take(&mut self, output: &mut String, line: &mut Line<'_>) -> Result<(), AllocError> {
         let flow = line.flow();
         let octets = line.octets();
-        let took = if self.joins_requests {
-            self.requests.take(flow, octets.as_slice())
-        } else {
-            self.answers.take(flow, octets.as_slice())
-        };
-        print_took(output, took)
+        print_took(output, self.joiner.take(flow, octets.as_slice()))
     }
 
     /// The request that was joined.
     fn join_request(&self, output: &mut String, line: &mut Line<'_>) -> Result<(), AllocError> {
-        if !self.joins_requests || !self.requests.is_whole() {
+        if !self.joins_requests || !self.joiner.is_whole() {
             line.refuse();
             return Ok(());
         }
-        print_read_request(output, self.requests.request())
+        print_read_request(output, self.joiner.request())
     }
 
     /// The answer that was joined, to a read or a write, for which the joiner is given up.
     fn join_answer(&mut self, output: &mut String, line: &mut Line<'_>) -> Result<(), AllocError> {
         let asked = asked(line.direction());
-        if self.joins_requests || !self.answers.is_whole() {
+        if self.joins_requests || !self.joiner.is_whole() {
             line.refuse();
             return Ok(());
         }
-        let joiner = mem::replace(&mut self.answers, Joiner::answers());
+        let joiner = mem::replace(&mut self.joiner, Joiner::new());
         print_read_answer(output, joiner.into_answer(&asked))
     }
 }
@@ -161,11 +139,8 @@ fn cutting(name: &[u8], line: &mut Line<'_>) -> Cut {
 }
 
 /// How many octets a segment has.
-fn size(line: &mut Line<'_>) -> usize
-    ensures some { 1 ≤ result }
-    ensures most { result ≤ 32 }
-{
-    line.between(1, 32) as usize
+fn size(line: &mut Line<'_>) -> OdLength {
+    OdLength::new(line.between(1, 32) as u8).unwrap()
 }
 
 fn next(cut: &mut Cut) -> Option<(Flow, Segment)> {

@@ -64,7 +64,11 @@ fn message_length(layout: &Layout, octets: &[u8]) -> usize
     ensures value { result ≡ message_length layout.now octets.now }
     ensures most { result ≤ 66 }
 {
-    let od = if is_read(octets) { 0 } else { layout.od() };
+    let od = if is_read(octets) {
+        0
+    } else {
+        layout.od().get()
+    };
     2 + layout.pd_out() as usize + od as usize
 }
 
@@ -74,6 +78,6 @@ fn message_length(layout: &Layout, octets: &[u8]) -> usize
 pub(crate) fn reply_length(layout: &Layout, sent: &[u8]) -> usize
     ensures { result ≡ reply_length layout.now sent.now }
 {
-    let od = if is_read(sent) { layout.od() } else { 0 };
+    let od = if is_read(sent) { layout.od().get() } else { 0 };
     od as usize + layout.pd_in() as usize + 1
 }

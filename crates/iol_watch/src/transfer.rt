@@ -63,8 +63,8 @@ impl Transfer {
         match flow_of(mc) {
             Flow::Start if mc.read => self.start_asked(),
             Flow::Start => self.start_sent(isdu, octets),
-            Flow::Count(count) if mc.read => self.count_asked(count),
-            Flow::Count(count) => self.count_sent(count, octets),
+            Flow::Count(count) if mc.read => self.count_asked(count.get()),
+            Flow::Count(count) => self.count_sent(count.get(), octets),
             Flow::Idle1 | Flow::Idle2 => self.kept_if_quiet(),
             Flow::Abort => self.aborted(),
             Flow::Reserved(_) => Err(MasterFault::NotDue),
@@ -198,14 +198,7 @@ impl Transfer {
 fn flow_of(mc: Mc) -> Flow
     ensures { result ≡ flow_of mc.address }
 {
-    match mc.address {
-        0x00..=0x0F => Flow::Count(mc.address),
-        0x10 => Flow::Start,
-        0x11 => Flow::Idle1,
-        0x12 => Flow::Idle2,
-        0x1F => Flow::Abort,
-        _ => Flow::Reserved(mc.address),
-    }
+    Flow::from_address(mc.address)
 }
 
 /// Octets behind those of a text.

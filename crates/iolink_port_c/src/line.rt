@@ -45,7 +45,7 @@ pub extern "C" fn iol_port_asks(alloc: Global, handle: &mut IolPort, out: &mut I
             put(sent.octets.as_slice(), &mut out.octets);
             out.reply = sent.reply;
             out.kind = sent.layout.kind().bits();
-            out.od = sent.layout.od();
+            out.od = sent.layout.od().get();
             out.pd_in = sent.layout.pd_in();
             out.pd_out = sent.layout.pd_out();
         }
