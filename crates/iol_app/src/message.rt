@@ -11,7 +11,7 @@ use crate::event_work::Events;
 use crate::request::{Current, Progress};
 use crate::session::Exchange;
 use iol_mseq::{MasterMsg, Part, first_of_zeros};
-use iol_octets::{Channel, Flow, Mc, OdLength, SegmentNumber};
+use iol_octets::{Channel, Flow, Mc, OdLength, segment_number};
 use iol_page::MasterCommand;
 
 /// The control octet of a START read (IEC 61131-9, A.1.2 and 7.3.6).
@@ -86,7 +86,7 @@ fn request_body(current: &Option<Current>, od: &mut Part) -> Mc
             write(Channel::Isdu, flow.address())
         }
         Progress::Doubting | Progress::Asking(_) => ask(Flow::Start),
-        Progress::Receiving(_, had) => ask(Flow::Count(SegmentNumber::of(*had as usize + 1))),
+        Progress::Receiving(_, had) => ask(Flow::Count(segment_number(*had as usize + 1))),
         Progress::Refused => ask(Flow::Idle1),
     }
 }

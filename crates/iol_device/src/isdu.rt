@@ -16,7 +16,7 @@ use crate::record::Record;
 use iol_far::{HandsOver, Kind, Recalls};
 use iol_isdu::{Answer, Place, Request};
 use iol_mseq::{Message, append_first, append_zeros};
-use iol_octets::{Flow, OdLength, SegmentNumber};
+use iol_octets::{Flow, OdLength, segment_number};
 use iol_segment::{Cutter, Joiner, Reaction, Took, cut_is_whole};
 use std::marker::Model;
 
@@ -33,7 +33,7 @@ enum Stage {
     /// Its text comes in segments.
     Receiving,
     /// Its text is complete, the last segment under this COUNT.
-    Whole(Option<SegmentNumber>),
+    Whole(Option<u8>),
     /// The application has it, or will have it.
     Handed,
     /// Its answer goes out in segments.
@@ -48,7 +48,7 @@ pub(crate) struct IsduSide {
     kind: Kind,
     stage: Stage,
     /// The COUNT of the last write, where a text is handed over with its last segment.
-    counted: Option<SegmentNumber>,
+    counted: Option<u8>,
     /// The text of a request, while that comes.
     joiner: Joiner,
     /// The request, from when its text is complete, and then the answer.
@@ -207,7 +207,7 @@ impl IsduSide {
     /// A write under COUNT.
     ///
     /// Rule DEV-11.
-    fn write_count(&mut self, count: SegmentNumber, octets: &[u8])
+    fn write_count(&mut self, count: u8, octets: &[u8])
         ensures { self.new
             ≡ record self.old {
               state = isdu_written self.old.state (Flow.Count count) octets.now;
@@ -268,7 +268,7 @@ impl IsduSide {
     ///
     /// Rule DEV-13.
     #[inline(never)]
-    fn read_count(&mut self, count: SegmentNumber)
+    fn read_count(&mut self, count: u8)
         ensures { self.new
             ≡ record self.old {
               state = isdu_read self.old.size self.old.state (Flow.Count count);
@@ -456,7 +456,7 @@ fn sent_flow(cutter: &Cutter<Reaction>) -> Option<Flow>
 /// Whether the last segment given went under this COUNT.
 ///
 /// Rule DEV-13.
-fn is_sent(sent: Option<Flow>, count: SegmentNumber) -> bool
+fn is_sent(sent: Option<Flow>, count: u8) -> bool
     ensures { (given : ℕ) → sent ≡ sent_flow given → result ≡ is_sent given count }
 {
     sent == Some(Flow::Count(count))
@@ -465,12 +465,12 @@ fn is_sent(sent: Option<Flow>, count: SegmentNumber) -> bool
 /// Whether the next one does.
 ///
 /// Rule DEV-13.
-fn is_next(sent: Option<Flow>, count: SegmentNumber) -> bool
+fn is_next(sent: Option<Flow>, count: u8) -> bool
     ensures { (given : ℕ) → sent ≡ sent_flow given → result ≡ is_next given count }
 {
     match sent {
-        Some(Flow::Count(last)) => count == last.next(),
-        Some(_) => count == SegmentNumber::of(1),
+        Some(Flow::Count(last)) => count == segment_number(last as usize + 1),
+        Some(_) => count == segment_number(1),
         None => false,
     }
 }

@@ -6,7 +6,7 @@ use iol_isdu::{
     Answer, IsduFault, Octets, Place, Request, encode_answer, encode_request, read_answer,
     read_request,
 };
-use iol_octets::{Flow, OdLength, SegmentNumber};
+use iol_octets::{Flow, OdLength, segment_number};
 use iol_segment::{
     Cutter, JoinFault, Joiner, Reaction, Source, cut_is_whole, segments_join, sources_are_texts,
     texts_join,
@@ -39,7 +39,7 @@ fn take_all(joiner: &mut Joiner, text: &[u8], size: usize) -> Result<(), JoinFau
     for (number, chunk) in text.chunks(size).enumerate() {
         let flow = match number {
             0 => Flow::Start,
-            _ => Flow::Count(SegmentNumber::of(number)),
+            _ => Flow::Count(segment_number(number)),
         };
         joiner.take(flow, chunk)?;
     }

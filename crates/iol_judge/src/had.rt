@@ -14,7 +14,7 @@ use crate::reason::Reason;
 use crate::transfer::{LONGEST_TO_READ, LONGEST_TO_WRITE, SHORTEST};
 use arrayvec::ArrayVec;
 use iol_isdu::{IsduFault, total_of};
-use iol_octets::SegmentNumber;
+use iol_octets::segment_number;
 
 /// The most octets that are kept of an answer: the longest text, and a segment.
 pub(crate) const MOST_HAD: usize = 270;
@@ -218,7 +218,7 @@ impl Had {
     pub fn is_next(&self, count: u8) -> bool
         ensures { result ≡ is_next self.now count }
     {
-        count == SegmentNumber::of(self.count as usize + 1).get()
+        count == segment_number(self.count as usize + 1)
     }
 
     /// Whether the octets that were had are no whole text.

@@ -12,7 +12,7 @@ use crate::reason::Reason;
 use iol_far::{HandsOver, Kind, Recalls};
 use iol_isdu::{IsduFault, Request, Text, read_request, total_of};
 use iol_mseq::MasterView;
-use iol_octets::{Channel, Mc, SegmentNumber};
+use iol_octets::{Channel, Mc, segment_number};
 
 /// The address of START on the ISDU channel. Below it are those of COUNT.
 const START: u8 = 0x10;
@@ -388,8 +388,8 @@ pub fn next_count(last: Option<u8>) -> u8
     ensures { result ≡ next_count last }
 {
     match last {
-        Some(count) => SegmentNumber::of(count as usize + 1).get(),
-        None => 1,
+        Some(count) => segment_number(count as usize + 1),
+        None => segment_number(1),
     }
 }
 

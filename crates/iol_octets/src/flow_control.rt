@@ -1,15 +1,13 @@
 //! FlowCTRL, the place of a segment on the ISDU channel (IEC 61131-9, 7.3.6).
 ghost use Rattle.std.specs.Prelude.{◌≡◌, ◌≤◌};
 
-use crate::SegmentNumber;
-
 /// FlowCTRL: what the address of a control octet means on the ISDU channel (IEC 61131-9, 7.3.6).
 #[derive(Clone, Copy, Debug, PartialEq, Eq)]
 pub enum Flow {
     /// 0x10: the first segment of a request or of an answer.
     Start,
-    /// 0x00 to 0x0F: the segment with this number.
-    Count(SegmentNumber),
+    /// 0x00 to 0x0F: the segment with this number ([`segment_number`](crate::segment_number)).
+    Count(u8),
     /// 0x11: no service is wanted.
     Idle1,
     /// 0x12: as [`Flow::Idle1`], reserved by the standard for later use.
@@ -34,7 +32,7 @@ impl Flow {
         ensures only { (flow : Flow) → IsFlow flow → flow_address flow ≡ address → result ≡ flow }
     {
         match address {
-            0x00..=0x0F => Flow::Count(SegmentNumber::of(address as usize)),
+            0x00..=0x0F => Flow::Count(address),
             0x10 => Flow::Start,
             0x11 => Flow::Idle1,
             0x12 => Flow::Idle2,
@@ -43,7 +41,8 @@ impl Flow {
         }
     }
 
-    /// Writes the address, 0 to 31. A reserved flow has one of 0x13 to 0x1E.
+    /// Writes the address, 0 to 31. A COUNT has a number of at most 15, a reserved
+    /// flow one of 0x13 to 0x1E.
     ///
     /// Rule OCT-2.
     pub fn address(self) -> u8
@@ -53,7 +52,7 @@ impl Flow {
     {
         match self {
             Flow::Start => 0x10,
-            Flow::Count(count) => count.get(),
+            Flow::Count(count) => count,
             Flow::Idle1 => 0x11,
             Flow::Idle2 => 0x12,
             Flow::Abort => 0x1F,

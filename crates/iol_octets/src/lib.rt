@@ -16,8 +16,8 @@ mod control;
 mod fault;
 mod flow_control;
 mod laws;
+mod numbering;
 mod od_length;
-mod segment_number;
 
 pub use check_octets::{Cks, Ckt, SequenceType};
 pub use checksum::{checksum6, has_checksum6};
@@ -25,5 +25,5 @@ pub use control::{Channel, Mc};
 pub use fault::OctetFault;
 pub use flow_control::Flow;
 pub use laws::{checksums_fit, control_octets_are_read_back, one_flip_is_seen};
+pub use numbering::segment_number;
 pub use od_length::OdLength;
-pub use segment_number::SegmentNumber;

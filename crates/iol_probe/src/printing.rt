@@ -61,7 +61,7 @@ pub(crate) fn channel_name(channel: Channel) -> &'static str {
 pub(crate) fn print_flow(output: &mut String, flow: Flow) -> Result<(), AllocError> {
     match flow {
         Flow::Start => output.push_str("start"),
-        Flow::Count(count) => write!(output, "{}", count.get()),
+        Flow::Count(count) => write!(output, "{count}"),
         Flow::Idle1 => output.push_str("idle1"),
         Flow::Idle2 => output.push_str("idle2"),
         Flow::Abort => output.push_str("abort"),

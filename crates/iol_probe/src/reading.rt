@@ -4,7 +4,7 @@ ghost use Rattle.iol_octets.specs.Flow.{IsFlow};
 
 use arrayvec::ArrayVec;
 use iol_isdu::{Answer, Octets, Place, Request};
-use iol_octets::{Flow, SegmentNumber};
+use iol_octets::Flow;
 use iol_script::{
     Words, decimal_number, hexadecimal_code, hexadecimal_octet, hexadecimal_octets, parted_octets,
 };
@@ -180,7 +180,7 @@ impl<'a> Line<'a> {
         } else if is(name, b"abort") {
             Flow::Abort
         } else if let Some(count) = decimal_number(name, 0, 15) {
-            Flow::Count(SegmentNumber::of(count as usize))
+            Flow::Count(count as u8)
         } else {
             self.refuse();
             Flow::Start

@@ -17,7 +17,7 @@ use iol_isdu::{
     Answer, IsduFault, Request, Text, answer_into, read_answer, read_request, request_into,
     total_of,
 };
-use iol_octets::{Flow, SegmentNumber};
+use iol_octets::{Flow, segment_number};
 use std::marker::Model;
 
 /// How many octets the longest text has.
@@ -31,7 +31,7 @@ const LONGEST: usize = 238;
 pub struct Joiner {
     started: bool,
     /// The last COUNT taken, none right behind START.
-    count: Option<SegmentNumber>,
+    count: Option<u8>,
     text: Text,
 }
 
@@ -194,7 +194,7 @@ impl Joiner {
     /// Takes a segment under COUNT.
     ///
     /// Rules SEG-3, SEG-4.
-    fn take_count(&mut self, count: SegmentNumber, octets: &[u8]) -> Result<Took, JoinFault>
+    fn take_count(&mut self, count: u8, octets: &[u8]) -> Result<Took, JoinFault>
         ensures took { result ≡ (counted self.old count octets.now).took }
         ensures joining { self.new ≡ (counted self.old count octets.now).joining }
         ensures whole { result ≡ Ok Whole → IsTrue (is_whole self.new.text) }
@@ -211,17 +211,17 @@ impl Joiner {
     }
 
     /// Rule SEG-2.
-    fn next_count(&self) -> SegmentNumber
+    fn next_count(&self) -> u8
         ensures { result ≡ next_count self.now.count }
     {
         match self.count {
-            None => SegmentNumber::of(1),
-            Some(count) => count.next(),
+            None => segment_number(1),
+            Some(count) => segment_number(count as usize + 1),
         }
     }
 
     /// Takes the next segment, the COUNT of which is kept.
-    fn add(&mut self, count: Option<SegmentNumber>, octets: &[u8]) -> Result<Took, JoinFault>
+    fn add(&mut self, count: Option<u8>, octets: &[u8]) -> Result<Took, JoinFault>
         ensures took { result
             ≡ (staged count (self.old.text ++ octets.now)
             (stage (self.old.text ++ octets.now))).took }

@@ -63,8 +63,8 @@ impl Transfer {
         match flow_of(mc) {
             Flow::Start if mc.read => self.start_asked(),
             Flow::Start => self.start_sent(isdu, octets),
-            Flow::Count(count) if mc.read => self.count_asked(count.get()),
-            Flow::Count(count) => self.count_sent(count.get(), octets),
+            Flow::Count(count) if mc.read => self.count_asked(count),
+            Flow::Count(count) => self.count_sent(count, octets),
             Flow::Idle1 | Flow::Idle2 => self.kept_if_quiet(),
             Flow::Abort => self.aborted(),
             Flow::Reserved(_) => Err(MasterFault::NotDue),

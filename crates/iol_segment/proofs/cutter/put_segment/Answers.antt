@@ -4,8 +4,13 @@ use Rattle.iol_segment.proofs.cutter.put_segment.Goals as goal
 
 pub returns-then-len-end : goal.returns-then-len-end
 returns-then-len-end g c =
-    rw (c.append.ensures, c.push.ensures.items, c.chkpdu_of.ensures, c.len.ensures.value,
-      c.get-size.ensures.value)
+    rw (
+      c.append.ensures,
+      c.push.ensures.items,
+      c.chkpdu_of.ensures,
+      c.len.ensures.value,
+      c.get-size.ensures.value,
+    )
     (behind-last c.args.size c.args.number c.args.into.now.items
     (c.args.head.now ++ c.args.body.now) c.put_piece.new.into.items
     (omega (arith, length-append c.args.head.now c.args.body.now, c.requires.within))
