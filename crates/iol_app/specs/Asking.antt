@@ -1,6 +1,7 @@
 -- Which call of the wire a turn makes, as a function of the station before it.
 use Rattle.std.specs.Prelude.{◌≡◌, ℕ, ◌+◌, ◌*◌, Bool, true, ◌&&◌, if◌then◌else◌, List, ◌∷◌, ◌++◌, slice_index, nat_le, Option, Some, None, unwrap_or}
 use Rattle.arrayvec.specs.ArrayVec.{ArrayVec}
+use Rattle.iol_octets.specs.CheckOctets.{type_bits}
 use Rattle.iol_octets.specs.Checksum.{with_checksum}
 use Rattle.iol_octets.specs.Control.{channel_code}
 use Rattle.iol_mseq.specs.Shape.{Shape, startup_shape}
@@ -27,7 +28,7 @@ abbrev pub text_by : Shape → Head → List ℕ → List ℕ → List ℕ
 text_by layout head out od =
     with_checksum 1
     (((if head.read then 128 else 0) + 32 * channel_code head.channel + head.address)
-    ∷ (64 * layout.kind) ∷ out ++ od)
+    ∷ (64 * type_bits layout.kind) ∷ out ++ od)
 
 -- those of a new message for this
 abbrev pub text_for : Shape → purpose.Exchange → SessionState → List ℕ

@@ -1,6 +1,7 @@
 -- What `check` prints.
 use Rattle.std.specs.Prelude.{◌≡◌, ℕ, ◌/◌, ◌%◌, Bool, true, if◌then◌else◌, List, [], ◌∷◌, ◌++◌, flat_map, codes}
 use Rattle.std.specs.Fmt.{decimal, digit_glyph}
+use Rattle.iol_octets.specs.CheckOctets.{type_bits}
 use Rattle.iol_octets.specs.declared.control.Mc.{Mc}
 use Rattle.iol_octets.specs.declared.control.Channel.{Channel}
 use Rattle.iol_octets.specs.declared.control.Channel.TheVariants.{Process, Page, Diagnosis, Isdu}
@@ -35,7 +36,7 @@ number_text name number = name ++ decimal number
 -- the M-sequence type, and how many octets on-request data has
 abbrev pub type_text : Shape → List ℕ
 type_text layout =
-    number_text (codes "layout type ") layout.kind ++ number_text (codes " od ") layout.od
+    number_text (codes "layout type ") (type_bits layout.kind) ++ number_text (codes " od ") layout.od
 
 -- how many octets of process data go in and out
 abbrev pub process_text : Shape → List ℕ

@@ -4,6 +4,8 @@ use Rattle.std.specs.Prelude.{Some, None, bytes_eq, IfSome, IsSome}
 use Rattle.std.proofs.lemmas.Bool.Decides.{nat_tests}
 use Rattle.std.proofs.lemmas.Grind.{common_steps}
 use Rattle.std.proofs.lemmas.Slice.Eq.{bytes_eq-Decides}
+use Rattle.iol_octets.specs.CheckOctets.{type_bits}
+use Rattle.iol_octets.specs.declared.check_octets.SequenceType.{SequenceType}
 use Rattle.iol_octets.specs.Control.{control_of}
 use Rattle.iol_mseq.specs.Shape.{Shape, IsLayout, kind_of, startup_shape}
 use Rattle.iol_mseq.specs.Master.{HasMasterParts}
@@ -47,7 +49,7 @@ bytes_of xs ys same = grind (arith, common_steps, bytes_eq-Decides xs ys)
 
 -- what is known of octets that spell a message; a write alone has all on-request data
 record IsSpelled (layout : Shape) (o : List ℕ) (m : MasterMsg) : Type 0 where
-  pub kind : slice_index o 1 / 64 ≡ layout.kind
+  pub kind : slice_index o 1 / 64 ≡ type_bits layout.kind
   pub size : slice_index o 0 < 128 → length o ≡ 2 + layout.pd_out + layout.od
   pub control : m.mc ≡ control_of (slice_index o 0)
 
@@ -57,9 +59,13 @@ unfolding message_in
 spelled layout o m e = grind (arith, nat_tests, common_steps)
 
 -- a kind without process data is that of no layout with it
-no_data : (kind od od' pd_in pd_out : ℕ) → kind ≡ kind_of od 0 0 → kind ≡ kind_of od' pd_in pd_out
-    → pd_in + pd_out ≡ 0
+no_data : (kind : SequenceType) (od od' pd_in pd_out : ℕ) → kind ≡ kind_of od 0 0
+    → kind ≡ kind_of od' pd_in pd_out → pd_in + pd_out ≡ 0
 no_data kind od od' pd_in pd_out plain other = grind (arith, nat_tests, common_steps)
+
+-- the two bits say the M-sequence type
+one_type : (k l : SequenceType) → type_bits k ≡ type_bits l → k ≡ l
+one_type k l same = grind (arith, common_steps)
 
 -- where one write is well-formed in a layout without process data and in another, these are one
 one_layout : {pre run : Shape} {o : List ℕ} {d m : MasterMsg} → IsPlain pre → IsLayout run
@@ -67,7 +73,7 @@ one_layout : {pre run : Shape} {o : List ℕ} {d m : MasterMsg} → IsPlain pre 
 one_layout {pre = pre} {run = run} plain valid write d m =
     let size = d.size write in
     let size' = m.size write in
-    let same : pre.kind ≡ run.kind = sym d.kind ∙ m.kind in
+    let same : pre.kind ≡ run.kind = one_type pre.kind run.kind (sym d.kind ∙ m.kind) in
     let none = no_data run.kind pre.od run.od run.pd_in run.pd_out
     (sym same ∙ rw (plain.pd_in, plain.pd_out) at plain.valid.kind) valid.kind in
     let out : pre.pd_out ≡ run.pd_out = omega (arith, none, plain.pd_out) in

@@ -3,6 +3,7 @@ use Rattle.std.proofs.Common.{◌≡◌, ℕ, ◌+◌, ◌*◌, ◌<◌, List, �
 use Rattle.std.proofs.lemmas.Bool.{eq-eqb}
 use Rattle.std.proofs.lemmas.Bool.Decides.{nat_tests}
 use Rattle.std.proofs.lemmas.Grind.{common_steps}
+use Rattle.iol_octets.specs.CheckOctets.{type_bits}
 use Rattle.iol_octets.specs.Checksum.{checksum_of, ChecksumsFit}
 use Rattle.iol_octets.specs.Control.{control_octet, ControlsAreReadBack}
 use Rattle.iol_mseq.specs.Shape.{Shape}
@@ -30,11 +31,11 @@ module _ (controls : ControlsAreReadBack) where
   pub master_is_read_back : ChecksumsFit → MasterIsReadBack
   master_is_read_back sums layout m sizes =
       let rest : List ℕ = m.out.items ++ m.od.items in
-      let open_octets : List ℕ = control_octet m.mc ∷ (64 * layout.kind) ∷ rest in
+      let open_octets : List ℕ = control_octet m.mc ∷ (64 * type_bits layout.kind) ∷ rest in
       let small : checksum_of open_octets < 64 = (sums open_octets).0 in
       spelled_is_read layout m (master_text layout m) (record {
         sizes = sizes;
-        parts = (64 * layout.kind + checksum_of open_octets, refl);
+        parts = (64 * type_bits layout.kind + checksum_of open_octets, refl);
         good = record {
           length = long_enough layout m sizes;
           kind = eq-eqb _ _ (omega (arith, small));

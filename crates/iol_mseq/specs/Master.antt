@@ -1,5 +1,6 @@
 -- Master messages (IEC 61131-9, A.1 and A.2).
 use Rattle.std.specs.Prelude.{◌≡◌, ℕ, ◌+◌, ◌/◌, Bool, ◌==◌, not, nat_lt, nat_le, if◌then◌else◌, ◌&&◌, List, ◌∷◌, ◌++◌, length, take, drop, slice_index, Option, Some, None, is_some, IsTrue}
+use Rattle.iol_octets.specs.CheckOctets.{type_bits}
 use Rattle.iol_octets.specs.Checksum.{has_checksum}
 use Rattle.iol_octets.specs.Control.{control_octet, control_of}
 use Rattle.iol_mseq.specs.Shape.{Shape}
@@ -21,7 +22,7 @@ has_master_length layout octets = nat_le 2 (length octets)
 -- bits 7 and 6 of the second octet are the layout's M-sequence type
 -- MSG-3
 abbrev pub has_kind : Shape → List ℕ → Bool
-has_kind layout octets = slice_index octets 1 / 64 == layout.kind
+has_kind layout octets = slice_index octets 1 / 64 == type_bits layout.kind
 
 -- a master message that is well-formed in a layout
 -- MSG-3

@@ -1,21 +1,24 @@
--- The layouts, as quadruples of numbers (IEC 61131-9, A.2; the codes of OPERATE are
+-- The layouts: an M-sequence type and three lengths (IEC 61131-9, A.2; the codes of OPERATE are
 -- a profile of this project).
 use Rattle.std.specs.Prelude.{◌≡◌, ℕ, ◌+◌, ◌≤◌, Bool, ◌==◌, ◌||◌, ◌&&◌, nat_lt, nat_le, if◌then◌else◌, Result, Ok, Err, Option, Some, None, IsTrue}
+use Rattle.iol_octets.specs.declared.check_octets.SequenceType.{SequenceType}
+use Rattle.iol_octets.specs.declared.check_octets.SequenceType.TheVariants.{Type0, Type1, Type2}
 use Rattle.iol_mseq.specs.declared.fault.MseqFault.{MseqFault}
 use Rattle.iol_mseq.specs.declared.fault.MseqFault.TheVariants.{UnsupportedCode, BadLength}
 
--- a layout: the two bits of the M-sequence type, and how many octets each part has
+-- a layout: the M-sequence type, and how many octets each part has
 -- LAY-1
 pub record Shape : Type 0 where
-  pub kind : ℕ
+  pub kind : SequenceType
   pub od : ℕ
   pub pd_in : ℕ
   pub pd_out : ℕ
 
 -- the M-sequence type of these lengths: 0 and 1 without process data, 2 with it
 -- LAY-1
-abbrev pub kind_of : ℕ → ℕ → ℕ → ℕ
-kind_of od pd_in pd_out = if (pd_in + pd_out == 0) then (if (od == 1) then 0 else 1) else 2
+abbrev pub kind_of : ℕ → ℕ → ℕ → SequenceType
+kind_of od pd_in pd_out =
+    if (pd_in + pd_out == 0) then (if (od == 1) then Type0 else Type1) else Type2
 
 -- the layout with these lengths
 -- LAY-1

@@ -2,7 +2,7 @@
 use Rattle.std.specs.Prelude.{ℕ, ◌+◌, ◌*◌, List, [], ◌∷◌, ◌++◌}
 use Rattle.iol_octets.specs.Checksum.{checksum_of, with_checksum}
 use Rattle.iol_octets.specs.Control.{control_octet}
-use Rattle.iol_octets.specs.CheckOctets.{status_bits}
+use Rattle.iol_octets.specs.CheckOctets.{type_bits, status_bits}
 use Rattle.iol_mseq.specs.Shape.{Shape}
 use Rattle.iol_mseq.specs.declared.master.MasterMsg.{MasterMsg}
 use Rattle.iol_mseq.specs.declared.reply.Reply.{Reply}
@@ -12,7 +12,7 @@ use Rattle.iol_mseq.specs.declared.reply.Reply.{Reply}
 abbrev pub master_text : Shape → MasterMsg → List ℕ
 master_text layout message =
     with_checksum 1
-    (control_octet message.mc ∷ (64 * layout.kind) ∷ message.out.items ++ message.od.items)
+    (control_octet message.mc ∷ (64 * type_bits layout.kind) ∷ message.out.items ++ message.od.items)
 
 -- octets with an octet put behind them that holds these bits and the checksum of all
 abbrev pub closed_by : List ℕ → ℕ → List ℕ

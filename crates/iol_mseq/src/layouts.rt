@@ -1,6 +1,5 @@
 //! Layouts: the sizes of a message's parts in each mode (IEC 61131-9, A.2).
 ghost use Rattle.std.specs.Prelude.{◌≡◌, ◌≤◌, Ok, IsTrue};
-ghost use Rattle.iol_octets.specs.CheckOctets.{type_bits};
 ghost use Rattle.iol_mseq.specs.Shape.{IsLayout, is_size, shape, startup_shape, preoperate_shape, operate_shape};
 
 use crate::fault::MseqFault;
@@ -20,27 +19,26 @@ pub struct Layout {
 }
 
 impl Model for Layout {
-    ghost use Rattle.iol_octets.specs.CheckOctets.{type_bits, type_of};
     ghost use Rattle.iol_mseq.specs.Shape.{Shape, IsLayout};
 
     ghost Value = { Shape };
 
     ghost view = { λ l. record {
-      kind = type_bits l.kind;
+      kind = l.kind;
       od = l.od;
       pd_in = l.pd_in;
       pd_out = l.pd_out;
     } };
 
     ghost invariant = { λ l. IsLayout (record {
-      kind = type_bits l.kind;
+      kind = l.kind;
       od = l.od;
       pd_in = l.pd_in;
       pd_out = l.pd_out;
     }) };
 
     ghost inverse = { λ s. record {
-      kind = type_of s.kind;
+      kind = s.kind;
       od = s.od;
       pd_in = s.pd_in;
       pd_out = s.pd_out;
@@ -126,7 +124,7 @@ impl Layout {
     ///
     /// Rule LAY-1.
     pub fn kind(&self) -> SequenceType
-        ensures value { type_bits result ≡ self.now.kind }
+        ensures value { result ≡ self.now.kind }
         ensures valid { IsLayout self.now }
     {
         self.kind

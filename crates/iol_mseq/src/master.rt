@@ -151,7 +151,11 @@ fn fault_of(layout: &Layout, octets: &[u8]) -> Option<MseqFault>
     if octets.len() < 2 {
         return Some(MseqFault::WrongLength);
     }
-    let od = if octets[0] < 128 { layout.od().get() } else { 0 };
+    let od = if octets[0] < 128 {
+        layout.od().get()
+    } else {
+        0
+    };
     if octets.len() != 2 + layout.pd_out() as usize + od as usize {
         return Some(MseqFault::WrongLength);
     }

@@ -1,5 +1,5 @@
 -- The octets that hold a checksum.
-use Rattle.std.specs.Prelude.{Bool, ℕ, ◌+◌, ◌*◌, zero, suc, if◌then◌else◌}
+use Rattle.std.specs.Prelude.{Bool, ℕ, ◌+◌, ◌*◌, if◌then◌else◌}
 use Rattle.iol_octets.specs.declared.check_octets.SequenceType.{SequenceType}
 use Rattle.iol_octets.specs.declared.check_octets.SequenceType.TheVariants.{Type0, Type1, Type2}
 use Rattle.iol_octets.specs.declared.check_octets.Ckt.{Ckt}
@@ -11,13 +11,6 @@ abbrev pub type_bits : SequenceType → ℕ
 type_bits Type0 = 0
 type_bits Type1 = 1
 type_bits Type2 = 2
-
--- the M-sequence type of two bits, which are not 3
--- OCT-3
-abbrev pub type_of : ℕ → SequenceType
-type_of zero = Type0
-type_of (suc zero) = Type1
-type_of (suc (suc n)) = Type2
 
 -- checksum / M-sequence type: bits 7 and 6 are the type, bits 5 to 0 the checksum
 -- OCT-3

@@ -1,5 +1,6 @@
 -- What the octets of a message are, by the layout.
 use Rattle.std.specs.Prelude.{ℕ, ◌+◌, Bool, not, ◌&&◌, ◌==◌, nat_lt, nat_le, if◌then◌else◌, List, [], ◌∷◌, length, slice_index, bytes_eq}
+use Rattle.iol_octets.specs.CheckOctets.{type_bits}
 use Rattle.iol_mseq.specs.Shape.{Shape}
 use Rattle.iol_mseq.specs.Master.{sent_od}
 use Rattle.iol_mseq.specs.Replies.{answered_od}
@@ -34,7 +35,7 @@ is_test_read octets = bytes_eq octets test_read
 -- MSG-3
 abbrev pub meaning_in : Shape → Requests → List ℕ → Meaning
 meaning_in layout requests octets =
-    if is_test_read octets && not (layout.kind == 0) then TestRead else
+    if is_test_read octets && not (type_bits layout.kind == 0) then TestRead else
     if nat_lt (length octets) (message_length layout octets) then Part else
     if is_test_read octets then elim requests [ Unshown ↦ ReadOrTest | Shown ↦ Whole ]
     else Whole

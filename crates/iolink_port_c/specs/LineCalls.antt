@@ -1,5 +1,6 @@
 -- What the calls of C on the line answer and leave, where the handle is open.
 use Rattle.std.specs.Prelude.{◌≡◌, ℕ, List, Option, IsTrue, is_some}
+use Rattle.iol_octets.specs.CheckOctets.{type_bits}
 use Rattle.iol_mseq.specs.Shape.{Shape}
 use Rattle.iol_link.specs.declared.wire.Rate.{Rate}
 use Rattle.iol_app.specs.declared.asked.Asked.{Asked}
@@ -14,7 +15,7 @@ use Rattle.iolink_port_c.specs.Calls.{parts_of}
 
 -- the layout of the mode as C is shown it
 abbrev pub IsLaidOut : Shape → IolMessage → Type 0
-IsLaidOut layout out = (out.kind ≡ layout.kind) × (out.od ≡ layout.od)
+IsLaidOut layout out = (out.kind ≡ type_bits layout.kind) × (out.od ≡ layout.od)
     × (out.pd_in ≡ layout.pd_in) × (out.pd_out ≡ layout.pd_out)
 
 -- what goes out as C is shown it: a message's octets, its layout and how many octets a good
