@@ -5,7 +5,7 @@ ghost use Rattle.iol_page.specs.Page.{layouts_of};
 
 use crate::check_word::CheckWord;
 use crate::fault::BenchFault;
-use iol_book::{Limits, QueueLimit};
+use iol_book::{BusyLimit, JournalLimit, Limits, QueueLimit};
 use iol_device::Device;
 use iol_image::Image;
 use iol_isdu::Place;
@@ -29,12 +29,14 @@ pub(crate) const PLACE: Place = Place { index: 16, sub: 0 };
 pub(crate) const ROOM: u32 = 10_000;
 
 /// What each port is opened with: a journal that holds the entries of as many requests.
-const LIMITS: Limits = Limits {
-    journal: 50_000,
-    busy: 100,
-    queue: QueueLimit::MOST,
-    given: 0,
-};
+fn limits() -> Limits {
+    Limits {
+        journal: JournalLimit::new(50_000).unwrap(),
+        busy: BusyLimit::new(100).unwrap(),
+        queue: QueueLimit::MOST,
+        given: 0,
+    }
+}
 
 /// How many turns a start-up takes.
 pub(crate) const STARTUP: u32 = 15;
@@ -51,7 +53,7 @@ pub(crate) fn opened(
     ensures { IfOk result (λ p. HasGiven p 0) }
 {
     let wire = wire_to(alloc, page, value, steps)?;
-    match Port::open(alloc, wire, &LIMITS) {
+    match Port::open(alloc, wire, &limits()) {
         Ok(port) => Ok(port),
         Err(_) => Err(BenchFault::OutOfMemory),
     }

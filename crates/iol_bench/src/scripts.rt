@@ -36,7 +36,7 @@ pub(crate) fn script(alloc: Global, count: u64) -> Result<CheckWord, BenchFault>
     for _ in 0..count {
         let script = Script::read(alloc, LINES)?;
         word.add(script.steps.len() as u64);
-        word.add(u64::from(script.limits.busy));
+        word.add(u64::from(script.limits.busy.replies()));
         word.add(u64::from(script.page.octet(3)));
     }
     Ok(word)

@@ -4,7 +4,8 @@ use Rattle.std.specs.Vec.{vec_capacity}
 use Rattle.std.specs.VecDeque.{deque_capacity}
 use Rattle.iol_book.specs.Replay.{Standing}
 use Rattle.iol_book.specs.Lines.{AreLines, standing_at}
-use Rattle.iol_book.specs.BookModel.{BookState, BookMemory, BookValue, IsReplayed, outstanding_count, entries_owed, request_entries, most_entries}
+use Rattle.iol_book.specs.BookModel.{BookState, BookMemory, BookValue, IsReplayed, outstanding_count, entries_owed}
+use Rattle.iol_book.specs.Limits.{request_entries, most_entries}
 use Rattle.iol_book.specs.Numbers.{IsNumbered}
 use Rattle.iol_book.specs.declared.book.Book.TheInside.{Inside}
 

@@ -6,13 +6,14 @@ use Rattle.indexmap.specs.IndexMap.{insert_entry}
 use Rattle.iol_isdu.specs.declared.values.Request.{Request}
 use Rattle.iol_isdu.specs.declared.values.Cause.TheVariants.{LinkLost, Restarted, BusyTooLong, Protocol, Cancelled}
 use Rattle.iol_book.specs.declared.entries.Ticket.{Ticket}
-use Rattle.iol_book.specs.declared.entries.Limits.{Limits}
+use Rattle.iol_book.specs.declared.limits.Limits.{Limits}
 use Rattle.iol_book.specs.declared.entries.Outcome.{Outcome}
 use Rattle.iol_book.specs.declared.entries.Outcome.TheVariants.{Done, Unknown, Withdrawn, NoIsdu}
 use Rattle.iol_book.specs.declared.entries.Entry.{Entry}
 use Rattle.iol_book.specs.declared.entries.Entry.TheVariants.{Submitted, Urgent, Taken, Answered, Withdrawn as WithdrawnEntry, Collected}
 use Rattle.iol_book.specs.declared.fault.BookFault.{BookFault}
 use Rattle.iol_book.specs.declared.fault.BookFault.TheVariants.{Full, JournalFull, TicketsSpent, OutOfMemory, UnknownTicket, NotYet, TakenAlready, NotInFlight}
+use Rattle.iol_book.specs.Limits.{request_entries}
 use Rattle.iol_book.specs.Replay.{Standing, nothing, step, replay, same_ticket, is_among}
 
 pub record BookState : Type 0 where
@@ -46,22 +47,6 @@ pub record BookValue : Type 0 where
 -- BOOK-9
 abbrev pub IsReplayed : BookState → Type 0
 IsReplayed book = book.standing ≡ replay book.journal
-
--- the most entries of one request: submitted, taken, answered and collected
--- BOOK-3
-abbrev pub request_entries : ℕ
-request_entries = 4
-
--- the most entries that a journal may ever have
--- BOOK-11
-abbrev pub most_entries : ℕ
-most_entries = 1000000
-
--- what a book may be opened with, beside how many tickets may be outstanding
--- BOOK-11
-abbrev pub AreLimits : Limits → Type 0
-AreLimits limits =
-    (request_entries ≤ limits.journal) × (limits.journal ≤ most_entries) × (2 ≤ limits.busy)
 
 -- an empty book
 -- BOOK-11

@@ -1,5 +1,5 @@
 pub mod Faults
-pub mod Queue
+pub mod Limits
 pub mod Replay
 pub mod BookModel
 pub mod Lines

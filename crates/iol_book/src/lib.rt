@@ -19,9 +19,9 @@
 mod book;
 mod entries;
 mod fault;
-mod queue_limit;
+mod limits;
 
 pub use book::Book;
-pub use entries::{Entry, Limits, Outcome, Ticket};
+pub use entries::{Entry, Outcome, Ticket};
 pub use fault::BookFault;
-pub use queue_limit::QueueLimit;
+pub use limits::{BusyLimit, JournalLimit, Limits, QueueLimit};

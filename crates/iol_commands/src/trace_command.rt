@@ -3,7 +3,6 @@ ghost use Rattle.std.specs.Prelude.{◌≡◌, ◌≢◌, ◌<◌, ◌≤◌, �
 ghost use Rattle.std.specs.Io.KnownBytes.{Appends, Keeps};
 ghost use Rattle.std.specs.Option.{ForSome};
 ghost use Rattle.std.specs.Vec.{vec_len};
-ghost use Rattle.iol_book.specs.BookModel.{AreLimits};
 ghost use Rattle.iol_page.specs.Page.{layouts_of};
 ghost use Rattle.iol_script.specs.Script.{calls_in, first_bad_run, value_of};
 ghost use Rattle.iol_script.specs.Text.{numbered_lines};
@@ -65,7 +64,6 @@ fn traced<A: Handle, W: Write>(
     requires page { IsOk (layouts_of script.page) }
     requires other { ForSome script.other (λ page. IsOk (layouts_of page)) }
     requires params { vec_len script.params ≤ 32 }
-    requires limits { AreLimits script.limits }
     requires given { script.limits.given ≡ 0 }
     requires calls { length (calls_in (numbered_lines input.now)) ≤ 1000000 }
     ensures printed { OnOk result

@@ -2,7 +2,7 @@
 use Rattle.std.proofs.Common.{◌∷◌, ◌++◌, [], List, ℕ, Bool, Option, refl, subst}
 use Rattle.iol_far.specs.Far.{Far}
 use Rattle.iol_link.specs.Honest.{HonestWake}
-use Rattle.iol_book.specs.declared.entries.Limits.{Limits}
+use Rattle.iol_book.specs.declared.limits.Limits.{Limits}
 use Rattle.iol_mode.specs.declared.configuration.Devices.{Devices}
 use Rattle.iol_port.specs.declared.call.Call.{Call}
 use Rattle.iol_port.specs.declared.call.Answered.{Answered}

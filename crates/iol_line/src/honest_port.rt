@@ -5,7 +5,7 @@ ghost use Rattle.iol_far.specs.Octets.{octets_in};
 ghost use Rattle.iol_far.specs.Far.{Far};
 ghost use Rattle.iol_link.specs.Honest.{HonestWake};
 ghost use Rattle.iol_book.specs.declared.fault.BookFault.TheVariants.{OutOfMemory};
-ghost use Rattle.iol_book.specs.BookModel.{AreLimits, IsReplayed};
+ghost use Rattle.iol_book.specs.BookModel.{IsReplayed};
 ghost use Rattle.iol_app.specs.Pieces.{IsAskedOut};
 ghost use Rattle.iol_port.specs.declared.fault.PortFault.TheVariants as fault;
 ghost use Rattle.iol_port.specs.declared.awaited.Awaited.{Awaited};
@@ -91,7 +91,6 @@ impl<A: Allocator + Copy> HonestPort<A> {
     /// `at` is a value that no code holds; what names it may speak of `near`.
     pub fn open<T>(alloc: A, limits: &Limits, near: &T) -> Result<HonestPort<A>, PortFault>
         ghost at: { Standing }
-        requires limits { AreLimits limits.now }
         ensures parts { IfOk result (λ p. IsNew limits.now p.parts) }
         ensures opens { IfOk result (λ p. CoreOpens limits.now p.parts) }
         ensures stands { IfOk result (λ p. p
@@ -115,7 +114,6 @@ impl<A: Allocator + Copy> HonestPort<A> {
         near: &T,
     ) -> Result<HonestPort<A>, PortFault>
         ghost at: { Standing }
-        requires limits { AreLimits limits.now }
         ensures parts { IfOk result (λ p. IsNewFor devices limits.now p.parts) }
         ensures opens { IfOk result (λ p. CoreOpensFor devices limits.now p.parts) }
         ensures stands { IfOk result (λ p. p

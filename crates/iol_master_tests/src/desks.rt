@@ -1,13 +1,12 @@
 //! Desks and memory of a master run out, why a submit is refused, and what one counts,
 //! urgent or not.
 ghost use Rattle.std.specs.Prelude.{◌≡◌, IfOk};
-ghost use Rattle.iol_book.specs.BookModel.{AreLimits};
 ghost use Rattle.iol_master.specs.Tickets.{HasGiven};
 ghost use Rattle.iol_master.specs.Ledgers.{IsBlankFor};
 
 use crate::calls::{cancels_as, check, gives, of_book, read, turns};
 use crate::opening::{alone, open_one};
-use iol_book::{BookFault, Limits, QueueLimit, Ticket};
+use iol_book::{BookFault, BusyLimit, JournalLimit, Limits, QueueLimit, Ticket};
 use iol_cell::Handle;
 use iol_link::{Rate, Wire};
 use iol_master::{Desk, Gate, Master, MasterFault, Settled, Tally};
@@ -50,15 +49,16 @@ impl Gate for Open {
 }
 
 /// What a port is opened with that has room for what is submitted here.
-const LIMITS: Limits = Limits {
-    journal: 1_000,
-    busy: 100,
-    queue: QueueLimit::MOST,
-    given: 7,
-};
+fn limits() -> Limits {
+    Limits {
+        journal: JournalLimit::new(1_000).unwrap(),
+        busy: BusyLimit::new(100).unwrap(),
+        queue: QueueLimit::MOST,
+        given: 7,
+    }
+}
 
 fn opened_port<A: Handle>(alloc: A, limits: &Limits) -> Result<Port<AnyWire<Nobody>, A>, Fail>
-    requires { AreLimits limits.now }
     ensures { IfOk result (λ p. HasGiven p 0) }
 {
     match Port::open(alloc, AnyWire(Nobody), limits) {
@@ -74,7 +74,6 @@ fn opened<L: Ledger, K: Ledger, A: Handle, R: Abort>(
     clients: Blank,
     tickets: Blank,
 ) -> Result<Unanswered<L, K, A>, Fail>
-    requires bounds { AreLimits limits.now }
     requires clients { IsBlankFor clients L.name L.parts 1025 }
     requires tickets { IsBlankFor tickets K.name K.parts 1 }
 {
@@ -145,7 +144,7 @@ fn run_out<L: Ledger, K: Ledger + Sync, R: Threads + Wait + Abort + Sync>(
     requires clients { IsBlankFor clients L.name L.parts 1025 }
     requires tickets { IsBlankFor tickets K.name K.parts 1 }
 {
-    let master = opened::<L, K, Global, R>(rt, alloc, &LIMITS, clients, tickets)?;
+    let master = opened::<L, K, Global, R>(rt, alloc, &limits(), clients, tickets)?;
     check(rt, counts_both(rt, &master) == Ok(true));
     check(rt, has_no_more(rt, &master) == Ok(true));
     check(rt, master.serve(rt, &Open, 1) == Ok(()));
@@ -310,7 +309,7 @@ fn submit_is_refused<L: Ledger, K: Ledger, R: Wait + Abort>(
     requires tickets { IsBlankFor tickets K.name K.parts 1 }
 {
     refusing.order(Refusal::Never);
-    let master = opened::<L, K, &RefusingAlloc, R>(rt, refusing, &LIMITS, clients, tickets)?;
+    let master = opened::<L, K, &RefusingAlloc, R>(rt, refusing, &limits(), clients, tickets)?;
     check(rt, submits_once(rt, refusing, &master, kind) == Ok(true));
     check(rt, master.close() == ONE);
     Ok(())
@@ -326,7 +325,7 @@ fn refused_memory_changes_nothing(rt: HostRuntime) -> Result<(), Fail> {
         (Refusal::Only(1), false),
     ] {
         refusing.order(Refusal::Never);
-        let port = opened_port(&refusing, &LIMITS)?;
+        let port = opened_port(&refusing, &limits())?;
         let comes = opens_as::<_, &RefusingAlloc, Brand, Brand>(
             &refusing,
             &refusing,
@@ -352,20 +351,18 @@ fn refused_memory_changes_nothing(rt: HostRuntime) -> Result<(), Fail> {
 /// The limits of a port, and how many submits it takes until the next one is refused for
 /// this and for all that comes behind it. A request that waits takes 4 entries of the
 /// journal, one now and three that are owed, and one more needs room for 4 besides.
-fn limits_for(fault: BookFault) -> (Limits, u32)
-    ensures { AreLimits result.0 }
-{
+fn limits_for(fault: BookFault) -> (Limits, u32) {
+    let usual = limits();
     let (journal, given, taken) = match fault {
-        BookFault::Full => (256, u64::MAX - 64, 64),
-        BookFault::JournalFull => (8, u64::MAX - 2, 2),
-        BookFault::TicketsSpent => (1_000, u64::MAX - 2, 2),
-        _ => (1_000, 7, 0),
+        BookFault::Full => (JournalLimit::new(256).unwrap(), u64::MAX - 64, 64),
+        BookFault::JournalFull => (JournalLimit::new(8).unwrap(), u64::MAX - 2, 2),
+        BookFault::TicketsSpent => (usual.journal, u64::MAX - 2, 2),
+        _ => (usual.journal, usual.given, 0),
     };
     let limits = Limits {
         journal,
-        busy: 100,
-        queue: QueueLimit::MOST,
         given,
+        ..usual
     };
     (limits, taken)
 }

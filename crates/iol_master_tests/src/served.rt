@@ -6,7 +6,7 @@ ghost use Rattle.iol_master.specs.Ledgers.{IsBlankFor};
 use crate::calls::{answer, check, read};
 use crate::desks::Open;
 use crate::lines::serve;
-use crate::opening::{LIMITS, open_one, open_port, wired};
+use crate::opening::{open_one, open_port, usual_limits, wired};
 use crate::seats::{is_empty, is_image, shown_port, shows};
 use crate::slow::{ALARM, INPUT, START_UP, VALUE};
 use iol_app::Mode;
@@ -400,7 +400,7 @@ fn line_is_served<W: Wire + Drop, K: Ledger, R: Wait + Abort>(
 ) -> Result<W, PortFault>
     requires { IsBlankFor hands K.name K.parts 1 }
 {
-    let core = PortCore::open(alloc, &LIMITS)?;
+    let core = PortCore::open(alloc, &usual_limits())?;
     let (line, mut worker) = Line::<K>::open(core, wire, hands);
     check(rt, line_through(rt, &line, &mut worker, wanted));
     Ok(worker.into_wire())

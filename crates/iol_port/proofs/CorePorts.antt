@@ -36,7 +36,7 @@ use Rattle.iol_port.specs.Run.{counting, PortState, Pending, PieceOf, Send, Rece
 use Rattle.iol_port.specs.declared.awaited.Awaited.TheVariants.{Nothing, Wake, Reply}
 use Rattle.iol_port.specs.Owners.{owners_through}
 use Rattle.iol_port.specs.View.{Parts, Choice, IsOut, IsTied, PendingAt, StandsFor, OpensWell, IsOpened, opening_for, Follows, Does, BeginsNext, TakesNext, state_of}
-use Rattle.iol_book.specs.declared.entries.Limits.{Limits}
+use Rattle.iol_book.specs.declared.limits.Limits.{Limits}
 use Rattle.iol_port.specs.CorePort.{IsNewFor, CoreOpensFor, bare, awaited, at_end, parts_over, CoreDoes, PieceDoes, SendDoes, ReceiveDoes, WakeDoes}
 use Rattle.iol_port.proofs.Filters.{book_through-filter, MayBookAll-filter, kept_through-filter, clash_free-deny, is_beside, may_book_said}
 use Rattle.iol_port.proofs.TurnLemmas.{First, Begun, Settles, ahead, images_ahead, under, begun, none_down, terms_of}

@@ -6,7 +6,7 @@ use Rattle.iol_isdu.specs.declared.values.Request.{Request}
 use Rattle.iol_isdu.specs.declared.values.Answer.{Answer}
 use Rattle.iol_isdu.specs.declared.values.Cause.{Cause}
 use Rattle.iol_far.specs.Far.{Far}
-use Rattle.iol_book.specs.declared.entries.Limits.{Limits}
+use Rattle.iol_book.specs.declared.limits.Limits.{Limits}
 use Rattle.iol_book.specs.declared.entries.Outcome.{Outcome}
 use Rattle.iol_book.specs.declared.entries.Outcome.TheVariants.{Done, Unknown}
 use Rattle.iol_book.specs.declared.entries.Ticket.{Ticket}

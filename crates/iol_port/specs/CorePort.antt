@@ -9,7 +9,7 @@ use Rattle.iol_mode.specs.States.{is_reset}
 use Rattle.iol_mode.specs.Exchanges.{text_out}
 use Rattle.iol_mode.specs.declared.configuration.Devices.{Devices}
 use Rattle.iol_mode.specs.declared.configuration.Devices.TheVariants.{Own}
-use Rattle.iol_book.specs.declared.entries.Limits.{Limits}
+use Rattle.iol_book.specs.declared.limits.Limits.{Limits}
 use Rattle.iol_steps.specs.declared.said.Said.{Said}
 use Rattle.iol_steps.specs.Step.{resets, book_said, reports_said}
 use Rattle.iol_app.specs.StationState.{StationState, IsSettledSaid}

@@ -3,7 +3,7 @@
 use Rattle.std.specs.Prelude.{◌≡◌, ℕ, false, List}
 use Rattle.iol_page.specs.Page.{knows_isdu}
 use Rattle.iol_far.specs.Far.{Far}
-use Rattle.iol_book.specs.declared.entries.Limits.{Limits}
+use Rattle.iol_book.specs.declared.limits.Limits.{Limits}
 use Rattle.iol_book.specs.declared.entries.Outcome.TheVariants.{NoIsdu}
 use Rattle.iol_book.specs.declared.entries.Ticket.{Ticket}
 use Rattle.iol_port.specs.declared.call.Call.TheVariants as call

@@ -5,7 +5,7 @@ ghost use Rattle.std.specs.Option.{option_copied};
 ghost use Rattle.std.specs.Result.{result_map_both};
 ghost use Rattle.iol_book.specs.declared.fault.BookFault.TheVariants.{OutOfMemory};
 ghost use Rattle.iol_book.specs.BookModel as book;
-ghost use Rattle.iol_book.specs.BookModel.{AreLimits, IsReplayed, submitted};
+ghost use Rattle.iol_book.specs.BookModel.{IsReplayed, submitted};
 ghost use Rattle.iol_port.specs.declared.fault.PortFault.TheVariants as fault;
 ghost use Rattle.iol_port.specs.declared.call.Call.TheVariants as call;
 ghost use Rattle.iol_port.specs.declared.call.Answered.TheVariants as answered;
@@ -85,7 +85,6 @@ impl<W: Wire, A: Handle> Port<W, A> {
     ///
     /// Refused by 24 where there is no memory for its book; the wire is handed back.
     pub fn open(alloc: A, wire: W, limits: &Limits) -> Result<Port<W, A>, (PortFault, W)>
-        requires limits { AreLimits limits.now }
         ensures opening { IfOk result (λ p. p.opening ≡ opening_of W.facts limits.now wire) }
         ensures parts { IfOk result (λ p. IsOpened p.opening p.parts) }
         ensures stands { IfOk result (λ p. OpensWell p.opening → StandsFor W.facts p.parts
@@ -108,7 +107,6 @@ impl<W: Wire, A: Handle> Port<W, A> {
         limits: &Limits,
         devices: Devices,
     ) -> Result<Port<W, A>, (PortFault, W)>
-        requires limits { AreLimits limits.now }
         ensures opening { IfOk result (λ p. p.opening
             ≡ opening_for W.facts devices limits.now wire) }
         ensures parts { IfOk result (λ p. IsOpened p.opening p.parts) }

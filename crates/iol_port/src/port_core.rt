@@ -5,7 +5,7 @@ ghost use Rattle.std.specs.Result.{result_map_both};
 ghost use Rattle.iol_far.specs.Octets.{octets_in};
 ghost use Rattle.iol_app.specs.Seen.{LinkStands, core_of};
 ghost use Rattle.iol_book.specs.declared.fault.BookFault.TheVariants.{OutOfMemory};
-ghost use Rattle.iol_book.specs.BookModel.{AreLimits, IsReplayed, submitted};
+ghost use Rattle.iol_book.specs.BookModel.{IsReplayed, submitted};
 ghost use Rattle.iol_app.specs.Asking.{IsCall};
 ghost use Rattle.iol_app.specs.Pieces.{IsAskedOut};
 ghost use Rattle.iol_port.specs.declared.fault.PortFault.TheVariants as fault;
@@ -100,7 +100,6 @@ impl<A: Allocator + Copy> PortCore<A> {
     /// A port for devices of our own kind, whose link is down, and whose first ticket is
     /// `given` + 1. Refused by 24 where there is no memory for its book.
     pub fn open(alloc: A, limits: &Limits) -> Result<PortCore<A>, PortFault>
-        requires limits { AreLimits limits.now }
         ensures parts { IfOk result (λ p. IsNew limits.now p) }
         ensures opens { IfOk result (λ p. CoreOpens limits.now p) }
         ensures refused { IfErr result (λ e. e ≡ fault.Book OutOfMemory) }
@@ -114,14 +113,13 @@ impl<A: Allocator + Copy> PortCore<A> {
     ///
     /// Rules LINK-13, REQ-14.
     pub fn open_for(alloc: A, limits: &Limits, devices: Devices) -> Result<PortCore<A>, PortFault>
-        requires limits { AreLimits limits.now }
         ensures parts { IfOk result (λ p. IsNewFor devices limits.now p) }
         ensures opens { IfOk result (λ p. CoreOpensFor devices limits.now p) }
         ensures refused { IfErr result (λ e. e ≡ fault.Book OutOfMemory) }
     {
         match Book::open(alloc, limits) {
             Ok(book) => Ok(PortCore {
-                core: Core::new(limits.busy, devices),
+                core: Core::new(limits.busy.replies(), devices),
                 book,
                 kept: ArrayVec::new(),
                 sent: false,

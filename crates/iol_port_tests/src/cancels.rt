@@ -1,6 +1,6 @@
 //! A request that is cancelled while there is no memory.
 use crate::device::{Parameter, device};
-use crate::limits::LIMITS;
+use crate::limits::usual_limits;
 use crate::ports::{Calls, read, turn};
 use iol_book::{BookFault, Outcome, Ticket};
 use iol_cell::Handle;
@@ -45,7 +45,7 @@ fn is_cancelled<P: Calls>(port: &mut P) -> bool {
 
 /// Whether a request is cancelled where all memory is refused from its turn on.
 fn takes_no_memory<W: Wire + Drop, A: Handle>(alloc: A, refusing: &RefusingAlloc, wire: W) -> bool {
-    let Ok(mut port) = Port::open(alloc, wire, &LIMITS) else {
+    let Ok(mut port) = Port::open(alloc, wire, &usual_limits()) else {
         return false;
     };
     let is_submitted = are_submitted(&mut port);

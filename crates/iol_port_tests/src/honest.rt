@@ -8,7 +8,7 @@ ghost use Rattle.iol_port.specs.CorePort.{awaited};
 ghost use Rattle.iol_line.specs.Honestly.{Exchanges};
 
 use crate::device::{PLACE, Parameter, octets_of, open_device};
-use crate::limits::LIMITS;
+use crate::limits::usual_limits;
 use iol_app::{Asked, Mode};
 use iol_book::{Outcome, Ticket};
 use iol_device::{App, Device};
@@ -36,7 +36,7 @@ enum Fate {
 fn port_to(alloc: Global, device: &Device<Parameter>) -> Result<HonestPort, PortFault>
     ensures { IfOk result (λ p. p.at.far ≡ device.now.far) }
 {
-    HonestPort::open(alloc, &LIMITS, device)
+    HonestPort::open(alloc, &usual_limits(), device)
 }
 
 /// The device works, and a wake-up request comes to it.

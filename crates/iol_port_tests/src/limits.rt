@@ -1,9 +1,11 @@
 //! The limits of each book here.
-use iol_book::{Limits, QueueLimit};
+use iol_book::{BusyLimit, JournalLimit, Limits, QueueLimit};
 
-pub const LIMITS: Limits = Limits {
-    journal: 1_000,
-    busy: 100,
-    queue: QueueLimit::MOST,
-    given: 0,
-};
+pub fn usual_limits() -> Limits {
+    Limits {
+        journal: JournalLimit::new(1_000).unwrap(),
+        busy: BusyLimit::new(100).unwrap(),
+        queue: QueueLimit::MOST,
+        given: 0,
+    }
+}

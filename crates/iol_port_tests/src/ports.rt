@@ -1,6 +1,6 @@
 //! Ports over the simulated wire.
 use crate::device::{Parameter, device, octets_of};
-use crate::limits::LIMITS;
+use crate::limits::usual_limits;
 use iol_book::{Limits, Outcome, Ticket};
 use iol_cell::{Handle, ImageSeat, ImageWriter, image_cell};
 use iol_device::App;
@@ -58,7 +58,14 @@ fn handed_back<W: Wire + Drop>(
     turns: u32,
     outcome: Outcome,
 ) -> Option<W> {
-    let Ok(mut port) = Port::open(alloc, wire, &Limits { given, ..LIMITS }) else {
+    let Ok(mut port) = Port::open(
+        alloc,
+        wire,
+        &Limits {
+            given,
+            ..usual_limits()
+        },
+    ) else {
         return None;
     };
     if !comes_to(&mut port, Ticket(given.saturating_add(1)), turns, outcome) {
@@ -211,7 +218,7 @@ fn publishes<W: Wire + Drop, R: Wait>(
     seat: &mut ImageSeat,
     alloc: Global,
 ) -> bool {
-    let Ok(mut port) = Port::open(alloc, wire, &LIMITS) else {
+    let Ok(mut port) = Port::open(alloc, wire, &usual_limits()) else {
         return false;
     };
     turn(&mut port, 15);

@@ -1,5 +1,5 @@
 //! The memory of a port that has one ticket at a time.
-use iol_book::{BookFault, Limits, Outcome, QueueLimit, Ticket};
+use iol_book::{BookFault, BusyLimit, JournalLimit, Limits, Outcome, QueueLimit, Ticket};
 use iol_cell::Handle;
 use iol_isdu::{Place, Request};
 use iol_port::{PortCore, PortFault};
@@ -44,8 +44,8 @@ fn one_ticket_at_a_time_fits_in_two_kilobytes(rt: HostRuntime) -> Result<(), Fai
     let heap = LocalHeap::new(rt.alloc(), HEAP)?;
     // The journal has room for one ticket, and has to be handed out after each.
     let limits = Limits {
-        journal: 4,
-        busy: 100,
+        journal: JournalLimit::new(4).unwrap(),
+        busy: BusyLimit::new(100).unwrap(),
         queue: QueueLimit::new(1).unwrap(),
         given: 0,
     };

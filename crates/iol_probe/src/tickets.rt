@@ -1,36 +1,46 @@
 //! What the lines of a book and of a port have alike: limits, tickets, and what is said of them.
-ghost use Rattle.iol_book.specs.BookModel.{AreLimits};
 
 use crate::printing::{print_answer, print_ok, print_refused, print_request};
 use crate::reading::Line;
-use iol_book::{Entry, Limits, Outcome, QueueLimit, Ticket};
+use iol_book::{BusyLimit, Entry, JournalLimit, Limits, Outcome, QueueLimit, Ticket};
 use iol_port::PortFault;
 use std::alloc::AllocError;
 
 /// The limits of a book: entries of the journal, busy replies, tickets given before, and then
 /// how many may be outstanding, 64 where no word says it.
-pub(crate) fn limits(line: &mut Line<'_>) -> Limits
-    ensures { AreLimits result }
-{
+pub(crate) fn limits(line: &mut Line<'_>) -> Limits {
     Limits {
-        journal: line.between(4, 1_000_000) as u32,
-        busy: line.between(2, 65_535) as u16,
+        journal: journal_limit(line),
+        busy: busy_limit(line),
         given: line.number(u64::MAX),
         queue: queue_limit(line),
     }
+}
+
+fn journal_limit(line: &mut Line<'_>) -> JournalLimit {
+    let entries = line.number(u64::from(u32::MAX)) as u32;
+    known(line, JournalLimit::new(entries), JournalLimit::MOST)
+}
+
+fn busy_limit(line: &mut Line<'_>) -> BusyLimit {
+    let replies = line.number(u64::from(u16::MAX)) as u16;
+    known(line, BusyLimit::new(replies), BusyLimit::MOST)
 }
 
 fn queue_limit(line: &mut Line<'_>) -> QueueLimit {
     if line.is_at_end() {
         return QueueLimit::MOST;
     }
-    match QueueLimit::new(line.small()) {
-        Some(limit) => limit,
-        None => {
-            line.refuse();
-            QueueLimit::MOST
-        }
+    let places = line.small();
+    known(line, QueueLimit::new(places), QueueLimit::MOST)
+}
+
+/// The limit that a word says. Where it is none the line is bad, and this one stands in its place.
+fn known<T: Copy>(line: &mut Line<'_>, said: Option<T>, other: T) -> T {
+    if said.is_none() {
+        line.refuse();
     }
+    said.unwrap_or(other)
 }
 
 pub(crate) fn ticket(line: &mut Line<'_>) -> Ticket {

@@ -1,7 +1,6 @@
 -- A draft: what its fields hold, and what a line makes of it.
 use Rattle.std.specs.Prelude.{◌≡◌, ◌≤◌, ℕ, Option, Some, None, Result, Err, IsOk, OnOk, length, option_map, option_and_then}
 use Rattle.std.specs.Option.{ForSome}
-use Rattle.iol_book.specs.BookModel.{AreLimits}
 use Rattle.iol_page.specs.Page.{layouts_of}
 use Rattle.iol_script.specs.Script.{Draft, script_after}
 use Rattle.iol_script.specs.declared.draft.Draft.TheInside.{Inside}
@@ -40,7 +39,6 @@ module _ {A : Type 0} where
     pub page : ForSome fields.page (λ octets. IsOk (layouts_of octets))
     pub other : ForSome fields.other (λ octets. IsOk (layouts_of octets))
     pub params : length fields.params.items ≤ 32
-    pub limits : ForSome fields.limits AreLimits
     pub given : ForSome fields.limits (λ limits. limits.given ≡ 0)
     pub steps : length fields.steps.items ≤ 1000000
     pub calls : fields.calls ≤ 1000000

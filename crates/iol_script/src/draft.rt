@@ -2,7 +2,6 @@
 ghost use Rattle.std.specs.Prelude.{◌≡◌, ◌++◌, ◌+◌, ◌≤◌, ℕ, Some, None, Ok, Err, OnOk, OnErr, IsOk, option_map, option_and_then, true, replicate};
 ghost use Rattle.std.specs.Option.{ForSome};
 ghost use Rattle.std.specs.Vec.{vec_len};
-ghost use Rattle.iol_book.specs.BookModel.{AreLimits};
 ghost use Rattle.iol_page.specs.Page.{layouts_of};
 ghost use Rattle.iol_script.specs.declared.fault.ScriptFault.TheVariants.{Line};
 ghost use Rattle.iol_script.specs.RunLines.{call_form, devices_form, kind_form, limits_form, one_call, page_line, page_octets, param_form, pulses_form, run_words, turns_form, wire_form};
@@ -17,7 +16,7 @@ use crate::parts::Words;
 use crate::script::Script;
 use crate::setting::{devices_of, kind_of, limits_of, page_of, param_of, pulses_of};
 use crate::wire_line::{WireLine, parse_wire};
-use iol_book::{Limits, QueueLimit};
+use iol_book::{BusyLimit, JournalLimit, Limits, QueueLimit};
 use iol_far::Kind;
 use iol_isdu::Place;
 use iol_mode::Devices;
@@ -37,14 +36,6 @@ const CALLS: usize = 1_000_000;
 
 /// The page of a device where no line gives one: no process data, and 8 octets of on-request data.
 const PAGE: [u8; 10] = [0x17, 0x2D, 0x11, 0x00, 0x00, 0x12, 0x34, 0x00, 0x01, 0x07];
-
-/// What a port is opened with where no line says it.
-const LIMITS: Limits = Limits {
-    journal: 1000,
-    busy: 100,
-    queue: QueueLimit::MOST,
-    given: 0,
-};
 
 /// A script, as far as its lines are read.
 #[derive(Drop)]
@@ -331,7 +322,6 @@ impl<A: Allocator> Draft<A> {
         ensures page { IsOk (layouts_of result.page) }
         ensures other { ForSome result.other (λ page. IsOk (layouts_of page)) }
         ensures params { vec_len result.params ≤ 32 }
-        ensures limits { AreLimits result.limits }
         ensures given { result.limits.given ≡ 0 }
         ensures steps { vec_len result.steps ≤ 1000000 }
         ensures calls { self.calls ≤ 1000000 }
@@ -343,9 +333,21 @@ impl<A: Allocator> Draft<A> {
             misses_pulses: self.misses_pulses,
             params: self.params,
             devices: self.devices.unwrap_or(Devices::Own),
-            limits: self.limits.unwrap_or(LIMITS),
+            limits: self.limits.unwrap_or(usual_limits()),
             steps: self.steps,
         }
+    }
+}
+
+/// What a port is opened with where no line says it.
+fn usual_limits() -> Limits
+    ensures { result ≡ record { journal = 1000; busy = 100; queue = 64; given = 0 } }
+{
+    Limits {
+        journal: JournalLimit::new(1_000).unwrap(),
+        busy: BusyLimit::new(100).unwrap(),
+        queue: QueueLimit::MOST,
+        given: 0,
     }
 }
 

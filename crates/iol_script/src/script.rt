@@ -2,7 +2,6 @@
 ghost use Rattle.std.specs.Prelude.{◌≡◌, ◌≤◌, ℕ, Some, None, Err, IfOk, OnOk, IsOk, IsSome, All, length};
 ghost use Rattle.std.specs.Option.{ForSome};
 ghost use Rattle.std.specs.Vec.{vec_len};
-ghost use Rattle.iol_book.specs.BookModel.{AreLimits};
 ghost use Rattle.iol_page.specs.Page.{layouts_of};
 ghost use Rattle.iol_script.specs.declared.fault.ScriptFault.TheVariants.{Line};
 ghost use Rattle.iol_script.specs.RunLines.{run_form};
@@ -63,7 +62,6 @@ impl<A: Allocator + Copy> Script<A> {
         ensures page { IfOk result (λ s. IsOk (layouts_of s.page)) }
         ensures other { IfOk result (λ s. ForSome s.other (λ page. IsOk (layouts_of page))) }
         ensures params { IfOk result (λ s. vec_len s.params ≤ 32) }
-        ensures limits { IfOk result (λ s. AreLimits s.limits) }
         ensures given { IfOk result (λ s. s.limits.given ≡ 0) }
         ensures steps { IfOk result (λ s. vec_len s.steps ≤ 1000000) }
         ensures calls { OnOk result (length (calls_in (numbered_lines input.now)) ≤ 1000000) }

@@ -1,6 +1,5 @@
 //! The lines of `run` that set something up.
 ghost use Rattle.std.specs.Prelude.{◌≡◌, IfSome, IsOk, option_map};
-ghost use Rattle.iol_book.specs.BookModel.{AreLimits};
 ghost use Rattle.iol_page.specs.Page.{layouts_of};
 ghost use Rattle.iol_script.specs.RunLines.{access_of, devices_form, devices_named, hands_over_of, kind_form, limits_form, page_octets, param_form, pulses_form, queue_form, recalls_of};
 ghost use Rattle.iol_script.specs.declared.setting.Setting.{Setting};
@@ -10,7 +9,7 @@ use crate::fields::{end_of, is, place_of, value_of};
 use crate::numerals::{decimal_number, parted_octets};
 use crate::parts::Words;
 use arrayvec::ArrayVec;
-use iol_book::{Limits, QueueLimit};
+use iol_book::{BusyLimit, JournalLimit, Limits, QueueLimit};
 use iol_far::{HandsOver, Kind, Recalls};
 use iol_isdu::{Octets, Place};
 use iol_mode::Devices;
@@ -32,11 +31,11 @@ pub enum Setting {
     Devices(Devices),
     /// What the port is opened with.
     Limits {
-        /// How many busy replies a request may have before it is cut off: 2 to 65,535.
-        busy: u16,
-        /// The most entries that the journal may have: 4 to 1,000,000.
-        journal: u32,
-        /// How many tickets may be outstanding: 1 to 64.
+        /// How many busy replies a request may have before it is cut off.
+        busy: BusyLimit,
+        /// The most entries that the journal may have.
+        journal: JournalLimit,
+        /// How many tickets may be outstanding.
         queue: QueueLimit,
     },
     /// One more parameter of the device.
@@ -142,11 +141,10 @@ fn devices_named(word: &[u8]) -> Option<Devices>
 pub(crate) fn limits_of(mut words: Words) -> Option<Limits>
     ensures form { option_map (λ limits. Setting.Limits limits.busy limits.journal limits.queue)
         result ≡ limits_form (words_left words.entry) }
-    ensures range { IfSome result AreLimits }
     ensures given { IfSome result (λ limits. limits.given ≡ 0) }
 {
-    let busy = decimal_number(words.next()?, 2, 65_535)? as u16;
-    let journal = decimal_number(words.next()?, 4, 1_000_000)? as u32;
+    let busy = BusyLimit::new(decimal_number(words.next()?, 2, 65_535)? as u16)?;
+    let journal = JournalLimit::new(decimal_number(words.next()?, 4, 1_000_000)? as u32)?;
     let queue = queue_of(words)?;
     Some(Limits {
         journal,

@@ -1,8 +1,7 @@
 -- What C opens a port with.
 use Rattle.std.specs.Prelude.{◌≡◌, ℕ, true, nat_eq, if◌then◌else◌, Option, Some, None, IfSome, IsSome, IsTrue, IsFalse}
-use Rattle.iol_book.specs.declared.entries.Limits.{Limits}
-use Rattle.iol_book.specs.BookModel.{AreLimits}
-use Rattle.iol_book.specs.Queue.{IsQueueLimit}
+use Rattle.iol_book.specs.declared.limits.Limits.{Limits}
+use Rattle.iol_book.specs.Limits.{IsBusyLimit, IsJournalLimit, IsQueueLimit}
 use Rattle.iol_mode.specs.declared.configuration.Devices.{Devices}
 use Rattle.iol_mode.specs.declared.configuration.Devices.TheVariants.{Own, Any}
 use Rattle.iol_port.specs.CorePort.{IsNewFor, CoreOpensFor}
@@ -18,7 +17,8 @@ limits_of journal busy queue given =
 -- each number is in its range
 -- BOOK-11
 abbrev pub AreInRange : Limits → Type 0
-AreInRange limits = AreLimits limits × IsQueueLimit limits.queue
+AreInRange limits =
+    IsJournalLimit limits.journal × IsBusyLimit limits.busy × IsQueueLimit limits.queue
 
 -- for which devices, by its number: 0 for those of our own kind, 1 for any
 abbrev pub devices_of : ℕ → Option Devices

@@ -1,22 +1,16 @@
 //! Opening and closing.
-ghost use Rattle.std.specs.Prelude.{◌≡◌, Some, false, IsTrue, IsFalse};
+ghost use Rattle.std.specs.Prelude.{◌≡◌, ◌↔◌, Some, false, IfSome, IsSome, IsTrue, IsFalse};
 ghost use Rattle.iol_mode.specs.declared.configuration.Devices.TheVariants.{Own};
 ghost use Rattle.iolink_port_c.specs.Calls.{IsRefused};
-ghost use Rattle.iolink_port_c.specs.Opening.{Opens, devices_of, limits_of};
+ghost use Rattle.iolink_port_c.specs.Opening.{AreInRange, Opens, devices_of, limits_of};
 
 use crate::held::{IolPort, Master};
 use core::mem::replace_with;
-use iol_book::{Limits, QueueLimit};
+use iol_book::{BusyLimit, JournalLimit, Limits, QueueLimit};
 use iol_mode::Devices;
 use iol_port::PortCore;
 use iolink_handle::{CLOSED, IS_OPEN, OUT_OF_MEMORY, OUT_OF_RANGE};
 use std::alloc::Global;
-
-const LEAST_JOURNAL: u32 = 4;
-
-const MOST_JOURNAL: u32 = 1000000;
-
-const LEAST_BUSY: u16 = 2;
 
 /// For devices of our own kind.
 const OWN: u8 = 0;
@@ -84,17 +78,8 @@ fn open_for(
     if handle.is_open {
         return IS_OPEN;
     }
-    if journal < LEAST_JOURNAL || journal > MOST_JOURNAL || busy < LEAST_BUSY {
+    let Some(limits) = limits_of(journal, busy, queue, given) else {
         return OUT_OF_RANGE;
-    }
-    let Some(queue) = QueueLimit::new(queue) else {
-        return OUT_OF_RANGE;
-    };
-    let limits = Limits {
-        journal,
-        busy,
-        queue,
-        given,
     };
     let port = match PortCore::open_for(alloc, &limits, devices) {
         Ok(port) => port,
@@ -112,6 +97,19 @@ fn open_for(
         }
         Err(_) => OUT_OF_MEMORY,
     }
+}
+
+/// The limits of these numbers, where each is in its range.
+fn limits_of(journal: u32, busy: u16, queue: u8, given: u64) -> Option<Limits>
+    ensures some { IsSome result ↔ AreInRange (limits_of journal busy queue given) }
+    ensures value { IfSome result (λ limits. limits ≡ limits_of journal busy queue given) }
+{
+    Some(Limits {
+        journal: JournalLimit::new(journal)?,
+        busy: BusyLimit::new(busy)?,
+        queue: QueueLimit::new(queue)?,
+        given,
+    })
 }
 
 /// For which devices, by its number.

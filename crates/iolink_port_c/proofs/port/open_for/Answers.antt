@@ -1,6 +1,6 @@
 -- The port that the handle holds is the one that was opened.
 use Rattle.std.proofs.Common.{ℕ, refl, sym, subst, ◌∙◌, rules}
-use Rattle.iol_book.specs.declared.entries.Limits.{Limits}
+use Rattle.iol_book.specs.declared.limits.Limits.{Limits}
 use Rattle.iol_port.specs.CorePort.{IsNewFor, CoreOpensFor}
 use Rattle.iolink_port_c.specs.Opening.{limits_of}
 use Rattle.iolink_port_c.specs.declared.held.Master.{Master}

@@ -1,0 +1,28 @@
+-- In which ranges a book is opened.
+use Rattle.std.specs.Prelude.{ℕ, ◌≤◌}
+
+-- the most entries of one request: submitted, taken, answered and collected
+-- BOOK-3
+abbrev pub request_entries : ℕ
+request_entries = 4
+
+-- the most entries that a journal may ever have
+-- BOOK-11
+abbrev pub most_entries : ℕ
+most_entries = 1000000
+
+-- the most entries of a book's journal: room for one request at least
+-- BOOK-11
+abbrev pub IsJournalLimit : ℕ → Type 0
+IsJournalLimit entries = (request_entries ≤ entries) × (entries ≤ most_entries)
+
+-- the busy reply at which a request is cut off: never the first
+-- BOOK-11
+abbrev pub IsBusyLimit : ℕ → Type 0
+IsBusyLimit replies = (2 ≤ replies) × (replies ≤ 65535)
+
+-- how many tickets may be outstanding: 1 to 64, so that each port takes requests, and its two
+-- queues are short
+-- BOOK-11
+abbrev pub IsQueueLimit : ℕ → Type 0
+IsQueueLimit places = (1 ≤ places) × (places ≤ 64)
