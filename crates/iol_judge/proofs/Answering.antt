@@ -1,7 +1,7 @@
 -- A state explains each reply of a device that it stands for, and what is known of an ISDU transfer
 -- holds once the reply was had.
 use Rattle.std.proofs.lemmas.Grind.{common_steps}
-use Rattle.std.proofs.Common.{◌≡◌, inl, inr, ℕ, zero, suc, ◌+◌, ◌-◌, ◌*◌, ◌%◌, ◌<◌, ◌≤◌, Bool, true, false, List, ◌∷◌, ◌++◌, length, take, drop, replicate, refl, sym, ◌∙◌, ap, arith, eqb-true, ⊎_elim, []}
+use Rattle.std.proofs.Common.{◌≡◌, inl, inr, ℕ, zero, suc, ◌+◌, ◌-◌, ◌*◌, ◌<◌, ◌≤◌, Bool, true, false, List, ◌∷◌, ◌++◌, length, take, drop, replicate, refl, sym, ◌∙◌, ap, arith, eqb-true, ⊎_elim, []}
 use Rattle.std.proofs.Math.Nat.{add-mul}
 use Rattle.std.proofs.lemmas.Bool.{and_parts, cases_lt, cond_both, leb-false, ltb-true, leb-true}
 use Rattle.std.specs.Prelude.{Option, Some, None, Result, Ok, Err, is_some, not, IfSome, ◌&&◌, ◌||◌, ◌==◌, nat_lt, nat_le, IsTrue, if◌then◌else◌, unwrap_or, slice_index}
@@ -16,7 +16,7 @@ use Rattle.iol_segment.specs.Cut.{segment}
 use Rattle.iol_segment.specs.TextLaws.{joined, HoldsLength}
 use Rattle.iol_far.specs.declared.kind.Kind.{Kind}
 use Rattle.iol_far.specs.declared.kind.HandsOver.{HandsOver}
-use Rattle.iol_far.specs.Isdu.{IsduState, Empty, Receiving, Whole, Handed, Answered, answer_text, fits, isdu_read, isdu_data}
+use Rattle.iol_far.specs.Isdu.{IsduState, Empty, Handed, Answered, answer_text, fits, isdu_read, isdu_data}
 use Rattle.iol_far.specs.Far.{Far, isdu_after, layout_of, worked, reply_to, data_of, page_octet}
 use Rattle.iol_far.specs.Codec.{message_in, octets_of}
 use Rattle.iol_mseq.specs.declared.master.MasterMsg.{MasterMsg}

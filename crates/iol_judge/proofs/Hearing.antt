@@ -1,7 +1,7 @@
 -- What a state makes of octets is what the device makes of them that it stands for.
 use Rattle.std.proofs.lemmas.Grind.{common_steps}
 use Rattle.std.proofs.Common.{arith, ◌≡◌, ℕ, Bool, true, false, List, [], ◌∷◌, refl, sym, ◌∙◌, ap, subst, ◌⊎◌, inl, inr, ◌++◌, map}
-use Rattle.std.specs.Prelude.{Option, Some, None, IfSome, Result, Ok, Err, slice_index, if◌then◌else◌, ◌==◌, bytes_eq}
+use Rattle.std.specs.Prelude.{Option, Some, None, IfSome, Result, Ok, Err, slice_index, if◌then◌else◌, bytes_eq}
 use Rattle.iol_mseq.specs.Shape.{Shape}
 use Rattle.iol_page.specs.Page.{layouts_of, knows_isdu, IsAskedBy, PagesAskForLayouts}
 use Rattle.iol_page.specs.declared.page.Layouts.{Layouts}

@@ -1,5 +1,5 @@
 //! What is known of a device's events.
-ghost use Rattle.std.specs.Prelude.{◌≡◌, ◌≤◌};
+ghost use Rattle.std.specs.Prelude.{◌≡◌};
 ghost use Rattle.iol_judge.specs.Events.{covers_events, events_fault, events_told, first_places, flag_fault, flag_told, places_of, shown_after};
 
 use crate::reason::Reason;
@@ -129,7 +129,7 @@ impl Shown {
 }
 
 impl Places {
-    ghost use Rattle.iol_judge.specs.Events.{covers_places, fills, marked, marks_told, no_places, octet_told, place_known, places_fault, places_told, status_fault};
+    ghost use Rattle.iol_judge.specs.Events.{covers_places, fills, marked, marks_told, no_places, place_known, places_fault, places_told, status_fault};
 
     /// No place is filled.
     fn none() -> Places
@@ -191,23 +191,30 @@ impl Places {
     ///
     /// Rules EVT-2, EVT-4.
     fn fills(&self, address: u8, octet: u8) -> bool
-        requires { 1 ≤ address }
         ensures { result ≡ fills self.now address octet }
     {
-        let filled = octet == 0 || (address - 1) / 3 < self.most;
+        let filled = octet == 0 || address.saturating_sub(1) / 3 < self.most;
         match self.octet(address) {
             Some(known) => filled && known == octet,
             None => filled,
         }
     }
 
-    /// Once a diagnosis address was read as this octet.
+    /// Once a diagnosis address was read as this octet: one of a place that isn't 0 stands in a
+    /// filled place.
     fn told(&self, address: u8, octet: u8) -> Places
         ensures { result ≡ places_told self.now address octet }
     {
         match address {
             0x00 => self.marks_told(marked(octet)),
-            0x01..=0x12 => self.octet_told(address, octet),
+            0x01..=0x12 => {
+                let mut places = *self;
+                places.octets[address as usize - 1] = Some(octet);
+                if octet != 0 {
+                    places.least = self.least.max((address - 1) / 3 + 1);
+                }
+                places
+            }
             _ => *self,
         }
     }
@@ -224,20 +231,6 @@ impl Places {
             },
             None => *self,
         }
-    }
-
-    /// Once an address of a place was read as this octet: one that isn't 0 stands in a filled one.
-    fn octet_told(&self, address: u8, octet: u8) -> Places
-        requires above { 1 ≤ address }
-        requires below { address ≤ 18 }
-        ensures { result ≡ octet_told self.now address octet }
-    {
-        let mut places = *self;
-        places.octets[address as usize - 1] = Some(octet);
-        if octet != 0 {
-            places.least = self.least.max((address - 1) / 3 + 1);
-        }
-        places
     }
 }
 

@@ -1,5 +1,5 @@
 //! What is known of an answer, once a segment was sent.
-ghost use Rattle.std.specs.Prelude.{◌≡◌, ◌⊎◌, ◌<◌, ◌≤◌, ◌++◌, length, true, ◌&&◌, ◌==◌, nat_lt};
+ghost use Rattle.std.specs.Prelude.{◌≡◌, ◌⊎◌, ◌<◌, ◌≤◌, ◌++◌, true, ◌&&◌, ◌==◌, nat_lt};
 ghost use Rattle.std.specs.Option.{option_eq};
 ghost use Rattle.iol_isdu.specs.Frame.{total_at};
 ghost use Rattle.iol_segment.specs.Join.{stage};
@@ -14,6 +14,7 @@ use crate::reason::Reason;
 use crate::transfer::{LONGEST_TO_READ, LONGEST_TO_WRITE, SHORTEST};
 use arrayvec::ArrayVec;
 use iol_isdu::{IsduFault, total_of};
+use iol_mseq::ReplyView;
 use iol_octets::segment_number;
 
 /// The most octets that are kept of an answer: the longest text, and a segment.
@@ -38,13 +39,12 @@ pub(crate) struct Ahead {
 
 impl Ahead {
     /// One segment.
-    fn one(at: u16, od: &[u8]) -> Ahead
-        requires { length od.now ≤ 32 }
-        ensures { result ≡ one_ahead at od.now }
+    fn one(at: u16, reply: &ReplyView<'_>) -> Ahead
+        ensures { result ≡ one_ahead at reply.now.od.items }
     {
         Ahead {
             at,
-            octets: ArrayVec::try_from(od).unwrap(),
+            octets: ArrayVec::try_from(reply.od()).unwrap(),
         }
     }
 
@@ -60,14 +60,14 @@ impl Ahead {
     }
 
     /// With the segment at a place that isn't in them: right behind them, or alone.
-    fn with(self, at: u16, od: &[u8]) -> Ahead
-        requires { length od.now ≤ 32 }
-        ensures { result ≡ ahead_with self at od.now }
+    fn with(self, at: u16, reply: &ReplyView<'_>) -> Ahead
+        ensures { result ≡ ahead_with self at reply.now.od.items }
     {
+        let od = reply.od();
         let mut ahead = self;
         let length = ahead.octets.len();
         if ahead.at as usize + length != at as usize || length + od.len() > MOST_AHEAD {
-            return Ahead::one(at, od);
+            return Ahead::one(at, reply);
         }
         ahead.octets.try_extend_from_slice(od).unwrap();
         ahead
@@ -116,13 +116,12 @@ pub(crate) struct Had {
 
 impl Had {
     /// The first segment was had.
-    pub fn first(read: bool, od: &[u8]) -> Had
-        requires { length od.now ≤ 32 }
-        ensures { result ≡ first_had read od.now }
+    pub fn first(read: bool, reply: &ReplyView<'_>) -> Had
+        ensures { result ≡ first_had read reply.now.od.items }
     {
         Had {
             read,
-            text: Octets::try_from(od).unwrap(),
+            text: Octets::try_from(reply.od()).unwrap(),
             at: 0,
             count: 0,
             ahead: None,
@@ -271,13 +270,13 @@ impl Had {
         }
     }
 
-    /// Why the segment can't have these octets, none where it can.
+    /// Why the segment can't have the octets of this reply, none where it can.
     ///
     /// Rules DEV-13, ISDU-11.
-    pub fn fault(&self, od: &[u8]) -> Option<Reason>
-        requires { length od.now ≤ 32 }
-        ensures { result ≡ segment_fault self.now od.now }
+    pub fn fault(&self, reply: &ReplyView<'_>) -> Option<Reason>
+        ensures { result ≡ segment_fault self.now reply.now.od.items }
     {
+        let od = reply.od();
         if self.at == 0 && is_busy(od) {
             return Some(Reason::BusyAgain);
         }
@@ -285,7 +284,7 @@ impl Had {
         if at < self.text.len() {
             same_fault(&self.text[at..], od)
         } else {
-            self.ahead_fault(od).or(self.next_fault(od))
+            self.ahead_fault(od).or(self.next_fault(reply))
         }
     }
 
@@ -307,40 +306,38 @@ impl Had {
     /// Why it can't, behind those that were had from the first on.
     ///
     /// Rules SEG-1, SEG-5.
-    fn next_fault(&self, od: &[u8]) -> Option<Reason>
-        requires { length od.now ≤ 32 }
-        ensures { result ≡ next_fault self.now od.now }
+    fn next_fault(&self, reply: &ReplyView<'_>) -> Option<Reason>
+        ensures { result ≡ next_fault self.now reply.now.od.items }
     {
         if self.at as usize == self.text.len() {
-            return text_fault(self.read, &self.joined(od));
+            return text_fault(self.read, &self.joined(reply));
         }
         match total_of(&self.text) {
-            Ok(total) => padding_fault(total, self.at, od),
+            Ok(total) => padding_fault(total, self.at, reply.od()),
             Err(_) => None,
         }
     }
 
-    /// The octets that were had, and these.
-    fn joined(&self, od: &[u8]) -> ArrayVec<u8, MOST_JOINED>
-        requires { length od.now ≤ 32 }
-        ensures { result.items ≡ self.now.text.items ++ od.now }
+    /// The octets that were had, and those of this reply.
+    fn joined(&self, reply: &ReplyView<'_>) -> ArrayVec<u8, MOST_JOINED>
+        ensures { result.items ≡ self.now.text.items ++ reply.now.od.items }
     {
         let mut joined = ArrayVec::new();
         joined.try_extend_from_slice(&self.text).unwrap();
-        joined.try_extend_from_slice(od).unwrap();
+        joined.try_extend_from_slice(reply.od()).unwrap();
         joined
     }
 
-    /// Once it had these octets.
-    pub fn with(self, od: &[u8]) -> Had
-        requires { length od.now ≤ 32 }
-        ensures { result ≡ had_with self od.now }
+    /// Once it had the octets of this reply.
+    pub fn with(self, reply: &ReplyView<'_>) -> Had
+        ensures { result ≡ had_with self reply.now.od.items }
     {
+        let od = reply.od();
         let mut had = self;
         let length = had.text.len();
         let at = had.at;
         if at as usize > length {
-            had.ahead = Some(ahead_told(had.ahead, at, od));
+            had.ahead = Some(ahead_told(had.ahead, at, reply));
         } else if at as usize == length && length + od.len() <= MOST_HAD {
             had.text.try_extend_from_slice(od).unwrap();
         }
@@ -348,15 +345,14 @@ impl Had {
     }
 }
 
-/// Once the segment at a place behind one that wasn't had had these octets.
-fn ahead_told(ahead: Option<Ahead>, at: u16, od: &[u8]) -> Ahead
-    requires { length od.now ≤ 32 }
-    ensures { result ≡ ahead_told ahead at od.now }
+/// Once the segment at a place behind one that wasn't had had the octets of this reply.
+fn ahead_told(ahead: Option<Ahead>, at: u16, reply: &ReplyView<'_>) -> Ahead
+    ensures { result ≡ ahead_told ahead at reply.now.od.items }
 {
     match ahead {
         Some(ahead) if ahead.place(at).is_some() => ahead,
-        Some(ahead) => ahead.with(at, od),
-        None => Ahead::one(at, od),
+        Some(ahead) => ahead.with(at, reply),
+        None => Ahead::one(at, reply),
     }
 }
 
@@ -377,7 +373,6 @@ fn same_fault(octets: &[u8], od: &[u8]) -> Option<Reason>
 ///
 /// Rule SEG-1.
 fn padding_fault(total: usize, at: u16, od: &[u8]) -> Option<Reason>
-    requires { length od.now ≤ 32 }
     ensures { result ≡ padding_fault total at od.now }
 {
     let at = at as usize;

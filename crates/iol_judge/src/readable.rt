@@ -1,5 +1,5 @@
 //! Which replies can be read.
-ghost use Rattle.std.specs.Prelude.{◌≡◌, nat_lt, ◌-◌, ◌≤◌, length, slice_index};
+ghost use Rattle.std.specs.Prelude.{◌≡◌, nat_lt, ◌-◌, length, slice_index};
 ghost use Rattle.iol_judge.specs.Replies.{is_read_with, is_readable};
 
 use crate::octets::first_octet;
@@ -20,14 +20,13 @@ pub(crate) fn is_readable(sent: &[u8], reply: &[u8]) -> bool
 
 /// Whether a reply can be read in the layout of this code, which has so many octets of on-request
 /// data: the lengths of both say how many octets of process data there are.
-fn is_read_with(code: u8, size: usize, sent: &[u8], reply: &[u8]) -> bool
-    requires { size ≤ 32 }
+fn is_read_with(code: u8, size: u8, sent: &[u8], reply: &[u8]) -> bool
     ensures { result ≡ is_read_with code size sent.now reply.now }
 {
     let read = first_octet(sent) >= 128;
     let (written, answered) = if read { (0, size) } else { (size, 0) };
-    let pd_out = sent.len().saturating_sub(2 + written).min(255) as u8;
-    let pd_in = reply.len().saturating_sub(1 + answered).min(255) as u8;
+    let pd_out = sent.len().saturating_sub(2 + written as usize).min(255) as u8;
+    let pd_in = reply.len().saturating_sub(1 + answered as usize).min(255) as u8;
     match Layout::operate(code, pd_in, pd_out) {
         Ok(layout) => is_read_in(&layout, sent, reply),
         Err(_) => false,

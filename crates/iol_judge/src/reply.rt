@@ -76,7 +76,7 @@ fn learned(kept: Kept, mc: Mc, reply: &ReplyView<'_>) -> Kept
     match mc.channel {
         Channel::Page if mc.read && mc.address == 1 => kept.cycle = kept.cycle.or(Some(octet)),
         Channel::Diagnosis if mc.read => kept.events = kept.events.told(mc.address, octet),
-        Channel::Isdu if mc.read => kept.transfer = kept.transfer.told(reply.od()),
+        Channel::Isdu if mc.read => kept.transfer = kept.transfer.told(reply),
         _ => {}
     }
     kept
@@ -124,7 +124,7 @@ fn data_fault(seen: &Seen, kept: &Kept, mc: Mc, reply: &ReplyView<'_>) -> Option
             let events = kept.events.flag_told(reply.event());
             events.fault(mc.address, first_octet(reply.od()))
         }
-        Channel::Isdu => kept.transfer.fault(reply.od()),
+        Channel::Isdu => kept.transfer.fault(reply),
     }
 }
 

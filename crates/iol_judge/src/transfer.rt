@@ -1,5 +1,5 @@
 //! What is known of an ISDU transfer.
-ghost use Rattle.std.specs.Prelude.{◌≡◌, ◌≤◌, ◌++◌, None, Some, length};
+ghost use Rattle.std.specs.Prelude.{◌≡◌, ◌++◌, None, Some};
 ghost use Rattle.iol_isdu.specs.Parse.{request_of};
 ghost use Rattle.iol_segment.specs.Join.{next_count};
 ghost use Rattle.iol_far.specs.Codec.{flow_of};
@@ -11,7 +11,7 @@ use crate::octets::are_zeros;
 use crate::reason::Reason;
 use iol_far::{HandsOver, Kind, Recalls};
 use iol_isdu::{IsduFault, Request, Text, read_request, total_of};
-use iol_mseq::MasterView;
+use iol_mseq::{MasterView, ReplyView};
 use iol_octets::{Channel, Mc, segment_number};
 
 /// The address of START on the ISDU channel. Below it are those of COUNT.
@@ -134,7 +134,7 @@ impl Transfer {
             return self;
         }
         match isdu {
-            Some(true) => self.moved(kind, size, message.mc(), message.od()),
+            Some(true) => self.moved(kind, size, message),
             Some(false) => Transfer::Quiet,
             None => self.perhaps(message.mc()),
         }
@@ -156,29 +156,29 @@ impl Transfer {
     ///
     /// Rules DEV-11 to DEV-14, DEV-20.
     #[tactic(auto, unfolding(iol_far::specs::Codec::flow_of))]
-    fn moved(self, kind: Kind, size: u8, mc: Mc, octets: &[u8]) -> Transfer
-        requires { length octets.now ≤ 32 }
-        ensures { result ≡ transfer_on kind size self mc.read (flow_of mc.address) octets.now }
+    fn moved(self, kind: Kind, size: u8, message: &MasterView<'_>) -> Transfer
+        ensures { result ≡ transfer_on kind size self message.now.mc.read
+            (flow_of message.now.mc.address) message.now.od.items }
     {
+        let mc = message.mc();
         if mc.address > START {
             Transfer::Quiet
         } else if mc.address == START {
             if mc.read {
                 self.start_read(kind, size)
             } else {
-                received(octets, None)
+                received(message.od(), None)
             }
         } else if mc.read {
             self.count_read(kind.recalls, size, mc.address)
         } else {
-            self.count_written(kind.hands_over, mc.address, octets)
+            self.count_written(kind.hands_over, mc.address, message)
         }
     }
 
     /// Rules DEV-11, DEV-14, DEV-20.
-    fn count_written(self, hands_over: HandsOver, count: u8, octets: &[u8]) -> Transfer
-        requires { length octets.now ≤ 32 }
-        ensures { result ≡ count_written hands_over self count octets.now }
+    fn count_written(self, hands_over: HandsOver, count: u8, message: &MasterView<'_>) -> Transfer
+        ensures { result ≡ count_written hands_over self count message.now.od.items }
     {
         let by_segment = hands_over == HandsOver::LastSegment;
         match self {
@@ -186,7 +186,7 @@ impl Transfer {
                 if last == Some(count) {
                     Transfer::Receiving(text, last)
                 } else if count == next_count(last) {
-                    received_more(&text, octets, count)
+                    received_more(&text, message, count)
                 } else {
                     Transfer::Quiet
                 }
@@ -247,13 +247,13 @@ impl Transfer {
         matches!(self, Transfer::Quiet)
     }
 
-    /// Why a read of the ISDU channel can't bring these octets, none where it can.
+    /// Why a read of the ISDU channel can't bring this reply, none where it can.
     ///
     /// Rules DEV-12 to DEV-14, ISDU-9, ISDU-11.
-    pub fn fault(&self, od: &[u8]) -> Option<Reason>
-        requires { length od.now ≤ 32 }
-        ensures { result ≡ isdu_fault self.now od.now }
+    pub fn fault(&self, reply: &ReplyView<'_>) -> Option<Reason>
+        ensures { result ≡ isdu_fault self.now reply.now.od.items }
     {
+        let od = reply.od();
         match self {
             Transfer::Handed(..) if is_busy(od) => None,
             Transfer::Handed(..) => Some(Reason::NotBusy),
@@ -261,26 +261,25 @@ impl Transfer {
             Transfer::Asked(read, _) => text_fault(*read, od),
             // A read leaves no text whole.
             Transfer::Free | Transfer::Whole(..) => None,
-            Transfer::Answered(had) => had.fault(od),
+            Transfer::Answered(had) => had.fault(reply),
             Transfer::Perhaps(_) if are_zeros(od) => None,
-            Transfer::Perhaps(had) => had.fault(od),
+            Transfer::Perhaps(had) => had.fault(reply),
             _ if are_zeros(od) => None,
             _ => Some(Reason::NoAnswerDue),
         }
     }
 
-    /// Once a read of the ISDU channel brought these octets.
+    /// Once a read of the ISDU channel brought this reply.
     ///
     /// Rules DEV-12, DEV-13.
-    pub fn told(self, od: &[u8]) -> Transfer
-        requires { length od.now ≤ 32 }
-        ensures { result ≡ told_by self od.now }
+    pub fn told(self, reply: &ReplyView<'_>) -> Transfer
+        ensures { result ≡ told_by self reply.now.od.items }
     {
         match self {
-            Transfer::Asked(read, last) if is_busy(od) => Transfer::Handed(read, last),
-            Transfer::Asked(read, _) => Transfer::Answered(Had::first(read, od)),
-            Transfer::Answered(had) => Transfer::Answered(had.with(od)),
-            Transfer::Perhaps(had) => perhaps_told(had, od),
+            Transfer::Asked(read, last) if is_busy(reply.od()) => Transfer::Handed(read, last),
+            Transfer::Asked(read, _) => Transfer::Answered(Had::first(read, reply)),
+            Transfer::Answered(had) => Transfer::Answered(had.with(reply)),
+            Transfer::Perhaps(had) => perhaps_told(had, reply),
             other => other,
         }
     }
@@ -367,16 +366,15 @@ fn first_again(recalls: Recalls, size: u8, had: Had) -> Transfer
     sent_again(recalls, size, had, 0, 0)
 }
 
-/// Octets of an answer's segment were had, or zeros, since there are no more.
-fn perhaps_told(had: Had, od: &[u8]) -> Transfer
-    requires { length od.now ≤ 32 }
-    ensures { result ≡ perhaps_told had od.now }
+/// A reply had octets of an answer's segment, or zeros, since there are no more.
+fn perhaps_told(had: Had, reply: &ReplyView<'_>) -> Transfer
+    ensures { result ≡ perhaps_told had reply.now.od.items }
 {
-    if !are_zeros(od) {
-        return Transfer::Answered(had.with(od));
+    if !are_zeros(reply.od()) {
+        return Transfer::Answered(had.with(reply));
     }
-    match had.fault(od) {
-        None => Transfer::Perhaps(had.with(od)),
+    match had.fault(reply) {
+        None => Transfer::Perhaps(had.with(reply)),
         Some(_) => Transfer::Quiet,
     }
 }
@@ -393,14 +391,13 @@ pub fn next_count(last: Option<u8>) -> u8
     }
 }
 
-/// Octets behind those of a text.
-fn received_more(text: &Text, octets: &[u8], count: u8) -> Transfer
-    requires { length octets.now ≤ 32 }
-    ensures { result ≡ received (text.now.items ++ octets.now) (Some count) }
+/// The octets of a message behind those of a text.
+fn received_more(text: &Text, message: &MasterView<'_>, count: u8) -> Transfer
+    ensures { result ≡ received (text.now.items ++ message.now.od.items) (Some count) }
 {
     let mut joined: Octets = Octets::new();
     joined.try_extend_from_slice(text).unwrap();
-    joined.try_extend_from_slice(octets).unwrap();
+    joined.try_extend_from_slice(message.od()).unwrap();
     received(&joined, Some(count))
 }
 

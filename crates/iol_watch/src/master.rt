@@ -141,7 +141,7 @@ impl Master {
             Phase::Down | Phase::Startup => self.send_in_startup(&message),
             Phase::Preoperate(layouts) => self.send_on(&layouts, &message),
             Phase::Operate(layouts) => {
-                self.output.carry(command_in(&message), message.out())?;
+                self.output.carry(&message)?;
                 self.send_on(&layouts, &message)
             }
         }
@@ -170,7 +170,7 @@ impl Master {
             Channel::Diagnosis => Err(MasterFault::NotDue),
             Channel::Isdu => {
                 let transfer = replace(&mut self.transfer, Transfer::Quiet);
-                self.transfer = transfer.moved(layouts.isdu, mc, message.od())?;
+                self.transfer = transfer.moved(layouts.isdu, message)?;
                 Ok(())
             }
         }
@@ -292,7 +292,7 @@ impl Master {
             Channel::Diagnosis => self.events.go_on(mc.read, first(reply.od())),
             Channel::Isdu if mc.read => {
                 let transfer = replace(&mut self.transfer, Transfer::Quiet);
-                self.transfer = transfer.told(reply.od());
+                self.transfer = transfer.told(reply);
             }
             Channel::Isdu => {}
         }

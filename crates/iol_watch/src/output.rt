@@ -1,11 +1,12 @@
 //! The process data out of a master.
-ghost use Rattle.std.specs.Prelude.{◌≡◌, ◌≤◌, length};
+ghost use Rattle.std.specs.Prelude.{◌≡◌};
+ghost use Rattle.iol_far.specs.Far.{command_in};
 ghost use Rattle.iol_watch.specs.Outputs.{aged, allows_octets, carried, no_output, woken_output};
 ghost use Rattle.iol_watch.specs.Results.{result_with};
 
 use crate::fault::MasterFault;
-use iol_judge::are_zeros;
-use iol_mseq::{Part, part_of};
+use iol_judge::{are_zeros, command_in};
+use iol_mseq::{MasterView, Part, part_of};
 use iol_page::MasterCommand;
 
 /// What the messages before carried as process data out.
@@ -76,19 +77,15 @@ impl Output {
         }
     }
 
-    /// Once a new message of OPERATE carries these octets, which may be a command. Refusal 5
-    /// OutputOctets.
+    /// Once a new message of OPERATE is sent, which may be a command. Refusal 5 OutputOctets.
     ///
     /// Rules PD-4, PD-5.
-    pub fn carry(
-        &mut self,
-        command: Option<MasterCommand>,
-        octets: &[u8],
-    ) -> Result<(), MasterFault>
-        requires { length octets.now ≤ 32 }
-        ensures { result_with result self.new ≡ carried self.old command octets.now }
+    pub fn carry(&mut self, message: &MasterView<'_>) -> Result<(), MasterFault>
+        ensures { result_with result self.new
+            ≡ carried self.old (command_in message.now) message.now.out.items }
     {
-        let valid = match command {
+        let octets = message.out();
+        let valid = match command_in(message) {
             Some(MasterCommand::ProcessDataOutputOperate) => true,
             Some(MasterCommand::DeviceOperate) => false,
             _ => self.valid,

@@ -8,7 +8,7 @@ use crate::fault::MasterFault;
 use arrayvec::ArrayVec;
 use iol_isdu::{IsduFault, Request, Text, read_answer, read_request, total_of};
 use iol_judge::{are_zeros, next_count, request_of};
-use iol_mseq::first;
+use iol_mseq::{MasterView, ReplyView, first};
 use iol_octets::{Flow, Mc};
 
 /// How many octets the longest text has.
@@ -56,15 +56,16 @@ impl Transfer {
     /// Refusals: 6 NotDue, 7 RequestText, 8 NotInLine.
     ///
     /// Rules REQ-1 to REQ-5, REQ-7, REQ-9.
-    pub fn moved(self, isdu: bool, mc: Mc, octets: &[u8]) -> Result<Transfer, MasterFault>
-        requires { length octets.now ≤ 32 }
-        ensures { result ≡ moved isdu self mc.read (flow_of mc.address) octets.now }
+    pub fn moved(self, isdu: bool, message: &MasterView<'_>) -> Result<Transfer, MasterFault>
+        ensures { result ≡ moved isdu self message.now.mc.read (flow_of message.now.mc.address)
+            message.now.od.items }
     {
+        let mc = message.mc();
         match flow_of(mc) {
             Flow::Start if mc.read => self.start_asked(),
-            Flow::Start => self.start_sent(isdu, octets),
+            Flow::Start => self.start_sent(isdu, message.od()),
             Flow::Count(count) if mc.read => self.count_asked(count),
-            Flow::Count(count) => self.count_sent(count, octets),
+            Flow::Count(count) => self.count_sent(count, message),
             Flow::Idle1 | Flow::Idle2 => self.kept_if_quiet(),
             Flow::Abort => self.aborted(),
             Flow::Reserved(_) => Err(MasterFault::NotDue),
@@ -73,7 +74,6 @@ impl Transfer {
 
     /// Rules REQ-2, REQ-3.
     fn start_sent(self, isdu: bool, octets: &[u8]) -> Result<Transfer, MasterFault>
-        requires { length octets.now ≤ 32 }
         ensures { result ≡ start_sent isdu self octets.now }
     {
         match self {
@@ -83,13 +83,12 @@ impl Transfer {
     }
 
     /// Rule REQ-4.
-    fn count_sent(self, count: u8, octets: &[u8]) -> Result<Transfer, MasterFault>
-        requires { length octets.now ≤ 32 }
-        ensures { result ≡ count_sent self count octets.now }
+    fn count_sent(self, count: u8, message: &MasterView<'_>) -> Result<Transfer, MasterFault>
+        ensures { result ≡ count_sent self count message.now.od.items }
     {
         match self {
             Transfer::Written(text, last) if count == next_count(last) => {
-                written(&joined(&text, octets), Some(count))
+                written(&joined(&text, message.od()), Some(count))
             }
             Transfer::Written(..) => Err(MasterFault::NotInLine),
             Transfer::Asked(_) => Err(MasterFault::RequestText),
@@ -175,13 +174,13 @@ impl Transfer {
         }
     }
 
-    /// Once the good reply to a read on the ISDU channel brought these octets.
+    /// Once this good reply to a read on the ISDU channel came.
     ///
     /// Rules REQ-5, REQ-7, REQ-14, ISDU-11.
-    pub fn told(self, octets: &[u8]) -> Transfer
-        requires { length octets.now ≤ 32 }
-        ensures { result ≡ told self octets.now }
+    pub fn told(self, reply: &ReplyView<'_>) -> Transfer
+        ensures { result ≡ told self reply.now.od.items }
     {
+        let octets = reply.od();
         match self {
             Transfer::Asked(read) => asked_told(read, octets),
             Transfer::Doubted(read) => doubted_told(read, octets),
