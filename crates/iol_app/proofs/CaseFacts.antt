@@ -94,7 +94,7 @@ zeros [] = refl
 zeros (octet ∷ octets) = ap (λ (b : Bool). (octet == 0) && b) (zeros octets)
 
 staged_forgotten : (count : Option ℕ) (octets od : List ℕ) (at : Stage) → forgotten_by
-    (staged false count octets at).took od ≡ true → (are_zeros od ≡ true) × (is_open at ≡ false)
+    (staged count octets at).took od ≡ true → (are_zeros od ≡ true) × (is_open at ≡ false)
 staged_forgotten count octets od at e = grind (arith, common_steps)
 
 -- such are none of an answer, or are as a device sends them that has forgotten it
@@ -124,7 +124,7 @@ finished_ends again cutter abort text fault = grind (arith, common_steps)
 
 staged_ends : (again : Bool) (cutter : Cutting Request) (abort : Option Cause) (had : ℕ)
     (count : Option ℕ) (octets od : List ℕ) (at : Stage) → are_zeros od ≡ true
-    → is_open at ≡ false → let t : Taken = staged false count octets at in
+    → is_open at ≡ false → let t : Taken = staged count octets at in
     EndsText again cutter abort (if again && forgotten_by t.took od
     then GoesOn (refused cutter abort) else joined cutter abort had t.took t.joining)
 staged_ends again cutter abort had count octets od (Complete text) none closed =

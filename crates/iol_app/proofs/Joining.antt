@@ -38,7 +38,7 @@ more_follow size laws text holds (suc i) e =
 -- a joiner takes the next segment, whatever its octets
 pub taken_next : (size had : ℕ) (j : Joining) (od : List ℕ) → IsJoining size had j
     → taken j (Count ((had + 1) % 16)) od
-    ≡ staged false (Some (suc had % 16)) (j.text ++ od) (stage (j.text ++ od))
+    ≡ staged (Some (suc had % 16)) (j.text ++ od) (stage (j.text ++ od))
 taken_next size had j od h = grind (arith, common_steps)
 
 -- what becomes of a request goes on as one, of the same cut
@@ -60,7 +60,7 @@ module _ (current : Current) (h : IsCurrent current) where
   -- a segment of this number was taken
   pub joined_stays : (had : ℕ) (octets : List ℕ) (at : Stage) → stage octets ≡ at
       → length octets ≡ suc had * cutter.size
-      → let t : Taken = staged false (count_at had) octets at in
+      → let t : Taken = staged (count_at had) octets at in
       StaysCurrent cutter (joined cutter abort had t.took t.joining)
   joined_stays had octets at e size = grind (arith, common_steps, finished_stays, refused_stays)
 

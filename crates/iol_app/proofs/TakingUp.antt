@@ -61,15 +61,15 @@ joined_up : (current : Current) (answer : Answer) (had : ℕ) → Fitting curren
     (answer_text current.cutter.source answer) had
     → IsTakenUp current answer had octets
     (joined current.cutter current.abort had
-    (staged false (count_at had) octets (stage octets)).took
-    (staged false (count_at had) octets (stage octets)).joining)
+    (staged (count_at had) octets (stage octets)).took
+    (staged (count_at had) octets (stage octets)).joining)
 joined_up current answer had h low octets same =
     let size = current.cutter.size in
     let text = answer_text current.cutter.source answer in
     ⊎_elim
     (λ (more : suc had * size < length text).
     rw (ap stage same ∙ h.laws.grows text had h.holds more)
-    ((staged false (count_at had) octets Open).joining, refl, refl))
+    ((staged (count_at had) octets Open).joining, refl, refl))
     (λ (all : length text ≤ suc had * size).
     let whole : stage octets ≡ Complete text =
     ap stage same ∙ h.laws.ends text had h.holds (low, all) in
