@@ -357,11 +357,10 @@ impl Core {
     /// question in its place, and the third attempt in a row has lost the link.
     ///
     /// It says `Reported`, `Answered` or `Cut` where that happened, else `Busy` where a request
-    /// is under way afterwards, else `Idle`, and then writes nothing. It answers what the exchange
+    /// is under way afterwards, else `Idle`, whatever `said` held. It answers what the exchange
     /// brought.
     pub fn receive(&mut self, came: &Option<Message>, said: &mut Said) -> Brought
-        requires idle { said.old ≡ Said.Idle }
-        requires out { IsSending self.old.state }
+        requires { IsSending self.old.state }
         ensures taken { IsTakenUp self.old (octets_in came.now) said.new result self.new }
         ensures told { SaidFits false self.old.session said.new self.new.session }
         ensures steps { ReceiveSteps self.old (octets_in came.now) said.new self.new }
@@ -371,8 +370,7 @@ impl Core {
     }
 
     fn take(&mut self, came: &Option<Message>, said: &mut Said) -> Brought
-        requires idle { said.old ≡ Said.Idle }
-        requires out { IsSending self.old.state }
+        requires { IsSending self.old.state }
         ensures { IsTakenUp self.old (octets_in came.now) said.new result self.new }
     {
         let brought = self.settle(came, said);
@@ -382,8 +380,7 @@ impl Core {
 
     /// The same, but that a message that has to go out again stays as it is.
     fn settle(&mut self, came: &Option<Message>, said: &mut Said) -> Brought
-        requires idle { said.old ≡ Said.Idle }
-        requires out { IsSending self.old.state }
+        requires { IsSending self.old.state }
         ensures core { self.new
             ≡ settled_core (came_of self.old (octets_in came.now)) self.old.session }
         ensures settled { IsSettledBy self.old (octets_in came.now) said.new result }
@@ -425,8 +422,7 @@ impl Core {
     ///
     /// Rule PD-7.
     pub fn turn<W: Wire>(&mut self, wire: &mut W, room: bool, said: &mut Said) -> Brought
-        requires idle { said.old ≡ Said.Idle }
-        requires stands { LinkStands W.facts wire.old self.old }
+        requires { LinkStands W.facts wire.old self.old }
         ensures turn { IsWholeTurn W.facts room (station_of wire.old self.old) said.new result
             (station_of wire.new self.new) }
         ensures honest { W.facts.honest wire.new ≡ W.facts.honest wire.old }
@@ -440,14 +436,14 @@ impl Core {
         } else {
             let rate = wire.wake();
             self.take_wake(rate);
+            *said = Said::Idle;
             Brought::of_wake(rate)
         }
     }
 
     /// The message that is out goes out over this wire, and what comes back is taken.
     fn exchange<W: Wire>(&mut self, wire: &mut W, said: &mut Said) -> Brought
-        requires idle { said.old ≡ Said.Idle }
-        requires out { IsSending self.old.state }
+        requires { IsSending self.old.state }
         ensures { IsPassed W.facts wire.old wire.new self.old said.new result self.new }
     {
         let mut sent = Message::new();
@@ -466,8 +462,7 @@ fn goes_out(layout: Layout, octets: Message) -> Asked
 
 /// Takes up the mode after an exchange, in OPERATE with the good reply that it brought.
 fn settled(state: &State, attempt: &AttemptView<'_>, session: &mut Session, said: &mut Said)
-    requires idle { said.old ≡ Said.Idle }
-    requires fits { NextFits (outcome_with (attempt_in attempt.now) state.now) session.old }
+    requires { NextFits (outcome_with (attempt_in attempt.now) state.now) session.old }
     ensures session { session.new
         ≡ settled_session (outcome_with (attempt_in attempt.now) state.now) session.old }
     ensures said { IsSettledSaid (outcome_with (attempt_in attempt.now) state.now) session.old
@@ -481,8 +476,9 @@ fn settled(state: &State, attempt: &AttemptView<'_>, session: &mut Session, said
             if let Some(read) = startup.read() {
                 session.take_page(read);
             }
+            *said = Said::Idle;
         }
-        State::Preoperate(_) => {}
+        State::Preoperate(_) => *said = Said::Idle,
         State::Operate(_) => match attempt {
             AttemptView::Got(first) => session.hear(first, said),
             AttemptView::Again | AttemptView::Lost => session.quiet(said),
