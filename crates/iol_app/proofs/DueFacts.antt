@@ -1,8 +1,10 @@
 -- What is known of the exchange that is due.
 use Rattle.std.proofs.lemmas.Grind.{common_steps}
-use Rattle.std.proofs.Common.{arith, ◌≡◌, Bool, true, false}
+use Rattle.std.proofs.Common.{arith, ◌≡◌, true, false}
 use Rattle.std.specs.Prelude.{◌⊎◌}
 use Rattle.iol_steps.specs.Exchange.{output_due}
+use Rattle.iol_app.specs.declared.event_work.EventRoom.{EventRoom}
+use Rattle.iol_app.specs.declared.event_work.EventRoom.TheVariants.{Left}
 use Rattle.iol_app.specs.declared.session.Exchange.{Exchange}
 use Rattle.iol_app.specs.declared.session.Exchange.TheVariants.{ReadEvent, ConfirmEvents, Request}
 use Rattle.iol_app.specs.Requests.{Suits, aborts}
@@ -10,14 +12,14 @@ use Rattle.iol_app.specs.Due.{is_under_way, is_confirm_due, is_resting, due_of}
 use Rattle.iol_app.specs.Ends.{output_for}
 use Rattle.iol_app.specs.State.{SessionState}
 
-pub record IsDue (s : SessionState) (room : Bool) (exchange : Exchange) : Type 0 where
+pub record IsDue (s : SessionState) (room : EventRoom) (exchange : Exchange) : Type 0 where
   pub suits : Suits exchange s.current
   pub output : output_for exchange ≡ output_due s.output.wanted s.output.told
   pub confirm : exchange ≡ ConfirmEvents → is_confirm_due s.events.reading ≡ true
   pub reads : exchange ≡ ReadEvent
       → (is_under_way s.events.reading ≡ true)
-      ⊎ ((is_resting s.events.reading ≡ true) × (s.events.flag ≡ true) × (room ≡ true))
+      ⊎ ((is_resting s.events.reading ≡ true) × (s.events.flag ≡ true) × (room ≡ Left))
   pub asks : exchange ≡ Request → aborts s.current ≡ false
 
-pub due_is : (s : SessionState) (room : Bool) → IsDue s room (due_of s room)
+pub due_is : (s : SessionState) (room : EventRoom) → IsDue s room (due_of s room)
 due_is s room = grind (arith, common_steps)

@@ -25,6 +25,7 @@ use Rattle.iol_steps.specs.declared.said.Said.{Said}
 use Rattle.iol_steps.specs.declared.said.Said.TheVariants.{Idle}
 use Rattle.iol_steps.specs.Step.{Step, Moment, no_make}
 use Rattle.iol_steps.specs.Images.{Images, MayImagesAll, images_after}
+use Rattle.iol_app.specs.declared.event_work.EventRoom.{EventRoom}
 use Rattle.iol_app.specs.declared.session.Exchange.{Exchange}
 use Rattle.iol_app.specs.declared.brought.Brought.{Brought}
 use Rattle.iol_app.specs.Due.{due_of}
@@ -88,7 +89,7 @@ same_sends old = λ g far n stands.
     wanted_at old.state old.session n far tried stands.link calm in
     inl (assumption asks)
 
-pub sent_reads : (room : Bool) (old new : Core) → IsSent room old new → ReadsOn room old new
+pub sent_reads : (room : EventRoom) (old new : Core) → IsSent room old new → ReadsOn room old new
 sent_reads room old new sent = grind (arith, common_steps)
 
 -- what is made of what comes back may be taken up
@@ -183,7 +184,7 @@ receive_steps laws {old} {came} {said} {brought} sends t = λ g far far' n n' st
     t.settled (rw t.is at t.on))
 
 -- In OPERATE a new message goes out
-module _ (laws : StationLaws) (layouts : Layouts) (t : SessionState) (room : Bool)
+module _ (laws : StationLaws) (layouts : Layouts) (t : SessionState) (room : EventRoom)
     (m : MasterMsg) (valid : IsSession t) where
   abbrev due : Exchange
   due = due_of t room

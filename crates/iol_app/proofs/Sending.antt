@@ -28,6 +28,8 @@ use Rattle.iol_app.specs.StationState.{mode_in}
 use Rattle.iol_steps.specs.Images.{image_or}
 use Rattle.iol_steps.specs.Station.{is_due, wants_octet}
 use Rattle.iol_steps.specs.Exchange.{output_due, told_by}
+use Rattle.iol_app.specs.declared.event_work.EventRoom.{EventRoom}
+use Rattle.iol_app.specs.declared.event_work.EventRoom.TheVariants.{Left}
 use Rattle.iol_app.specs.declared.event_work.Reading as app
 use Rattle.iol_app.specs.declared.session.Exchange.{Exchange}
 use Rattle.iol_app.specs.declared.session.Exchange.TheVariants.{TellOutput, DropOutput}
@@ -51,8 +53,8 @@ confirm_due : (r : app.Reading) (flag : Bool) (due : Event × List Event)
     → is_confirm_due r ≡ true → is_due (reading_at r flag due) ≡ true
 confirm_due r flag due k = grind (arith, common_steps)
 
-octet_due : (r : app.Reading) (flag room : Bool) (due : Event × List Event)
-    → (is_under_way r ≡ true) ⊎ ((is_resting r ≡ true) × (flag ≡ true) × (room ≡ true))
+octet_due : (r : app.Reading) (flag : Bool) (room : EventRoom) (due : Event × List Event)
+    → (is_under_way r ≡ true) ⊎ ((is_resting r ≡ true) × (flag ≡ true) × (room ≡ Left))
     → wants_octet (reading_at r flag due) ≡ true
 octet_due r flag room due k = grind (arith, common_steps)
 
@@ -76,7 +78,8 @@ not_over current h none = grind (arith, common_steps)
 
 module _ (levels : (size : ℕ) → 1 ≤ size → LevelLaws size) (modes : ModesHaveLayouts)
     (moves : MessagesAreMoves)
-    (layouts : Layouts) (t : SessionState) (room : Bool) (m : MasterMsg) (g : Ghost) (far : Far)
+    (layouts : Layouts) (t : SessionState) (room : EventRoom) (m : MasterMsg) (g : Ghost)
+    (far : Far)
     (n : ℕ)
     (stands : Stands (free_core layouts t) g far n) (valid : IsSession t)
     (is : IsMessageFor (due_of t room) (sending (due_of t room) t) m)

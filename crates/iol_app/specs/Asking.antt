@@ -14,6 +14,7 @@ use Rattle.iol_mode.specs.Next.{message_out}
 use Rattle.iol_app.specs.declared.asked.Asked.{Asked}
 use Rattle.iol_app.specs.declared.asked.Outgoing.{Outgoing}
 use Rattle.iol_app.specs.declared.asked.Asked.TheVariants.{Wake, Exchange}
+use Rattle.iol_app.specs.declared.event_work.EventRoom.{EventRoom}
 use Rattle.iol_app.specs.declared.session.Exchange as purpose
 use Rattle.iol_mode.specs.declared.states.State.{State}
 use Rattle.iol_mode.specs.declared.states.State.TheVariants.{Down as AtDown, Startup as AtStartup, Preoperate as AtPreoperate, Operate as AtOperate}
@@ -37,17 +38,17 @@ text_for layout exchange s =
     (data_for exchange (od_size s.layout) s.current)
 
 -- and of one for what is due
-abbrev pub text_due : Shape → SessionState → Bool → List ℕ
+abbrev pub text_due : Shape → SessionState → EventRoom → List ℕ
 text_due layout s room = text_for layout (due_of s room) s
 
 -- a new message for what is due
-pub record IsDue (s : SessionState) (room : Bool) (message : MasterMsg) : Type 0 where
+pub record IsDue (s : SessionState) (room : EventRoom) (message : MasterMsg) : Type 0 where
   pub head : head_of message.mc ≡ head_for (due_of s room) s.events.reading s.current
   pub out : message.out.items ≡ carried_by s.output
   pub od : message.od.items ≡ data_for (due_of s room) (od_size s.layout) s.current
 
 -- the message out, again, else a new one for what is due
-abbrev pub text_of : Shape → Option MasterMsg → SessionState → Bool → List ℕ
+abbrev pub text_of : Shape → Option MasterMsg → SessionState → EventRoom → List ℕ
 text_of layout None s room = text_due layout s room
 text_of layout (Some message) s room = master_text layout message
 
@@ -61,11 +62,11 @@ begin_where ready (Some request) s = if ready then begun_in request s else s
 abbrev pub takes_requests : SessionState → Bool
 takes_requests s = unwrap_or s.isdu true
 
-abbrev pub beginning : Option Request → SessionState → Bool → SessionState
+abbrev pub beginning : Option Request → SessionState → EventRoom → SessionState
 beginning next s room = begin_where (is_ready s room && takes_requests s) next s
 
 -- in OPERATE
-abbrev pub beginning_in : Option Request → State → SessionState → Bool → SessionState
+abbrev pub beginning_in : Option Request → State → SessionState → EventRoom → SessionState
 beginning_in next state s room =
     begin_where (operates state && is_ready s room && takes_requests s) next s
 
@@ -83,7 +84,7 @@ outgoing layout octets = record {
   reply = reply_size layout octets;
 }
 
-abbrev pub asked_in : State → SessionState → Bool → Asked
+abbrev pub asked_in : State → SessionState → EventRoom → Asked
 asked_in (AtDown state) s room = Wake
 asked_in (AtStartup state) s room =
     Exchange (outgoing startup_shape (master_text startup_shape state.sent.message))
@@ -94,11 +95,11 @@ asked_in (AtOperate state) s room =
     (outgoing state.layouts.run (text_of state.layouts.run (message_out state.out) s room))
 
 module _ {W : Type 0} where
-  abbrev pub prepared : Option Request → StationState W → Bool → StationState W
+  abbrev pub prepared : Option Request → StationState W → EventRoom → StationState W
   prepared next s room = record s { session = beginning_in next s.link.state s.session room }
 
   -- the call that the next turn makes, where there is room for events or not
-  abbrev pub asked_of : StationState W → Bool → Asked
+  abbrev pub asked_of : StationState W → EventRoom → Asked
   asked_of s room = asked_in s.link.state s.session room
 
   -- one call of the wire is the one that was asked

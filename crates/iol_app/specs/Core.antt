@@ -38,6 +38,7 @@ use Rattle.iol_steps.specs.Station as steps
 use Rattle.iol_steps.specs.Exchange.{reading_flagged, told_by, hidden_lost}
 use Rattle.iol_steps.specs.Turn.{ImageIsLast, OutputIsWanted, is_calm}
 use Rattle.std.specs.List.{list_all}
+use Rattle.iol_app.specs.declared.event_work.EventRoom.{EventRoom}
 use Rattle.iol_app.specs.declared.event_work.Reading as app
 use Rattle.iol_app.specs.declared.event_work.Reading.TheVariants.{Resting, UnderWay, ConfirmDue, Refused}
 use Rattle.iol_app.specs.declared.event_work.Events.{Events}
@@ -548,7 +549,7 @@ pub record SendGives (c next : Core) (g after : Ghost) (far : Far) (silence : �
 
 pub record Sends : Type 0 where
   pub gives :
-      (layouts : Layouts) (t : SessionState) (room : Bool) (message : MasterMsg) (g : Ghost)
+      (layouts : Layouts) (t : SessionState) (room : EventRoom) (message : MasterMsg) (g : Ghost)
       (far : Far) (silence : ℕ)
       → let next : Core =
       core_out layouts (unsent message) (sending (due_of t room) t) (due_of t room) t.current in

@@ -1,5 +1,7 @@
 -- Which message is due.
 use Rattle.std.specs.Prelude.{List, [], ◌∷◌, Bool, true, false, not, ◌&&◌, if◌then◌else◌, is_some, is_none}
+use Rattle.iol_app.specs.declared.event_work.EventRoom.{EventRoom}
+use Rattle.iol_app.specs.declared.event_work.EventRoom.TheVariants.{Left, Full}
 use Rattle.iol_app.specs.declared.event_work.Reading.{Reading}
 use Rattle.iol_app.specs.declared.event_work.Reading.TheVariants.{Resting, UnderWay, ConfirmDue}
 use Rattle.iol_app.specs.declared.session.Exchange.{Exchange}
@@ -26,16 +28,20 @@ abbrev pub is_resting : Reading → Bool
 is_resting Resting = true
 is_resting other = false
 
+abbrev pub is_left : EventRoom → Bool
+is_left Left = true
+is_left Full = false
+
 -- what the next new message is for, where there is room for events or not
 -- EVT-5, PD-5, REQ-1
-abbrev pub due_of : SessionState → Bool → Exchange
+abbrev pub due_of : SessionState → EventRoom → Exchange
 due_of s room = first_of (
     (is_some s.output.wanted && not s.output.told, TellOutput) ∷
     (is_none s.output.wanted && s.output.told, DropOutput) ∷
     (aborts s.current, Abort) ∷
     (is_under_way s.events.reading, ReadEvent) ∷
     (is_confirm_due s.events.reading, ConfirmEvents) ∷
-    (is_resting s.events.reading && s.events.flag && room, ReadEvent) ∷
+    (is_resting s.events.reading && s.events.flag && is_left room, ReadEvent) ∷
     (is_some s.current, Request) ∷ [])
 
 abbrev pub is_idle : Exchange → Bool
@@ -50,6 +56,6 @@ may_follow Any clear = clear
 
 -- no message is out, the next one is IDLE 1, and a request may follow
 -- REQ-2, REQ-14
-abbrev pub is_ready : SessionState → Bool → Bool
+abbrev pub is_ready : SessionState → EventRoom → Bool
 is_ready s room = is_none s.exchange && is_idle (due_of s room)
     && may_follow s.configuration.devices s.clear

@@ -21,6 +21,8 @@ use Rattle.iol_steps.specs.declared.said.Said.TheVariants.{Idle}
 use Rattle.iol_app.specs.declared.asked.Asked.{Asked}
 use Rattle.iol_app.specs.declared.asked.Asked.TheVariants.{Wake, Exchange}
 use Rattle.iol_app.specs.declared.brought.Brought.{Brought}
+use Rattle.iol_app.specs.declared.event_work.EventRoom.{EventRoom}
+use Rattle.iol_app.specs.declared.event_work.EventRoom.TheVariants.{Left}
 use Rattle.iol_app.specs.Asking.{outgoing}
 use Rattle.iol_app.specs.Brought.{brought_in}
 use Rattle.iol_app.specs.Due.{due_of}
@@ -47,7 +49,8 @@ IsOut true asked state =
 IsOut false asked state = IsDown state × (asked ≡ Wake)
 
 -- a new message for what is due is out from now on
-pub record NewOut (layouts : Layouts) (t : SessionState) (room : Bool) (new : Core) : Type 0 where
+pub record NewOut (layouts : Layouts) (t : SessionState) (room : EventRoom) (new : Core) : Type
+    0 where
   pub message : MasterMsg
   pub is : new ≡ core_out layouts (unsent message) (sending (due_of t room) t) (due_of t room)
       t.current
@@ -55,24 +58,24 @@ pub record NewOut (layouts : Layouts) (t : SessionState) (room : Bool) (new : Co
   pub parts : HasMasterParts layouts.run message
   pub carries : message.out.items ≡ carried_by t.output
 
-abbrev pub OutAfter : Option Sending → Layouts → SessionState → Bool → Core → Core → Type 0
+abbrev pub OutAfter : Option Sending → Layouts → SessionState → EventRoom → Core → Core → Type 0
 OutAfter None layouts t room old new = NewOut layouts t room new
 OutAfter (Some out) layouts t room old new = new ≡ old
 
-abbrev pub SentBy : State → Bool → Core → Core → Type 0
+abbrev pub SentBy : State → EventRoom → Core → Core → Type 0
 SentBy (AtOperate s) room old new = OutAfter s.out s.layouts old.session room old new
 SentBy s room old new = new ≡ old
 
 -- In OPERATE, where no message is out, a new one is; else nothing changes: what goes out
 -- a second time is what went out
 -- PORT-8
-abbrev pub IsSent : Bool → Core → Core → Type 0
+abbrev pub IsSent : EventRoom → Core → Core → Type 0
 IsSent room old new = SentBy old.state room old new
 
 -- a reading of events is begun only where there is room
-abbrev pub ReadsOn : Bool → Core → Core → Type 0
+abbrev pub ReadsOn : EventRoom → Core → Core → Type 0
 ReadsOn room old new =
-    is_reading new.session ≡ true → (is_reading old.session ≡ true) ⊎ (room ≡ true)
+    is_reading new.session ≡ true → (is_reading old.session ≡ true) ⊎ (room ≡ Left)
 
 -- What came back is judged by the message that is out
 pub record IsSettledBy (old : Core) (came : Option (List ℕ)) (said : Said) (brought : Brought) :
@@ -127,7 +130,7 @@ SendSteps old new =
     → SendsAgain old new silence ⊎ SendGives old new g (made_ghost old.session g) far silence
 
 -- all that a sending makes of the core
-pub record PutsOut (room : Bool) (old new : Core) : Type 0 where
+pub record PutsOut (room : EventRoom) (old new : Core) : Type 0 where
   -- a message for what is due is out, where none was
   pub sent : IsSent room old new
   -- a reading of events is begun only where there is room

@@ -2,6 +2,8 @@
 use Rattle.std.specs.Prelude.{◌≡◌, ◌⊎◌, Bool, true, false, ◌||◌, Option, Some}
 use Rattle.iol_steps.specs.declared.said.Said.{Said}
 use Rattle.iol_steps.specs.declared.said.Said.TheVariants.{Reported}
+use Rattle.iol_app.specs.declared.event_work.EventRoom.{EventRoom}
+use Rattle.iol_app.specs.declared.event_work.EventRoom.TheVariants.{Left}
 use Rattle.iol_app.specs.declared.session.Exchange.{Exchange}
 use Rattle.iol_app.specs.declared.session.Exchange.TheVariants.{ReadEvent}
 use Rattle.iol_app.specs.Due.{is_under_way}
@@ -17,12 +19,12 @@ abbrev pub is_reading : SessionState → Bool
 is_reading s = is_read_out s.exchange || is_under_way s.events.reading
 
 -- a report ends a reading that was begun before; and one begins only where there is room
-abbrev pub ReadingAfter : Bool → Bool → Said → Bool → Type 0
+abbrev pub ReadingAfter : EventRoom → Bool → Said → Bool → Type 0
 ReadingAfter room before (Reported events) after = (before ≡ true) × (after ≡ false)
-ReadingAfter room before said after = after ≡ true → (before ≡ true) ⊎ (room ≡ true)
+ReadingAfter room before said after = after ≡ true → (before ≡ true) ⊎ (room ≡ Left)
 
 -- what is said fits what became of the session
-pub record SaidFits (room : Bool) (old : SessionState) (said : Said) (new : SessionState) :
+pub record SaidFits (room : EventRoom) (old : SessionState) (said : Said) (new : SessionState) :
     Type 0 where
   -- an answer and a cut end the request under way
   pub request : request_in new.current ≡ request_after (request_in old.current) said

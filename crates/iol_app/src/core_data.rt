@@ -20,6 +20,7 @@ ghost use Rattle.iol_app.specs.Seen.{station_of, NewSteps, BeginSteps, DenySteps
 
 use crate::asked::{Asked, Outgoing};
 use crate::brought::{Brought, Out};
+use crate::event_work::EventRoom;
 use crate::laws::station_laws;
 use crate::message::blank;
 use crate::output::OutputFault;
@@ -121,9 +122,9 @@ impl Core {
         self.session.image()
     }
 
-    /// Whether no message is out and the next one is IDLE 1, where there is room for events or
-    /// not: then a request may be begun.
-    pub fn ready(&self, room: bool) -> bool
+    /// Whether no message is out and the next one is IDLE 1, with this room for events: then a
+    /// request may be begun.
+    pub fn ready(&self, room: EventRoom) -> bool
         ensures value { result ≡ (operates self.now.state && is_ready self.now.session room) }
         ensures free { IsTrue result → (mode_in self.now.state ≡ Mode.Operate)
             × (self.now.session.current ≡ None) }
@@ -132,7 +133,7 @@ impl Core {
     }
 
     /// What `send` will give, if this request is begun before it where it may be.
-    pub fn asks(&self, room: bool, next: Option<&Request>) -> Asked
+    pub fn asks(&self, room: EventRoom, next: Option<&Request>) -> Asked
         ensures { result ≡ asked_in self.now.state
             (beginning_in (option_copied next.entry) self.now.state self.now.session room) room }
     {
@@ -278,12 +279,12 @@ impl Core {
     }
 
     /// What goes out: in down a wake; else the message that is out, unchanged; where none is, a
-    /// new one for what is due, which is out from now on. `room` says whether events may be read.
+    /// new one for what is due, which is out from now on.
     ///
     /// Until it is answered the same octets are given again, and nothing changes.
     ///
     /// Rule PORT-8.
-    pub fn send(&mut self, room: bool) -> Asked
+    pub fn send(&mut self, room: EventRoom) -> Asked
         ensures puts { PutsOut room self.old self.new }
         ensures says { IsAskedOut result self.new.state }
         ensures asked { result ≡ asked_in self.old.state self.old.session room }
@@ -297,7 +298,7 @@ impl Core {
 
     /// Puts out a new message, where one goes out. Answers whether a message is out: else a wake
     /// is to be sent.
-    fn put_next(&mut self, room: bool) -> bool
+    fn put_next(&mut self, room: EventRoom) -> bool
         ensures puts { PutsOut room self.old self.new }
         ensures out { IsOut result (asked_in self.old.state self.old.session room)
             self.new.state }
@@ -308,7 +309,7 @@ impl Core {
 
     /// In OPERATE a message for what is due is out from now on, where none was.
     #[tactic(auto, using(std::proofs::lemmas::Grind::common_steps, crate::proofs::Pieces::same_sends))]
-    fn put_due(&mut self, room: bool)
+    fn put_due(&mut self, room: EventRoom)
         ensures { PutsOut room self.old self.new }
     {
         station_laws();
@@ -329,7 +330,7 @@ impl Core {
     pub fn receive_wake(&mut self, rate: Option<Rate>)
         requires { IsDown self.old.state }
         ensures core { self.new ≡ after_wake (is_some rate) self.old.session }
-        ensures told { SaidFits false self.old.session Said.Idle self.new.session }
+        ensures told { SaidFits EventRoom.Full self.old.session Said.Idle self.new.session }
         ensures steps { WakeSteps self.old (is_some rate) self.new }
     {
         station_laws();
@@ -357,13 +358,12 @@ impl Core {
     /// question in its place, and the third attempt in a row has lost the link.
     ///
     /// It says `Reported`, `Answered` or `Cut` where that happened, else `Busy` where a request
-    /// is under way afterwards, else `Idle`, and then writes nothing. It answers what the exchange
+    /// is under way afterwards, else `Idle`, whatever `said` held. It answers what the exchange
     /// brought.
     pub fn receive(&mut self, came: &Option<Message>, said: &mut Said) -> Brought
-        requires idle { said.old ≡ Said.Idle }
-        requires out { IsSending self.old.state }
+        requires { IsSending self.old.state }
         ensures taken { IsTakenUp self.old (octets_in came.now) said.new result self.new }
-        ensures told { SaidFits false self.old.session said.new self.new.session }
+        ensures told { SaidFits EventRoom.Full self.old.session said.new self.new.session }
         ensures steps { ReceiveSteps self.old (octets_in came.now) said.new self.new }
     {
         station_laws();
@@ -371,8 +371,7 @@ impl Core {
     }
 
     fn take(&mut self, came: &Option<Message>, said: &mut Said) -> Brought
-        requires idle { said.old ≡ Said.Idle }
-        requires out { IsSending self.old.state }
+        requires { IsSending self.old.state }
         ensures { IsTakenUp self.old (octets_in came.now) said.new result self.new }
     {
         let brought = self.settle(came, said);
@@ -382,8 +381,7 @@ impl Core {
 
     /// The same, but that a message that has to go out again stays as it is.
     fn settle(&mut self, came: &Option<Message>, said: &mut Said) -> Brought
-        requires idle { said.old ≡ Said.Idle }
-        requires out { IsSending self.old.state }
+        requires { IsSending self.old.state }
         ensures core { self.new
             ≡ settled_core (came_of self.old (octets_in came.now)) self.old.session }
         ensures settled { IsSettledBy self.old (octets_in came.now) said.new result }
@@ -424,9 +422,8 @@ impl Core {
     /// is taken.
     ///
     /// Rule PD-7.
-    pub fn turn<W: Wire>(&mut self, wire: &mut W, room: bool, said: &mut Said) -> Brought
-        requires idle { said.old ≡ Said.Idle }
-        requires stands { LinkStands W.facts wire.old self.old }
+    pub fn turn<W: Wire>(&mut self, wire: &mut W, room: EventRoom, said: &mut Said) -> Brought
+        requires { LinkStands W.facts wire.old self.old }
         ensures turn { IsWholeTurn W.facts room (station_of wire.old self.old) said.new result
             (station_of wire.new self.new) }
         ensures honest { W.facts.honest wire.new ≡ W.facts.honest wire.old }
@@ -440,14 +437,14 @@ impl Core {
         } else {
             let rate = wire.wake();
             self.take_wake(rate);
+            *said = Said::Idle;
             Brought::of_wake(rate)
         }
     }
 
     /// The message that is out goes out over this wire, and what comes back is taken.
     fn exchange<W: Wire>(&mut self, wire: &mut W, said: &mut Said) -> Brought
-        requires idle { said.old ≡ Said.Idle }
-        requires out { IsSending self.old.state }
+        requires { IsSending self.old.state }
         ensures { IsPassed W.facts wire.old wire.new self.old said.new result self.new }
     {
         let mut sent = Message::new();
@@ -466,8 +463,7 @@ fn goes_out(layout: Layout, octets: Message) -> Asked
 
 /// Takes up the mode after an exchange, in OPERATE with the good reply that it brought.
 fn settled(state: &State, attempt: &AttemptView<'_>, session: &mut Session, said: &mut Said)
-    requires idle { said.old ≡ Said.Idle }
-    requires fits { NextFits (outcome_with (attempt_in attempt.now) state.now) session.old }
+    requires { NextFits (outcome_with (attempt_in attempt.now) state.now) session.old }
     ensures session { session.new
         ≡ settled_session (outcome_with (attempt_in attempt.now) state.now) session.old }
     ensures said { IsSettledSaid (outcome_with (attempt_in attempt.now) state.now) session.old
@@ -481,8 +477,9 @@ fn settled(state: &State, attempt: &AttemptView<'_>, session: &mut Session, said
             if let Some(read) = startup.read() {
                 session.take_page(read);
             }
+            *said = Said::Idle;
         }
-        State::Preoperate(_) => {}
+        State::Preoperate(_) => *said = Said::Idle,
         State::Operate(_) => match attempt {
             AttemptView::Got(first) => session.hear(first, said),
             AttemptView::Again | AttemptView::Lost => session.quiet(said),

@@ -9,6 +9,15 @@ use iol_mseq::{ReplyView, first};
 use iol_steps::Said;
 use std::mem::replace;
 
+/// Whether a port has room for the six events that one reading may bring: only then it begins one.
+#[derive(Clone, Copy, Debug, PartialEq, Eq)]
+pub enum EventRoom {
+    /// There is room for six more.
+    Left,
+    /// There is none. A reading under way goes on.
+    Full,
+}
+
 /// How far the reading of events has come.
 #[derive(Drop)]
 pub(crate) enum Reading {

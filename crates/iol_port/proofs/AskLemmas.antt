@@ -6,6 +6,7 @@ use Rattle.iol_link.specs.WireFacts.{WireFacts}
 use Rattle.iol_book.specs.BookModel.{BookState}
 use Rattle.iol_steps.specs.declared.said.Said.{Said}
 use Rattle.iol_steps.specs.Step.{Reset, resets, book_said}
+use Rattle.iol_app.specs.declared.event_work.EventRoom.{EventRoom}
 use Rattle.iol_app.specs.StationState.{StationState, IsTurn}
 use Rattle.iol_app.specs.Asking.{asked_of, prepared}
 use Rattle.iol_port.specs.Steps.{book_through}
@@ -17,7 +18,7 @@ use Rattle.iol_app.specs.Brought.{brought_facts}
 module _ {W : Type 0} where
   -- the device was reset where both stations say so
   pub book_told : (old mid new : StationState W) (next : Option Request)
-      (room reset began ended : Bool) (said : Said) (b : BookState)
+      (room : EventRoom) (reset began ended : Bool) (said : Said) (b : BookState)
       → mid ≡ prepared next old room → began ≡ is_reset mid.link.state
       → ended ≡ is_reset new.link.state → reset ≡ (not began && ended)
       → book_through (cond reset (Reset ∷ []) [] ++ book_said said) b
@@ -30,14 +31,15 @@ module _ {W : Type 0} where
 
 module _ {W : Type 0} (facts : WireFacts W) where
   -- the station's turn, with the call that it asks for, which brought this
-  abbrev Turns : Bool → StationState W → Said → Brought → StationState W → Type 0
+  abbrev Turns : EventRoom → StationState W → Said → Brought → StationState W → Type 0
   Turns room s said brought new =
       IsTurn (brought_facts facts (asked_of s room) (tries_in s.link.state) brought) room s said new
 
   -- it began with the next request begun
-  pub turn_begun_asked : (old mid new : StationState W) (next : Option Request) (room has : Bool)
+  pub turn_begun_asked : (old mid new : StationState W) (next : Option Request)
+      (room has : EventRoom)
       (said : Said) (brought : Brought) → room ≡ has → mid ≡ prepared next old room
       → Turns room mid said brought new → Turns has (prepared next old has) said brought new
   turn_begun_asked old mid new next room has said brought same begun turn =
-      subst (λ (r : Bool). Turns r (prepared next old r) said brought new) same
+      subst (λ (r : EventRoom). Turns r (prepared next old r) said brought new) same
       (subst (λ (s : StationState W). Turns room s said brought new) begun turn)

@@ -24,6 +24,8 @@ use Rattle.iol_mode.specs.Stands.{operate_link, IsAccepted}
 use Rattle.iol_mode.specs.Kinds.{SeesPulses}
 use Rattle.iol_mode.specs.declared.configuration.Devices.{Devices}
 use Rattle.iol_steps.specs.declared.said.Said.{Said}
+use Rattle.iol_app.specs.declared.event_work.EventRoom.{EventRoom}
+use Rattle.iol_app.specs.declared.event_work.EventRoom.TheVariants.{Left}
 use Rattle.iol_app.specs.declared.request.Current.{Current}
 use Rattle.iol_app.specs.declared.request.Progress.{Progress}
 use Rattle.iol_app.specs.declared.session.Exchange.{Exchange}
@@ -41,24 +43,25 @@ use Rattle.iol_port.proofs.TieLemmas.{turn_asks}
 
 -- What is due
 
-request_due : (s : SessionState) (room : Bool) (c : Current) → IsCalm s → s.current ≡ Some c
+request_due : (s : SessionState) (room : EventRoom) (c : Current) → IsCalm s → s.current ≡ Some c
     → c.abort ≡ None → due_of s room ≡ NextMessage
 request_due s room c calm is abort = grind (arith, common_steps)
 
-pub idle_due : (s : SessionState) (room : Bool) → IsCalm s → s.current ≡ None
+pub idle_due : (s : SessionState) (room : EventRoom) → IsCalm s → s.current ≡ None
     → due_of s room ≡ Idle
 idle_due s room calm free = grind (arith, common_steps)
 
 -- a session that would send IDLE 1 is calm, without a request
-pub ready_calm : (s : SessionState) → is_ready s true ≡ true → IsCalm s
+pub ready_calm : (s : SessionState) → is_ready s Left ≡ true → IsCalm s
 ready_calm s e = grind (arith, common_steps)
 
 -- whether there is room for events or not
-pub ready_any : (s : SessionState) (room : Bool) → is_ready s true ≡ true → is_ready s room ≡ true
+pub ready_any : (s : SessionState) (room : EventRoom) → is_ready s Left ≡ true
+    → is_ready s room ≡ true
 ready_any s room e = grind (arith, common_steps)
 
 -- and a calm session without a request would send it
-pub calm_ready : (s : SessionState) (room : Bool) → IsCalm s → s.current ≡ None
+pub calm_ready : (s : SessionState) (room : EventRoom) → IsCalm s → s.current ≡ None
     → may_follow s.configuration.devices s.clear ≡ true → is_ready s room ≡ true
 calm_ready s room calm free follows = grind (arith, common_steps)
 
@@ -187,7 +190,7 @@ module _ {W : Type 0} (facts : WireFacts W) where
 
   module _ (cleanly : ExchangesCleanly facts) (laws : CleanLaws) {kind : Kind} {layouts : Layouts}
       {link : Link} {old : StationState W} {wire : W} {said : Said} {new : StationState W}
-      (room : Bool) (stood : Stood facts kind layouts link old wire)
+      (room : EventRoom) (stood : Stood facts kind layouts link old wire)
       (turn : IsTurn facts room old said new) where
     pub exchanged : (exchange : Exchange) → due_of old.session room ≡ exchange
         → channel_for exchange old.session ≡ Isdu

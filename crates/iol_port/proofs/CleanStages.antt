@@ -24,6 +24,7 @@ use Rattle.iol_far.specs.declared.kind.Recalls.{Recalls}
 use Rattle.iol_far.specs.declared.kind.Recalls.TheVariants.{UntilSent}
 use Rattle.iol_far.specs.Isdu.{Receiving as TextSoFar, Whole, Handed, Answered, received, isdu_read, answer_text, fits, handed, IsduState, isdu_data, recalled, written_by}
 use Rattle.iol_far.specs.SegmentLaws.{SegmentLaws}
+use Rattle.iol_app.specs.declared.event_work.EventRoom.{EventRoom}
 use Rattle.iol_app.specs.declared.request.Current.{Current}
 use Rattle.iol_app.specs.declared.request.Progress.{Progress}
 use Rattle.iol_app.specs.declared.request.Progress.TheVariants.{Sending, Asking, Receiving}
@@ -266,7 +267,7 @@ module _ {W : Type 0} (facts : WireFacts W) where
 
   module _ (laws : CleanLaws) (cleanly : ExchangesCleanly facts) {kind : Kind} {layouts : Layouts}
       (low : 1 ≤ layouts.run.od) (request : Request) (valid : IsRequest request)
-      (base : List Carried) (room : Bool) {link : Link} {old : StationState W} {wire : W}
+      (base : List Carried) (room : EventRoom) {link : Link} {old : StationState W} {wire : W}
       (said : Said) (new : StationState W) (stood : Stood facts kind layouts link old wire)
       (turn : IsTurn facts room old said new) (some : takes_more (far wire).room base ≡ true)
       (limit : 2 ≤ old.session.limit) where

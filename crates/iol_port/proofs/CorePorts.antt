@@ -17,6 +17,7 @@ use Rattle.iol_steps.specs.declared.said.Said.TheVariants.{Idle}
 use Rattle.iol_steps.specs.Step.{Step, Make, Reset, WireCall, Moment, is_clash_free, no_make, resets, book_said}
 use Rattle.iol_steps.specs.Session.{Session, MaySessionAll, session_through}
 use Rattle.iol_steps.specs.Images.{MayImagesAll, images_through}
+use Rattle.iol_app.specs.declared.event_work.EventRoom.{EventRoom}
 use Rattle.iol_app.specs.State.{expecting, pacing}
 use Rattle.iol_app.specs.StationState.{StationState, mode_in}
 use Rattle.iol_app.specs.Core.{Core, Ghost, Stands, TermsStay, IsAttempted, ordered, session_in, frozen_in, images_in, moment_of, made_ghost}
@@ -317,7 +318,8 @@ wake_does p next answered sent steps free settles = λ far far' n x.
     taken_up p next far far' n n Idle free settles sent (λ g stands. steps g far far' n stands x)
 
 -- what goes out a second time changes nothing
-pub sent_same : (room : Bool) (old new : Core) → IsOut old.state → IsSent room old new → new ≡ old
+pub sent_same : (room : EventRoom) (old new : Core) → IsOut old.state → IsSent room old new
+    → new ≡ old
 sent_same room old new is_out sent = grind (arith, common_steps)
 
 -- What start-ups are to ask is changed
@@ -354,7 +356,7 @@ module _ {W : Type 0} (wire : W) where
       → BeginsNext (station_of wire c) b (station_of wire d) after
   begins_over c d b after begins = grind (arith, common_steps)
 
-  pub takes_over : (room : Bool) (c d : Core) (b after : BookState)
+  pub takes_over : (room : EventRoom) (c d : Core) (b after : BookState)
       → TakesNext room (bare c) b (bare d) after
       → TakesNext room (station_of wire c) b (station_of wire d) after
   takes_over room c d b after takes t q ready told head =

@@ -20,6 +20,7 @@ use Rattle.iol_book.specs.declared.entries.Ticket.{Ticket}
 use Rattle.iol_book.specs.declared.entries.Outcome.TheVariants.{Done}
 use Rattle.iol_book.specs.Replay.{Standing}
 use Rattle.iol_book.specs.BookModel.{BookState, next_taken, others_behind, took, posted}
+use Rattle.iol_app.specs.declared.event_work.EventRoom.TheVariants.{Left}
 use Rattle.iol_app.specs.StationState.{StationState, wire_of}
 use Rattle.iol_port.specs.declared.call.Call.{Call}
 use Rattle.iol_port.specs.declared.call.Call.TheVariants as call
@@ -214,7 +215,7 @@ module _ {W : Type 0} (facts : WireFacts W) where
         link_is = is.stood.link_is;
         is_honest = is.stood.is_honest;
         is_clean = is.stood.is_clean;
-        ready = calm_ready now.station.session true is.stood.calm is.free
+        ready = calm_ready now.station.session Left is.stood.calm is.free
             (rw (asks_is, is.clear_is) (follows more));
         link = operate_link;
         operating = is.stood.operating;

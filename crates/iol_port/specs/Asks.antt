@@ -7,6 +7,8 @@ use Rattle.iol_link.specs.WireFacts.{WireFacts}
 use Rattle.iol_book.specs.declared.entries.Ticket.{Ticket}
 use Rattle.iol_book.specs.BookModel.{next_taken}
 use Rattle.iol_app.specs.declared.asked.Asked.{Asked}
+use Rattle.iol_app.specs.declared.event_work.EventRoom.{EventRoom}
+use Rattle.iol_app.specs.declared.event_work.EventRoom.TheVariants.{Left, Full}
 use Rattle.iol_app.specs.Asking.{asked_of, prepared, IsCall}
 use Rattle.iol_port.specs.View.{Parts}
 use Rattle.iol_port.specs.declared.call.Call.{Call}
@@ -14,8 +16,8 @@ use Rattle.iol_port.specs.declared.call.Call.TheVariants.{Turn}
 
 -- events are read only where at most 58 are kept
 -- EVT-5
-abbrev pub has_room : List Event → Bool
-has_room kept = nat_le (length kept) 58
+abbrev pub event_room : List Event → EventRoom
+event_room kept = if nat_le (length kept) 58 then Left else Full
 
 -- a start-up told that the device has no ISDU
 abbrev pub lacks_isdu : Option Bool → Bool
@@ -36,7 +38,7 @@ module _ {W : Type 0} where
   -- nothing else is due
   -- PORT-2
   abbrev pub asks_of : Parts W → Asked
-  asks_of p = asked_of (prepared (begun_next p) p.station (has_room p.kept)) (has_room p.kept)
+  asks_of p = asked_of (prepared (begun_next p) p.station (event_room p.kept)) (event_room p.kept)
 
   -- a turn makes the call of the wire that was asked, and no other call of the port
   -- touches the wire

@@ -30,6 +30,7 @@ use Rattle.iol_mode.specs.Next.{in_operate as InOperate}
 use Rattle.iol_mode.specs.declared.configuration.Devices.{Devices}
 use Rattle.iol_mode.specs.declared.configuration.Devices.TheVariants.{Any}
 use Rattle.iol_mode.specs.Kinds.{IsHonestFor}
+use Rattle.iol_app.specs.declared.event_work.EventRoom.TheVariants.{Left}
 use Rattle.iol_app.specs.Due.{is_under_way, is_confirm_due, is_resting, is_ready}
 use Rattle.iol_app.specs.State.{SessionState}
 use Rattle.iol_app.specs.StationState.{StationState, wire_of}
@@ -176,7 +177,7 @@ module _ {W : Type 0} (facts : WireFacts W) where
         ≡ InOperate (record { wire = wire; state = record { out = None; layouts = layouts } })
     pub is_honest : IsHonestFor facts p.station.session.configuration.devices wire
     pub is_clean : IsTrue (clean wire)
-    pub ready : is_ready p.station.session true ≡ true
+    pub ready : is_ready p.station.session Left ≡ true
     pub link : Link
     pub operating : IsOperating layouts link
     pub level : IsBefore (far wire).page (far wire).kind layouts.run.od (far wire).carried link

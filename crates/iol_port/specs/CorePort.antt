@@ -22,7 +22,7 @@ use Rattle.iol_port.specs.declared.awaited.Awaited.TheVariants.{Nothing, Wake, R
 use Rattle.iol_port.specs.declared.call.Call.{Call}
 use Rattle.iol_port.specs.declared.call.Answered.{Answered}
 use Rattle.iol_port.specs.declared.call.Answered.TheVariants as answered
-use Rattle.iol_port.specs.Asks.{has_room}
+use Rattle.iol_port.specs.Asks.{event_room}
 use Rattle.iol_port.specs.EveryWire.{KeepsMemory, station_begun, book_begun}
 use Rattle.iol_port.specs.Run.{PortState, Piece, Send, Receive, PieceOf, opened}
 use Rattle.iol_port.specs.Counters.{call_counted, said_counted}
@@ -135,7 +135,7 @@ WakeDoes p answered next =
 -- PORT-1, PORT-8
 pub record SendGives (old new : Parts (Unit {0})) : Type 0 where
   pub core : old.sent ≡ false
-      → IsSent (has_room old.kept) (core_of (station_begun old)) (core_of new.station)
+      → IsSent (event_room old.kept) (core_of (station_begun old)) (core_of new.station)
   pub book : old.sent ≡ false → new.book.state ≡ book_begun old
   pub memory : KeepsMemory old new
   pub kept : new.kept ≡ old.kept

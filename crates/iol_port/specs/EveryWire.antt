@@ -36,7 +36,7 @@ use Rattle.iol_port.specs.declared.call.Call.TheVariants as call
 use Rattle.iol_port.specs.declared.call.Answered.{Answered}
 use Rattle.iol_port.specs.declared.call.Answered.TheVariants as answered
 use Rattle.iol_port.specs.declared.call.Counting.{Counting}
-use Rattle.iol_port.specs.Asks.{has_room, asks_of, lacks_isdu, begun_next}
+use Rattle.iol_port.specs.Asks.{event_room, asks_of, lacks_isdu, begun_next}
 use Rattle.iol_port.specs.Replies.{by_book, ticket_reply, outcome_reply, nothing_reply, event_reply, archive_reply}
 use Rattle.iol_port.specs.Run.{counting}
 use Rattle.iol_port.specs.Sound.{request_taken}
@@ -201,12 +201,12 @@ module _ {W : Type 0} where
   -- whether the next turn would send IDLE 1, so that it takes or denies the next request
   -- REQ-2
   abbrev pub takes_next : Parts W → Bool
-  takes_next p = is_operating p.station.link && is_ready p.station.session (has_room p.kept)
+  takes_next p = is_operating p.station.link && is_ready p.station.session (event_room p.kept)
 
   -- the station and the book with which a turn begins: that request is taken and begun, or denied
   -- REQ-2
   abbrev pub station_begun : Parts W → StationState W
-  station_begun p = prepared (begun_next p) p.station (has_room p.kept)
+  station_begun p = prepared (begun_next p) p.station (event_room p.kept)
 
   -- REQ-2
   abbrev pub book_begun : Parts W → BookState
@@ -234,7 +234,7 @@ module _ {W : Type 0} where
       -- its one call of the wire is the one that the port asks for, and brought this
       pub turn :
           IsTurn (brought_facts facts (asks_of old) (tries_in old.station.link.state) brought)
-          (has_room old.kept) (station_begun old) said new.station
+          (event_room old.kept) (station_begun old) said new.station
       pub book : new.book.state
           ≡ book_through
           (resets (is_reset old.station.link.state) (is_reset new.station.link.state)

@@ -13,7 +13,7 @@ ghost use Rattle.iol_port.specs.declared.call.Call.TheVariants as call;
 ghost use Rattle.iol_port.specs.declared.call.Answered.TheVariants as answered;
 ghost use Rattle.iol_port.specs.declared.awaited.Awaited.{Awaited};
 ghost use Rattle.iol_port.specs.View.{Does};
-ghost use Rattle.iol_port.specs.Asks.{asks_of, has_room};
+ghost use Rattle.iol_port.specs.Asks.{asks_of, event_room};
 ghost use Rattle.iol_port.specs.EveryWire.{TurnGives};
 ghost use Rattle.iol_port.specs.EveryWire.{page_shown};
 ghost use Rattle.iol_port.specs.RightDevice.{IsForRightDevice};
@@ -31,7 +31,7 @@ use crate::counters::Counters;
 use crate::laws::clean_laws;
 use crate::settle::{KEPT, ROOM, begin_next, by_book, by_output, lacks_isdu, resets, settle};
 use arrayvec::ArrayVec;
-use iol_app::{Asked, Brought, Core, Status};
+use iol_app::{Asked, Brought, Core, EventRoom, Status};
 use iol_book::{Book, Entry, Limits, Outcome, Ticket};
 use iol_event::Event;
 use iol_image::Image;
@@ -399,16 +399,20 @@ impl<A: Allocator + Copy> PortCore<A> {
         } else {
             self.book.next()
         };
-        self.core.asks(self.has_room(), next)
+        self.core.asks(self.event_room(), next)
     }
 
     /// Whether a turn may begin to read events.
     ///
     /// Rule EVT-5.
-    fn has_room(&self) -> bool
-        ensures { result ≡ has_room self.now.kept }
+    fn event_room(&self) -> EventRoom
+        ensures { result ≡ event_room self.now.kept }
     {
-        self.kept.len() <= ROOM
+        if self.kept.len() <= ROOM {
+            EventRoom::Left
+        } else {
+            EventRoom::Full
+        }
     }
 
     /// What goes out: the octets of one message, or a wake-up request, where the link is down.
@@ -428,7 +432,7 @@ impl<A: Allocator + Copy> PortCore<A> {
         ensures gives { SendGives self.old self.new }
         ensures does { SendDoes self.old self.new }
     {
-        let room = self.has_room();
+        let room = self.event_room();
         if !self.sent {
             begin_next(&mut self.core, &mut self.book, room);
             self.sent = true;
@@ -492,7 +496,7 @@ impl<A: Allocator + Copy> PortCore<A> {
             (parts_over wire.new self.new) }
     {
         clean_laws();
-        let room = self.has_room();
+        let room = self.event_room();
         begin_next(&mut self.core, &mut self.book, room);
         let began = self.core.is_reset();
         let mut said = Said::Idle;

@@ -19,7 +19,7 @@ ghost use Rattle.iol_port.specs.View.{BeginsNext, TakesNext, Asks, HasRoom};
 
 use crate::PortFault;
 use arrayvec::ArrayVec;
-use iol_app::{Core, OutputFault};
+use iol_app::{Core, EventRoom, OutputFault};
 use iol_book::{Book, BookFault, Outcome};
 use iol_event::{Event, EventList};
 use iol_steps::Said;
@@ -73,7 +73,7 @@ pub(crate) fn lacks_isdu(told: Option<bool>) -> bool
 /// where nothing else is to be sent.
 ///
 /// Rules REQ-2, REQ-3.
-pub(crate) fn begin_next<A: Allocator + Copy>(core: &mut Core, book: &mut Book<A>, room: bool)
+pub(crate) fn begin_next<A: Allocator + Copy>(core: &mut Core, book: &mut Book<A>, room: EventRoom)
     ensures next { BeginsNext (bare core.old) book.old.state
         (bare core.new) book.new.state }
     ensures exact { core.new ≡ core_of (prepared

@@ -4,7 +4,7 @@ use Rattle.iol_app.proofs.Pieces.{receive_steps}
 use Rattle.iol_app.proofs.core_data.Core.receive.Goals as goal
 
 pub returns-clause-told : goal.returns-clause-told
-returns-clause-told c = taken_told c.requires.out c.take.ensures
+returns-clause-told c = taken_told c.requires c.take.ensures
 
 pub returns-clause-steps : goal.returns-clause-steps
-returns-clause-steps c = receive_steps c.station_laws.ensures c.requires.out c.take.ensures
+returns-clause-steps c = receive_steps c.station_laws.ensures c.requires c.take.ensures

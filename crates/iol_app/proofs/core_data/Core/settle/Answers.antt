@@ -22,18 +22,18 @@ is_judged c = rw c.configuration.ensures at c.receives-attempt.ensures.state
 fits : (c : goal.After-brought) → OutcomeFits (outcome c)
 fits c = rw outcome_state c.receives-attempt.ensures.fits
 
-pub settled-requires-clause-fits : goal.settled-requires-clause-fits
-settled-requires-clause-fits c =
+pub settled-requires : goal.settled-requires
+settled-requires c =
     let i = c.self.inside in
     rw (c.receives-attempt.ensures.state, c.configuration.ensures)
     (judged_next i.state (octets_in c.args.came.now) i.session
-    (rw (← c.self.view_is) at c.requires.out) c.self.invariant.1)
+    (rw (← c.self.view_is) at c.requires) c.self.invariant.1)
 
 pub invariant_of-self : goal.invariant_of-self
 invariant_of-self c = (
   c.receives-attempt.ensures.fits,
   rw c.settled.ensures.session (rw outcome_state at (settled_fits (outcome c)
-      c.self.inside.session (fits c) (settled-requires-clause-fits c.before.before.before))),
+      c.self.inside.session (fits c) (settled-requires c.before.before.before))),
 )
 
 pub returns-clause-core : goal.returns-clause-core

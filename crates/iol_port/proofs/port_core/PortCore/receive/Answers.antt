@@ -1,6 +1,7 @@
 -- What comes back goes to the book and to the kept events, and is one piece of a run.
-use Rattle.std.proofs.Common.{◌≡◌, ◌∙◌, ◌++◌, true, false, refl, ap, inl}
+use Rattle.std.proofs.Common.{◌≡◌, ◌∙◌, ◌++◌, refl, ap, inl}
 use Rattle.iol_far.specs.Octets.{octets_in}
+use Rattle.iol_app.specs.declared.event_work.EventRoom.TheVariants.{Left, Full}
 use Rattle.iol_app.specs.Core.{Core, came_of}
 use Rattle.iol_mode.specs.States.{is_reset}
 use Rattle.iol_steps.specs.Step.{resets, book_said}
@@ -20,13 +21,13 @@ pub invariant_of-self : goal.invariant_of-self
 invariant_of-self g c =
     let p : Parts (Unit {0}) = parts_in c.self.inside in
     turn_tied p p.station (bare c.receive-brought.new.self) p.book.state c.settle.new.kept.items
-    c.settle.new.book c.resets-reset.result false c.receive-brought.new.said c.self.invariant
+    c.settle.new.book c.resets-reset.result Full c.receive-brought.new.said c.self.invariant
     (inl (refl, refl))
     (ap (λ (k : Core). k.session.limit) c.receive-brought.ensures.taken.is
     ∙ settled_limit (came_of c.self.inside.core (octets_in c.args.came.now))
     c.self.inside.core.session)
     c.receive-brought.ensures.told.request c.receive-brought.ensures.told.reading
-    (λ room. absurd (let k : false ≡ true = room in cc)) c.settle.ensures.book
+    (λ room. absurd (let k : Full ≡ Left = room in cc)) c.settle.ensures.book
     c.settle.ensures.kept
 
 -- the book heard of a reset where both cores say so

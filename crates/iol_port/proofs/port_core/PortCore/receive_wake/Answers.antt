@@ -1,9 +1,10 @@
 -- What a wake brought is one piece of a run.
-use Rattle.std.proofs.Common.{◌≡◌, ◌∙◌, ◌++◌, true, false, refl, ap, inl, append-nil}
+use Rattle.std.proofs.Common.{◌≡◌, ◌∙◌, ◌++◌, refl, ap, inl, append-nil}
 use Rattle.std.specs.Prelude.{is_some}
 use Rattle.iol_mode.specs.States.{is_reset}
 use Rattle.iol_steps.specs.Step.{resets, book_said}
 use Rattle.iol_steps.specs.declared.said.Said.TheVariants.{Idle}
+use Rattle.iol_app.specs.declared.event_work.EventRoom.TheVariants.{Left, Full}
 use Rattle.iol_app.specs.Core.{Core}
 use Rattle.iol_port.specs.Steps.{book_through}
 use Rattle.iol_port.specs.View.{Parts}
@@ -17,11 +18,11 @@ pub invariant_of-self : goal.invariant_of-self
 invariant_of-self g c =
     let p : Parts (Unit {0}) = parts_in c.self.inside in
     turn_tied p p.station (bare c.receive_wake.new.self) p.book.state c.settle.new.kept.items
-    c.settle.new.book c.resets-reset.result false Idle c.self.invariant (inl (refl, refl))
+    c.settle.new.book c.resets-reset.result Full Idle c.self.invariant (inl (refl, refl))
     (ap (λ (k : Core). k.session.limit) c.receive_wake.ensures.core
     ∙ woken_limit (is_some c.args.rate) c.self.inside.core.session)
     c.receive_wake.ensures.told.request c.receive_wake.ensures.told.reading
-    (λ room. absurd (let k : false ≡ true = room in cc)) c.settle.ensures.book
+    (λ room. absurd (let k : Full ≡ Left = room in cc)) c.settle.ensures.book
     c.settle.ensures.kept
 
 -- the book heard of a reset where both cores say so

@@ -2,7 +2,7 @@
 use Rattle.std.proofs.Common.{◌≡◌, ◌∙◌, true, false, refl, sym, ap, inl}
 use Rattle.iol_app.specs.Pieces.{IsSent}
 use Rattle.iol_app.specs.Seen.{core_of}
-use Rattle.iol_port.specs.Asks.{has_room}
+use Rattle.iol_port.specs.Asks.{event_room}
 use Rattle.iol_port.specs.EveryWire.{station_begun}
 use Rattle.iol_port.specs.View.{Parts, BeginsNext}
 use Rattle.iol_port.proofs.TieLemmas.{send_tied}
@@ -13,9 +13,9 @@ use Rattle.iol_port.proofs.port_core.PortCore.send.Given as given
 use Rattle.iol_port.proofs.port_core.PortCore.send.Goals as goal
 
 room : (g : given.Over) (c : goal.After-send g)
-    → c.has_room-room.result ≡ has_room (parts_in c.self.inside).kept
-room g c = c.has_room-room.ensures
-    ∙ ap (λ (q : Parts (Unit {0})). has_room q.kept) (sym c.self.view_is)
+    → c.event_room-room.result ≡ event_room (parts_in c.self.inside).kept
+room g c = c.event_room-room.ensures
+    ∙ ap (λ (q : Parts (Unit {0})). event_room q.kept) (sym c.self.view_is)
 
 pub invariant_of-self : goal.invariant_of-self
 invariant_of-self g c =
@@ -26,7 +26,7 @@ invariant_of-self g c =
       | then-not-self w ↦ rw w.self-inside-is (w.begin_next.ensures.next, refl)
       | else-not-self w ↦ rw w.self-inside-is (inl (refl, refl), refl)
     ] in
-    send_tied p now.core c.send.new.self now.book now.kept.items now.sent c.has_room-room.result
+    send_tied p now.core c.send.new.self now.book now.kept.items now.sent c.event_room-room.result
     c.send.result c.self.invariant begun.0 begun.1 (room g c) c.send.ensures.puts.sent
     c.send.ensures.puts.reads c.send.ensures.says
 
@@ -44,7 +44,7 @@ both g c =
           let begun = w.begin_next in
           let exact : begun.new.core ≡ core_of (station_begun p) =
           begun.ensures.exact ∙ (rw (room g c) refl) in
-          let sent : IsSent (has_room p.kept) (core_of (station_begun p)) c.send.new.self =
+          let sent : IsSent (event_room p.kept) (core_of (station_begun p)) c.send.new.self =
           rw (w.self-inside-is, exact, room g c) at c.send.ensures.puts.sent in
           rw w.self-inside-is (
             record {
@@ -60,7 +60,7 @@ both g c =
           )
       | else-not-self w ↦
           let sent : p.sent ≡ true = cc in
-          let same : c.send.new.self ≡ c.self.inside.core = sent_same c.has_room-room.result
+          let same : c.send.new.self ≡ c.self.inside.core = sent_same c.event_room-room.result
           c.self.inside.core c.send.new.self (c.self.invariant.out sent)
           (rw w.self-inside-is at c.send.ensures.puts.sent) in
           rw (w.self-inside-is, same) (

@@ -8,7 +8,7 @@ use Rattle.iol_app.specs.Asking.{prepared}
 use Rattle.iol_app.specs.Seen.{station_of}
 use Rattle.iol_isdu.specs.declared.values.Request.{Request}
 use Rattle.iol_book.specs.BookModel.{next_taken}
-use Rattle.iol_port.specs.Asks.{has_room, lacks_isdu, to_begin}
+use Rattle.iol_port.specs.Asks.{event_room, lacks_isdu, to_begin}
 use Rattle.iol_port.specs.View.{Parts, BeginsNext}
 use Rattle.iol_port.specs.CorePort.{bare, parts_over}
 use Rattle.iol_port.proofs.AskLemmas.{book_told, turn_begun_asked}
@@ -86,7 +86,7 @@ returns-clause-clean g c =
     (after g c)
     (mid g c) c.begin_next.new.book.state _ c.resets-reset.result c.turn-brought.new.said
     (begins g c)
-    (takes_over c.args.wire.now c.has_room-room.result c.self.inside.core c.begin_next.new.core
+    (takes_over c.args.wire.now c.event_room-room.result c.self.inside.core c.begin_next.new.core
     c.self.inside.book.state c.begin_next.new.book.state c.begin_next.ensures.takes)
     c.turn-brought.ensures.turn.is c.self.invariant.busy (unreset g c) c.settle.ensures.book)
 
@@ -96,19 +96,20 @@ returns-clause-gives g c =
     let said = c.turn-brought.new.said in
     let next : Option Request = to_begin (lacks_isdu p.station.session.isdu)
     (next_taken p.book.state.standing) in
-    let room : c.has_room-room.result ≡ has_room p.kept = c.has_room-room.ensures
-    ∙ ap (λ (q : Parts (Unit {0})). has_room q.kept) (sym c.self.view_is) in
-    let exact : mid g c ≡ prepared next p.station c.has_room-room.result =
+    let room : c.event_room-room.result ≡ event_room p.kept = c.event_room-room.ensures
+    ∙ ap (λ (q : Parts (Unit {0})). event_room q.kept) (sym c.self.view_is) in
+    let exact : mid g c ≡ prepared next p.station c.event_room-room.result =
     rw c.begin_next.ensures.exact refl in
     rw (← c.self.view_is)
     (record {
       said = said;
       brought = c.turn-brought.result;
       turn = turn_begun_asked g.W.Wire.facts p.station (mid g c) (after g c).station next
-          c.has_room-room.result _ said c.turn-brought.result room exact
+          c.event_room-room.result _ said c.turn-brought.result room exact
           c.turn-brought.ensures.turn.exact;
       book = c.settle.ensures.book
-          ∙ book_told p.station (mid g c) (after g c).station next c.has_room-room.result _ _ _ said
+          ∙ book_told p.station (mid g c) (after g c).station next c.event_room-room.result _ _
+          _ said
           c.begin_next.new.book.state exact c.is_reset-began.ensures c.is_reset.ensures
           c.resets-reset.ensures ∙ (rw (c.begin_next.ensures.taken, room) refl);
       memory = c.settle.ensures.memory ∙ c.begin_next.ensures.memory;
@@ -119,7 +120,7 @@ returns-clause-gives g c =
           (ends_ask _ _ _ (begun_same _ _ _ _ c.begin_next.ensures.next c.self.invariant.same)
           c.turn-brought.ensures.turn.told.ends)
           c.settle.ensures.book ticket has
-          (is_operating p.station.link && is_ready p.station.session c.has_room-room.result)
+          (is_operating p.station.link && is_ready p.station.session c.event_room-room.result)
           c.begin_next.ensures.taken
           (λ ready. unreset g c (ap (λ (s : StationState g.row.W.Denot). is_operating s.link) exact
           ∙ (grind (arith, common_steps))));
