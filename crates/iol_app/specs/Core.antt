@@ -12,7 +12,7 @@ use Rattle.iol_far.specs.declared.mode.Mode.TheVariants.{Operate as FarOperate}
 use Rattle.iol_far.specs.declared.kind.Kind.{Kind}
 use Rattle.iol_far.specs.declared.kind.HandsOver.{HandsOver}
 use Rattle.iol_far.specs.Level.{Link, Progress, IsBefore, IsLevel, IsSent, IsIdle, IsOutOnce, taken}
-use Rattle.iol_link.specs.Attempts.{Sending}
+use Rattle.iol_link.specs.Attempts.{Sending, most_attempts}
 use Rattle.iol_link.specs.Honest.{HonestWake, HonestExchange}
 use Rattle.iol_mode.specs.declared.configuration.Devices.{Devices}
 use Rattle.iol_mode.specs.declared.states.State.{State}
@@ -574,7 +574,7 @@ pub record Receives : Type 0 where
       (far far_new : Far) (silence silence_new : ℕ) (came : Option (List ℕ)) (said : Said)
       → let c : Core = core_out layouts out t exchange t.current in
       Stands c g far silence → IsSession c.session
-      → HonestExchange far silence (text_out c.state) came far_new silence_new → out.tries < 3
+      → HonestExchange far silence (text_out c.state) came far_new silence_new → out.tries < most_attempts
       → let outcome : Outcome = came_of c came in
       let next : Core = after_exchange outcome c.session in
       -- the link's own laws

@@ -9,6 +9,15 @@ use Rattle.iol_link.specs.declared.handler.Attempt.TheVariants.{Got, Again, Lost
 use Rattle.iol_link.specs.declared.handler.AttemptView.{AttemptView}
 use Rattle.iol_link.specs.declared.handler.AttemptView.TheVariants as view
 
+-- how often a message is sent again at most (IEC 61131-9, 7.3.3: MaxRetry)
+-- LINK-3
+abbrev pub max_retry : ℕ
+max_retry = 2
+
+-- how often it is sent in a row at most
+abbrev pub most_attempts : ℕ
+most_attempts = max_retry + 1
+
 pub record Sending : Type 0 where
   pub message : MasterMsg
   -- the attempts in a row without a good reply
@@ -19,11 +28,11 @@ pub record Sending : Type 0 where
 abbrev pub good_reply : Shape → MasterMsg → Option (List ℕ) → Option Reply
 good_reply layout message answer = option_and_then (reply_in layout message.mc.read) answer
 
--- how an attempt ends after so many before it: without a good reply the third loses the link
+-- how an attempt ends after so many before it: without a good reply the last loses the link
 -- LINK-2, LINK-3
 abbrev pub attempt_of : ℕ → Option Reply → Attempt
 attempt_of tries (Some reply) = Got reply
-attempt_of tries None = if tries == 2 then Lost else Again
+attempt_of tries None = if tries == max_retry then Lost else Again
 
 -- the same, whose reply lies in what came
 abbrev pub attempt_in : AttemptView → Attempt
@@ -35,7 +44,7 @@ attempt_in view.Lost = Lost
 -- LINK-3
 abbrev pub tries_after : ℕ → Option Reply → ℕ
 tries_after tries (Some reply) = 0
-tries_after tries None = if tries == 2 then 0 else tries + 1
+tries_after tries None = if tries == max_retry then 0 else tries + 1
 
 -- one attempt, by the answer of the wire
 pub record IsAttempt (layout : Shape) (old : Sending) (answer : Option (List ℕ)) (attempt : Attempt)

@@ -4,6 +4,7 @@ use Rattle.iol_mseq.specs.Shape.{Shape, IsLayout}
 use Rattle.iol_mseq.specs.Master.{master_in}
 use Rattle.iol_mseq.specs.Replies.{reply_in}
 use Rattle.iol_mseq.specs.declared.master.MasterMsg.{MasterMsg}
+use Rattle.iol_link.specs.Attempts.{most_attempts}
 use Rattle.iol_far.specs.Isdu.{handed}
 use Rattle.iol_far.specs.Far.{Far, hear}
 use Rattle.iol_far.specs.Local.{LocalStep, locals, woken, IsWorkedOff}
@@ -48,10 +49,10 @@ abbrev pub brought : Passage → Far → List ℕ → Option (List ℕ)
 brought Clean far sent = (hear far sent).reply
 brought passage far sent = None
 
--- how many exchanges in a row, up to now, brought no unaltered reply, counted up to 3
+-- how many exchanges in a row, up to now, brought no unaltered reply, counted up to the most attempts
 -- WIRE-4
 abbrev pub silence_after : ℕ → Option (List ℕ) → ℕ
-silence_after silence None = min 3 (silence + 1)
+silence_after silence None = min most_attempts (silence + 1)
 silence_after silence (Some reply) = 0
 
 -- one exchange: some steps of the far end by itself, then the octets come as far as

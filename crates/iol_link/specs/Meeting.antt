@@ -11,7 +11,7 @@ use Rattle.iol_far.specs.Far.{Far, reply_to}
 use Rattle.iol_far.specs.Level.{Link, taken, turned, Progress, Move, after, base_after, RecallsAtLeast, IsOutOnce, IsSent, under_way, IsBefore, IsLevel, IsGrown}
 use Rattle.iol_far.specs.Linked.{IsAt, IsLinked}
 use Rattle.iol_link.specs.Honest.{HonestExchange}
-use Rattle.iol_link.specs.Attempts.{good_reply}
+use Rattle.iol_link.specs.Attempts.{good_reply, most_attempts}
 
 -- the octets of the message that is out, in the layout in which the far end accepts them
 pub record IsOut (page : List ℕ) (link : Link) (octets : List ℕ) (message : MasterMsg)
@@ -47,7 +47,7 @@ pub record LinkExchanges : Type 0 where
       → HonestExchange far silence octets answer far_new silence_new
       → (link : Link) (message : MasterMsg) (layout : Shape) (tries : ℕ)
       → IsOut far.page link octets message layout → IsLinked far.page link octets tries far
-      → tries < 3 → tries ≤ silence → good_reply layout message answer ≡ None
+      → tries < most_attempts → tries ≤ silence → good_reply layout message answer ≡ None
       → LinkMissed link octets tries silence_new far_new
 
 -- The request and the record too
@@ -93,7 +93,7 @@ pub record LevelExchanges (size : ℕ) : Type 0 where
       → (base : List Carried) (progress : Progress) (what : Move)
       → IsSent far.page size link progress octets message what
       → IsLevel far.page far.kind size base link progress octets tries far
-      → tries < 3 → tries ≤ silence → good_reply layout message answer ≡ None
+      → tries < most_attempts → tries ≤ silence → good_reply layout message answer ≡ None
       → LevelMissed size base link progress octets what tries silence_new far_new
 
 -- what an exchange leaves as it was

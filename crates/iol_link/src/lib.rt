@@ -14,6 +14,6 @@ mod handler;
 mod laws;
 mod wire;
 
-pub use handler::{Attempt, AttemptView, Handler};
+pub use handler::{Attempt, AttemptView, Handler, MAX_RETRY};
 pub use laws::{damaged_replies_are_unread, exchanges_keep_ends_level};
 pub use wire::{Rate, Wire};

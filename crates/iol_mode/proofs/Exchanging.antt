@@ -20,7 +20,7 @@ use Rattle.iol_far.specs.Codec.{message_in}
 use Rattle.iol_far.specs.Far.{Far, WaitingCommand, waits_after, mode_asked, command_in, known_mode}
 use Rattle.iol_far.specs.Level.{Link, taken, turned, hearings}
 use Rattle.iol_far.specs.Linked.{IsLinked}
-use Rattle.iol_link.specs.Attempts.{Sending, good_reply, attempt_of}
+use Rattle.iol_link.specs.Attempts.{Sending, good_reply, most_attempts, attempt_of}
 use Rattle.iol_link.specs.Honest.{HonestExchange}
 use Rattle.iol_mode.specs.Messages.{command_message, stays, stays_by}
 use Rattle.iol_page.specs.Page.{AreLayouts, IsPlain}
@@ -222,7 +222,7 @@ instead_stands laws s new m is fits = rw is (λ far n stands. stands)
 
 module _ {sent : Sending} {layouts : Layouts} {n n' : ℕ} {far far' : Far} {a : Option (List ℕ)}
     (laws : Laws) (fits : OperateFits (record { out = Some sent; layouts = layouts }))
-    (few : sent.tries < 3)
+    (few : sent.tries < most_attempts)
     (h : OperateStands (record { out = Some sent; layouts = layouts }) n far)
     (x : HonestExchange far n (master_text layouts.run sent.message) a far' n') where
   at : IsAccepted layouts far.page h.link sent.message
@@ -272,7 +272,7 @@ module _ {sent : Sending} {layouts : Layouts} {n n' : ℕ} {far far' : Far} {a :
 
 out_gives : (laws : Laws) (out : Option Sending) (layouts : Layouts)
     → OperateFits (record { out = out; layouts = layouts })
-    → IfSome out (λ sent. sent.tries < 3) → (came : Option (List ℕ))
+    → IfSome out (λ sent. sent.tries < most_attempts) → (came : Option (List ℕ))
     → ExchangeGives (AtOperate (record { out = out; layouts = layouts })) came
     (judged_out out layouts came)
 out_gives laws None layouts fits few came far far' n n' h x = tt

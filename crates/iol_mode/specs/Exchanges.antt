@@ -11,7 +11,7 @@ use Rattle.iol_far.specs.Octets.{octets_in}
 use Rattle.iol_far.specs.Level.{Link}
 use Rattle.iol_link.specs.declared.handler.Attempt.{Attempt}
 use Rattle.iol_link.specs.declared.handler.Attempt.TheVariants.{Again}
-use Rattle.iol_link.specs.Attempts.{Sending, good_reply, attempt_of}
+use Rattle.iol_link.specs.Attempts.{Sending, good_reply, attempt_of, most_attempts}
 use Rattle.iol_link.specs.Honest.{HonestWake, HonestExchange}
 use Rattle.iol_link.specs.WireFacts.{WireFacts, Passes}
 use Rattle.iol_mode.specs.declared.configuration.Configuration.{Configuration}
@@ -107,9 +107,9 @@ attempted (AtOperate s) came = attempt_at s.out s.layouts.run came
 -- the attempts at it are fewer than three
 abbrev pub AreFew : State → Type 0
 AreFew (AtDown s) = ⊤
-AreFew (AtStartup s) = s.sent.tries < 3
-AreFew (AtPreoperate s) = s.sent.tries < 3
-AreFew (AtOperate s) = IfSome s.out (λ sent. sent.tries < 3)
+AreFew (AtStartup s) = s.sent.tries < most_attempts
+AreFew (AtPreoperate s) = s.sent.tries < most_attempts
+AreFew (AtOperate s) = IfSome s.out (λ sent. sent.tries < most_attempts)
 
 -- what came back to the message that was out is judged, and this is how the attempt ends
 pub record IsJudged (c : Configuration) (old : State) (came : Option (List ℕ))

@@ -11,7 +11,7 @@ use Rattle.iol_far.specs.Far.{Far}
 use Rattle.iol_far.specs.Level.{Link as FarLink}
 use Rattle.iol_page.specs.declared.page.Layouts.{Layouts}
 use Rattle.iol_link.specs.declared.handler.Attempt.{Attempt}
-use Rattle.iol_link.specs.Attempts.{Sending, good_reply, attempt_of}
+use Rattle.iol_link.specs.Attempts.{Sending, good_reply, attempt_of, most_attempts}
 use Rattle.iol_link.specs.WireFacts.{WireFacts, Passes}
 use Rattle.iol_mode.specs.declared.configuration.Devices.TheVariants.{Own}
 use Rattle.iol_mode.specs.Kinds.{IsHonestFor}
@@ -94,7 +94,7 @@ module _ {W : Type 0} (facts : WireFacts W) where
     pub both : IsHonestFor facts Own wire → IsMet outcome (silence new) (far new)
     pub fits : OperateFits s
     pub stood : IsHonestFor facts Own wire → OperateStands s (silence wire) (far wire)
-    pub few : (sending_of s.out message).tries < 3
+    pub few : (sending_of s.out message).tries < most_attempts
     pub accepted : IsHonestFor facts Own wire → (link : FarLink) → IsOperating s.layouts link
         → IsAccepted s.layouts (far wire).page link (sending_of s.out message).message
 

@@ -6,7 +6,7 @@ ghost use Rattle.iol_mseq.specs.Master.{HasMasterParts};
 ghost use Rattle.iol_mseq.specs.Texts.{master_text};
 ghost use Rattle.iol_far.specs.Far.{Far};
 ghost use Rattle.iol_far.specs.Octets.{octets_in};
-ghost use Rattle.iol_link.specs.Attempts.{attempt_in, attempt_of, good_reply};
+ghost use Rattle.iol_link.specs.Attempts.{attempt_in, attempt_of, good_reply, most_attempts};
 ghost use Rattle.iol_mode.specs.Messages.{stays};
 ghost use Rattle.iol_mode.specs.States.{StateFits, Takes, IsDown, IsStartup, IsPreoperate, outcome_with, state_of, waked, counted, left_by, any_device};
 ghost use Rattle.iol_mode.specs.Exchanges.{IsSending, IsOperateSending, AreFew, text_out, layout_out, putting, putting_instead, judged, attempted, IsJudged, ExchangeGives, StandsOn, AcceptedBy, WakeStands};
@@ -271,7 +271,7 @@ fn judge_out<'a>(
     layout: &Layout,
 ) -> AttemptView<'a>
     requires { IsSome out.old }
-    ensures { IfSome out.old (λ sent. (sent.tries < 3)
+    ensures { IfSome out.old (λ sent. (sent.tries < most_attempts)
         × (attempt_in result
         ≡ attempt_of sent.tries (good_reply layout.now sent.message (octets_in came.now)))
         × (out.new

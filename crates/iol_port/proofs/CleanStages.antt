@@ -163,13 +163,13 @@ read_next recalls size request answer j more =
 -- the cursor behind a segment of the answer
 abbrev gets : Request → ℕ → Answer → ℕ → ℕ → Current
 gets request size answer given j = under request size given
-    (Receiving (standing false size (answer_text request answer) j) j)
+    (Receiving (standing size (answer_text request answer) j) j)
 
 -- what the reply with a segment makes of the request
 abbrev comes : ℕ → Request → Answer → ℕ → ℕ → Outcome
 comes size request answer given j = joined_with (cutting request size given) None j
     (Ok (took_at size (answer_text request answer) j))
-    (standing false size (answer_text request answer) j)
+    (standing size (answer_text request answer) j)
 
 -- a segment before the last is kept
 joined_more : (size : ℕ) (request : Request) (answer : Answer) (given j : ℕ)
@@ -203,11 +203,11 @@ module _ (laws : CleanLaws) (size : ℕ) (low : 1 ≤ size) (request : Request) 
       rw (
         (laws.texts size low).busy _ answer fits_answer,
         (laws.texts size low).silent _ answer fits_answer,
-        (laws.joins size low).first (empty false) text holds,
+        (laws.joins size low).first empty text holds,
       ) refl
 
   next_joined : (given j : ℕ) → suc j * size < length text
-      → received_with false (cutting request size given) None (standing false size text j) (j + 1)
+      → received_with false (cutting request size given) None (standing size text j) (j + 1)
       (segment size text (suc j)) ≡ comes size request answer given (suc j)
   next_joined given j more =
       let took = rw (flow_next j) at ((laws.joins size low).next false text j holds more) in
@@ -448,7 +448,7 @@ module _ {W : Type 0} (facts : WireFacts W) where
       step (Reading answer (suc j)) at goes =
           let t = takes at.1 refl in
           let still = stays t (ap handed at.2) in
-          had_step at.0 (suc j) (Receiving (standing false size (answer_text request answer) j) j)
+          had_step at.0 (suc j) (Receiving (standing size (answer_text request answer) j) j)
           t answer at.4
           (state_is t calm (still.0 ∙ at.2)
           ∙ read_next kind.recalls size request answer j at.5)

@@ -3,6 +3,7 @@ use Rattle.std.specs.Prelude.{ℕ, ◌+◌, ◌==◌, if◌then◌else◌, zero,
 use Rattle.iol_isdu.specs.declared.values.Request.{Request}
 use Rattle.iol_isdu.specs.declared.values.Cause.{Cause}
 use Rattle.iol_isdu.specs.declared.values.Cause.TheVariants as cause
+use Rattle.iol_link.specs.Attempts.{max_retry}
 use Rattle.iol_steps.specs.declared.said.Said.{Said}
 use Rattle.iol_steps.specs.declared.said.Said.TheVariants as said
 use Rattle.iol_app.specs.declared.brought.Brought.{Brought}
@@ -50,12 +51,12 @@ abbrev pub repeat_counted : ℕ → Counters → Counters
 repeat_counted zero c = c
 repeat_counted (suc tries) c = record c { repeats = one_more c.repeats }
 
--- the third attempt in a row without a good reply has lost the link
+-- the last attempt in a row without a good reply has lost the link
 -- LINK-3
 abbrev pub loss_counted : ℕ → Verdict → Counters → Counters
 loss_counted tries Good c = c
 loss_counted tries bad c =
-    if tries == 2 then record c { links_lost = one_more c.links_lost } else c
+    if tries == max_retry then record c { links_lost = one_more c.links_lost } else c
 
 -- the one call of the wire in a turn, by what it brought
 -- PORT-12

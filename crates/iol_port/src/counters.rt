@@ -6,6 +6,7 @@ ghost use Rattle.iol_port.specs.Counters.{cause_counted};
 
 use iol_app::{Brought, Verdict};
 use iol_isdu::Cause;
+use iol_link::MAX_RETRY;
 use iol_steps::Said;
 
 /// What a port has counted since it was opened, for diagnosis. Each count stays at 2^64 - 1.
@@ -124,7 +125,7 @@ impl Counters {
     fn loss(&mut self, tries: u8, verdict: Verdict)
         ensures { self.new ≡ loss_counted tries verdict self.old }
     {
-        if tries == LAST && !matches!(verdict, Verdict::Good) {
+        if tries == MAX_RETRY && !matches!(verdict, Verdict::Good) {
             count(&mut self.links_lost);
         }
     }
@@ -154,9 +155,6 @@ impl Unknown {
         }
     }
 }
-
-/// So many attempts were made before the last one that a message has.
-const LAST: u8 = 2;
 
 /// One more.
 fn count(counter: &mut u64)

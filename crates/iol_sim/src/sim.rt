@@ -10,7 +10,7 @@ use crate::params::Params;
 use crate::script::{Fate, Step};
 use iol_device::{App, Device, Kept};
 use iol_far::{page_and_room_stay, replies_are_read};
-use iol_link::{Rate, Wire, damaged_replies_are_unread};
+use iol_link::{MAX_RETRY, Rate, Wire, damaged_replies_are_unread};
 use iol_mseq::Message;
 use iol_octets::one_flip_is_seen;
 use std::alloc::{Allocator, Global};
@@ -56,6 +56,7 @@ impl<P: App, A: Allocator + Copy> Model for Sim<P, A> {
     ghost use Rattle.std.specs.Prelude.{◌≤◌, option_map};
     ghost use Rattle.std.specs.Vec.Iter.{into_iter_items};
     ghost use Rattle.iol_sim.specs.Sim.{Simulated};
+    ghost use Rattle.iol_link.specs.Attempts.{most_attempts};
 
     ghost Value = { Simulated P };
 
@@ -68,7 +69,7 @@ impl<P: App, A: Allocator + Copy> Model for Sim<P, A> {
       silence = sim.line.silence;
     } };
 
-    ghost invariant = { λ sim. sim.line.silence ≤ 3 };
+    ghost invariant = { λ sim. sim.line.silence ≤ most_attempts };
 }
 
 impl<P: App, A: Allocator + Copy> Sim<P, A> {
@@ -419,7 +420,7 @@ impl<P: App, A: Allocator + Copy> Sim<P, A> {
     {
         self.line.silence = match (fate, answered) {
             (Fate::Clean, true) => 0,
-            _ => 3.min(self.line.silence + 1),
+            _ => (MAX_RETRY + 1).min(self.line.silence + 1),
         };
     }
 }

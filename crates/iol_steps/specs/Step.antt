@@ -17,6 +17,7 @@ use Rattle.iol_far.specs.declared.kind.Recalls.TheVariants.{UntilSent}
 use Rattle.iol_far.specs.declared.mode.Mode.TheVariants.{Operate as FarOperate}
 use Rattle.iol_far.specs.Codec.{layout_in}
 use Rattle.iol_far.specs.Level.{Move as MasterMove, Begin, hands_whole}
+use Rattle.iol_link.specs.Attempts.{most_attempts}
 use Rattle.iol_steps.specs.declared.mode.Mode.{Mode}
 use Rattle.iol_steps.specs.declared.mode.Mode.TheVariants.{Down, Startup, Preoperate, Operate}
 use Rattle.iol_mode.specs.declared.configuration.Devices.{Devices}
@@ -78,11 +79,11 @@ pub data WireCall : Type 0 where
   Woke : Bool → WireCall
   Exchanged : Bool → WireCall
 
--- how many exchanges in a row brought no unaltered reply, counted up to 3
+-- how many exchanges in a row brought no unaltered reply, counted up to the most attempts
 abbrev pub silence_by : WireCall → ℕ → ℕ
 silence_by (Woke answered) silence = silence
 silence_by (Exchanged true) silence = 0
-silence_by (Exchanged false) silence = min 3 (silence + 1)
+silence_by (Exchanged false) silence = min most_attempts (silence + 1)
 
 -- a port that is down wakes its device, any other makes an exchange
 -- LINK-1
