@@ -574,7 +574,8 @@ pub record Receives : Type 0 where
       (far far_new : Far) (silence silence_new : ℕ) (came : Option (List ℕ)) (said : Said)
       → let c : Core = core_out layouts out t exchange t.current in
       Stands c g far silence → IsSession c.session
-      → HonestExchange far silence (text_out c.state) came far_new silence_new → out.tries < most_attempts
+      → HonestExchange far silence (text_out c.state) came far_new silence_new
+      → out.tries < most_attempts
       → let outcome : Outcome = came_of c came in
       let next : Core = after_exchange outcome c.session in
       -- the link's own laws

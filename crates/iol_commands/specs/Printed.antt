@@ -36,7 +36,8 @@ number_text name number = name ++ decimal number
 -- the M-sequence type, and how many octets on-request data has
 abbrev pub type_text : Shape → List ℕ
 type_text layout =
-    number_text (codes "layout type ") (type_bits layout.kind) ++ number_text (codes " od ") layout.od
+    number_text (codes "layout type ") (type_bits layout.kind)
+    ++ number_text (codes " od ") layout.od
 
 -- how many octets of process data go in and out
 abbrev pub process_text : Shape → List ℕ

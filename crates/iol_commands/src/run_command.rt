@@ -1,11 +1,9 @@
 //! `run`: a port over a simulated wire, as a script says.
 ghost use Rattle.std.specs.Prelude.{◌≡◌, ◌≢◌, ◌<◌, ◌≤◌, ◌⊎◌, ℕ, Err, OnErr, OnOk, IfOk, IfErr, IsOk, None, Some, false};
 ghost use Rattle.std.specs.Io.KnownBytes.{Keeps};
-ghost use Rattle.std.specs.Option.{ForSome};
 ghost use Rattle.std.specs.String.{string_bytes};
-ghost use Rattle.std.specs.Vec.{vec_len};
 ghost use Rattle.iol_page.specs.Page.{layouts_of};
-ghost use Rattle.iol_script.specs.Script.{first_bad_run, value_of};
+ghost use Rattle.iol_script.specs.Script.{IsScript, first_bad_run, value_of};
 ghost use Rattle.iol_script.specs.Text.{numbered_lines};
 ghost use Rattle.iol_commands.specs.declared.fault.ProgramFault.TheVariants.{Line, NoThread, OutOfMemory, TooLong, WriteFailed};
 ghost use Rattle.iol_commands.specs.RunPlayed.{first_far, first_wire, new_device, PrintsRun};
@@ -84,9 +82,7 @@ fn played<A: Handle>(alloc: A, input: &[u8]) -> Result<String<A>, ProgramFault>
 
 /// The wire of a script, with its device, or both.
 pub(crate) fn wire_of<A: Handle>(alloc: A, script: Script<A>) -> Result<Sim<Params, A>, AllocError>
-    requires page { IsOk (layouts_of script.page) }
-    requires other { ForSome script.other (λ page. IsOk (layouts_of page)) }
-    requires params { vec_len script.params ≤ 32 }
+    requires { IsScript script }
     ensures far { IfOk result (λ sim. sim.device.far
         ≡ first_far script.kind script.misses_pulses script.page) }
     ensures app { IfOk result (λ sim. sim.device.app ≡ script.params.items) }

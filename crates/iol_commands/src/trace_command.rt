@@ -1,10 +1,7 @@
 //! `trace`: what `run` prints, and what goes over the wire.
-ghost use Rattle.std.specs.Prelude.{◌≡◌, ◌≢◌, ◌<◌, ◌≤◌, ◌⊎◌, length, List, ℕ, Err, OnErr, OnOk, IfErr, IsOk, IsOkAnd, None};
+ghost use Rattle.std.specs.Prelude.{◌≡◌, ◌≢◌, ◌<◌, ◌≤◌, ◌⊎◌, length, List, ℕ, Err, OnErr, OnOk, IfErr, IsOkAnd, None};
 ghost use Rattle.std.specs.Io.KnownBytes.{Appends, Keeps};
-ghost use Rattle.std.specs.Option.{ForSome};
-ghost use Rattle.std.specs.Vec.{vec_len};
-ghost use Rattle.iol_page.specs.Page.{layouts_of};
-ghost use Rattle.iol_script.specs.Script.{calls_in, first_bad_run, value_of};
+ghost use Rattle.iol_script.specs.Script.{IsScript, calls_in, first_bad_run, value_of};
 ghost use Rattle.iol_script.specs.Text.{numbered_lines};
 ghost use Rattle.iol_commands.specs.declared.fault.ProgramFault.TheVariants.{Line, NoThread, OutOfMemory, TooLong, WriteFailed};
 ghost use Rattle.iol_commands.specs.TracePrinted.{PrintsTrace, TracesOut};
@@ -61,10 +58,7 @@ fn traced<A: Handle, W: Write>(
     input: &[u8],
     writer: &mut W,
 ) -> Result<(), ProgramFault>
-    requires page { IsOk (layouts_of script.page) }
-    requires other { ForSome script.other (λ page. IsOk (layouts_of page)) }
-    requires params { vec_len script.params ≤ 32 }
-    requires given { script.limits.given ≡ 0 }
+    requires sound { IsScript script }
     requires calls { length (calls_in (numbered_lines input.now)) ≤ 1000000 }
     ensures printed { OnOk result
         ((text : List ℕ) × Appends (W.contents writer.old) (W.contents writer.new) text

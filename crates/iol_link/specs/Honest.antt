@@ -49,7 +49,8 @@ abbrev pub brought : Passage → Far → List ℕ → Option (List ℕ)
 brought Clean far sent = (hear far sent).reply
 brought passage far sent = None
 
--- how many exchanges in a row, up to now, brought no unaltered reply, counted up to the most attempts
+-- how many exchanges in a row, up to now, brought no unaltered reply, counted up to the most
+-- attempts
 -- WIRE-4
 abbrev pub silence_after : ℕ → Option (List ℕ) → ℕ
 silence_after silence None = min most_attempts (silence + 1)

@@ -13,7 +13,8 @@ pub record WireFacts (W : Type 0) : Type 1 where
   pub honest : W → Bool
   -- the device at the far end
   pub far : W → Far
-  -- how many exchanges in a row, up to now, brought no unaltered reply, counted up to the most attempts
+  -- how many exchanges in a row, up to now, brought no unaltered reply, counted up to the most
+  -- attempts
   pub silence : W → ℕ
   -- whether nothing goes wrong from now on
   pub clean : W → Bool

@@ -12,7 +12,8 @@ use Rattle.iol_mseq.specs.declared.reply.Reply.{Reply}
 abbrev pub master_text : Shape → MasterMsg → List ℕ
 master_text layout message =
     with_checksum 1
-    (control_octet message.mc ∷ (64 * type_bits layout.kind) ∷ message.out.items ++ message.od.items)
+    (control_octet message.mc ∷ (64 * type_bits layout.kind) ∷ message.out.items
+    ++ message.od.items)
 
 -- octets with an octet put behind them that holds these bits and the checksum of all
 abbrev pub closed_by : List ℕ → ℕ → List ℕ

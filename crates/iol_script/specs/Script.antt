@@ -1,6 +1,8 @@
 -- What the lines of `run` make, one after the other.
-use Rattle.std.specs.Prelude.{ℕ, ◌+◌, Bool, true, false, Option, Some, None, is_none, unwrap_or, option_map, option_and_then, Result, Ok, List, [], ◌∷◌, ◌++◌, length, replicate, fold, flat_map, nat_le, nat_lt, ◌&&◌, if◌then◌else◌}
-use Rattle.std.specs.Option.{option_map_or}
+use Rattle.std.specs.Prelude.{◌≡◌, ◌≤◌, ℕ, ◌+◌, Bool, true, false, Option, Some, None, is_none, unwrap_or, option_map, option_and_then, Result, Ok, IsOk, List, [], ◌∷◌, ◌++◌, length, replicate, fold, flat_map, nat_le, nat_lt, ◌&&◌, if◌then◌else◌}
+use Rattle.std.specs.Option.{ForSome, option_map_or}
+use Rattle.std.specs.Vec.{vec_len}
+use Rattle.iol_page.specs.Page.{layouts_of}
 use Rattle.std.specs.Result.{result_ok, result_err}
 use Rattle.iol_book.specs.declared.limits.Limits.{Limits}
 use Rattle.iol_far.specs.declared.kind.Kind.{Kind}
@@ -145,6 +147,15 @@ pub record ScriptValue : Type 0 where
   pub limits : Limits
   -- the steps of the wire
   pub steps : List Step
+
+-- what holds of a script that was read: the pages have layouts, as many parameters as devices have
+-- at most, a port that gave no ticket yet, and as many steps as may be
+pub record IsScript {A : Type 0} (script : Script A) : Type 0 where
+  pub page : IsOk (layouts_of script.page)
+  pub other : ForSome script.other (λ page. IsOk (layouts_of page))
+  pub params : vec_len script.params ≤ 32
+  pub given : script.limits.given ≡ 0
+  pub steps : vec_len script.steps ≤ 1000000
 
 -- a script without its memory
 abbrev pub value_of : {A : Type 0} → Script A → ScriptValue

@@ -1,8 +1,5 @@
 //! A script, as far as its lines are read.
-ghost use Rattle.std.specs.Prelude.{◌≡◌, ◌++◌, ◌+◌, ◌≤◌, ℕ, Some, None, Ok, Err, OnOk, OnErr, IsOk, option_map, option_and_then, true, replicate};
-ghost use Rattle.std.specs.Option.{ForSome};
-ghost use Rattle.std.specs.Vec.{vec_len};
-ghost use Rattle.iol_page.specs.Page.{layouts_of};
+ghost use Rattle.std.specs.Prelude.{◌≡◌, ◌++◌, ◌+◌, ◌≤◌, ℕ, Some, None, Ok, Err, OnOk, OnErr, option_map, option_and_then, true, replicate};
 ghost use Rattle.iol_script.specs.declared.fault.ScriptFault.TheVariants.{Line};
 ghost use Rattle.iol_script.specs.RunLines.{call_form, devices_form, kind_form, limits_form, one_call, page_line, page_octets, param_form, pulses_form, run_words, turns_form, wire_form};
 ghost use Rattle.iol_script.specs.Text.{words_left};
@@ -70,7 +67,7 @@ impl<A: Allocator> Draft<A> {
     ghost use Rattle.iol_script.specs.DraftInside.{after_form, IsTaken};
     ghost use Rattle.iol_script.specs.declared.run_line.RunLine.{RunLine};
     ghost use Rattle.iol_script.specs.declared.setting.Setting.{Setting};
-    ghost use Rattle.iol_script.specs.Script.{draft_after, empty_draft, in_bounds, script_after, script_of, takes_param, value_of};
+    ghost use Rattle.iol_script.specs.Script.{IsScript, draft_after, empty_draft, in_bounds, script_after, script_of, takes_param, value_of};
 
     /// No line is read.
     pub(crate) fn new(alloc: A) -> Draft<A>
@@ -319,11 +316,7 @@ impl<A: Allocator> Draft<A> {
     /// What the lines set up.
     pub(crate) fn finish(self) -> Script<A>
         ensures value { script_of self ≡ value_of result }
-        ensures page { IsOk (layouts_of result.page) }
-        ensures other { ForSome result.other (λ page. IsOk (layouts_of page)) }
-        ensures params { vec_len result.params ≤ 32 }
-        ensures given { result.limits.given ≡ 0 }
-        ensures steps { vec_len result.steps ≤ 1000000 }
+        ensures sound { IsScript result }
         ensures calls { self.calls ≤ 1000000 }
     {
         Script {

@@ -1,11 +1,8 @@
 //! The script of `run`.
-ghost use Rattle.std.specs.Prelude.{◌≡◌, ◌≤◌, ℕ, Some, None, Err, IfOk, OnOk, IsOk, IsSome, All, length};
-ghost use Rattle.std.specs.Option.{ForSome};
-ghost use Rattle.std.specs.Vec.{vec_len};
-ghost use Rattle.iol_page.specs.Page.{layouts_of};
+ghost use Rattle.std.specs.Prelude.{◌≡◌, ◌≤◌, ℕ, Some, None, Err, IfOk, OnOk, IsSome, All, length};
 ghost use Rattle.iol_script.specs.declared.fault.ScriptFault.TheVariants.{Line};
 ghost use Rattle.iol_script.specs.RunLines.{run_form};
-ghost use Rattle.iol_script.specs.Script.{calls_in, first_bad_run, script_in, value_of};
+ghost use Rattle.iol_script.specs.Script.{IsScript, calls_in, first_bad_run, script_in, value_of};
 ghost use Rattle.iol_script.specs.Text.{numbered_lines};
 
 use crate::draft::Draft;
@@ -51,19 +48,12 @@ impl<A: Allocator + Copy> Script<A> {
     /// 1,000,000 calls. Answered is the first fault that is met: the first bad
     /// line, or a growth that is refused. A bad line is found without memory.
     pub fn read(alloc: A, input: &[u8]) -> Result<Script<A>, ScriptFault>
-        // What is read.
         ensures good { OnOk result (first_bad_run (numbered_lines input.now) ≡ None) }
         ensures script { IfOk result (λ s. script_in (numbered_lines input.now)
             ≡ Some (value_of s)) }
         ensures bad_line { (n : ℕ) → result ≡ Err (Line n)
             → first_bad_run (numbered_lines input.now) ≡ Some n }
-
-        // What holds of it.
-        ensures page { IfOk result (λ s. IsOk (layouts_of s.page)) }
-        ensures other { IfOk result (λ s. ForSome s.other (λ page. IsOk (layouts_of page))) }
-        ensures params { IfOk result (λ s. vec_len s.params ≤ 32) }
-        ensures given { IfOk result (λ s. s.limits.given ≡ 0) }
-        ensures steps { IfOk result (λ s. vec_len s.steps ≤ 1000000) }
+        ensures sound { IfOk result IsScript }
         ensures calls { OnOk result (length (calls_in (numbered_lines input.now)) ≤ 1000000) }
         ensures forms { OnOk result (All (λ line. IsSome (run_form line.1))
             (numbered_lines input.now)) }

@@ -14,7 +14,8 @@ returns-then-len-end g c =
     (behind-last c.args.size c.args.number c.args.into.now.items
     (c.args.head.now ++ c.args.body.now) c.put_piece.new.into.items
     (omega (arith, length-append c.args.head.now c.args.body.now, c.requires.within))
-    (rw (c.len.ensures.value, c.get-size.ensures.value) at c.put_piece.ensures) 32 (rw c.get-size.ensures.value at c.get-size.ensures.range.1)
+    (rw (c.len.ensures.value, c.get-size.ensures.value) at c.put_piece.ensures) 32
+    (rw c.get-size.ensures.value at c.get-size.ensures.range.1)
     (omega (arith, c.if-len-end.true, c.len-2.ensures.value, c.len.ensures.value)))
 
 pub returns-else-len-end : goal.returns-else-len-end
