@@ -25,7 +25,7 @@ use Rattle.iol_app.specs.declared.request.Current.{Current}
 use Rattle.iol_app.specs.declared.request.Progress.TheVariants.{Refused}
 use Rattle.iol_app.specs.declared.session.Exchange.{Exchange}
 use Rattle.iol_app.specs.declared.session.Exchange.TheVariants.{Request as NextMessage}
-use Rattle.iol_app.specs.Requests.{text_of, sending, sent_anew, one_more, waiting, refused, are_zeros, forgotten_by, Outcome, GoesOn, HasText, joined, received, IsJoining, finished}
+use Rattle.iol_app.specs.Requests.{text_of, sending, sent_anew, one_more, waiting, refused, are_zeros, forgotten_by, ReplyEffect, GoesOn, HasText, joined, received, IsJoining, finished}
 use Rattle.iol_app.specs.Moves.{before_last, progress_of, segment_move}
 use Rattle.iol_app.specs.Ends.{BusyAt, AbortAt}
 use Rattle.iol_app.proofs.Joining.{taken_next}
@@ -108,7 +108,7 @@ forgotten_none {size} {had} {joining} od k h e =
     rw (← zeros od, found.0, found.1) refl
 
 -- where they end a text, it is refused, or taken for an answer's by who asked for them once
-abbrev pub EndsText : Bool → Cutting Request → Option Cause → Outcome → Type 0
+abbrev pub EndsText : Bool → Cutting Request → Option Cause → ReplyEffect → Type 0
 EndsText again cutter abort (GoesOn next) = next ≡ refused cutter abort
 EndsText again cutter abort (HasText text) = again ≡ false
 

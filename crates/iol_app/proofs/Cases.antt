@@ -30,7 +30,7 @@ use Rattle.iol_app.specs.declared.request.Progress.{Progress as Cursor}
 use Rattle.iol_app.specs.declared.request.Progress.TheVariants.{Sending as Cut, Doubting, Asking, Receiving, Refused}
 use Rattle.iol_app.specs.declared.session.Exchange.{Exchange}
 use Rattle.iol_app.specs.declared.session.Exchange.TheVariants.{Abort, ReadEvent, ConfirmEvents, Request as NextMessage, Idle}
-use Rattle.iol_app.specs.Requests.{IsUnsent, text_of, sent_on, sent_anew, one_more, waited, refused, forgotten_by, Outcome, GoesOn, HasText, asked, doubted, received, replied, replied_at, going, current_after, IsOutcomeSaid, IsJoining, request_in}
+use Rattle.iol_app.specs.Requests.{IsUnsent, text_of, sent_on, sent_anew, one_more, waited, refused, forgotten_by, ReplyEffect, GoesOn, HasText, asked, doubted, received, replied, replied_at, going, current_after, IsEffectSaid, IsJoining, request_in}
 use Rattle.iol_app.specs.Moves.{move_for, progress_of, next_segment, octets_had, IsReading, is_forgotten, IsTakenUp, AnswersAreTakenUp}
 use Rattle.iol_app.specs.EventReading.{reader_of, list_read}
 use Rattle.iol_app.specs.State.{IsTaken, clear_after, od_size}
@@ -152,8 +152,8 @@ module _ (names : TextNamesAnswer) (taken : AnswersAreTakenUp) (good : Good) whe
         }
 
     -- what is said of what a reply came to, and the request then
-    abbrev Goes_to : Outcome → Type 0
-    Goes_to outcome = IsOutcomeSaid (is_read source) outcome said → Comes a (going outcome)
+    abbrev Goes_to : ReplyEffect → Type 0
+    Goes_to outcome = IsEffectSaid (is_read source) outcome said → Comes a (going outcome)
 
     -- the request has its answer, and none is under way
     told_answer : (p : Progress) (x : Answer) → IsSettled p → Follows a p
@@ -210,7 +210,7 @@ module _ (names : TextNamesAnswer) (taken : AnswersAreTakenUp) (good : Good) whe
         octets : List ℕ
         octets = octets_had current.progress od
 
-        by_outcome : (x : Answer) (outcome : Outcome) → IsTakenUp current x i octets outcome
+        by_outcome : (x : Answer) (outcome : ReplyEffect) → IsTakenUp current x i octets outcome
             → Goes_to outcome
         by_outcome x (GoesOn next) (joining, is, text_is) says = rw is
             (goes_on a (keeps a refl refl) (at cutter (Receiving joining i) false abort) refl
@@ -293,7 +293,7 @@ module _ (names : TextNamesAnswer) (taken : AnswersAreTakenUp) (good : Good) whe
       joins : IsJoining cutter.size last joining
       joins = a.valid.current.progress
 
-      new : Outcome
+      new : ReplyEffect
       new = received again cutter abort joining (last + 1) od
 
       IsNone : Bool → Type 0
@@ -319,7 +319,7 @@ module _ (names : TextNamesAnswer) (taken : AnswersAreTakenUp) (good : Good) whe
       -- what came is none of an answer, or is taken for one that the device has forgotten: a port
       -- for our own takes the zeros for the text's end
       by_outcome : (devices ≡ Any) ⊎ IsTrue (misreads_at devices g.kind.recalls) → (k : ℕ)
-          → (its a).vain ≡ suc k → IsNone true → (outcome : Outcome)
+          → (its a).vain ≡ suc k → IsNone true → (outcome : ReplyEffect)
           → EndsText again cutter abort outcome → Goes_to a outcome
       by_outcome why k is none (GoesOn next) same =
           rw same (refuses a (doubts_of devices g.kind.recalls why) tt (follows true none))

@@ -17,7 +17,7 @@ use Rattle.iol_link.specs.Attempts.{Sending}
 use Rattle.iol_mode.specs.declared.configuration.Devices.{Devices}
 use Rattle.iol_mode.specs.declared.states.State.{State}
 use Rattle.iol_mode.specs.declared.states.State.TheVariants.{Operate as AtOperate}
-use Rattle.iol_mode.specs.States.{Outcome, OperateFits, OutcomeFits, StateFits, operate_by, waked, state_of}
+use Rattle.iol_mode.specs.States.{NextMode, OperateFits, NextModeFits, StateFits, operate_by, waked, state_of}
 use Rattle.iol_app.specs.declared.request.Current.{Current}
 use Rattle.iol_app.specs.declared.session.Exchange.{Exchange}
 use Rattle.iol_app.specs.Reports.{is_reading}
@@ -79,8 +79,8 @@ missed_fits layouts sent s b output told h =
 
 -- what is left of an attempt fits, as what it settled does
 pub after_fits : (sent : Sending) (layouts : Layouts) (attempt : Attempt) (s : SessionState)
-    → let outcome : Outcome = operate_by sent layouts attempt in
-    IsSession s → s.layout ≡ Some layouts.run → OutcomeFits outcome
+    → let outcome : NextMode = operate_by sent layouts attempt in
+    IsSession s → s.layout ≡ Some layouts.run → NextModeFits outcome
     → Joined (state_of outcome) (settled_session outcome s)
     → StateFits (after_exchange outcome s).state
     × Joined (after_exchange outcome s).state (after_exchange outcome s).session

@@ -23,7 +23,7 @@ use Rattle.iol_far.specs.Laws.{IsRegular, ReplySays, confirms as octets_confirm}
 use Rattle.iol_segment.specs.TextLaws.{joined}
 use Rattle.iol_link.specs.Honest.{Clean}
 use Rattle.iol_mode.specs.Stands.{StateStands, operate_link, IsAccepted}
-use Rattle.iol_mode.specs.States.{Outcome, InOperate, StateFits, state_of}
+use Rattle.iol_mode.specs.States.{NextMode, InOperate, StateFits, state_of}
 use Rattle.iol_steps.specs.declared.said.Said.{Said}
 use Rattle.iol_steps.specs.Step.{Step, repeats_at, is_clash_free, ShowImage, Exchanged, Moment}
 use Rattle.iol_steps.specs.Kinds.{Brought, Had, brought_steps, quiet_said}
@@ -311,7 +311,7 @@ module _ {good : Good} {e : Exchange} {current : Option Current} (a : Replied go
     pub sure : IfSome next (λ c. c.again ≡ false)
     pub known : IsSome (request_in next) → IsSome request
 
-  abbrev outcome : Outcome
+  abbrev outcome : NextMode
   outcome = InOperate (record { out = None; layouts = layouts }) (Some r)
 
   pub had : Comes (current_after e t.limit od current)

@@ -11,7 +11,7 @@ use Rattle.iol_isdu.specs.declared.values.Request.{Request}
 use Rattle.iol_app.specs.declared.request.Current.{Current}
 use Rattle.iol_segment.specs.Cut.{Cutting}
 use Rattle.iol_segment.specs.JoinLaws.{count_at}
-use Rattle.iol_app.specs.Requests.{Outcome, GoesOn, HasText, finished, joined, received, refused, forgotten_by, IsJoining, IsCurrent}
+use Rattle.iol_app.specs.Requests.{ReplyEffect, GoesOn, HasText, finished, joined, received, refused, forgotten_by, IsJoining, IsCurrent}
 
 -- octets before them aren't whole either
 open_before : (xs ys : List ℕ) → stage (xs ++ ys) ≡ Open → stage xs ≡ Open
@@ -42,7 +42,7 @@ pub taken_next : (size had : ℕ) (j : Joining) (od : List ℕ) → IsJoining si
 taken_next size had j od h = grind (arith, common_steps)
 
 -- what becomes of a request goes on as one, of the same cut
-abbrev pub StaysCurrent : Cutting Request → Outcome → Type 0
+abbrev pub StaysCurrent : Cutting Request → ReplyEffect → Type 0
 StaysCurrent cutter (GoesOn next) = IsCurrent next × (next.cutter.size ≡ cutter.size)
     × (next.cutter.source ≡ cutter.source)
 StaysCurrent cutter (HasText text) = Unit {0}

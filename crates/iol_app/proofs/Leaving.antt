@@ -29,7 +29,7 @@ use Rattle.iol_mode.specs.declared.states.State.TheVariants.{Startup as AtStartu
 use Rattle.iol_mode.specs.declared.why.Why.TheVariants.{Lost}
 use Rattle.iol_mode.specs.Next.{read_by}
 use Rattle.iol_mode.specs.Stands.{startup_link, StartupStands, StateStands}
-use Rattle.iol_mode.specs.States.{Outcome, InStartup, OutcomeFits, StartupFits, StateFits, state_of, is_behind, begun, step_after, startup_by, startup_turned}
+use Rattle.iol_mode.specs.States.{NextMode, InStartup, NextModeFits, StartupFits, StateFits, state_of, is_behind, begun, step_after, startup_by, startup_turned}
 use Rattle.iol_mode.specs.Turns.{IsRisen}
 use Rattle.iol_mode.specs.Exchanges.{text_out, judged}
 use Rattle.iol_steps.specs.declared.mode.Mode.TheVariants.{Startup as ModeStartup, Operate as ModeOperate}
@@ -143,7 +143,7 @@ module _ (laws : Laws) (leaves : OrderlyLaws) (heard : TextsAreHeard) (s : Start
 
   -- The outcomes
 
-  abbrev Gives : Outcome → Type 0
+  abbrev Gives : NextMode → Type 0
   Gives outcome = CallGives c g far n Idle (settled_core outcome t) passed n'
 
   no_image : t.image ≡ None
@@ -237,10 +237,10 @@ module _ (laws : Laws) (leaves : OrderlyLaws) (heard : TextsAreHeard) (s : Start
   -- What comes back
 
   by_tries : (two : Bool) → (s.sent.tries == 2) ≡ two → n' ≡ min 3 (n + 1)
-      → let outcome : Outcome = startup_by t.configuration
+      → let outcome : NextMode = startup_by t.configuration
       (record { message = message; tries = if two then 0 else s.sent.tries + 1 }) s.step
       (if two then WasLost else Again) in
-      IsRisen (is_behind s.step) outcome n' far far' → OutcomeFits outcome → Gives outcome
+      IsRisen (is_behind s.step) outcome n' far far' → NextModeFits outcome → Gives outcome
   by_tries true two silence risen fits =
       loses c g far passed effect n n' stands below (Exchanged false) Lost nothing
       (third_time s.sent.tries n (grind (arith, nat_tests)) stands.link.tries) tt silence
@@ -249,7 +249,7 @@ module _ (laws : Laws) (leaves : OrderlyLaws) (heard : TextsAreHeard) (s : Start
 
   by_step : (step : PageStep) → is_behind step ≡ false → (r : Reply) → n' ≡ 0
       → IsRisen (is_behind step) (step_after t.configuration step r) n' far far'
-      → OutcomeFits (step_after t.configuration step r) → Gives (step_after t.configuration step r)
+      → NextModeFits (step_after t.configuration step r) → Gives (step_after t.configuration step r)
   by_step Leaves before r silence risen fits =
       goes true silence refl (rw x.far_is at risen.both.stands) fits
   by_step First before r silence risen fits = reads silence
@@ -257,13 +257,13 @@ module _ (laws : Laws) (leaves : OrderlyLaws) (heard : TextsAreHeard) (s : Start
   by_step other before r silence risen fits = absurd (cc)
 
   by_reply : (q : Option Reply) → good_reply startup_shape message came ≡ q
-      → let outcome : Outcome = startup_turned t.configuration s q in
-      IsRisen (is_behind s.step) outcome n' far far' → OutcomeFits outcome → Gives outcome
+      → let outcome : NextMode = startup_turned t.configuration s q in
+      IsRisen (is_behind s.step) outcome n' far far' → NextModeFits outcome → Gives outcome
   by_reply None bad = by_tries (s.sent.tries == 2) refl (missed bad)
   by_reply (Some r) good = by_step s.step b r (had r good)
 
-  pub leaving_rises : let outcome : Outcome = judged t.configuration (AtStartup s) came in
-      IsRisen (is_behind s.step) outcome n' far far' → OutcomeFits outcome
+  pub leaving_rises : let outcome : NextMode = judged t.configuration (AtStartup s) came in
+      IsRisen (is_behind s.step) outcome n' far far' → NextModeFits outcome
       → CallGives c g far n Idle (settled_core outcome t) far' n'
   leaving_rises risen fits =
       rw x.far_is (by_reply (good_reply startup_shape message came) refl risen fits)

@@ -17,7 +17,7 @@ use Rattle.iol_mode.specs.declared.states.State.{State}
 use Rattle.iol_mode.specs.declared.states.State.TheVariants.{Down as AtDown, Operate as AtOperate}
 use Rattle.iol_mode.specs.Messages.{command_message, unsent}
 use Rattle.iol_mode.specs.Next.{EnteredFits}
-use Rattle.iol_mode.specs.States.{Outcome, OutcomeFits, StateFits, IsDown, state_of, waked, operate_by, counted}
+use Rattle.iol_mode.specs.States.{NextMode, NextModeFits, StateFits, IsDown, state_of, waked, operate_by, counted}
 use Rattle.iol_mode.specs.Exchanges.{IsSending, AcceptedBy, StandsOn, WakeStands, judged, text_out}
 use Rattle.iol_mode.specs.Stands.{StateStands}
 use Rattle.iol_steps.specs.declared.mode.Mode.TheVariants.{Operate as ModeOperate}
@@ -44,11 +44,11 @@ reset_parts : HasMasterParts startup_shape (command_message startup_shape Device
 unfolding control_of
 reset_parts = record { out = refl; od = refl }
 
-waked_fits : (devices : Devices) (answered : Bool) → OutcomeFits (waked devices answered)
+waked_fits : (devices : Devices) (answered : Bool) → NextModeFits (waked devices answered)
 waked_fits devices answered = grind (arith, common_steps, first_parts, reset_parts)
 
 -- in a start-up nothing is said
-pub still_said : (outcome : Outcome) (s : SessionState) (said : Said) → IsStill s
+pub still_said : (outcome : NextMode) (s : SessionState) (said : Said) → IsStill s
     → IsSettledSaid outcome s said → said ≡ Idle
 still_said outcome s said still h = grind (arith, common_steps)
 
@@ -68,7 +68,7 @@ operate_tried : (w : Sending) (layouts : Layouts) (reply : Option Reply) (s : Se
 operate_tried w layouts reply s = grind (arith, common_steps)
 
 -- nor does a turn of a start-up leave one that would go out again in OPERATE
-risen_settled : (outcome : Outcome) (s : SessionState) (n : ℕ) (far : Far)
+risen_settled : (outcome : NextMode) (s : SessionState) (n : ℕ) (far : Far)
     → EnteredFits outcome n far
     → (after_exchange outcome s ≡ settled_core outcome s) × IsAttempted (state_of outcome)
 risen_settled outcome s n far h = grind (arith, common_steps)
@@ -123,7 +123,7 @@ not_up state down up = grind (arith, common_steps)
 module _ (laws : StationLaws) (came : Option (List ℕ)) (said : Said) (brought : Brought) (g : Ghost)
     (far far' : Far) (n n' : ℕ) where
   -- what it comes to
-  abbrev outcome : State → SessionState → Outcome
+  abbrev outcome : State → SessionState → NextMode
   outcome state s = judged s.configuration state came
 
   abbrev Came : State → SessionState → Type 0
@@ -165,7 +165,7 @@ module _ (laws : StationLaws) (came : Option (List ℕ)) (said : Said) (brought 
   state_gives (AtOperate o) s sends = operate_gives o.out o.layouts s s.exchange sends
   -- in both modes of a start-up
   state_gives state s sends = λ stands x j on.
-      let o : Outcome = outcome state s in
+      let o : NextMode = outcome state s in
       let risen = j.gives far far' n n' stands.link x in
       let given : CallGives (core_of state s) g far n Idle (settled_core o s) far' n' =
       laws.rises.gives (core_of state s) g far far' n n' came refl stands j.valid x risen j.fits

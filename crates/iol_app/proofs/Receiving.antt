@@ -26,7 +26,7 @@ use Rattle.iol_link.specs.Attempts.{Sending, good_reply, attempt_of}
 use Rattle.iol_link.specs.Honest.{Passage, Clean, HonestExchange}
 use Rattle.iol_link.specs.declared.handler.Attempt.TheVariants.{Again, Lost as WasLost}
 use Rattle.iol_mode.specs.Stands.{IsOperating, IsAccepted}
-use Rattle.iol_mode.specs.States.{Outcome, StateFits, state_of, operate_by, counted}
+use Rattle.iol_mode.specs.States.{NextMode, StateFits, state_of, operate_by, counted}
 use Rattle.iol_mode.specs.Turns.{IsMet}
 use Rattle.iol_steps.specs.declared.mode.Mode.TheVariants.{Operate as ModeOperate}
 use Rattle.iol_steps.specs.declared.said.Said.{Said}
@@ -73,11 +73,11 @@ module _ (names : TextNamesAnswer) (taken : AnswersAreTakenUp) (laws : Laws)
   abbrev c : Core
   c = core_out layouts w t e t.current
 
-  abbrev after_by : Option Reply → Outcome
+  abbrev after_by : Option Reply → NextMode
   after_by reply = operate_by (counted w reply) layouts (attempt_of w.tries reply)
 
   -- the link's own part of what is left, and the session's
-  record Left (outcome : Outcome) : Type 0 where
+  record Left (outcome : NextMode) : Type 0 where
     pub on : StandsOn (state_of outcome) (after_exchange outcome c.session).state
     pub fits : StateFits (after_exchange outcome c.session).state
     pub joined : Joined (after_exchange outcome c.session).state
@@ -190,7 +190,7 @@ module _ (names : TextNamesAnswer) (taken : AnswersAreTakenUp) (laws : Laws)
       }
 
     by_tries : (b : Bool) → (w.tries == 2) ≡ b → n' ≡ min 3 (n + 1)
-        → let outcome : Outcome = operate_by
+        → let outcome : NextMode = operate_by
         (record { message = w.message; tries = if b then 0 else w.tries + 1 }) layouts
         (if b then WasLost else Again) in
         IsMet outcome n' far' → Left outcome → IsSettledSaid outcome c.session said

@@ -32,7 +32,7 @@ use Rattle.iol_app.specs.declared.session.Exchange.{Exchange}
 use Rattle.iol_app.specs.declared.session.Exchange.TheVariants.{Abort, Request as NextMessage}
 use Rattle.iol_steps.specs.declared.said.Said.{Said}
 use Rattle.iol_app.specs.Outputs.{carried_by, IsOutput}
-use Rattle.iol_app.specs.Requests.{text_of, Outcome, GoesOn, asked, doubted, sent_anew, finished, joined, forgotten_by, refused, sending, is_doubting, replied_at, replied, going, current_after, request_in, request_after, IsOutcomeSaid, IsSaid, Suits, ProgressFits, IsAllGiven, IsCurrent, IsSure}
+use Rattle.iol_app.specs.Requests.{text_of, ReplyEffect, GoesOn, asked, doubted, sent_anew, finished, joined, forgotten_by, refused, sending, is_doubting, replied_at, replied, going, current_after, request_in, request_after, IsEffectSaid, IsSaid, Suits, ProgressFits, IsAllGiven, IsCurrent, IsSure}
 use Rattle.iol_app.specs.State.{SessionState, IsSession, od_size, output_length, absorbed}
 use Rattle.iol_app.specs.Messages.{Head, ask_of, question, head_of, head_for, data_for, progress_head, progress_data}
 use Rattle.iol_app.proofs.Cutting.{length-segment, is_pair, given_goes_on, sent_on_fits}
@@ -43,7 +43,7 @@ pub text_some : (cutter : Cutting Request) → 0 < length (text_of cutter)
 text_some cutter = let whole = length-append (request_front cutter.source) in omega (arith, whole)
 
 -- what holds of both holds of either
-either : (P : Outcome → Type 0) (b : Bool) (x y : Outcome) → P x → P y → P (if b then x else y)
+either : (P : ReplyEffect → Type 0) (b : Bool) (x y : ReplyEffect) → P x → P y → P (if b then x else y)
 either P true x y h k = h
 either P false x y h k = k
 
@@ -80,7 +80,7 @@ doubted_stays current again limit od h whole size =
     (anew_stays current h whole) (asked_stays current 0 limit od h all size)
 
 -- no good reply leaves anything in doubt
-abbrev IsGoingSure : Outcome → Type 0
+abbrev IsGoingSure : ReplyEffect → Type 0
 IsGoingSure outcome = IfSome (going outcome) IsSure
 
 finished_sure : (cutter : Cutting Request) (abort : Option Cause) (text : List ℕ)
@@ -134,12 +134,12 @@ replied_stays current p limit od h e size =
 abbrev pub StaysGoing : ℕ → Option Current → Type 0
 StaysGoing size current = IfSome current IsCurrent × IfSome current (λ c. c.cutter.size ≡ size)
 
-going_stays : (cutter : Cutting Request) (outcome : Outcome) → StaysCurrent cutter outcome
+going_stays : (cutter : Cutting Request) (outcome : ReplyEffect) → StaysCurrent cutter outcome
     → StaysGoing cutter.size (going outcome)
 going_stays cutter outcome h = grind (arith, common_steps)
 
-going_request : (cutter : Cutting Request) (read : Bool) (outcome : Outcome) (said : Said)
-    → StaysCurrent cutter outcome → IsOutcomeSaid read outcome said
+going_request : (cutter : Cutting Request) (read : Bool) (outcome : ReplyEffect) (said : Said)
+    → StaysCurrent cutter outcome → IsEffectSaid read outcome said
     → request_in (going outcome) ≡ request_after (Some cutter.source) said
 going_request cutter read outcome said stays h = grind (arith, common_steps)
 

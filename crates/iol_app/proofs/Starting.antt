@@ -32,7 +32,7 @@ use Rattle.iol_mode.specs.declared.why.Why.{Why}
 use Rattle.iol_mode.specs.Next.{IsEntered, read_by}
 use Rattle.iol_mode.specs.declared.states.Step.{Step as PageStep}
 use Rattle.iol_mode.specs.Stands.{startup_link, preoperate_link, entering_link, StepLevel, StateStands, StepStands}
-use Rattle.iol_mode.specs.States.{Outcome, InDown, OutcomeFits, StateFits, state_of, is_behind, is_reset, StepFits, is_starting, begun, step_behind, step_after, told_of, page_taken, taken_where, checked, startup_by, startup_turned, preoperate_by, preoperate_after, preoperate_turned}
+use Rattle.iol_mode.specs.States.{NextMode, InDown, NextModeFits, StateFits, state_of, is_behind, is_reset, StepFits, is_starting, begun, step_behind, step_after, told_of, page_taken, taken_where, checked, startup_by, startup_turned, preoperate_by, preoperate_after, preoperate_turned}
 use Rattle.iol_mode.specs.Turns.{IsRisen}
 use Rattle.iol_steps.specs.declared.mode.Mode.{Mode}
 use Rattle.iol_steps.specs.declared.mode.Mode.TheVariants.{Down as ModeDown, Startup as ModeStartup, Operate as ModeOperate}
@@ -313,15 +313,15 @@ module _ {start : Start} {session : SessionState} {g : Ghost} {far far' : Far} {
   LeftIn state u = Left c g far passed effect n n' stands (below start)
       (record { state = state; session = u }) h false
 
-  abbrev Rising : Outcome → Type 0
-  Rising outcome = IsRisen true outcome n' far far' → OutcomeFits outcome
+  abbrev Rising : NextMode → Type 0
+  Rising outcome = IsRisen true outcome n' far far' → NextModeFits outcome
       → Joined (state_of outcome) (settled_session outcome (still session))
       → CallGives c g far n Idle (settled_core outcome (still session)) far' n'
 
   no_book : (is : Bool) → [] ≡ resets (is_reset c.state) is ++ []
   no_book is = rw (reset_at start) refl
 
-  by : {outcome : Outcome} {u : SessionState} {ys : List Step} (answered : Bool)
+  by : {outcome : NextMode} {u : SessionState} {ys : List Step} (answered : Bool)
       → n' ≡ silence_by (Exchanged answered) n → settled_session outcome (still session) ≡ u
       → Brings answered (record { state = state_of outcome; session = u }) ys → Rising outcome
   by answered silence same b risen fits joined = rw (same, x.far_is)
@@ -650,10 +650,10 @@ module _ (known : Known) (session : SessionState) (valid : IsSession (still sess
 module _ (known : Known) (t : SessionState) (valid : IsSession t) (g : Ghost) (far far' : Far)
     (n n' : ℕ) (came : Option (List ℕ)) where
   abbrev RisesBy : State → Type 0
-  RisesBy state = let o : Outcome = judged t.configuration state came in
+  RisesBy state = let o : NextMode = judged t.configuration state came in
       Stands (record { state = state; session = t }) g far n
       → HonestExchange far n (text_out state) came far' n'
-      → IsRisen (is_reset state) o n' far far' → OutcomeFits o
+      → IsRisen (is_reset state) o n' far far' → NextModeFits o
       → Joined (state_of o) (settled_session o t)
       → CallGives (record { state = state; session = t }) g far n Idle (settled_core o t) far' n'
 

@@ -20,7 +20,7 @@ use Rattle.iol_mode.specs.declared.states.State.TheVariants.{Down as AtDown, Sta
 use Rattle.iol_mode.specs.declared.states.Operate.{Operate}
 use Rattle.iol_mode.specs.declared.configuration.Devices.TheVariants.{Any}
 use Rattle.iol_mode.specs.Kinds.{SeesPulses}
-use Rattle.iol_mode.specs.States.{Outcome, OutcomeFits, StateFits, IsDown, state_of, is_behind, is_reset, is_starting, waked}
+use Rattle.iol_mode.specs.States.{NextMode, NextModeFits, StateFits, IsDown, state_of, is_behind, is_reset, is_starting, waked}
 use Rattle.iol_mode.specs.Exchanges.{StandsOn, text_out, judged}
 use Rattle.iol_mode.specs.Turns.{IsRisen, IsMet}
 use Rattle.iol_mode.specs.Stands.{StateStands, IsOperating, IsAccepted}
@@ -410,7 +410,7 @@ pub record Wakes : Type 0 where
       → CallGives c g far silence Idle (after_wake answered c.session) far_new silence
 
 -- an exchange: the link says what becomes of the mode
-abbrev pub settled_core : Outcome → SessionState → Core
+abbrev pub settled_core : NextMode → SessionState → Core
 settled_core outcome t = record { state = state_of outcome; session = settled_session outcome t }
 
 -- what is left of an attempt without a good reply, where what is out goes out again
@@ -421,11 +421,11 @@ after_missed c = record {
   session = missed_session c.state c.session;
 }
 
-abbrev pub after_exchange : Outcome → SessionState → Core
+abbrev pub after_exchange : NextMode → SessionState → Core
 after_exchange outcome t = after_missed (settled_core outcome t)
 
 -- what comes back to the message that is out is judged by it, and by what start-ups ask
-abbrev pub came_of : Core → Option (List ℕ) → Outcome
+abbrev pub came_of : Core → Option (List ℕ) → NextMode
 came_of c came = judged c.session.configuration c.state came
 
 -- in both modes of a start-up
@@ -434,9 +434,9 @@ pub record Rises : Type 0 where
       (c : Core) (g : Ghost) (far far_new : Far) (silence silence_new : ℕ) (came : Option (List ℕ))
       → is_starting c.state ≡ true → Stands c g far silence → IsSession c.session
       → HonestExchange far silence (text_out c.state) came far_new silence_new
-      → let outcome : Outcome = came_of c came in
+      → let outcome : NextMode = came_of c came in
       -- the link's own laws, and the session's
-      IsRisen (is_reset c.state) outcome silence_new far far_new → OutcomeFits outcome
+      IsRisen (is_reset c.state) outcome silence_new far far_new → NextModeFits outcome
       → Joined (state_of outcome) (settled_session outcome c.session)
       → CallGives c g far silence Idle (settled_core outcome c.session) far_new silence_new
 
@@ -576,7 +576,7 @@ pub record Receives : Type 0 where
       Stands c g far silence → IsSession c.session
       → HonestExchange far silence (text_out c.state) came far_new silence_new
       → out.tries < most_attempts
-      → let outcome : Outcome = came_of c came in
+      → let outcome : NextMode = came_of c came in
       let next : Core = after_exchange outcome c.session in
       -- the link's own laws
       IsMet outcome silence_new far_new

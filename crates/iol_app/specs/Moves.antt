@@ -18,7 +18,7 @@ use Rattle.iol_app.specs.declared.request.Progress.{Progress as Cursor}
 use Rattle.iol_app.specs.declared.request.Progress.TheVariants.{Sending, Doubting, Asking, Receiving, Refused}
 use Rattle.iol_app.specs.declared.session.Exchange.{Exchange}
 use Rattle.iol_app.specs.declared.session.Exchange.TheVariants.{Abort, ConfirmEvents, Request as NextMessage, Idle}
-use Rattle.iol_app.specs.Requests.{Outcome, GoesOn, HasText, forgotten_by, replied, IsCurrent}
+use Rattle.iol_app.specs.Requests.{ReplyEffect, GoesOn, HasText, forgotten_by, replied, IsCurrent}
 use Rattle.iol_app.specs.State.{SessionState, IsSession}
 use Rattle.iol_mode.specs.declared.configuration.Devices.{Devices}
 use Rattle.iol_mode.specs.declared.configuration.Devices.TheVariants.{Own, Any}
@@ -123,7 +123,7 @@ IsReading (Receiving joining had) = Unit {0}
 IsReading any = ⊥
 
 -- the request goes on with these octets of its answer, up to that segment, or has this answer
-abbrev pub IsTakenUp : Current → Answer → ℕ → List ℕ → Outcome → Type 0
+abbrev pub IsTakenUp : Current → Answer → ℕ → List ℕ → ReplyEffect → Type 0
 IsTakenUp current answer i octets (GoesOn next) = (joining : Joining)
     × (next ≡ record current { progress = Receiving joining i; again = false })
     × (joining.text ≡ octets)

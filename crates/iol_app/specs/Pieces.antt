@@ -14,7 +14,7 @@ use Rattle.iol_mode.specs.declared.states.State.{State}
 use Rattle.iol_mode.specs.declared.states.State.TheVariants.{Operate as AtOperate}
 use Rattle.iol_mode.specs.Exchanges.{IsSending, AreFew, ExchangeGives, StandsOn, text_out, layout_out}
 use Rattle.iol_mode.specs.Messages.{unsent}
-use Rattle.iol_mode.specs.States.{IsDown, OutcomeFits, state_of}
+use Rattle.iol_mode.specs.States.{IsDown, NextModeFits, state_of}
 use Rattle.iol_steps.specs.Step.{no_make}
 use Rattle.iol_steps.specs.declared.said.Said.{Said}
 use Rattle.iol_steps.specs.declared.said.Said.TheVariants.{Idle}
@@ -86,7 +86,7 @@ pub record IsSettledBy (old : Core) (came : Option (List ℕ)) (said : Said) (br
   pub valid : IsSession old.session
   pub joined : Joined old.state old.session
   -- the mode that it comes to, by itself, and over an honest wire to the far end
-  pub fits : OutcomeFits (came_of old came)
+  pub fits : NextModeFits (came_of old came)
   pub gives : ExchangeGives old.state came (came_of old came)
   -- what is said of it
   pub said_is : IsSettledSaid (came_of old came) old.session said

@@ -24,7 +24,7 @@ use Rattle.iol_link.specs.Attempts.{Sending, good_reply, most_attempts, attempt_
 use Rattle.iol_link.specs.Honest.{HonestExchange}
 use Rattle.iol_mode.specs.Messages.{command_message, stays, stays_by}
 use Rattle.iol_page.specs.Page.{AreLayouts, IsPlain}
-use Rattle.iol_mode.specs.States.{operate_by, OperateFits, counted, Outcome, OutFits, StateFits, Takes, is_starting, sending_of, outcome_with}
+use Rattle.iol_mode.specs.States.{operate_by, OperateFits, counted, NextMode, OutFits, StateFits, Takes, is_starting, sending_of, outcome_with}
 use Rattle.iol_mode.specs.Stands.{entering_link, operate_link, IsOperating, IsTold, IsAccepted, OperateStands, entering_mode, entering_layout, StateStands, OutcomeStands}
 use Rattle.iol_mode.specs.Turns.{IsMet, IsEnd, IsOperateTurn, IsStartTurn, IsStartTried, IsExchange}
 use Rattle.iol_mode.specs.Laws.{Laws}
@@ -282,7 +282,7 @@ out_gives laws (Some sent) layouts fits few came far far' n n' h x = (
 )
 
 pub exchange_gives : Laws → (c : Configuration) (s : State) (came : Option (List ℕ))
-    (outcome : Outcome) → outcome ≡ judged c s came → StateFits s → AreFew s
+    (outcome : NextMode) → outcome ≡ judged c s came → StateFits s → AreFew s
     → ExchangeGives s came outcome
 exchange_gives laws c (AtDown s) came outcome is fits few = λ far far' n n' h x. tt
 exchange_gives laws c (AtStartup s) came outcome is fits few = λ far far' n n' h x.
@@ -293,7 +293,7 @@ exchange_gives laws c (AtOperate s) came outcome is fits few =
     rw is (out_gives laws s.out s.layouts fits few came)
 
 -- both ends stand afterwards
-given_stands : (s : State) (outcome : Outcome) (far far' : Far) (n' : ℕ) → IsSending s
+given_stands : (s : State) (outcome : NextMode) (far far' : Far) (n' : ℕ) → IsSending s
     → StateGives s far outcome n' far' → OutcomeStands outcome n' far'
 given_stands (AtDown s) outcome far far' n' sends h = absurd sends
 given_stands (AtOperate s) outcome far far' n' sends h = (elim (s.out) as (λ out. IsSome out
@@ -316,7 +316,7 @@ module _ {W : Type 0} (facts : WireFacts W) {wire new : W} {attempt : Attempt} {
     (called : IsExchanged facts wire s new attempt state) where
   open facts use {honest, far, silence}
 
-  abbrev after : Outcome
+  abbrev after : NextMode
   after = outcome_with attempt state
 
   -- what an honest wire gives
@@ -330,7 +330,7 @@ module _ {W : Type 0} (facts : WireFacts W) {wire new : W} {attempt : Attempt} {
   exchange_stands stood h = rw outcome_state at (given_stands s after (far wire) (far new)
       (silence new) called.sends (given stood (called.saw h)))
 
-  exchange_told : {layout : Shape} {message : MasterMsg} {turned : Option Reply → Outcome}
+  exchange_told : {layout : Shape} {message : MasterMsg} {turned : Option Reply → NextMode}
       → facts.exchange_gives wire (master_text layout message) called.answer new
       → Passes facts wire (master_text layout message) called.answer new
       → after ≡ turned (good_reply layout message (octets_in called.answer))

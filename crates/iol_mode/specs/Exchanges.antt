@@ -19,7 +19,7 @@ use Rattle.iol_mode.specs.declared.configuration.Devices.{Devices}
 use Rattle.iol_mode.specs.declared.configuration.Devices.TheVariants.{Own}
 use Rattle.iol_mode.specs.declared.states.State.{State}
 use Rattle.iol_mode.specs.declared.states.State.TheVariants.{Down as AtDown, Startup as AtStartup, Preoperate as AtPreoperate, Operate as AtOperate}
-use Rattle.iol_mode.specs.States.{Outcome, InDown, InOperate, StateFits, any_device, is_behind, counted, operate_by, outcome_with, startup_turned, preoperate_turned, sending_of, state_of, waked}
+use Rattle.iol_mode.specs.States.{NextMode, InDown, InOperate, StateFits, any_device, is_behind, counted, operate_by, outcome_with, startup_turned, preoperate_turned, sending_of, state_of, waked}
 use Rattle.iol_mode.specs.Stands.{IsOperating, IsAccepted, IsTold, StateStands, text_in}
 use Rattle.iol_mode.specs.Turns.{IsMet, IsRisen}
 use Rattle.iol_mode.specs.Kinds.{SeesPulses, IsHonestFor}
@@ -79,14 +79,14 @@ putting_instead message (AtOperate s) = AtOperate (record s { out = instead mess
 putting_instead message s = s
 
 -- what is made of what comes back to it
-abbrev pub judged_out : Option Sending → Layouts → Option (List ℕ) → Outcome
+abbrev pub judged_out : Option Sending → Layouts → Option (List ℕ) → NextMode
 judged_out None layouts came = InOperate (record { out = None; layouts = layouts }) None
 judged_out (Some sent) layouts came =
     operate_by (counted sent (good_reply layouts.run sent.message came)) layouts
     (attempt_of sent.tries (good_reply layouts.run sent.message came))
 
 -- what a start-up asks of the device counts where its page becomes whole
-abbrev pub judged : Configuration → State → Option (List ℕ) → Outcome
+abbrev pub judged : Configuration → State → Option (List ℕ) → NextMode
 judged c (AtDown s) came = InDown s
 judged c (AtStartup s) came = startup_turned c s (good_reply startup_shape s.sent.message came)
 judged c (AtPreoperate s) came = preoperate_turned s (good_reply s.pre s.sent.message came)
@@ -127,12 +127,12 @@ OutAccepted None layouts far = ⊤
 OutAccepted (Some sent) layouts far =
     (link : Link) → IsOperating layouts link → IsAccepted layouts far.page link sent.message
 
-abbrev pub OutGives : Option Sending → Layouts → Far → Outcome → ℕ → Far → Type 0
+abbrev pub OutGives : Option Sending → Layouts → Far → NextMode → ℕ → Far → Type 0
 OutGives None layouts far outcome silence_new far_new = ⊤
 OutGives (Some sent) layouts far outcome silence_new far_new =
     IsMet outcome silence_new far_new × OutAccepted (Some sent) layouts far
 
-abbrev pub StateGives : State → Far → Outcome → ℕ → Far → Type 0
+abbrev pub StateGives : State → Far → NextMode → ℕ → Far → Type 0
 StateGives (AtDown s) far outcome silence_new far_new = ⊤
 StateGives (AtStartup s) far outcome silence_new far_new =
     IsRisen (is_behind s.step) outcome silence_new far far_new
@@ -142,7 +142,7 @@ StateGives (AtOperate s) far outcome silence_new far_new =
     OutGives s.out s.layouts far outcome silence_new far_new
 
 -- one exchange, of which this came back
-abbrev pub ExchangeGives : State → Option (List ℕ) → Outcome → Type 0
+abbrev pub ExchangeGives : State → Option (List ℕ) → NextMode → Type 0
 ExchangeGives s came outcome =
     (far far_new : Far) (silence silence_new : ℕ) → StateStands s silence far
     → HonestExchange far silence (text_out s) came far_new silence_new

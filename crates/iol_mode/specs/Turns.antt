@@ -18,12 +18,12 @@ use Rattle.iol_mode.specs.Kinds.{IsHonestFor}
 use Rattle.iol_mode.specs.declared.states.State.{State}
 use Rattle.iol_mode.specs.declared.states.State.TheVariants.{Startup as AtStartup, Preoperate as AtPreoperate, Operate as AtOperate}
 use Rattle.iol_mode.specs.declared.states.Operate.{Operate}
-use Rattle.iol_mode.specs.States.{Outcome, any_device, is_behind, OutcomeFits, OperateFits, startup_turned, preoperate_turned, operate_by, operate_turned, sending_of}
+use Rattle.iol_mode.specs.States.{NextMode, any_device, is_behind, NextModeFits, OperateFits, startup_turned, preoperate_turned, operate_by, operate_turned, sending_of}
 use Rattle.iol_mode.specs.Stands.{OperateStands, OutcomeStands, IsOperating, IsAccepted}
 use Rattle.iol_mode.specs.Next.{MetFits, LostFits, FaultFits, DeviceFits, EnteredFits}
 
 -- how the new mode stands to the far end, also right after a good reply, and what a lost link needs
-pub record IsMet (outcome : Outcome) (silence : ℕ) (far : Far) : Type 0 where
+pub record IsMet (outcome : NextMode) (silence : ℕ) (far : Far) : Type 0 where
   pub stands : OutcomeStands outcome silence far
   pub met : MetFits outcome far
   pub lost : LostFits outcome silence
@@ -31,7 +31,7 @@ pub record IsMet (outcome : Outcome) (silence : ℕ) (far : Far) : Type 0 where
 -- in a start-up also: once the device was reset the record stands still; a page fault is one of
 -- the far end's page, as is an identity that isn't expected, and the turn that enters OPERATE
 -- tells how
-pub record IsRisen (reset : Bool) (outcome : Outcome) (silence : ℕ) (old far : Far) :
+pub record IsRisen (reset : Bool) (outcome : NextMode) (silence : ℕ) (old far : Far) :
     Type 0 where
   pub both : IsMet outcome silence far
   pub still : IsTrue reset → far.carried ≡ old.carried
@@ -40,7 +40,7 @@ pub record IsRisen (reset : Bool) (outcome : Outcome) (silence : ℕ) (old far :
   pub entered : EnteredFits outcome silence far
 
 -- the attempt alone says what becomes of OPERATE
-abbrev pub IsEnd : Attempt → Outcome → Type 0
+abbrev pub IsEnd : Attempt → NextMode → Type 0
 IsEnd attempt outcome = (sending : Sending) × (layouts : Layouts)
     × (outcome ≡ operate_by sending layouts attempt)
 
@@ -49,17 +49,17 @@ module _ {W : Type 0} (facts : WireFacts W) where
 
   -- one exchange of this message, in this layout
   pub record IsExchange (wire : W) (layout : Shape) (message : MasterMsg)
-      (turned : Option Reply → Outcome) (outcome : Outcome) (new : W) : Type 0 where
+      (turned : Option Reply → NextMode) (outcome : NextMode) (new : W) : Type 0 where
     pub answer : Option (ArrayVec ℕ)
     pub called : exchange_gives wire (master_text layout message) answer new
     pub passes : Passes facts wire (master_text layout message) answer new
     pub honesty : honest new ≡ honest wire
     pub outcome_is : outcome ≡ turned (good_reply layout message (octets_in answer))
-    pub fits : OutcomeFits outcome
+    pub fits : NextModeFits outcome
 
   -- in a start-up
   pub record IsRise (wire : W) (reset : Bool) (layout : Shape) (message : MasterMsg)
-      (turned : Option Reply → Outcome) (outcome : Outcome) (new : W) : Type 0 where
+      (turned : Option Reply → NextMode) (outcome : NextMode) (new : W) : Type 0 where
     pub exchange : IsExchange wire layout message turned outcome new
     pub risen : IsHonestFor facts Own wire → IsRisen reset outcome (silence new) (far wire)
         (far new)
@@ -78,7 +78,7 @@ module _ {W : Type 0} (facts : WireFacts W) where
 
   -- with any device
   -- LINK-1
-  abbrev pub IsStartTurn : W → State → Outcome → W → Type 0
+  abbrev pub IsStartTurn : W → State → NextMode → W → Type 0
   IsStartTurn wire (AtStartup s) outcome new =
       IsRise wire (is_behind s.step) startup_shape s.sent.message (startup_turned any_device s)
       outcome new
@@ -87,7 +87,7 @@ module _ {W : Type 0} (facts : WireFacts W) where
   IsStartTurn wire s outcome new = ⊥
 
   -- in OPERATE: also how the link stood before
-  pub record IsCycle (wire : W) (s : Operate) (message : MasterMsg) (outcome : Outcome)
+  pub record IsCycle (wire : W) (s : Operate) (message : MasterMsg) (outcome : NextMode)
       (new : W) : Type 0 where
     pub exchange : IsExchange wire s.layouts.run (sending_of s.out message).message
         (operate_turned s message) outcome new
@@ -99,6 +99,6 @@ module _ {W : Type 0} (facts : WireFacts W) where
         → IsAccepted s.layouts (far wire).page link (sending_of s.out message).message
 
   -- LINK-1
-  abbrev pub IsOperateTurn : W → State → MasterMsg → Outcome → W → Type 0
+  abbrev pub IsOperateTurn : W → State → MasterMsg → NextMode → W → Type 0
   IsOperateTurn wire (AtOperate s) message outcome new = IsCycle wire s message outcome new
   IsOperateTurn wire s message outcome new = ⊥

@@ -28,7 +28,7 @@ use Rattle.iol_app.specs.declared.event_work.EventRoom.{EventRoom}
 use Rattle.iol_app.specs.declared.request.Current.{Current}
 use Rattle.iol_app.specs.declared.request.Progress.{Progress}
 use Rattle.iol_app.specs.declared.request.Progress.TheVariants.{Sending, Asking, Receiving}
-use Rattle.iol_app.specs.Requests.{sent_on, GoesOn, HasText, joined as joined_with, asked, received as received_with, IsOutcomeSaid, Outcome, replied, going}
+use Rattle.iol_app.specs.Requests.{sent_on, GoesOn, HasText, joined as joined_with, asked, received as received_with, IsEffectSaid, ReplyEffect, replied, going}
 use Rattle.iol_steps.specs.declared.said.Said.{Said}
 use Rattle.iol_steps.specs.declared.said.Said.TheVariants.{Answered as SaidAnswered, Busy as SaidBusy}
 use Rattle.iol_port.specs.Turns.{cutting, Stage, Written, Waiting, Reading, Ended, busy_replies, turns_at, once_written, StageFits}
@@ -166,7 +166,7 @@ gets request size answer given j = under request size given
     (Receiving (standing size (answer_text request answer) j) j)
 
 -- what the reply with a segment makes of the request
-abbrev comes : ℕ → Request → Answer → ℕ → ℕ → Outcome
+abbrev comes : ℕ → Request → Answer → ℕ → ℕ → ReplyEffect
 comes size request answer given j = joined_with (cutting request size given) None j
     (Ok (took_at size (answer_text request answer) j))
     (standing size (answer_text request answer) j)
@@ -192,7 +192,7 @@ module _ (laws : CleanLaws) (size : ℕ) (low : 1 ≤ size) (request : Request) 
   joined_last : (given j : ℕ) → length text ≤ suc j * size
       → comes size request answer given j ≡ HasText text
   joined_last given j all =
-      let whole = (laws.joins size low).whole false text j all in
+      let whole = (laws.joins size low).whole text j all in
       let fine = (laws.texts size low).accepted (is_read request) answer fits_answer in
       grind (arith, nat_tests, common_steps, whole, fine)
 
@@ -210,11 +210,11 @@ module _ (laws : CleanLaws) (size : ℕ) (low : 1 ≤ size) (request : Request) 
       → received_with false (cutting request size given) None (standing size text j) (j + 1)
       (segment size text (suc j)) ≡ comes size request answer given (suc j)
   next_joined given j more =
-      let took = rw (flow_next j) at ((laws.joins size low).next false text j holds more) in
+      let took = rw (flow_next j) at ((laws.joins size low).next text j holds more) in
       rw (add-one j, took) refl
 
   -- what is said of a whole text
-  said_last : {said : Said} → IsOutcomeSaid (is_read request) (HasText text) said
+  said_last : {said : Said} → IsEffectSaid (is_read request) (HasText text) said
       → said ≡ SaidAnswered answer
   said_last h = h.only answer (record {
     text = text;
@@ -319,17 +319,17 @@ module _ {W : Type 0} (facts : WireFacts W) where
           )
 
       -- what the reply makes of the request, and what is said of it
-      comes_to : {state : IsduState} → (far t.turn.next).isdu ≡ state → (o : Outcome)
+      comes_to : {state : IsduState} → (far t.turn.next).isdu ≡ state → (o : ReplyEffect)
           → replied old.session.limit
           (if (progress_head c.progress).read then isdu_data size state else []) c ≡ o
-          → (new.session.current ≡ going o) × IsOutcomeSaid (is_read c.cutter.source) o said
+          → (new.session.current ≡ going o) × IsEffectSaid (is_read c.cutter.source) o said
       comes_to {state = state} state_now o e =
           let od : t.turn.reply.od.items
           ≡ (if (progress_head c.progress).read then isdu_data size state else []) =
           rw (t.turn.heard_as.od, ap (λ (h : Head). h.read) t.head, state_now) refl in
           let o_is : replied old.session.limit t.turn.reply.od.items c ≡ o = rw od e in (
             t.current ∙ ap going o_is,
-            subst (λ (x : Outcome). IsOutcomeSaid (is_read c.cutter.source) x said) o_is t.said_is,
+            subst (λ (x : ReplyEffect). IsEffectSaid (is_read c.cutter.source) x said) o_is t.said_is,
           )
 
       -- the request goes on, or has its answer

@@ -3,7 +3,7 @@ use Rattle.std.proofs.lemmas.Grind.{common_steps}
 use Rattle.std.proofs.Common.{◌≡◌, arith}
 use Rattle.iol_far.specs.Octets.{octets_in}
 use Rattle.iol_link.specs.Attempts.{attempt_in}
-use Rattle.iol_mode.specs.States.{Outcome, OutcomeFits, outcome_with}
+use Rattle.iol_mode.specs.States.{NextMode, NextModeFits, outcome_with}
 use Rattle.iol_mode.specs.Exchanges.{judged}
 use Rattle.iol_app.proofs.Settling.{outcome_state, settled_fits}
 use Rattle.iol_app.proofs.Pieces.{judged_next}
@@ -11,7 +11,7 @@ use Rattle.iol_app.proofs.Verdicts.{brought_is}
 use Rattle.iol_app.proofs.core_data.Core.settle.Goals as goal
 
 -- what came of it, by the core as it was
-abbrev outcome : goal.After-brought → Outcome
+abbrev outcome : goal.After-brought → NextMode
 outcome c = outcome_with (attempt_in c.receives-attempt.result) c.receives-attempt.new.self
 
 -- it is judged by what start-ups ask
@@ -19,7 +19,7 @@ is_judged : (c : goal.After-brought) → outcome c
     ≡ judged c.self.inside.session.configuration c.self.inside.state (octets_in c.args.came.now)
 is_judged c = rw c.configuration.ensures at c.receives-attempt.ensures.state
 
-fits : (c : goal.After-brought) → OutcomeFits (outcome c)
+fits : (c : goal.After-brought) → NextModeFits (outcome c)
 fits c = rw outcome_state c.receives-attempt.ensures.fits
 
 pub settled-requires : goal.settled-requires
