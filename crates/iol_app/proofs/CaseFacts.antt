@@ -71,9 +71,9 @@ pub anew_busy : (doubts : Bool) (cutter : Cutting Request) (busy : ℕ) → busy
     → BusyAt doubts (sending (last_given cutter.size (text_of cutter) cutter.given)) busy
 anew_busy doubts cutter busy e one = grind (arith, nat_tests, common_steps, text_some)
 
-pub anew_clear : (clear : Bool) (cutter : Cutting Request) (abort : Option Cause)
-    → cutter.given ≡ 1 → progress_of Any clear (Some (sent_anew cutter abort)) ≡ Clear
-anew_clear clear cutter abort one = grind (arith, nat_tests, common_steps, text_some)
+pub anew_clear : (clear : Bool) (current : Current)
+    → current.cutter.given ≡ 1 → progress_of Any clear (Some (sent_anew current)) ≡ Clear
+anew_clear clear current one = grind (arith, nat_tests, common_steps, text_some)
 
 -- it was asked for so often in vain
 pub vain_again : (devices : Devices) (current : Current) (tries : ℕ) → devices ≡ Any
@@ -108,36 +108,37 @@ forgotten_none {size} {had} {joining} od k h e =
     rw (← zeros od, found.0, found.1) refl
 
 -- where they end a text, it is refused, or taken for an answer's by who asked for them once
-abbrev pub EndsText : Bool → Cutting Request → Option Cause → ReplyEffect → Type 0
-EndsText again cutter abort (GoesOn next) = next ≡ refused cutter abort
-EndsText again cutter abort (HasText text) = again ≡ false
+abbrev pub EndsText : Bool → Current → Outcome → Type 0
+EndsText again current (GoesOn next) = next ≡ refused current
+EndsText again current (HasText text) = again ≡ false
 
 none_zeros : (text od : List ℕ) (k : ℕ) → are_zeros od ≡ bytes_eq od (replicate (length od) 0)
     → may_be_none UntilSent (suc k) text od ≡ true
     → (are_zeros od ≡ true) × (is_open (stage (text ++ od)) ≡ false)
 none_zeros text od k same e = grind (arith, common_steps)
 
-finished_ends : (again : Bool) (cutter : Cutting Request) (abort : Option Cause) (text : List ℕ)
-    (fault : Option IsduFault) → EndsText again cutter abort (if again && true
-    then GoesOn (refused cutter abort) else finished cutter abort text fault)
-finished_ends again cutter abort text fault = grind (arith, common_steps)
+finished_ends : (again : Bool) (current : Current) (text : List ℕ) (fault : Option IsduFault)
+    → EndsText again current (if again && true
+    then GoesOn (refused current) else finished text fault current)
+finished_ends again current text fault = grind (arith, common_steps)
 
-staged_ends : (again : Bool) (cutter : Cutting Request) (abort : Option Cause) (had : ℕ)
+staged_ends : (again : Bool) (current : Current) (had : ℕ)
     (count : Option ℕ) (octets od : List ℕ) (at : Stage) → are_zeros od ≡ true
-    → is_open at ≡ false → let t : Taken = staged count octets at in
-    EndsText again cutter abort (if again && forgotten_by t.took od
-    then GoesOn (refused cutter abort) else joined cutter abort had t.took t.joining)
-staged_ends again cutter abort had count octets od (Complete text) none closed =
-    rw none (finished_ends again cutter abort text (answer_fault (is_read cutter.source) text))
-staged_ends again cutter abort had count octets od at none closed = grind (arith, common_steps)
+    → is_open at ≡ false → let t : Taken = staged false count octets at in
+    EndsText again current (if again && forgotten_by t.took od
+    then GoesOn (refused current) else joined had t.took t.joining current)
+staged_ends again current had count octets od (Complete text) none closed =
+    rw none (finished_ends again current text
+    (answer_fault (is_read current.cutter.source) text))
+staged_ends again current had count octets od at none closed = grind (arith, common_steps)
 
-pub none_ends : {size had : ℕ} {joining : Joining} (cutter : Cutting Request)
-    (abort : Option Cause) (od : List ℕ) (k : ℕ) (again : Bool) → IsJoining size had joining
+pub none_ends : {size had : ℕ} {joining : Joining} (current : Current)
+    (od : List ℕ) (k : ℕ) (again : Bool) → IsJoining size had joining
     → may_be_none UntilSent (suc k) joining.text od ≡ true
-    → EndsText again cutter abort (received again cutter abort joining (had + 1) od)
-none_ends {size} {had} {joining} cutter abort od k again h e =
+    → EndsText again current (received again joining (had + 1) od current)
+none_ends {size} {had} {joining} current od k again h e =
     let none = none_zeros joining.text od k (zeros od) e in
-    rw (taken_next size had joining od h) (staged_ends again cutter abort (had + 1)
+    rw (taken_next size had joining od h) (staged_ends again current (had + 1)
     (Some (suc had % 16)) (joining.text ++ od) od (stage (joining.text ++ od)) none.0 none.1)
 
 pub trusts_none : (devices : Devices) (recalls : Recalls) (vain : ℕ) (text od : List ℕ)

@@ -78,12 +78,13 @@ module _ (names : TextNamesAnswer) (taken : AnswersAreTakenUp) (good : Good) whe
   -- a segment of the request
   segment : {cutter : Cutting Request} {flow : Flow} {piece : ArrayVec ℕ} {again : Bool}
       {abort : Option Cause} (a : For NextMessage (at cutter (Cut flow piece) again abort))
-      → said ≡ SaidBusy → Comes a (Some (sent_on cutter abort))
+      → said ≡ SaidBusy → Comes a (Some (sent_on (cursor cutter (Cut flow piece) false abort)))
   segment {cutter} {flow} {piece} {abort} a says =
-      goes_on a (keeps a refl refl) (Some (sent_on cutter abort)) refl
+      let current : Current = cursor cutter (Cut flow piece) false abort in
+      goes_on a (keeps a refl refl) (Some (sent_on current)) refl
       (first_idle devices cutter.source cutter.given)
       (inl (sym (sent_follows trust (its a).vain devices
-      false cutter abort flow piece od a.valid.current.progress))) (
+      false current flow piece od a.valid.current.progress))) (
         sent_busy doubts cutter (nat_lt (cutter.given * cutter.size) (length (text_of cutter)))
             g.request.busy a.stands.request.busy.0,
         a.stands.request.busy.1,
@@ -94,6 +95,9 @@ module _ (names : TextNamesAnswer) (taken : AnswersAreTakenUp) (good : Good) whe
     open current use {cutter, abort, cutter.{source}}
     open a use {stands, stands.{request as up}}
     open (its a) use {own, hidden as h, back, what, repeats}
+
+    abbrev sure : Current
+    sure = record current { again = false }
 
     abbrev base : List Carried
     base = g.request.base
@@ -107,9 +111,9 @@ module _ (names : TextNamesAnswer) (taken : AnswersAreTakenUp) (good : Good) whe
 
     -- what came is none of an answer, or can't be known to be one
     refuses : IsTrue doubts → ReadsAnswer what → Follows a (Unsure source) → said ≡ SaidBusy
-        → Comes a (Some (refused cutter abort))
+        → Comes a (Some (refused sure))
     refuses may asks is says =
-        goes_on a (keeps a refl refl) (Some (refused cutter abort)) refl
+        goes_on a (keeps a refl refl) (Some (refused sure)) refl
         (λ k. absurd (subst ReadsAnswer k asks)) (inl is)
         (refused_waits doubts t.limit g.request.busy g.request.asked abort may up.busy.1)
         refl refl says
@@ -117,7 +121,7 @@ module _ (names : TextNamesAnswer) (taken : AnswersAreTakenUp) (good : Good) whe
     -- a START read answered busy
     busy : (counted : ℕ) → what ≡ Ask → counted ≡ min g.request.busy 65535
         → Follows a (IsBusy source) → (slice_index od 0 == 1) ≡ true → said ≡ SaidBusy
-        → Comes a (Some (waited cutter abort (one_more counted) t.limit))
+        → Comes a (Some (waited (one_more counted) t.limit sure))
     busy counted asks count follows is says =
         let asking : ReadsAnswer what = subst ReadsAnswer (sym asks) tt in
         let reads = keeps a refl refl in
@@ -224,7 +228,7 @@ module _ (names : TextNamesAnswer) (taken : AnswersAreTakenUp) (good : Good) whe
 
   start_read : {cutter : Cutting Request} {counted : ℕ} {again : Bool} {abort : Option Cause}
       (a : For NextMessage (at cutter (Asking counted) again abort))
-      → Goes_to a (asked cutter abort counted t.limit od)
+      → Goes_to a (asked counted t.limit od (cursor cutter (Asking counted) false abort))
   start_read {cutter} {counted} {abort} a =
       by_octet (slice_index od 0 == 1) (slice_index od 0 == 0) refl refl
     where
@@ -232,7 +236,7 @@ module _ (names : TextNamesAnswer) (taken : AnswersAreTakenUp) (good : Good) whe
       follows = asked_after trust (its a).vain devices cutter counted od a.valid.current.progress
 
       by_octet : (b z : Bool) → (slice_index od 0 == 1) ≡ b → (slice_index od 0 == 0) ≡ z
-          → Goes_to a (asked cutter abort counted t.limit od)
+          → Goes_to a (asked counted t.limit od (cursor cutter (Asking counted) false abort))
       by_octet true z b e =
           rw b (busy a counted refl a.stands.request.busy.0 (follows ∙ rw b refl) b)
       by_octet false false f z = answer_segment a tt tt refl (follows ∙ rw (f, z) refl)
@@ -250,7 +254,7 @@ module _ (names : TextNamesAnswer) (taken : AnswersAreTakenUp) (good : Good) whe
   question_unheard : (cutter : Cutting Request) (again : Bool) (abort : Option Cause)
       (a : For NextMessage (at cutter Doubting again abort))
       → (slice_index od 0 == 1) ≡ false → (slice_index od 0 == 0) ≡ true
-      → Goes_to a (doubted again cutter abort t.limit od)
+      → Goes_to a (doubted again t.limit od (cursor cutter Doubting false abort))
   question_unheard cutter true abort a f z =
       let any = doubting_any a in
       let k = vain_again devices (cursor cutter Doubting true abort) w.tries any
@@ -259,9 +263,10 @@ module _ (names : TextNamesAnswer) (taken : AnswersAreTakenUp) (good : Good) whe
   question_unheard cutter false abort a f z =
       let any = doubting_any a in
       let one = a.valid.current.progress.0 in
-      let is : Follows a (progress_of devices false (Some (sent_anew cutter abort))) =
-      rw (f, z, any) (sym (anew_clear false cutter abort one)) in
-      rw z (goes_on a (keeps a refl refl) (Some (sent_anew cutter abort)) refl
+      let current : Current = cursor cutter Doubting false abort in
+      let is : Follows a (progress_of devices false (Some (sent_anew current))) =
+      rw (f, z, any) (sym (anew_clear false current one)) in
+      rw z (goes_on a (keeps a refl refl) (Some (sent_anew current)) refl
       (λ k. cc) (inl is) (
         anew_busy doubts cutter g.request.busy a.stands.request.busy.0 one,
         a.stands.request.busy.1,
@@ -269,12 +274,12 @@ module _ (names : TextNamesAnswer) (taken : AnswersAreTakenUp) (good : Good) whe
 
   question_read : {cutter : Cutting Request} {again : Bool} {abort : Option Cause}
       (a : For NextMessage (at cutter Doubting again abort))
-      → Goes_to a (doubted again cutter abort t.limit od)
+      → Goes_to a (doubted again t.limit od (cursor cutter Doubting false abort))
   question_read {cutter} {again} {abort} a =
       by_octet (slice_index od 0 == 1) (slice_index od 0 == 0) refl refl
     where
       by_octet : (b z : Bool) → (slice_index od 0 == 1) ≡ b → (slice_index od 0 == 0) ≡ z
-          → Goes_to a (doubted again cutter abort t.limit od)
+          → Goes_to a (doubted again t.limit od (cursor cutter Doubting false abort))
       by_octet true z b e = rw (not_zero (slice_index od 0) b, b)
           (busy a 0 refl (rw a.stands.request.busy.0 refl) (rw b refl) b)
       by_octet false false f z = answer_segment a tt tt refl (rw (f, z) refl)
@@ -283,7 +288,8 @@ module _ (names : TextNamesAnswer) (taken : AnswersAreTakenUp) (good : Good) whe
   -- a COUNT read
   count_read : {cutter : Cutting Request} {joining : Joining} {last : ℕ} {again : Bool}
       {abort : Option Cause} (a : For NextMessage (at cutter (Receiving joining last) again abort))
-      → Goes_to a (received again cutter abort joining (last + 1) od)
+      → Goes_to a (received again joining (last + 1) od
+      (cursor cutter (Receiving joining last) false abort))
   count_read {cutter} {joining} {last} {again} {abort} a =
       by_none (may_be_none trust (its a).vain joining.text od) refl
     where
@@ -293,8 +299,11 @@ module _ (names : TextNamesAnswer) (taken : AnswersAreTakenUp) (good : Good) whe
       joins : IsJoining cutter.size last joining
       joins = a.valid.current.progress
 
-      new : ReplyEffect
-      new = received again cutter abort joining (last + 1) od
+      sure : Current
+      sure = cursor cutter (Receiving joining last) false abort
+
+      new : Outcome
+      new = received again joining (last + 1) od sure
 
       IsNone : Bool → Type 0
       IsNone b = may_be_none trust (its a).vain joining.text od ≡ b
@@ -319,8 +328,8 @@ module _ (names : TextNamesAnswer) (taken : AnswersAreTakenUp) (good : Good) whe
       -- what came is none of an answer, or is taken for one that the device has forgotten: a port
       -- for our own takes the zeros for the text's end
       by_outcome : (devices ≡ Any) ⊎ IsTrue (misreads_at devices g.kind.recalls) → (k : ℕ)
-          → (its a).vain ≡ suc k → IsNone true → (outcome : ReplyEffect)
-          → EndsText again cutter abort outcome → Goes_to a outcome
+          → (its a).vain ≡ suc k → IsNone true → (outcome : Outcome)
+          → EndsText again sure outcome → Goes_to a outcome
       by_outcome why k is none (GoesOn next) same =
           rw same (refuses a (doubts_of devices g.kind.recalls why) tt (follows true none))
       by_outcome (inl any) k is none (HasText octets) once =
@@ -332,13 +341,13 @@ module _ (names : TextNamesAnswer) (taken : AnswersAreTakenUp) (good : Good) whe
       by_none true none =
           let (why, (k, is, zeros)) =
           trusts_none devices g.kind.recalls (its a).vain joining.text od none in
-          by_outcome why k is none new (none_ends cutter abort od k again joins zeros)
+          by_outcome why k is none new (none_ends sure od k again joins zeros)
       by_none false none = answer_segment a tt tt (kept none) (follows false none)
 
   -- every message of the request
   request_message : (cutter : Cutting Request) (p : Cursor) (again : Bool) (abort : Option Cause)
       (a : For NextMessage (at cutter p again abort))
-      → Goes_to a (replied_at p t.limit od (cursor cutter p again abort))
+      → Goes_to a (replied_at p again t.limit od (cursor cutter p false abort))
   request_message cutter (Cut flow piece) again abort a = segment a
   request_message cutter Doubting again abort a = question_read a
   request_message cutter (Asking counted) again abort a = start_read a

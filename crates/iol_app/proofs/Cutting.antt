@@ -7,6 +7,7 @@ use Rattle.iol_isdu.specs.declared.values.Request.{Request}
 use Rattle.iol_isdu.specs.declared.values.Cause.{Cause}
 use Rattle.iol_isdu.specs.Texts.{IsRequest}
 use Rattle.iol_segment.specs.Cut.{Cutting, segment, flow_at, pair_at, last_given}
+use Rattle.iol_app.specs.declared.request.Current.{Current}
 use Rattle.iol_app.specs.Requests.{text_of, sent_on, IsCurrent}
 
 -- a segment has its size
@@ -35,7 +36,8 @@ pub given_goes_on : (size : ℕ) (text : List ℕ) (given : ℕ) (flow : Flow) (
 given_goes_on size text given flow piece e = grind (arith, common_steps)
 
 -- on to the next segment, or to asking
-pub sent_on_fits : (cutter : Cutting Request) (abort : Option Cause) → IsRequest cutter.source
+pub sent_on_fits : (current : Current) → let cutter : Cutting Request = current.cutter in
+    IsRequest cutter.source
     → 1 ≤ cutter.size → cutter.size ≤ 32 → 0 < length (text_of cutter)
-    → GoesOn cutter.size (text_of cutter) cutter.given → IsCurrent (sent_on cutter abort)
-sent_on_fits cutter abort request some most text on = grind (arith, common_steps)
+    → GoesOn cutter.size (text_of cutter) cutter.given → IsCurrent (sent_on current)
+sent_on_fits current request some most text on = grind (arith, common_steps)

@@ -1,6 +1,6 @@
 -- The segments of an answer, one after the other.
 use Rattle.std.proofs.lemmas.Grind.{common_steps}
-use Rattle.std.proofs.Common.{◌≡◌, ℕ, zero, suc, ◌*◌, ◌%◌, ◌<◌, Bool, true, false, ◌&&◌, if◌then◌else◌, List, ◌++◌, length, refl, arith, ◌+◌, Option, Some}
+use Rattle.std.proofs.Common.{◌≡◌, ℕ, zero, suc, ◌*◌, ◌%◌, ◌<◌, Bool, true, false, ◌&&◌, if◌then◌else◌, List, ◌++◌, length, refl, sym, arith, ◌+◌, Option, Some, None, Result, Ok, Err}
 use Rattle.std.proofs.lemmas.List.{length-append}
 use Rattle.iol_isdu.specs.declared.fault.IsduFault.{IsduFault}
 use Rattle.iol_segment.specs.Join.{Open, stage, Stage, Joining, Taken, staged, taken}
@@ -9,9 +9,15 @@ use Rattle.std.proofs.Math.Numerals.{add-one}
 use Rattle.iol_octets.specs.declared.flow_control.Flow.TheVariants.{Count}
 use Rattle.iol_isdu.specs.declared.values.Request.{Request}
 use Rattle.iol_app.specs.declared.request.Current.{Current}
+use Rattle.iol_app.specs.declared.request.Progress.{Progress}
+use Rattle.iol_app.specs.declared.request.Progress.TheVariants.{Refused}
+use Rattle.iol_isdu.specs.declared.values.Cause.{Cause}
+use Rattle.iol_segment.specs.declared.took.Took.{Took}
+use Rattle.iol_segment.specs.declared.took.Took.TheVariants.{Repeat, More, Whole}
+use Rattle.iol_segment.specs.declared.took.JoinFault.{JoinFault}
 use Rattle.iol_segment.specs.Cut.{Cutting}
 use Rattle.iol_segment.specs.JoinLaws.{count_at}
-use Rattle.iol_app.specs.Requests.{ReplyEffect, GoesOn, HasText, finished, joined, received, refused, forgotten_by, IsJoining, IsCurrent}
+use Rattle.iol_app.specs.Requests.{Outcome, GoesOn, HasText, finished, joined, asked, received, refused, forgotten_by, IsJoining, IsCurrent}
 
 -- octets before them aren't whole either
 open_before : (xs ys : List ℕ) → stage (xs ++ ys) ≡ Open → stage xs ≡ Open
@@ -48,38 +54,62 @@ StaysCurrent cutter (GoesOn next) = IsCurrent next × (next.cutter.size ≡ cutt
 StaysCurrent cutter (HasText text) = Unit {0}
 
 module _ (current : Current) (h : IsCurrent current) where
-  open current use {cutter, abort}
+  open current use {cutter}
 
-  pub refused_stays : StaysCurrent cutter (GoesOn (refused cutter abort))
+  pub refused_stays : StaysCurrent cutter (GoesOn (refused current))
   refused_stays = grind (arith, common_steps)
 
   finished_stays : (text : List ℕ) (fault : Option IsduFault)
-      → StaysCurrent cutter (finished cutter abort text fault)
+      → StaysCurrent cutter (finished text fault current)
   finished_stays text fault = grind (arith, common_steps)
 
   -- a segment of this number was taken
   pub joined_stays : (had : ℕ) (octets : List ℕ) (at : Stage) → stage octets ≡ at
       → length octets ≡ suc had * cutter.size
-      → let t : Taken = staged (count_at had) octets at in
-      StaysCurrent cutter (joined cutter abort had t.took t.joining)
+      → let t : Taken = staged false (count_at had) octets at in
+      StaysCurrent cutter (joined had t.took t.joining current)
   joined_stays had octets at e size = grind (arith, common_steps, finished_stays, refused_stays)
 
   -- the reply to a COUNT read, with the next segment
   pub received_stays : (again : Bool) (j : Joining) (had : ℕ) (od : List ℕ)
       → IsJoining cutter.size had j → length od ≡ cutter.size
-      → StaysCurrent cutter (received again cutter abort j (had + 1) od)
+      → StaysCurrent cutter (received again j (had + 1) od current)
   received_stays again j had od joining size =
       elim (again && forgotten_by t.took od) as
-      (λ b. StaysCurrent cutter (if b then GoesOn (refused cutter abort)
-      else joined cutter abort (had + 1) t.took t.joining)) [ true ↦ refused_stays | false ↦ next ]
+      (λ b. StaysCurrent cutter (if b then GoesOn (refused current)
+      else joined (had + 1) t.took t.joining current)) [ true ↦ refused_stays | false ↦ next ]
     where
       t : Taken
       t = taken j (Count ((had + 1) % 16)) od
 
-      next : StaysCurrent cutter (joined cutter abort (had + 1) t.took t.joining)
+      next : StaysCurrent cutter (joined (had + 1) t.took t.joining current)
       next =
           let all = length-append j.text od in
           let before : length j.text ≡ suc had * cutter.size = joining.size_of in
           let long : length (j.text ++ od) ≡ suc (suc had) * cutter.size = omega arith in
           rw (taken_next cutter.size had j od joining, add-one had)
           (joined_stays (suc had) (j.text ++ od) (stage (j.text ++ od)) refl long)
+
+-- what becomes of a request is the same, whatever it was about before
+finished_at : (current : Current) (p : Progress) (text : List ℕ) (fault : Option IsduFault)
+    → finished text fault (record current { progress = p }) ≡ finished text fault current
+finished_at current p text None = refl
+finished_at current p text (Some fault) = refl
+
+pub joined_at : (current : Current) (p : Progress) (had : ℕ) (took : Result Took JoinFault)
+    (joining : Joining) → joined had took joining (record current { progress = p })
+    ≡ joined had took joining current
+joined_at current p had (Err fault) joining = refl
+joined_at current p had (Ok Whole) joining = finished_at current p joining.text _
+joined_at current p had (Ok More) joining = refl
+joined_at current p had (Ok Repeat) joining = refl
+
+pub joined_then : (cutter : Cutting Request) (again : Bool) (abort : Option Cause) (p : Progress)
+    (had : ℕ) (took : Result Took JoinFault) (joining : Joining)
+    → joined had took joining
+    (record { cutter = cutter; progress = p; again = again; abort = abort })
+    ≡ joined had took joining
+    (record { cutter = cutter; progress = Refused; again = again; abort = abort })
+joined_then cutter again abort p had took joining = sym (joined_at
+    (record { cutter = cutter; progress = p; again = again; abort = abort }) Refused had took
+    joining)

@@ -118,12 +118,13 @@ pub sent_busy : (doubts : Bool) (cutter : Cutting Request) (b : Bool) (busy : �
 sent_busy doubts cutter b busy e = grind (arith, common_steps)
 
 pub sent_follows : (trust : Recalls) (vain : ℕ) (devices : Devices) (clear : Bool)
-    (cutter : Cutting Request) (abort : Option Cause) (flow : Flow) (piece : ArrayVec ℕ)
-    (od : List ℕ) → last_given cutter.size (text_of cutter) cutter.given ≡ Some (flow, piece)
-    → progress_of devices clear (Some (sent_on cutter abort))
+    (current : Current) (flow : Flow) (piece : ArrayVec ℕ) (od : List ℕ)
+    → let cutter : Cutting Request = current.cutter in
+    last_given cutter.size (text_of cutter) cutter.given ≡ Some (flow, piece)
+    → progress_of devices clear (Some (sent_on current))
     ≡ after trust vain (before_last devices cutter.source cutter.given)
     (segment_move cutter.source cutter.given) od
-sent_follows trust vain devices clear cutter abort flow piece od h = grind (arith, common_steps)
+sent_follows trust vain devices clear current flow piece od h = grind (arith, common_steps)
 
 -- The reply to a START read
 

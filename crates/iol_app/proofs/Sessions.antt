@@ -55,13 +55,13 @@ one_given cutter h = grind (arith, common_steps, nat_tests, text_some)
 -- and goes out anew
 anew_stays : (current : Current) → IsCurrent current
     → ProgressFits current.cutter current.abort Doubting
-    → StaysCurrent current.cutter (GoesOn (sent_anew current.cutter current.abort))
+    → StaysCurrent current.cutter (GoesOn (sent_anew current))
 anew_stays current h whole = grind (arith, common_steps)
 
 -- the reply to a START read
 asked_stays : (current : Current) (busy limit : ℕ) (od : List ℕ) → IsCurrent current
     → ProgressFits current.cutter current.abort (Asking busy) → length od ≡ current.cutter.size
-    → StaysCurrent current.cutter (asked current.cutter current.abort busy limit od)
+    → StaysCurrent current.cutter (asked busy limit od current)
 asked_stays current busy limit od h all size =
     grind (arith, common_steps, refused_stays, joined_stays)
 
@@ -72,7 +72,7 @@ IsAnswered size p od = (progress_head p).read ≡ true → length od ≡ size
 -- the reply to the question whether the device has the one segment
 doubted_stays : (current : Current) (again : Bool) (limit : ℕ) (od : List ℕ) → IsCurrent current
     → ProgressFits current.cutter current.abort Doubting → length od ≡ current.cutter.size
-    → StaysCurrent current.cutter (doubted again current.cutter current.abort limit od)
+    → StaysCurrent current.cutter (doubted again limit od current)
 doubted_stays current again limit od h whole size =
     let all : ProgressFits current.cutter current.abort (Asking 0) =
     rw whole.0 (one_given current.cutter whole) in
@@ -83,41 +83,39 @@ doubted_stays current again limit od h whole size =
 abbrev IsGoingSure : ReplyEffect → Type 0
 IsGoingSure outcome = IfSome (going outcome) IsSure
 
-finished_sure : (cutter : Cutting Request) (abort : Option Cause) (text : List ℕ)
-    (fault : Option IsduFault) → IsGoingSure (finished cutter abort text fault)
-finished_sure cutter abort text fault = grind (arith, common_steps)
+finished_sure : (current : Current) (text : List ℕ) (fault : Option IsduFault)
+    → current.again ≡ false → IsGoingSure (finished text fault current)
+finished_sure current text fault sure = grind (arith, common_steps)
 
-joined_sure : (cutter : Cutting Request) (abort : Option Cause) (had : ℕ)
-    (took : Result Took JoinFault) (joining : Joining)
-    → IsGoingSure (joined cutter abort had took joining)
-joined_sure cutter abort had took joining = grind (arith, common_steps, finished_sure)
+joined_sure : (current : Current) (had : ℕ) (took : Result Took JoinFault) (joining : Joining)
+    → current.again ≡ false → IsGoingSure (joined had took joining current)
+joined_sure current had took joining sure = grind (arith, common_steps, finished_sure)
 
 sending_sure : (piece : Option (Flow × ArrayVec ℕ)) → is_doubting (sending piece) ≡ false
 sending_sure piece = grind (arith, common_steps)
 
-asked_sure : (cutter : Cutting Request) (abort : Option Cause) (busy limit : ℕ) (od : List ℕ)
-    → IsGoingSure (asked cutter abort busy limit od)
-asked_sure cutter abort busy limit od = grind (arith, common_steps, joined_sure)
+asked_sure : (current : Current) (busy limit : ℕ) (od : List ℕ)
+    → current.again ≡ false → IsGoingSure (asked busy limit od current)
+asked_sure current busy limit od sure = grind (arith, common_steps, joined_sure)
 
-replied_sure : (p : Progress) (limit : ℕ) (od : List ℕ) (current : Current)
-    → current.progress ≡ p → IsGoingSure (replied_at p limit od current)
-replied_sure (Sending flow segment) limit od current is = (refl, sending_sure _)
-replied_sure Doubting limit od current is =
-    either IsGoingSure ((slice_index od 0 == 0) && not current.again) _ _ (refl, sending_sure _)
-    (asked_sure current.cutter current.abort 0 limit od)
-replied_sure (Asking busy) limit od current is =
-    asked_sure current.cutter current.abort busy limit od
-replied_sure (Receiving joining had) limit od current is =
+replied_sure : (p : Progress) (again : Bool) (limit : ℕ) (od : List ℕ) (current : Current)
+    → current.again ≡ false → current.progress ≡ p
+    → IsGoingSure (replied_at p again limit od current)
+replied_sure (Sending flow segment) again limit od current sure is = (sure, sending_sure _)
+replied_sure Doubting again limit od current sure is =
+    either IsGoingSure ((slice_index od 0 == 0) && not again) _ _ (sure, sending_sure _)
+    (asked_sure current 0 limit od sure)
+replied_sure (Asking busy) again limit od current sure is = asked_sure current busy limit od sure
+replied_sure (Receiving joining had) again limit od current sure is =
     let t = taken joining (Count ((had + 1) % 16)) od in
-    either IsGoingSure (current.again && forgotten_by t.took od)
-    (GoesOn (refused current.cutter current.abort)) _ (refl, refl)
-    (joined_sure current.cutter current.abort (had + 1) t.took t.joining)
-replied_sure Refused limit od current is = (refl, ap is_doubting is)
+    either IsGoingSure (again && forgotten_by t.took od) (GoesOn (refused current)) _ (sure, refl)
+    (joined_sure current (had + 1) t.took t.joining sure)
+replied_sure Refused again limit od current sure is = (sure, ap is_doubting is)
 
-replied_stays : (current : Current) (p : Progress) (limit : ℕ) (od : List ℕ) → IsCurrent current
-    → current.progress ≡ p → IsAnswered current.cutter.size p od
-    → StaysCurrent current.cutter (replied_at p limit od current)
-replied_stays current p limit od h e size =
+replied_stays : (current : Current) (p : Progress) (again : Bool) (limit : ℕ) (od : List ℕ)
+    → IsCurrent current → current.progress ≡ p → IsAnswered current.cutter.size p od
+    → StaysCurrent current.cutter (replied_at p again limit od current)
+replied_stays current p again limit od h e size =
     grind (
       arith,
       common_steps,
@@ -153,7 +151,9 @@ module _ (layout : Option Shape) (reading : Reading) (limit : ℕ) (od : List �
   stays current h size fits =
       let answered : IsAnswered current.cutter.size current.progress od =
       grind (arith, common_steps) in
-      replied_stays current current.progress limit od h refl answered
+      replied_stays (record current { again = false }) current.progress current.again limit od
+      (record { request = h.request; some = h.some; most = h.most; progress = h.progress }) refl
+      answered
 
   pub current_stays : (exchange : Exchange) (current : Option Current)
       → IfSome current IsCurrent → IfSome current (λ c. c.cutter.size ≡ od_size layout)

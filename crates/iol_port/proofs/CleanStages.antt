@@ -31,7 +31,7 @@ use Rattle.iol_app.specs.declared.request.Progress.TheVariants.{Sending, Asking,
 use Rattle.iol_app.specs.Requests.{sent_on, GoesOn, HasText, joined as joined_with, asked, received as received_with, IsEffectSaid, ReplyEffect, replied, going}
 use Rattle.iol_steps.specs.declared.said.Said.{Said}
 use Rattle.iol_steps.specs.declared.said.Said.TheVariants.{Answered as SaidAnswered, Busy as SaidBusy}
-use Rattle.iol_port.specs.Turns.{cutting, Stage, Written, Waiting, Reading, Ended, busy_replies, turns_at, once_written, StageFits}
+use Rattle.iol_port.specs.Turns.{under, Stage, Written, Waiting, Reading, Ended, busy_replies, turns_at, once_written, StageFits}
 use Rattle.iol_page.specs.declared.page.Layouts.{Layouts}
 use Rattle.iol_far.specs.declared.carried.Carried.{Carried}
 use Rattle.iol_far.specs.Far.{Far, isdu_moved}
@@ -83,11 +83,6 @@ flow_next i = grind (arith, nat_tests)
 
 -- The request's side
 
--- so many of its segments given, and no abort
-abbrev under : Request → ℕ → ℕ → Progress → Current
-under request size given progress = record
-    { cutter = cutting request size given; progress = progress; again = false; abort = None }
-
 -- the cursor at a segment that is still to be sent, and behind the last one
 abbrev sends : Request → ℕ → ℕ → Current
 sends request size i = under request size (suc i)
@@ -98,12 +93,12 @@ asks request size given busy = under request size given (Asking busy)
 
 -- which of them it is
 sends_is : {current : Option Current} (request : Request) (size i : ℕ)
-    → current ≡ Some (sent_on (cutting request size i) None)
+    → current ≡ Some (sent_on (asks request size i 0))
     → i * size < length (request_text request) → current ≡ Some (sends request size i)
 sends_is request size i is more = is ∙ grind (arith, nat_tests)
 
 asks_is : {current : Option Current} (request : Request) (size i : ℕ)
-    → current ≡ Some (sent_on (cutting request size i) None)
+    → current ≡ Some (sent_on (asks request size i 0))
     → length (request_text request) ≤ i * size → current ≡ Some (asks request size i 0)
 asks_is request size i is ends = is ∙ grind (arith, nat_tests)
 
@@ -166,16 +161,16 @@ gets request size answer given j = under request size given
     (Receiving (standing size (answer_text request answer) j) j)
 
 -- what the reply with a segment makes of the request
-abbrev comes : ℕ → Request → Answer → ℕ → ℕ → ReplyEffect
-comes size request answer given j = joined_with (cutting request size given) None j
+abbrev comes : ℕ → Request → Answer → ℕ → Progress → ℕ → Outcome
+comes size request answer given p j = joined_with j
     (Ok (took_at size (answer_text request answer) j))
-    (standing size (answer_text request answer) j)
+    (standing false size (answer_text request answer) j) (under request size given p)
 
 -- a segment before the last is kept
-joined_more : (size : ℕ) (request : Request) (answer : Answer) (given j : ℕ)
+joined_more : (size : ℕ) (request : Request) (answer : Answer) (given j : ℕ) (p : Progress)
     → suc j * size < length (answer_text request answer)
-    → comes size request answer given j ≡ GoesOn (gets request size answer given j)
-joined_more size request answer given j more = grind (arith, nat_tests)
+    → comes size request answer given p j ≡ GoesOn (gets request size answer given j)
+joined_more size request answer given j p more = grind (arith, nat_tests)
 
 module _ (laws : CleanLaws) (size : ℕ) (low : 1 ≤ size) (request : Request) (answer : Answer)
     (fitting : IsTrue (fits request answer)) where
@@ -189,16 +184,16 @@ module _ (laws : CleanLaws) (size : ℕ) (low : 1 ≤ size) (request : Request) 
   holds = (laws.texts size low).answers _ answer fits_answer
 
   -- with the last one the text is whole
-  joined_last : (given j : ℕ) → length text ≤ suc j * size
-      → comes size request answer given j ≡ HasText text
-  joined_last given j all =
-      let whole = (laws.joins size low).whole text j all in
+  joined_last : (given j : ℕ) (p : Progress) → length text ≤ suc j * size
+      → comes size request answer given p j ≡ HasText text
+  joined_last given j p all =
+      let whole = (laws.joins size low).whole false text j all in
       let fine = (laws.texts size low).accepted (is_read request) answer fits_answer in
       grind (arith, nat_tests, common_steps, whole, fine)
 
   first_joined : (given busy limit : ℕ)
-      → asked (cutting request size given) None busy limit (segment size text 0)
-      ≡ comes size request answer given 0
+      → asked busy limit (segment size text 0) (asks request size given busy)
+      ≡ comes size request answer given (Asking busy) 0
   first_joined given busy limit =
       rw (
         (laws.texts size low).busy _ answer fits_answer,
@@ -207,8 +202,9 @@ module _ (laws : CleanLaws) (size : ℕ) (low : 1 ≤ size) (request : Request) 
       ) refl
 
   next_joined : (given j : ℕ) → suc j * size < length text
-      → received_with false (cutting request size given) None (standing size text j) (j + 1)
-      (segment size text (suc j)) ≡ comes size request answer given (suc j)
+      → received_with false (standing false size text j) (j + 1) (segment size text (suc j))
+      (gets request size answer given j)
+      ≡ comes size request answer given (Receiving (standing false size text j) j) (suc j)
   next_joined given j more =
       let took = rw (flow_next j) at ((laws.joins size low).next text j holds more) in
       rw (add-one j, took) refl
@@ -361,18 +357,18 @@ module _ {W : Type 0} (facts : WireFacts W) where
         → j * size < length (answer_text request answer)
         → replied old.session.limit
         (if (progress_head progress).read then segment size (answer_text request answer) j else [])
-        (under request size given progress) ≡ comes size request answer given j
+        (under request size given progress) ≡ comes size request answer given progress j
         → suc n ≡ delivered + suc j → Goes n
     had_step given j progress t answer fitting state carried begins outcome count =
         elim (cases_lt (suc j * size) (length (answer_text request answer))) [
           | inl more ↦
               let goes = comes_to t state (GoesOn (gets request size answer given j))
-              (outcome ∙ joined_more size request answer given j more) in
+              (outcome ∙ joined_more size request answer given j progress more) in
               next_is t (Reading answer (suc j)) (given, goes.0, state, carried, fitting, more)
               (sym count) goes.1
           | inr all ↦
               let goes = comes_to t state (HasText (answer_text request answer))
-              (outcome ∙ joined_last laws size low request answer fitting given j all) in
+              (outcome ∙ joined_last laws size low request answer fitting given j progress all) in
               let last = segments_last (laws.texts size low) (answer_text request answer) j
               begins all in
               next_is t (Ended answer) (goes.0, carried, fitting, (j, state))
@@ -405,7 +401,7 @@ module _ {W : Type 0} (facts : WireFacts W) where
           let state = state_is t calm (still.0 ∙ is)
           ∙ written_next kind.hands_over kind.recalls t.turn.heard_as.counted size i text
           (segment size (request_text request) (suc i)) in
-          let goes = comes_to t state (GoesOn (sent_on (cutting request size (suc (suc i))) None))
+          let goes = comes_to t state (GoesOn (sent_on (asks request size (suc (suc i)) 0)))
           refl in
           next_is t (Written (suc (suc i))) (more, goes.0, state, still.1 ∙ at.3) refl goes.1
 
@@ -460,14 +456,14 @@ module _ {W : Type 0} (facts : WireFacts W) where
 
     -- it is cut in segments of the layout's size
     same_size : (other : ℕ) → old.session.current
-        ≡ Some (sent_on (cutting request other 0) None) → other ≡ size
+        ≡ Some (sent_on (asks request other 0 0)) → other ≡ size
     same_size other current =
         let t = takes (sends_is request other 0 current (text_some request other)) refl in
         sym (laws.pieces other (request_text request) 0) ∙ sym (ap length t.octets)
         ∙ t.turn.parts.od ∙ ap (λ (h : Head). if h.read then 0 else size) t.head
 
     pub first : (other : ℕ) → old.session.current
-        ≡ Some (sent_on (cutting request other 0) None) → handed (far wire).isdu ≡ None
+        ≡ Some (sent_on (asks request other 0 0)) → handed (far wire).isdu ≡ None
         → (far wire).carried ≡ base → Goes 0
     first other current unhanded carried =
         let some_text = text_some request size in
@@ -478,6 +474,6 @@ module _ {W : Type 0} (facts : WireFacts W) where
         state_by t ∙ (rw flow_start (begun kind.hands_over t.turn.heard_as.counted
         (recalled kind.recalls size t.turn.heard_as.before)
         (segment size (request_text request) 0))) in
-        let goes = comes_to t state (GoesOn (sent_on (cutting request size 1) None)) refl in
+        let goes = comes_to t state (GoesOn (sent_on (asks request size 1 0))) refl in
         next_is t (Written 1)
         (some_text, goes.0, state, (stays t unhanded).1 ∙ carried) refl goes.1
