@@ -108,7 +108,7 @@ forgotten_none {size} {had} {joining} od k h e =
     rw (← zeros od, found.0, found.1) refl
 
 -- where they end a text, it is refused, or taken for an answer's by who asked for them once
-abbrev pub EndsText : Bool → Current → Outcome → Type 0
+abbrev pub EndsText : Bool → Current → ReplyEffect → Type 0
 EndsText again current (GoesOn next) = next ≡ refused current
 EndsText again current (HasText text) = again ≡ false
 
@@ -124,7 +124,7 @@ finished_ends again current text fault = grind (arith, common_steps)
 
 staged_ends : (again : Bool) (current : Current) (had : ℕ)
     (count : Option ℕ) (octets od : List ℕ) (at : Stage) → are_zeros od ≡ true
-    → is_open at ≡ false → let t : Taken = staged false count octets at in
+    → is_open at ≡ false → let t : Taken = staged count octets at in
     EndsText again current (if again && forgotten_by t.took od
     then GoesOn (refused current) else joined had t.took t.joining current)
 staged_ends again current had count octets od (Complete text) none closed =

@@ -302,7 +302,7 @@ module _ (names : TextNamesAnswer) (taken : AnswersAreTakenUp) (good : Good) whe
       sure : Current
       sure = cursor cutter (Receiving joining last) false abort
 
-      new : Outcome
+      new : ReplyEffect
       new = received again joining (last + 1) od sure
 
       IsNone : Bool → Type 0
@@ -328,7 +328,7 @@ module _ (names : TextNamesAnswer) (taken : AnswersAreTakenUp) (good : Good) whe
       -- what came is none of an answer, or is taken for one that the device has forgotten: a port
       -- for our own takes the zeros for the text's end
       by_outcome : (devices ≡ Any) ⊎ IsTrue (misreads_at devices g.kind.recalls) → (k : ℕ)
-          → (its a).vain ≡ suc k → IsNone true → (outcome : Outcome)
+          → (its a).vain ≡ suc k → IsNone true → (outcome : ReplyEffect)
           → EndsText again sure outcome → Goes_to a outcome
       by_outcome why k is none (GoesOn next) same =
           rw same (refuses a (doubts_of devices g.kind.recalls why) tt (follows true none))

@@ -17,7 +17,7 @@ use Rattle.iol_segment.specs.declared.took.Took.TheVariants.{Repeat, More, Whole
 use Rattle.iol_segment.specs.declared.took.JoinFault.{JoinFault}
 use Rattle.iol_segment.specs.Cut.{Cutting}
 use Rattle.iol_segment.specs.JoinLaws.{count_at}
-use Rattle.iol_app.specs.Requests.{Outcome, GoesOn, HasText, finished, joined, asked, received, refused, forgotten_by, IsJoining, IsCurrent}
+use Rattle.iol_app.specs.Requests.{ReplyEffect, GoesOn, HasText, finished, joined, asked, received, refused, forgotten_by, IsJoining, IsCurrent}
 
 -- octets before them aren't whole either
 open_before : (xs ys : List ℕ) → stage (xs ++ ys) ≡ Open → stage xs ≡ Open
@@ -66,7 +66,7 @@ module _ (current : Current) (h : IsCurrent current) where
   -- a segment of this number was taken
   pub joined_stays : (had : ℕ) (octets : List ℕ) (at : Stage) → stage octets ≡ at
       → length octets ≡ suc had * cutter.size
-      → let t : Taken = staged false (count_at had) octets at in
+      → let t : Taken = staged (count_at had) octets at in
       StaysCurrent cutter (joined had t.took t.joining current)
   joined_stays had octets at e size = grind (arith, common_steps, finished_stays, refused_stays)
 

@@ -43,7 +43,8 @@ pub text_some : (cutter : Cutting Request) → 0 < length (text_of cutter)
 text_some cutter = let whole = length-append (request_front cutter.source) in omega (arith, whole)
 
 -- what holds of both holds of either
-either : (P : ReplyEffect → Type 0) (b : Bool) (x y : ReplyEffect) → P x → P y → P (if b then x else y)
+either : (P : ReplyEffect → Type 0) (b : Bool) (x y : ReplyEffect) → P x → P y
+    → P (if b then x else y)
 either P true x y h k = h
 either P false x y h k = k
 

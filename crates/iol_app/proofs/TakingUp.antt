@@ -60,8 +60,8 @@ joined_up : (current : Current) (answer : Answer) (had : ℕ) → Fitting curren
     → (octets : List ℕ) → octets ≡ joined_octets current.cutter.size
     (answer_text current.cutter.source answer) had
     → IsTakenUp current answer had octets
-    (joined had (staged false (count_at had) octets (stage octets)).took
-    (staged false (count_at had) octets (stage octets)).joining
+    (joined had (staged (count_at had) octets (stage octets)).took
+    (staged (count_at had) octets (stage octets)).joining
     (record current { again = false }))
 joined_up current answer had h low octets same =
     let size = current.cutter.size in

@@ -161,10 +161,10 @@ gets request size answer given j = under request size given
     (Receiving (standing size (answer_text request answer) j) j)
 
 -- what the reply with a segment makes of the request
-abbrev comes : ℕ → Request → Answer → ℕ → Progress → ℕ → Outcome
+abbrev comes : ℕ → Request → Answer → ℕ → Progress → ℕ → ReplyEffect
 comes size request answer given p j = joined_with j
     (Ok (took_at size (answer_text request answer) j))
-    (standing false size (answer_text request answer) j) (under request size given p)
+    (standing size (answer_text request answer) j) (under request size given p)
 
 -- a segment before the last is kept
 joined_more : (size : ℕ) (request : Request) (answer : Answer) (given j : ℕ) (p : Progress)
@@ -187,7 +187,7 @@ module _ (laws : CleanLaws) (size : ℕ) (low : 1 ≤ size) (request : Request) 
   joined_last : (given j : ℕ) (p : Progress) → length text ≤ suc j * size
       → comes size request answer given p j ≡ HasText text
   joined_last given j p all =
-      let whole = (laws.joins size low).whole false text j all in
+      let whole = (laws.joins size low).whole text j all in
       let fine = (laws.texts size low).accepted (is_read request) answer fits_answer in
       grind (arith, nat_tests, common_steps, whole, fine)
 
@@ -202,9 +202,9 @@ module _ (laws : CleanLaws) (size : ℕ) (low : 1 ≤ size) (request : Request) 
       ) refl
 
   next_joined : (given j : ℕ) → suc j * size < length text
-      → received_with false (standing false size text j) (j + 1) (segment size text (suc j))
+      → received_with false (standing size text j) (j + 1) (segment size text (suc j))
       (gets request size answer given j)
-      ≡ comes size request answer given (Receiving (standing false size text j) j) (suc j)
+      ≡ comes size request answer given (Receiving (standing size text j) j) (suc j)
   next_joined given j more =
       let took = rw (flow_next j) at ((laws.joins size low).next text j holds more) in
       rw (add-one j, took) refl
@@ -325,7 +325,8 @@ module _ {W : Type 0} (facts : WireFacts W) where
           rw (t.turn.heard_as.od, ap (λ (h : Head). h.read) t.head, state_now) refl in
           let o_is : replied old.session.limit t.turn.reply.od.items c ≡ o = rw od e in (
             t.current ∙ ap going o_is,
-            subst (λ (x : ReplyEffect). IsEffectSaid (is_read c.cutter.source) x said) o_is t.said_is,
+            subst (λ (x : ReplyEffect). IsEffectSaid (is_read c.cutter.source) x said) o_is
+                t.said_is,
           )
 
       -- the request goes on, or has its answer
