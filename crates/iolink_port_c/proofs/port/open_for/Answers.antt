@@ -1,5 +1,5 @@
 -- The port that the handle holds is the one that was opened.
-use Rattle.std.proofs.Common.{ℕ, refl, sym, subst, ◌∙◌, rules}
+use Rattle.std.proofs.Common.{refl, sym, subst, ◌∙◌, rules}
 use Rattle.iol_book.specs.declared.limits.Limits.{Limits}
 use Rattle.iol_port.specs.CorePort.{IsNewFor, CoreOpensFor}
 use Rattle.iolink_port_c.specs.Opening.{limits_of}
@@ -8,7 +8,7 @@ use Rattle.iolink_port_c.proofs.port.open_for.Goals as goal
 
 pub returns-in-Ok-new : goal.returns-in-Ok-new
 returns-in-Ok-new c =
-    let limits : ℕ → Limits = λ queue. limits_of c.args.journal c.args.busy queue c.args.given in
+    let limits = limits_of c.args.journal c.args.busy c.args.queue c.args.given in
     let held = sym (c.of.ensures.value ∙ c.in-Ok-new.ensures.ok) in
     record {
       once = search rules;
@@ -17,12 +17,11 @@ returns-in-Ok-new c =
       lacks = λ closed some ranges not_zero. absurd (not_zero refl);
       refused = λ not_zero. absurd (not_zero refl);
       opened = search rules;
-      parts = λ zero. subst (λ (m : Master). IsNewFor c.args.devices (limits c.args.queue) m.port)
-          held (subst (λ (queue : ℕ). IsNewFor c.args.devices (limits queue) c.in-Ok.port)
+      parts = λ zero. subst (λ (m : Master). IsNewFor c.args.devices limits m.port)
+          held (subst (λ (those : Limits). IsNewFor c.args.devices those c.in-Ok.port)
           c.in-Some.ensures.value c.in-Ok.ensures.parts);
-      opens = λ zero. subst (λ (m : Master).
-          CoreOpensFor c.args.devices (limits c.args.queue) m.port)
-          held (subst (λ (queue : ℕ). CoreOpensFor c.args.devices (limits queue) c.in-Ok.port)
+      opens = λ zero. subst (λ (m : Master). CoreOpensFor c.args.devices limits m.port)
+          held (subst (λ (those : Limits). CoreOpensFor c.args.devices those c.in-Ok.port)
           c.in-Some.ensures.value c.in-Ok.ensures.opens);
       journal = search rules;
     }
