@@ -43,9 +43,6 @@ impl Model for JournalLimit {
 }
 
 impl JournalLimit {
-    /// The most that there may be: 1,000,000.
-    pub const MOST: JournalLimit = JournalLimit { entries: 1_000_000 };
-
     /// The limit of so many entries, or None where they aren't 4 to 1,000,000.
     ///
     /// Rule BOOK-11.
@@ -92,9 +89,6 @@ impl Model for BusyLimit {
 }
 
 impl BusyLimit {
-    /// The most that there may be: 65,535.
-    pub const MOST: BusyLimit = BusyLimit { replies: 65_535 };
-
     /// The limit of so many busy replies, or None where they aren't 2 to 65,535.
     ///
     /// Rule BOOK-11.

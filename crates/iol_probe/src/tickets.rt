@@ -19,12 +19,16 @@ pub(crate) fn limits(line: &mut Line<'_>) -> Limits {
 
 fn journal_limit(line: &mut Line<'_>) -> JournalLimit {
     let entries = line.number(u64::from(u32::MAX)) as u32;
-    known(line, JournalLimit::new(entries), JournalLimit::MOST)
+    known(
+        line,
+        JournalLimit::new(entries),
+        JournalLimit::new(1_000).unwrap(),
+    )
 }
 
 fn busy_limit(line: &mut Line<'_>) -> BusyLimit {
     let replies = line.number(u64::from(u16::MAX)) as u16;
-    known(line, BusyLimit::new(replies), BusyLimit::MOST)
+    known(line, BusyLimit::new(replies), BusyLimit::new(100).unwrap())
 }
 
 fn queue_limit(line: &mut Line<'_>) -> QueueLimit {
