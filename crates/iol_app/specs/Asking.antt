@@ -71,7 +71,6 @@ beginning_in next state s room =
     begin_where (operates state && is_ready s room && takes_requests s) next s
 
 -- how many octets a good reply has: a read, bit 7 of MC, brings on-request data
--- MSG-2
 abbrev pub reply_size : Shape → List ℕ → ℕ
 reply_size layout octets =
     (if nat_le 128 (slice_index octets 0) then layout.od else 0) + layout.pd_in + 1
@@ -106,7 +105,6 @@ module _ {W : Type 0} where
   module _ (facts : WireFacts W) where
     open facts use {wake_gives, exchange_gives}
 
-    -- PORT-2
     abbrev pub IsCall : Asked → W → W → Type 0
     IsCall Wake old new = (answer : Option Rate) × wake_gives old answer new
     IsCall (Exchange out) old new = (answer : Option (ArrayVec ℕ))

@@ -19,7 +19,6 @@ use Rattle.iol_app.specs.declared.brought.Verdict.TheVariants.{Good, NoReply, Wr
 use Rattle.iol_app.specs.Asking.{outgoing}
 
 -- what came back to a message, by the first part of being well-formed that fails
--- MSG-5, LINK-2
 abbrev pub verdict_on : Outgoing → Option (List ℕ) → Verdict
 verdict_on out None = NoReply
 verdict_on out (Some octets) =
@@ -27,7 +26,6 @@ verdict_on out (Some octets) =
     if not (is_checked octets) then WrongChecksum else Good
 
 -- the same, where that is known of it which made the attempt end so
--- MSG-5, LINK-2
 abbrev pub verdict_by : Attempt → ℕ → Option (List ℕ) → Verdict
 verdict_by (Got reply) size came = Good
 verdict_by missed size None = NoReply
@@ -62,6 +60,5 @@ module _ {W : Type 0} (facts : WireFacts W) (asked : Asked) (tries : ℕ) (broug
       IsReplied asked octets tries (octets_in answer) brought × exchange_gives old octets answer new
 
   -- the wire, whose one call is the one asked for, and brought this
-  -- PORT-2, PORT-12
   abbrev pub brought_facts : WireFacts W
   brought_facts = record facts { wake_gives = BroughtWakes; exchange_gives = BroughtGives }

@@ -363,7 +363,6 @@ TermsStay c next g after = (next.session.limit ≡ c.session.limit) × (after.pa
 
 -- one call of the wire, and one list of steps, each allowed where it is taken, whose effects on the
 -- three parts of the abstract port are what happened; and both ends stand together afterwards
--- PORT-4
 pub record CallGives (c : Core) (g : Ghost) (far : Far) (silence : ℕ) (said : Said) (next : Core)
     (far_new : Far) (silence_new : ℕ) : Type 0 where
   pub call : WireCall
@@ -414,7 +413,6 @@ abbrev pub settled_core : NextMode → SessionState → Core
 settled_core outcome t = record { state = state_of outcome; session = settled_session outcome t }
 
 -- what is left of an attempt without a good reply, where what is out goes out again
--- REQ-14
 abbrev pub after_missed : Core → Core
 after_missed c = record {
   state = missed_state c.state c.session;
@@ -441,7 +439,6 @@ pub record Rises : Type 0 where
       → CallGives c g far silence Idle (settled_core outcome c.session) far_new silence_new
 
 -- in a session whose page was checked, the device is the one that was expected then
--- LINK-11
 abbrev pub IsRightIn : State → SessionState → Type 0
 IsRightIn (AtPreoperate s) t = IsPresent s.layouts t.present
 IsRightIn (AtOperate s) t = IsPresent s.layouts t.present

@@ -55,7 +55,7 @@ may_follow Own clear = true
 may_follow Any clear = clear
 
 -- no message is out, the next one is IDLE 1, and a request may follow
--- REQ-2, REQ-14
+-- REQ-2
 abbrev pub is_ready : SessionState → EventRoom → Bool
 is_ready s room = is_none s.exchange && is_idle (due_of s room)
     && may_follow s.configuration.devices s.clear

@@ -23,7 +23,6 @@ reader_of (UnderWay reader) = reader
 reader_of other = []
 
 -- a StatusCode was refused since the last start-up
--- EVT-7
 abbrev pub is_refused : Reading → Bool
 is_refused Refused = true
 is_refused other = false
@@ -60,13 +59,11 @@ list_read ReadEvent od reading = list_after reading (slice_index od 0)
 list_read any od _ = None
 
 -- what is said once that list is told; where none became whole it stays
--- EVT-8
 abbrev pub told_list : Option (List Event) → Said → Said
 told_list None said = said
 told_list (Some list) said = Reported list
 
 -- the event work after that reply
--- EVT-8
 abbrev pub events_after : Exchange → Reply → Events → Events
 events_after exchange reply events =
     record { flag = reply.event; reading = read_on exchange reply.od.items events.reading }

@@ -46,7 +46,6 @@ abbrev pub ask_of : Flow → Head
 ask_of flow = read_of Isdu (flow_address flow)
 
 -- the request's next message: the segment, START until the answer begins, then COUNT
--- REQ-4, REQ-14
 abbrev pub progress_head : Progress → Head
 progress_head (Sending flow segment) = write_of Isdu (flow_address flow)
 progress_head Doubting = ask_of Start
@@ -54,7 +53,6 @@ progress_head (Asking busy) = ask_of Start
 progress_head (Receiving joining had) = ask_of (Count (segment_number (had + 1)))
 progress_head Refused = ask_of Idle1
 
--- REQ-4
 abbrev pub progress_data : Progress → List ℕ
 progress_data (Sending flow segment) = segment.items
 progress_data any = []
@@ -68,7 +66,6 @@ request_data None = []
 request_data (Some current) = progress_data current.progress
 
 -- a new message for this
--- REQ-1
 abbrev pub head_for : Exchange → Reading → Option Current → Head
 head_for TellOutput _ current = write_of Page 0
 head_for DropOutput _ current = write_of Page 0
@@ -79,7 +76,6 @@ head_for Request _ current = request_head current
 head_for Idle _ current = ask_of Idle1
 
 -- and its on-request data, of this size in a write
--- REQ-1
 abbrev pub data_for : Exchange → ℕ → Option Current → List ℕ
 data_for TellOutput size current = first_of_zeros size (command_octet ProcessDataOutputOperate)
 data_for DropOutput size current = first_of_zeros size (command_octet DeviceOperate)
@@ -88,7 +84,6 @@ data_for Request size current = request_data current
 data_for any size current = []
 
 -- a START read that carries these process data: whether the device has a request
--- REQ-14
 abbrev pub question : List ℕ → MasterMsg
 question out = record {
   mc = control_of 0xF0;

@@ -4,7 +4,6 @@ use Rattle.iol_app.specs.declared.output.Output.{Output}
 use Rattle.iol_app.specs.declared.session.Exchange.{Exchange}
 use Rattle.iol_app.specs.declared.session.Exchange.TheVariants.{TellOutput, DropOutput}
 
--- PD-4
 abbrev pub no_output : Output
 no_output = record { wanted = None; told = false; carried = record { items = [] } }
 
@@ -14,7 +13,6 @@ abbrev pub carried_by : Output → List ℕ
 carried_by output = unwrap_or output.wanted output.carried.items
 
 -- once it was made
--- PD-4
 abbrev pub carrying : Output → Output
 carrying output = record output { carried = record { items = carried_by output } }
 

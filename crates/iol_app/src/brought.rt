@@ -113,8 +113,6 @@ impl Out {
     }
 
     /// What came back.
-    ///
-    /// Rule MSG-5.
     fn verdict(self, attempt: &AttemptView<'_>, came: &Option<Message>) -> Verdict
         ensures { result ≡ verdict_by (attempt_in attempt.now) self.reply (octets_in came.now) }
     {

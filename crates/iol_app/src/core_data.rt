@@ -87,8 +87,6 @@ impl Core {
 
     /// Whether the device was reset in this session, or has left the mode that it was in before:
     /// it holds nothing of a request of before.
-    ///
-    /// Rule LINK-13.
     pub fn is_reset(&self) -> bool
         ensures { result ≡ is_reset self.now.state }
     {
@@ -219,8 +217,6 @@ impl Core {
     }
 
     /// Expects this device, or any, from the next page on that a start-up has read whole.
-    ///
-    /// Rule LINK-11.
     pub fn expect(&mut self, identity: Option<Identity>)
         ensures core { self.new
             ≡ record self.old { session = expecting identity self.old.session } }
@@ -231,8 +227,6 @@ impl Core {
 
     /// Has the next start-ups write this cycle time to the device, where it is at least the
     /// device's MinCycleTime; else, and for none, MinCycleTime.
-    ///
-    /// Rule LINK-12.
     pub fn set_cycle(&mut self, cycle: Option<CycleTime>)
         ensures core { self.new ≡ record self.old { session = pacing cycle self.old.session } }
         ensures steps { WantSteps self.old self.new }
@@ -255,8 +249,6 @@ impl Core {
 
     /// A law, without code: in OPERATE, where alone a request is begun and an output goes out,
     /// the page is that of the device that was expected when it was checked.
-    ///
-    /// Rule LINK-11.
     pub fn device_is_right(&self)
         ensures { IsRight self.now }
     {
@@ -267,8 +259,6 @@ impl Core {
     ///
     /// What was sent before and isn't answered yet has to be answered first: else the device
     /// might be handed a request by octets of which nobody keeps that they went out.
-    ///
-    /// Rules PORT-6, REQ-11.
     pub fn restart(&mut self) -> bool
         ensures core { self.new ≡ restarted_core self.old }
         ensures cut { result ≡ is_some self.old.session.current }
@@ -325,8 +315,6 @@ impl Core {
     }
 
     /// Takes what a wake brought: a start-up begins, or the link is still down.
-    ///
-    /// Rule LINK-13.
     pub fn receive_wake(&mut self, rate: Option<Rate>)
         requires { IsDown self.old.state }
         ensures core { self.new ≡ after_wake (is_some rate) self.old.session }
@@ -395,8 +383,6 @@ impl Core {
 
     /// In OPERATE a message that is out after an exchange goes out again; at a port for any device
     /// it may be another one.
-    ///
-    /// Rule REQ-14.
     fn miss(&mut self)
         ensures core { self.new ≡ after_missed self.old }
         ensures on { StandsOn self.old.state self.new.state }
@@ -421,7 +407,7 @@ impl Core {
     /// honest wire the turn is one call of the wire and one list of steps, each allowed where it
     /// is taken.
     ///
-    /// Rule PD-7.
+    /// Rules LINK-1, PD-7.
     pub fn turn<W: Wire>(&mut self, wire: &mut W, room: EventRoom, said: &mut Said) -> Brought
         requires { LinkStands W.facts wire.old self.old }
         ensures turn { IsWholeTurn W.facts room (station_of wire.old self.old) said.new result

@@ -64,7 +64,7 @@ impl Events {
     /// Takes up a good reply. Where a list became whole with it, that is said; answers whether
     /// one did.
     ///
-    /// Rules EVT-7, EVT-8.
+    /// Rule EVT-8.
     pub(crate) fn absorb(
         &mut self,
         exchange: Exchange,
@@ -91,7 +91,7 @@ impl Events {
     /// Takes an octet of the event memory. Out of line, since most turns read none, and the room
     /// of a list is large.
     ///
-    /// Rules EVT-6, EVT-7.
+    /// Rule EVT-7.
     #[inline(never)]
     fn take(&mut self, octet: u8, said: &mut Said) -> bool
         ensures tells { result ≡ is_some (list_after self.old.reading octet) }

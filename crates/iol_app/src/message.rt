@@ -42,8 +42,6 @@ pub(crate) fn put(part: &mut Part, octets: &[u8])
 
 /// The control octet of a new message for this, whose on-request data, in a write of that size, go
 /// into a part that is empty.
-///
-/// Rule REQ-1.
 pub(crate) fn body_for(
     exchange: Exchange,
     size: OdLength,
@@ -92,8 +90,6 @@ fn request_body(current: &Option<Current>, od: &mut Part) -> Mc
 }
 
 /// A START read that carries these process data: whether the device has a request.
-///
-/// Rule REQ-14.
 pub(crate) fn question(out: Part) -> MasterMsg
     ensures { result ≡ question out.items }
 {

@@ -31,7 +31,6 @@ pub record BookState : Type 0 where
   pub queue : ℕ
 
 -- the memory that a book has: for so many entries, and so many requests that wait
--- BOOK-12
 pub record BookMemory : Type 0 where
   pub entries : ℕ
   pub urgent : ℕ
@@ -49,7 +48,6 @@ abbrev pub IsReplayed : BookState → Type 0
 IsReplayed book = book.standing ≡ replay book.journal
 
 -- an empty book
--- BOOK-11
 abbrev pub opened : Limits → BookState
 opened limits =
     record {
@@ -62,7 +60,6 @@ opened limits =
     }
 
 -- the book after one more entry
--- BOOK-9
 abbrev pub entered : BookState → Entry → BookState
 entered book entry =
     record book { journal = book.journal ++ entry ∷ []; standing = step book.standing entry }
@@ -76,7 +73,6 @@ abbrev pub waiting_count : Standing → ℕ
 waiting_count standing = length standing.urgent + length standing.waiting
 
 -- how many tickets are outstanding
--- BOOK-2
 abbrev pub outstanding_count : Standing → ℕ
 outstanding_count standing =
     waiting_count standing + taken_count standing + length standing.outcomes
@@ -127,13 +123,11 @@ next_taken standing =
     if is_some standing.taken then None else slice_get (standing.urgent ++ standing.waiting) 0
 
 -- the others, once that request has left the list that it heads
--- BOOK-4
 abbrev pub others_behind : {X : Type 0} → List (Ticket × X) → List (Ticket × X) → List (Ticket × X)
 others_behind [] waiting = drop 1 waiting
 others_behind (first ∷ urgent) waiting = waiting
 
 -- where the tickets stand once that request waits no longer
--- BOOK-4
 abbrev pub without_first : Standing → Standing
 without_first standing = record standing {
   urgent = drop 1 standing.urgent;
@@ -141,7 +135,6 @@ without_first standing = record standing {
 }
 
 -- the book after that request is taken
--- BOOK-4
 abbrev pub took : BookState → Ticket × Request → BookState
 took book taken = record book {
   journal = book.journal ++ Taken taken.0 ∷ [];
@@ -183,7 +176,6 @@ ended_with book (Some taken) outcome = record book {
       };
 }
 
--- BOOK-8
 abbrev pub posted : BookState → Outcome → BookState
 posted book outcome =
     record (ended_with book book.standing.taken outcome) {
@@ -242,7 +234,6 @@ flight_refusal standing ticket =
     else Some UnknownTicket
 
 -- the book after a wake of the device
--- BOOK-8
 abbrev pub reset : BookState → BookState
 reset book = record book { unsure = false }
 
@@ -252,7 +243,6 @@ abbrev pub may_archive : BookState → Bool
 may_archive book = nat_eq (outstanding_count book.standing) 0 && not book.unsure
 
 -- the book after an archive
--- BOOK-8
 abbrev pub archived : BookState → BookState
 archived book = if may_archive book then record book { journal = [] } else book
 

@@ -7,7 +7,6 @@ abbrev pub request_entries : ℕ
 request_entries = 4
 
 -- the most entries that a journal may ever have
--- BOOK-11
 abbrev pub most_entries : ℕ
 most_entries = 1000000
 

@@ -22,8 +22,6 @@ pub struct Limits {
 ///
 /// Contracts see the number. An urgent request needs as many entries as another: 4 where it is
 /// taken, 3 where it is withdrawn or denied.
-///
-/// Rule BOOK-11.
 #[derive(Clone, Copy, Debug, PartialEq, Eq)]
 pub struct JournalLimit {
     entries: u32,
@@ -44,8 +42,6 @@ impl Model for JournalLimit {
 
 impl JournalLimit {
     /// The limit of so many entries, or None where they aren't 4 to 1,000,000.
-    ///
-    /// Rule BOOK-11.
     pub fn new(entries: u32) -> Option<JournalLimit>
         ensures some { IsSome result ↔ IsJournalLimit entries }
         ensures value { IfSome result (λ limit. limit ≡ entries) }
@@ -68,8 +64,6 @@ impl JournalLimit {
 /// How many busy replies a request may have before it is cut off: 2 to 65,535.
 ///
 /// Contracts see the number.
-///
-/// Rule BOOK-11.
 #[derive(Clone, Copy, Debug, PartialEq, Eq)]
 pub struct BusyLimit {
     replies: u16,
@@ -90,8 +84,6 @@ impl Model for BusyLimit {
 
 impl BusyLimit {
     /// The limit of so many busy replies, or None where they aren't 2 to 65,535.
-    ///
-    /// Rule BOOK-11.
     pub fn new(replies: u16) -> Option<BusyLimit>
         ensures some { IsSome result ↔ IsBusyLimit replies }
         ensures value { IfSome result (λ limit. limit ≡ replies) }
@@ -116,8 +108,6 @@ impl BusyLimit {
 ///
 /// Contracts see the number. Each of a book's two queues has so many places from its opening on:
 /// a port that is given one request at a time needs a single one.
-///
-/// Rule BOOK-11.
 #[derive(Clone, Copy, Debug, PartialEq, Eq)]
 pub struct QueueLimit {
     places: u8,
@@ -141,8 +131,6 @@ impl QueueLimit {
     pub const MOST: QueueLimit = QueueLimit { places: 64 };
 
     /// The limit of so many tickets, or None where they aren't 1 to 64.
-    ///
-    /// Rule BOOK-11.
     pub fn new(places: u8) -> Option<QueueLimit>
         ensures some { IsSome result ↔ IsQueueLimit places }
         ensures value { IfSome result (λ limit. limit ≡ places) }

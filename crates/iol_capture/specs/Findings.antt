@@ -140,7 +140,6 @@ master_text watching = elim watching.watched.verdict [
 ]
 
 -- The kinds that a device may be of, where it may be of some, and not of all four
--- DEV-20
 abbrev pub are_told : Kinds → Bool
 are_told kinds =
     (kinds.first_left || kinds.first_sent || kinds.last_left || kinds.last_sent)

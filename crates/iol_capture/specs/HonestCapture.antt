@@ -32,7 +32,6 @@ IsUnblamed judged = (exchange : ℕ) (reason : Reason) → judged.verdict ≢ No
 
 -- A device of any kind brings what lines say over a lossy line, behind this call and the message
 -- that waits. A page that stands before the first call is its own.
--- WIRE-1, WIRE-3
 abbrev pub IsHonestTrace : Far → ℕ → ℕ → Option (List ℕ) → List TraceLine → Type 0
 IsHonestTrace far silence call waits [] = Unit {0}
 IsHonestTrace far silence call waits (Other ∷ lines) = IsHonestTrace far silence call waits lines
@@ -75,7 +74,6 @@ shown_in = filter_map (λ line. option_and_then shown_by (octet_form line))
 
 -- The judge is told a text, and this is what it makes of it: octets that are written by the rules,
 -- of what a device by the rules brings
--- WIRE-1, WIRE-3
 pub record AreFromHonest (odd : Odd) (rate : Rate) (text : List ℕ)
     (judging : Judging) : Type 0 where
   pub judged : capture_judged (form.Octets rate) odd text ≡ Ok judging

@@ -73,7 +73,6 @@ exchange_watched watching call sent came =
     else followed watching call sent came
 
 -- the law: a test read is never blamed, where a wake-up request may be before it that isn't shown
--- LINK-1
 abbrev pub UnseenWakesAreFair : Type 0
 UnseenWakesAreFair = (watching : Watching) (call : ℕ) (came : Option (List ℕ))
     → watching.tests ≡ true → is_blamed watching.watched.verdict ≡ false

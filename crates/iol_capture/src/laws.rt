@@ -8,8 +8,6 @@ use iol_splitter::octets_are_never_blamed;
 /// Whatever device by the rules brings a capture over a line that loses messages and replies, or
 /// damages them so that it shows, what is printed of it isn't that it is not honest, nor that
 /// something in it is odd.
-///
-/// Rules WIRE-1 to WIRE-3.
 #[tactic(auto, using(crate::proofs::FairLemmas::captures))]
 pub fn honest_captures_are_never_blamed()
     ensures { CapturesNeverBlamed }
@@ -20,8 +18,6 @@ pub fn honest_captures_are_never_blamed()
 /// Whatever device by the rules brings octets over a line that loses messages and replies, or
 /// damages them so that it shows, what is printed of their export isn't that it is not honest,
 /// where they are written by the rules.
-///
-/// Rules WIRE-1 to WIRE-3.
 pub fn honest_octets_are_never_blamed()
     ensures { OctetTextsNeverBlamed }
 {
@@ -30,8 +26,6 @@ pub fn honest_octets_are_never_blamed()
 
 /// Where a decoder shows no wake-up requests, no master is blamed for a read that may be the test
 /// read of one.
-///
-/// Rule LINK-1.
 #[tactic(auto, unfolding(iol_octets::specs::Checksum::has_checksum, iol_octets::specs::Checksum::checksum_of, iol_octets::specs::Checksum::compressed, iol_octets::specs::Control::control_of, iol_far::specs::Codec::message_in))]
 pub fn unseen_wakes_are_fair()
     ensures { UnseenWakesAreFair }

@@ -148,8 +148,6 @@ fn print_from<A: Allocator>(output: &mut String<A>, from: u64, why: &str) -> Res
 }
 
 /// Of which kinds the device may be, where it may be of some, and not of all four.
-///
-/// Rule DEV-20.
 fn print_kinds<A: Allocator>(output: &mut String<A>, kinds: &Kinds) -> Result<(), AllocError>
     ensures { Prints result output.old output.new (kinds_text kinds.now) }
 {

@@ -25,7 +25,6 @@ Reacts gives before old state new after request =
 -- Carrying out this request, if any, at a far end with that application, by what its calls give.
 -- Where the record has room, the application carries it out, once, and it is that very answer,
 -- which fits, that the far end has; else nothing changes, and the application isn't asked
--- DEV-15
 abbrev pub IsCarriedOut : {P : Type 0} → Gives P → Option Request → Far → P → Far → P → Type 0
 IsCarriedOut gives None old before new after = (new ≡ old) × (after ≡ before)
 IsCarriedOut gives (Some request) old before new after = MatchBool (has_room old)
@@ -35,7 +34,6 @@ IsCarriedOut gives (Some request) old before new after = MatchBool (has_room old
 
 -- the first application becomes that one by carrying out the requests of the record, in
 -- their order, each once and with the answer that stands beside it, and by nothing else
--- DEV-15
 abbrev pub Follows : {P : Type 0} → Gives P → P → List Carried → P → Type 0
 Follows gives first [] now = now ≡ first
 Follows {P} gives first (pair ∷ pairs) now = (next : P) × gives first pair.request pair.answer next

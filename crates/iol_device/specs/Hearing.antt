@@ -8,7 +8,6 @@ use Rattle.iol_device.specs.Number.{number_after}
 use Rattle.iol_device.specs.Silence.{silent_after}
 
 -- the device once it has heard these octets, whatever they are
--- DEV-18, DEV-19
 abbrev pub heard : {P : Type 0} → Running P → List ℕ → Running P
 heard device octets = record device {
   far = (hear device.far octets).far;
@@ -18,7 +17,6 @@ heard device octets = record device {
 
 -- octets came, and this stands in the buffer of the reply: there is one exactly where the device
 -- accepts them, and else the buffer is empty and the far end as it was
--- DEV-2
 pub record HearsInto {P : Type 0} (old : Running P) (octets : List ℕ) (answers : Bool)
     (buffer : ArrayVec ℕ) (new : Running P) : Type 0 where
   pub device : new ≡ heard old octets

@@ -10,7 +10,6 @@ use Rattle.iol_device.specs.declared.fault.DeviceFault.{DeviceFault}
 use Rattle.iol_device.specs.declared.fault.DeviceFault.TheVariants.{OtherRequest, WrongAnswerKind, OutOfMemory}
 
 -- the number behind this one; behind 2^64 - 1 stands 0
--- DEV-18
 abbrev pub next_number : ℕ → ℕ
 next_number number = (number + 1) % 2 ^ 64
 
@@ -28,7 +27,6 @@ abbrev pub handed_number : {P : Type 0} → Running P → Option ℕ
 handed_number device = option_map (λ request. device.number) (handed device.far.isdu)
 
 -- what an answer to the request that is handed over is refused with
--- DEV-15
 abbrev pub misfit : Option Request → Bool → Answer → Option DeviceFault
 misfit None room answer = Some OtherRequest
 misfit (Some request) room answer =

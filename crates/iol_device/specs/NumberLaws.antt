@@ -38,7 +38,6 @@ HasNumbersFor device deeds = device.number + length deeds < 2 ^ 64
 abbrev pub IsPast : {P : Type 0} → Running P → ℕ → Type 0
 IsPast device number = (number ≤ device.number) × (handed_number device ≢ Some number)
 
--- DEV-18
 pub record NumbersAreOwn {P : Type 0} (device : Running P) : Type 0 where
   -- an answer for a number that is past is refused, whatever happens then
   pub past : (number : ℕ) → IsPast device number

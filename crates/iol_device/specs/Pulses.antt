@@ -16,13 +16,11 @@ abbrev pub is_that : Option Mode → Mode → Bool
 is_that None mode = false
 is_that (Some asked) mode = is_mode asked mode
 
--- DEV-3
 abbrev pub is_said : Far → Mode → Option MasterMsg → Bool
 is_said far mode None = true
 is_said far mode (Some message) =
     is_that (known_mode far.page (mode_asked (command_in message))) mode
 
--- DEV-3, DEV-4
 abbrev pub is_asked : Far → WaitingCommand → Bool
 is_asked far command = not (is_mode far.mode command.into)
     && is_said far command.into (message_in (layout_of far) command.octets)
@@ -31,7 +29,6 @@ abbrev pub is_asked_if : Far → Option WaitingCommand → Bool
 is_asked_if far None = true
 is_asked_if far (Some command) = is_asked far command
 
--- WIRE-3
 abbrev pub is_orderly : Far → Bool
 is_orderly far = not (is_mode far.mode Startup && not (is_empty far.isdu))
     && not (far.valid && not (is_mode far.mode Operate)) && is_asked_if far far.waits

@@ -116,8 +116,6 @@ impl<R: Record> FarEnd<R> {
     }
 
     /// It may miss the pulse of a wake-up request.
-    ///
-    /// Rule WIRE-3.
     pub fn may_miss_pulses(&mut self)
         ensures { self.new ≡ record self.old { misses_pulses = true } }
     {
@@ -125,8 +123,6 @@ impl<R: Record> FarEnd<R> {
     }
 
     /// Whether it may miss the pulse of a wake-up request.
-    ///
-    /// Rule WIRE-3.
     pub fn misses_pulses(&self) -> bool
         ensures { result ≡ self.now.misses_pulses }
     {
@@ -134,8 +130,6 @@ impl<R: Record> FarEnd<R> {
     }
 
     /// Whether it is as a device is that may miss pulses.
-    ///
-    /// Rule WIRE-3.
     #[tactic(auto, using(crate::proofs::Orderly::orderly))]
     pub fn is_orderly(&self) -> bool
         ensures value { result ≡ is_orderly self.now }
@@ -147,8 +141,6 @@ impl<R: Record> FarEnd<R> {
     }
 
     /// Whether each command that waits asks for another mode.
-    ///
-    /// Rules DEV-3, DEV-4.
     fn is_asked_if_it_waits(&self) -> bool
         ensures { result ≡ is_asked_if self.now self.now.waits }
     {
@@ -159,8 +151,6 @@ impl<R: Record> FarEnd<R> {
     }
 
     /// Whether a command that waits asks for another mode, as its octets say.
-    ///
-    /// Rules DEV-3, DEV-4.
     fn is_asked(&self, command: &Waiting) -> bool
         ensures { result ≡ is_asked self.now (record {
           into = command.now.into;
@@ -171,8 +161,6 @@ impl<R: Record> FarEnd<R> {
     }
 
     /// Whether octets, where they are a message in the present layout, ask for that mode.
-    ///
-    /// Rule DEV-3.
     fn is_said(&self, into: Mode, octets: &[u8]) -> bool
         ensures { result ≡ is_said self.now into (message_in (layout_of self.now) octets.now) }
     {
@@ -183,8 +171,6 @@ impl<R: Record> FarEnd<R> {
     }
 
     /// The layout of a mode.
-    ///
-    /// Rule DEV-2.
     fn layout_in(&self, mode: Mode) -> Layout
         ensures { result ≡ layout_in self.now.page mode }
     {
@@ -197,7 +183,7 @@ impl<R: Record> FarEnd<R> {
 
     /// The mode into which the octets would take it.
     ///
-    /// Rules DEV-3, DEV-4.
+    /// Rule DEV-4.
     fn new_mode(&self, octets: &[u8]) -> Option<Mode>
         ensures { result ≡ new_mode self.now.waits octets.now }
     {
@@ -223,7 +209,7 @@ impl<R: Record> FarEnd<R> {
 
     /// The message that the octets are, once it is in the layout in which it accepts them.
     ///
-    /// Rules DEV-2, DEV-4.
+    /// Rule DEV-2.
     fn accept<'a>(&mut self, octets: &'a [u8]) -> Option<MasterView<'a>>
         ensures length { OnSome result (length octets.now ≤ 66) }
         ensures accepts { far.accepted self.old octets.now
@@ -247,7 +233,7 @@ impl<R: Record> FarEnd<R> {
     /// the reply is put into the buffer. A message that says that the output is
     /// valid ends a silence.
     ///
-    /// Rules DEV-2, DEV-19.
+    /// Rule DEV-2.
     pub fn hear(&mut self, octets: &[u8], silent: &mut bool, reply: &mut Message) -> bool
         requires { reply.old.items ≡ [] }
         ensures far { self.new ≡ (far.hear self.old octets.now).far }
@@ -280,8 +266,6 @@ impl<R: Record> FarEnd<R> {
     }
 
     /// Whether a message in the present layout says that the output is valid.
-    ///
-    /// Rule DEV-19.
     fn says_valid(&self, message: &MasterView<'_>) -> bool
         ensures { result ≡ says_valid self.now.mode (far.command_in message.now) }
     {
@@ -291,7 +275,6 @@ impl<R: Record> FarEnd<R> {
         }
     }
 
-    /// Rule DEV-9.
     fn work_message(&mut self, octets: &[u8], message: &MasterView<'_>)
         requires { length octets.now ≤ 66 }
         ensures { self.new ≡ far.worked self.old octets.now message.now }
@@ -303,8 +286,6 @@ impl<R: Record> FarEnd<R> {
     }
 
     /// A write on the page channel: a master command, or the octet of address 0x01.
-    ///
-    /// Rules DEV-3, DEV-9.
     fn work_page(&mut self, octets: &[u8], message: &MasterView<'_>)
         requires { length octets.now ≤ 66 }
         ensures { self.new ≡ record self.old {
@@ -336,7 +317,7 @@ impl<R: Record> FarEnd<R> {
         }
     }
 
-    /// Rule DEV-3.
+    /// Rules DEV-3, DEV-6.
     fn work_command(&mut self, octets: &[u8], command: Option<MasterCommand>)
         requires { length octets.now ≤ 66 }
         ensures { self.new ≡ record self.old {
@@ -463,8 +444,6 @@ impl<R: Record> FarEnd<R> {
     }
 
     /// The octet at a page address.
-    ///
-    /// Rule DEV-7.
     fn page_octet(&self, address: u8) -> u8
         ensures { result ≡ far.page_octet self.now address }
     {
@@ -542,8 +521,6 @@ impl<R: Record> FarEnd<R> {
     }
 
     /// An event is raised.
-    ///
-    /// Rule DEV-16.
     pub fn raise(&mut self, event: Event) -> Result<(), DeviceFault>
         ensures far { self.new ≡ local self.old (LocalStep.Raise event) }
         ensures full { IsErr result ↔ IsTrue (is_full self.old.events) }
@@ -566,7 +543,7 @@ impl<R: Record> FarEnd<R> {
 
     /// The process data in.
     ///
-    /// Rules DEV-16, DEV-17.
+    /// Rule DEV-17.
     #[tactic(auto, using(std::proofs::lemmas::Bool::Decides::nat_tests))]
     pub fn set_input(&mut self, image: &Image) -> Result<(), DeviceFault>
         ensures far { self.new ≡ local self.old (LocalStep.Input image.now) }
@@ -582,8 +559,6 @@ impl<R: Record> FarEnd<R> {
     }
 
     /// No process data in.
-    ///
-    /// Rule DEV-16.
     pub fn clear_input(&mut self)
         ensures { self.new ≡ local self.old LocalStep.NoInput }
     {
@@ -640,8 +615,6 @@ impl<R: Record> FarEnd<R> {
     }
 
     /// The octet of page address 0x01.
-    ///
-    /// Rule DEV-9.
     pub fn cycle_time(&self) -> u8
         ensures { result ≡ self.now.cycle_time }
     {
@@ -656,8 +629,6 @@ impl<R: Record> FarEnd<R> {
     }
 
     /// The process data out, only while it is valid.
-    ///
-    /// Rule DEV-6.
     pub fn output(&self) -> Option<&Image>
         ensures { option_copied result ≡ far.output_of self.now }
     {

@@ -96,8 +96,6 @@ impl IsduSide {
     }
 
     /// The request is dropped.
-    ///
-    /// Rule DEV-14.
     pub fn clear(&mut self)
         ensures { self.new ≡ record self.old { state = Empty } }
     {
@@ -126,7 +124,7 @@ impl IsduSide {
 
     /// A write under this flow.
     ///
-    /// Rules DEV-11, DEV-14, DEV-20.
+    /// Rule DEV-20.
     pub fn write(&mut self, flow: Flow, octets: &[u8])
         ensures { self.new ≡ record self.old {
           state = written_by self.old.kind.hands_over self.old.counted
@@ -142,8 +140,6 @@ impl IsduSide {
     }
 
     /// A write where a text is handed over with its last segment.
-    ///
-    /// Rule DEV-20.
     fn write_over(&mut self, flow: Flow, octets: &[u8])
         ensures { self.new ≡ record self.old {
           state = written_over self.old.counted self.old.state flow octets.now;
@@ -180,8 +176,6 @@ impl IsduSide {
     }
 
     /// A text that is whole is handed over.
-    ///
-    /// Rule DEV-20.
     fn hand_over(&mut self)
         ensures { self.new ≡ record self.old { state = handed_over self.old.state } }
     {
@@ -205,8 +199,6 @@ impl IsduSide {
     }
 
     /// A write under COUNT.
-    ///
-    /// Rule DEV-11.
     fn write_count(&mut self, count: u8, octets: &[u8])
         ensures { self.new
             ≡ record self.old {
@@ -229,7 +221,7 @@ impl IsduSide {
 
     /// A read under this flow.
     ///
-    /// Rules DEV-14, DEV-20.
+    /// Rule DEV-14.
     #[inline]
     pub fn read(&mut self, flow: Flow)
         ensures { self.new ≡ record self.old {
@@ -287,7 +279,7 @@ impl IsduSide {
 
     /// Puts the on-request data of the reply to a read at the end.
     ///
-    /// Rule DEV-12.
+    /// Rules ISDU-11, DEV-12.
     pub fn append_data(&self, octets: &mut Message)
         requires { length octets.old.items ≤ 32 }
         ensures value { octets.new.items
@@ -407,8 +399,6 @@ fn take(joiner: &mut Joiner, cutter: &mut Cutter<Reaction>, flow: Flow, octets: 
 
 /// The text is whole: the request is put in place, the last of whose segments came under this
 /// flow.
-///
-/// Rule DEV-11.
 #[inline(never)]
 fn complete(joiner: &Joiner, cutter: &mut Cutter<Reaction>, flow: Flow) -> Stage
     requires whole { is_whole joiner.now.text ≡ true }
@@ -428,8 +418,6 @@ fn complete(joiner: &Joiner, cutter: &mut Cutter<Reaction>, flow: Flow) -> Stage
 }
 
 /// Puts the segment of the answer that goes out at the end, zeros before the first.
-///
-/// Rule DEV-13.
 #[inline(never)]
 fn append_segment(cutter: &Cutter<Reaction>, size: OdLength, octets: &mut Message)
     requires size { size ≡ cutter.now.size }
@@ -454,8 +442,6 @@ fn sent_flow(cutter: &Cutter<Reaction>) -> Option<Flow>
 }
 
 /// Whether the last segment given went under this COUNT.
-///
-/// Rule DEV-13.
 fn is_sent(sent: Option<Flow>, count: u8) -> bool
     ensures { (given : ℕ) → sent ≡ sent_flow given → result ≡ is_sent given count }
 {
@@ -463,8 +449,6 @@ fn is_sent(sent: Option<Flow>, count: u8) -> bool
 }
 
 /// Whether the next one does.
-///
-/// Rule DEV-13.
 fn is_next(sent: Option<Flow>, count: u8) -> bool
     ensures { (given : ℕ) → sent ≡ sent_flow given → result ≡ is_next given count }
 {

@@ -4,7 +4,6 @@ use Rattle.std.specs.Prelude.{◌≡◌, ℕ, ◌+◌, ◌-◌, ◌/◌, ◌%◌
 use Rattle.iol_event.specs.declared.event.Event.{Event}
 
 -- an event memory
--- EVT-1
 pub record Events : Type 0 where
   -- what the diagnosis channel shows, in the order raised
   pub frozen : List Event
@@ -21,12 +20,10 @@ is_empty [] = true
 is_empty (event ∷ events) = false
 
 -- whether an event raised now is frozen at once
--- EVT-1
 abbrev pub freezes_at_once : Events → Bool
 freezes_at_once memory = is_empty memory.frozen && not memory.held
 
 -- whether an event raised now finds no room
--- EVT-1
 abbrev pub is_full : Events → Bool
 is_full memory = not (freezes_at_once memory) && nat_le 32 (length memory.waiting)
 
@@ -73,7 +70,6 @@ abbrev pub octets_of : Event → List ℕ
 octets_of event = event.qualifier ∷ (event.code / 256) ∷ (event.code % 256) ∷ []
 
 -- an octet of a place, 0 where the place is not filled
--- EVT-4
 abbrev pub place_octet : Option Event → ℕ → ℕ
 place_octet None part = 0
 place_octet (Some event) part = slice_index (octets_of event) part

@@ -12,7 +12,6 @@ abbrev pub marks : ℕ → ℕ → Bool
 marks status place = bit_at status (place - 1) == 1
 
 -- the places that a StatusCode marks, in rising order
--- EVT-6
 abbrev pub marked_places : ℕ → List ℕ
 marked_places status = filter (marks status) (1 ∷ 2 ∷ 3 ∷ 4 ∷ 5 ∷ 6 ∷ [])
 
@@ -27,7 +26,6 @@ places_size status = 3 * length (marked_places status)
 
 -- the events whose octets these are, three for each: the qualifier, the code's high
 -- octet, its low octet
--- EVT-6
 abbrev pub events_of : List ℕ → List Event
 events_of (qualifier ∷ high ∷ low ∷ rest) =
     record { qualifier = qualifier; code = 256 * high + low } ∷ events_of rest
@@ -56,7 +54,6 @@ pub record Taken : Type 0 where
 
 -- by all octets of the reading: a StatusCode that is refused, more to come, or the
 -- list; then the reader is new
--- EVT-7
 abbrev pub taken_all : List ℕ → Taken
 taken_all [] = record { answer = Ok None; reader = [] }
 taken_all (status ∷ octets) =

@@ -21,12 +21,10 @@ layout_by Preoperate (Ok layouts) = unwrap_or layouts.pre startup_shape
 layout_by Operate (Ok layouts) = layouts.run
 layout_by mode (Err fault) = startup_shape
 
--- DEV-2
 unfoldable pub layout_in : List ℕ → Mode → Shape
 layout_in page mode = layout_by mode (layouts_of page)
 
 -- the message that octets are in a layout, none where they are not well-formed there
--- DEV-2
 unfoldable pub message_in : Shape → List ℕ → Option MasterMsg
 message_in layout octets = master_in layout octets
 
@@ -35,7 +33,6 @@ unfoldable pub octets_of : Reply → List ℕ
 octets_of reply = reply_text reply
 
 -- the flow that an address on the ISDU channel means
--- OCT-2
 unfoldable pub flow_of : ℕ → Flow
 flow_of address =
     if nat_lt address 0x10 then Count address else

@@ -21,7 +21,6 @@ use Rattle.iol_far.specs.Isdu.{IsduState, Empty, isdu_read, isdu_data, own, reca
 use Rattle.iol_far.specs.Codec.{layout_in, message_in, octets_of, flow_of}
 
 -- a mode command that waits, with its octets
--- DEV-4
 pub record WaitingCommand : Type 0 where
   pub into : Mode
   pub octets : List ℕ
@@ -53,7 +52,6 @@ pub record Far : Type 0 where
   pub room : Option ℕ
 
 -- the layout that it speaks
--- DEV-2
 abbrev pub layout_of : Far → Shape
 layout_of far = layout_in far.page far.mode
 
@@ -89,12 +87,11 @@ abbrev pub moved : Far → Mode → Far
 moved far into = record far { mode = into; waits = None; isdu = Empty; valid = false }
 
 -- a message in the present layout
--- DEV-2
 abbrev pub accepted_now : Far → List ℕ → Option (Far × MasterMsg)
 accepted_now far octets = option_map (λ message. (far, message)) (message_in (layout_of far) octets)
 
 -- while a command waits: its very octets, in the old layout, or a message in the new one
--- DEV-3, DEV-4
+-- DEV-4
 abbrev pub accepted_by : Option WaitingCommand → Far → List ℕ → Option (Far × MasterMsg)
 accepted_by None far octets = accepted_now far octets
 accepted_by (Some command) far octets =
@@ -114,21 +111,19 @@ abbrev pub command_at : Bool → Channel → ℕ → ℕ → Option MasterComman
 command_at false Page address octet = if address == 0 then command_of octet else None
 command_at read channel address octet = None
 
--- DEV-5
 abbrev pub command_in : MasterMsg → Option MasterCommand
 command_in message =
     command_at message.mc.read message.mc.channel message.mc.address
     (slice_index message.od.items 0)
 
 -- the mode that a command asks for
--- DEV-3
+-- DEV-5
 abbrev pub mode_asked : Option MasterCommand → Option Mode
 mode_asked (Some DeviceStartup) = Some Startup
 mode_asked (Some DevicePreoperate) = Some Preoperate
 mode_asked (Some DeviceOperate) = Some Operate
 mode_asked command = None
 
--- DEV-5
 abbrev pub is_mode : Mode → Mode → Bool
 is_mode Startup Startup = true
 is_mode Preoperate Preoperate = true
@@ -162,7 +157,6 @@ out_after Operate out heard = heard
 out_after mode out heard = out
 
 -- a read or a write, at what the device still knows
--- DEV-20
 abbrev pub isdu_moved : Kind → Option ℕ → ℕ → IsduState → Bool → Flow → List ℕ → IsduState
 isdu_moved kind counted size state true flow octets =
     isdu_read size (recalled kind.recalls size state) flow
@@ -177,7 +171,6 @@ isdu_after kind counted known size state Isdu read flow octets =
     if known then isdu_moved kind counted size state read flow octets else Empty
 isdu_after kind counted known size state channel read flow octets = state
 
--- DEV-20
 abbrev pub counted_after : HandsOver → Option ℕ → Bool → Channel → Bool → Flow → Option ℕ
 counted_after hands_over counted known Isdu false flow =
     if known then counted_by hands_over counted flow else counted
@@ -189,7 +182,6 @@ abbrev pub is_confirm : Channel → Bool → ℕ → Bool
 is_confirm Diagnosis false address = address == 0
 is_confirm channel read address = false
 
--- EVT-2
 abbrev pub events_after : Events → Bool → Events
 events_after events true = confirmed events
 events_after events false = released events
@@ -201,7 +193,6 @@ cycle_time_after old Page false address octet = if address == 1 then octet else 
 cycle_time_after old channel read address octet = old
 
 -- the far end once it has worked a message that it accepts in its present layout
--- DEV-9
 abbrev pub worked : Far → List ℕ → MasterMsg → Far
 worked far octets message = record far {
   waits = waits_after far.mode far.waits octets
@@ -223,7 +214,6 @@ worked far octets message = record far {
 -- The reply, read off the far end once it has worked the message
 
 -- the octet at a page address
--- DEV-7
 abbrev pub page_octet : Far → ℕ → ℕ
 page_octet far address = if address == 1 then far.cycle_time else sheet.page_octet far.page address
 
@@ -260,7 +250,6 @@ abbrev pub replied : Far → MasterMsg → Heard
 replied far message =
     record { far = far; reply = Some (octets_of (reply_to far (layout_of far) message)) }
 
--- DEV-2
 abbrev pub heard_as : Far → List ℕ → Option (Far × MasterMsg) → Heard
 heard_as far octets None = record { far = far; reply = None }
 heard_as far octets (Some (there, message)) = replied (worked there octets message) message
@@ -271,6 +260,5 @@ abbrev pub hear : Far → List ℕ → Heard
 hear far octets = heard_as far octets (accepted far octets)
 
 -- the process data that it has for its outputs
--- DEV-6
 abbrev pub output_of : Far → Option (List ℕ)
 output_of far = if far.valid && nat_lt 0 (length far.out) then Some far.out else None

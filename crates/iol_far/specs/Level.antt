@@ -202,12 +202,10 @@ taken_by (Some command) link octets =
     if bytes_eq octets command.octets then link else record { mode = command.into; waits = None }
 
 -- the link in the layout in which it accepts the octets
--- LINK-9
 abbrev pub taken : Link → List ℕ → Link
 taken link octets = taken_by link.waits link octets
 
 -- and once a device of this page has worked the message
--- LINK-9
 abbrev pub turned : List ℕ → Link → List ℕ → MasterMsg → Link
 turned page link octets message =
     record {

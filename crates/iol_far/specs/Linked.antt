@@ -18,7 +18,6 @@ pub record IsAt (page : List ℕ) (link : Link) (far : Far) : Type 0 where
 
 -- The far end sleeps, or it comes from there by local steps and at most that many
 -- hearings of the message that is out
--- LINK-9
 abbrev pub IsLinked : List ℕ → Link → List ℕ → ℕ → Far → Type 0
 IsLinked page link octets most far =
     ((far.awake ≡ false) × (far.page ≡ page))

@@ -21,7 +21,6 @@ pub data LocalStep : Type 0 where
   Power : LocalStep
 
 -- whether the record takes one more pair
--- DEV-15
 abbrev pub has_room : Far → Bool
 has_room far = takes_more far.room far.carried
 
@@ -44,7 +43,6 @@ is_answer None answer = false
 is_answer (Some request) answer = fits request answer
 
 -- whether an answer is taken from elsewhere
--- DEV-15
 abbrev pub takes_answer : Far → Answer → Bool
 takes_answer far answer = has_room far && is_answer (handed far.isdu) answer
 

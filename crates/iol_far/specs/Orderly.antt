@@ -14,7 +14,6 @@ use Rattle.iol_far.specs.Level.{Link, link_of}
 use Rattle.iol_far.specs.Laws.{IsValidInOperate}
 
 -- a command that waits asks for another mode, as its octets say
--- DEV-3, DEV-4
 pub record IsAsked (far : Far) (command : WaitingCommand) : Type 0 where
   pub other : is_mode far.mode command.into ≡ false
   pub said : (message : MasterMsg) → message_in (layout_of far) command.octets ≡ Some message
@@ -35,7 +34,6 @@ pub record IsToPage (octets : List ℕ) (message : MasterMsg) : Type 0 where
 
 -- it is in STARTUP, or leaves its mode for it with the next other message, these octets having
 -- asked for that
--- LINK-13
 abbrev pub IsLeaving : List ℕ → Link → Type 0
 IsLeaving octets link = (link ≡ record { mode = Startup; waits = None })
     ⊎ ((is_mode link.mode Startup ≡ false)
@@ -48,7 +46,6 @@ pub record IsHeardAlike (octets : List ℕ) (message : MasterMsg) (there : Far)
   pub message_is : heard ≡ message
   pub output : output_of (worked there octets heard) ≡ None
 
--- LINK-13
 pub record OrderlyLaws : Type 0 where
   pub steps : (far : Far) (step : LocalStep) → IsOrderly far → IsOrderly (local far step)
   pub wakes : (far : Far) → IsOrderly (woken far)

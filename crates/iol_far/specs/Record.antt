@@ -3,7 +3,6 @@ use Rattle.std.specs.Prelude.{ℕ, Bool, true, nat_lt, List, length, Option, Som
 use Rattle.iol_far.specs.declared.carried.Carried.{Carried}
 
 -- whether a record takes one more pair: where it has a bound, as long as it is below it
--- DEV-15
 abbrev pub takes_more : Option ℕ → List Carried → Bool
 takes_more None carried = true
 takes_more (Some room) carried = nat_lt (length carried) room

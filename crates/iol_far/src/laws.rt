@@ -70,8 +70,6 @@ pub fn requests_are_received()
 /// Where no good reply comes, a START read goes out in place of the repeat, whose reply says
 /// whether it was heard. One that repeats it knows with the good reply that the device has it now,
 /// however often it carried it out before.
-///
-/// Rule DEV-20.
 pub fn ends_stay_level()
     ensures { (size : ℕ) → 1 ≤ size → LevelLaws size }
 {
@@ -88,8 +86,6 @@ pub fn events_stay_until_confirmed()
 
 /// What a master may conclude of the device's mode while a message is out, and from
 /// one good reply, whatever is under way on the ISDU channel.
-///
-/// Rule LINK-9.
 #[tactic(auto, using(crate::proofs::Hearings::link_laws))]
 pub fn links_stay_level()
     ensures { LinkLaws }
@@ -119,8 +115,6 @@ pub fn parts_stay_regular()
 /// What a device makes of messages to the page in STARTUP's layout, whatever its mode: it stays as
 /// it can be, keeps what it held or nothing, and behind a reply to DeviceStartup it is in STARTUP,
 /// or leaves its mode for it with the next other message.
-///
-/// Rule LINK-13.
 #[tactic(auto, using(crate::proofs::LawProofs::orderly_laws))]
 pub fn devices_leave_their_mode()
     ensures { OrderlyLaws }

@@ -15,7 +15,6 @@ is_read (request.Read place) = true
 is_read (request.Write place octets) = false
 
 -- the answer fits a read (or a write): Read only a read, Written only a write, Refused both
--- ISDU-8
 abbrev pub AnswersKind : Bool → Answer → Type 0
 AnswersKind read (answer.Read octets) = read ≡ true
 AnswersKind read answer.Written = read ≡ false
@@ -29,7 +28,6 @@ answer_service read answer.Written = 5
 answer_service read (answer.Refused error additional) = if read then 12 else 4
 
 -- what stands between the total length and the CHKPDU
--- ISDU-4
 abbrev pub answer_body : Answer → List ℕ
 answer_body (answer.Read octets) = octets.items
 answer_body answer.Written = []

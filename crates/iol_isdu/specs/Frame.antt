@@ -5,7 +5,6 @@ use Rattle.iol_isdu.specs.declared.fault.IsduFault.{IsduFault}
 use Rattle.iol_isdu.specs.declared.fault.IsduFault.TheVariants.{Truncated, BadIsduLength, BadService, BadChkpdu}
 
 -- the XOR of all octets
--- ISDU-1
 abbrev pub xor_of : List ℕ → ℕ
 xor_of octets = fold bit_xor 0 octets
 
@@ -43,7 +42,6 @@ total_at (first ∷ rest) =
         if (nat_le 17 total && nat_le total 238) then Ok total else Err BadIsduLength
 
 -- why the octets don't begin with as many as their total length
--- ISDU-9
 abbrev pub frame_fault : List ℕ → Option IsduFault
 frame_fault octets = fault_by (total_at octets) (length octets)
   where

@@ -43,7 +43,6 @@ AnswerHoldsLength = (read : Bool) (a : Answer) → FitsAnswer read a
     → total_at (answer_text read a) ≡ Ok (length (answer_text read a))
 
 -- a text, whatever octets follow it, is found to be its request's
--- ISDU-10
 abbrev pub EachTextIsFound : Type 0
 EachTextIsFound = (r : Request) (text rest : List ℕ) → IsRequestText r text
     → request_of (text ++ rest) ≡ Some r

@@ -31,7 +31,6 @@ unless None r = Some r
 unless (Some fault) r = None
 
 -- the request that octets begin with, where they begin with one
--- ISDU-6
 unfoldable pub request_of : List ℕ → Option Request
 request_of octets =
     unless (isdu_fault request_accepts octets)

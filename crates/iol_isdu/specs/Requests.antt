@@ -9,7 +9,6 @@ use Rattle.iol_isdu.specs.Frame.{IsFrame}
 
 -- how a text says a place is a `Form`: an 8-bit index, that and a subindex, or a 16-bit index and a
 -- subindex. The services of the writes are 1 to 3, those of the reads 9 to 11, in this order
--- ISDU-3
 abbrev pub form_number : Form → ℕ
 form_number Index = 0
 form_number IndexSub = 1
@@ -77,7 +76,6 @@ pub record BeginsWithRequest (octets : List ℕ) (request : Request) : Type 0 wh
   pub whole : octets ≡ text ++ rest
 
 -- the shortest form that says a place
--- ISDU-6
 abbrev pub shortest : Place → Form
 shortest p =
     if (nat_lt p.index 256) then (if (p.sub == 0) then Index else IndexSub) else WideIndexSub

@@ -21,7 +21,6 @@ request_front r =
     (index_part (shortest (place_of r)) (place_of r) ++ written r)
 
 -- the text that is sent for a request
--- ISDU-6
 abbrev pub request_text : Request → List ℕ
 request_text r = sealed (request_front r)
 

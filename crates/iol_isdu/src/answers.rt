@@ -85,8 +85,6 @@ fn put_answer_to(read: bool, octets: &[u8], into: &mut Answer) -> Result<(), Isd
 
 /// Puts in place the answer of the frame that the octets begin with. Answers whether it is to
 /// a read.
-///
-/// Rule ISDU-9.
 fn put_framed(octets: &[u8], into: &mut Answer) -> Result<bool, IsduFault>
     ensures refused { result_err result ≡ isdu_fault answer_accepts octets.now }
     ensures kind { IfOk result (λ read. read ≡ answers_read (slice_index octets.now 0 / 16)) }

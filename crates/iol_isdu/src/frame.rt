@@ -13,8 +13,6 @@ pub(crate) const LONGEST_PLAIN: usize = 15;
 pub(crate) const EXTENDED: u8 = 1;
 
 /// The XOR of all octets.
-///
-/// Rule ISDU-1.
 pub(crate) fn xor_of(octets: &[u8]) -> u8
     ensures { result ≡ xor_of octets.now }
 {

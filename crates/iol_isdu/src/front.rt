@@ -131,8 +131,6 @@ fn front_of<'a>(service: Service, part: &[u8], octets: &'a [u8]) -> Front<'a>
 }
 
 /// The head of a body of this size, of which this part stands in it.
-///
-/// Rule ISDU-1.
 fn head_of(service: Service, part: &[u8], size: usize) -> ArrayVec<u8, 5>
     requires part { length part.now ≤ 3 }
     requires size { size ≤ 235 }

@@ -15,8 +15,6 @@ pub fn one_text_in_front()
 ///
 /// Each is the one text there is, holds its own length, and is found again in front of any octets;
 /// an answer's is refused by nothing. A law of the definitions; it does nothing when it runs.
-///
-/// Rule ISDU-10.
 pub fn one_text_each()
     ensures request { OneShortText }
     ensures answer { OneAnswerText }

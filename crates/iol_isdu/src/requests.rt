@@ -38,7 +38,7 @@ pub fn encode_request(request: &Request) -> Text
 /// - 12 `BadService`: the service is no request's, or its texts don't have this total length;
 /// - 13 `BadChkpdu`: the XOR of all octets of the text is not 0.
 ///
-/// Rule ISDU-3.
+/// Rules ISDU-3, ISDU-6.
 pub fn read_request(octets: &[u8]) -> Result<Request, IsduFault>
     ensures refused { result_err result ≡ isdu_fault request_accepts octets.now }
     ensures found { IfOk result (BeginsWithRequest octets.now) }
@@ -64,8 +64,6 @@ pub fn request_into(octets: &[u8], into: &mut Request) -> Result<(), IsduFault>
 }
 
 /// Puts in place the request of the frame that the octets begin with.
-///
-/// Rule ISDU-9.
 fn put_framed(octets: &[u8], into: &mut Request) -> Result<(), IsduFault>
     ensures refused { result_err result ≡ isdu_fault request_accepts octets.now }
     ensures found { OnOk result (IsRequestText into.new (text_at octets.now)) }

@@ -60,8 +60,6 @@ impl Service {
     }
 
     /// The high four bits of its first octet.
-    ///
-    /// Rule ISDU-3.
     pub fn bits(self) -> u8
         ensures value { result ≡ service_number self }
         ensures small { result < 16 }
@@ -83,8 +81,6 @@ impl Service {
 
 impl Form {
     /// The shortest form that says this place.
-    ///
-    /// Rule ISDU-6.
     pub fn shortest(place: &Place) -> Form
         ensures value { result ≡ shortest place.now }
         ensures holds { Holds result place.now }

@@ -23,19 +23,16 @@ use Rattle.iol_judge.specs.UnderWay.{HasUnderWay}
 use Rattle.iol_judge.specs.Judged.{Judged, new_judge, exchanged, kinds_left, woke}
 
 -- each octet that is known is the page's
--- PAGE-1
 abbrev pub Agrees : List (Option ℕ) → List ℕ → Type 0
 Agrees seen page = (place : ℕ)
     → IfSome (slice_index_or seen place None) (λ octet. slice_index page place ≡ octet)
 
 -- the hold is over, and only during it events wait while none is frozen
--- EVT-1, EVT-3
 pub record IsReleased (memory : Events) : Type 0 where
   pub free : memory.held ≡ false
   pub waits : memory.frozen ≡ [] → memory.waiting ≡ []
 
 -- so many events are frozen, with these octets
--- EVT-4
 pub record AreIn (places : Places) (frozen : List Event) : Type 0 where
   pub least : places.least ≤ length frozen
   pub most : length frozen ≤ places.most
@@ -99,7 +96,6 @@ told_all judged (passing ∷ capture) = told_all (told judged passing) capture
 
 -- one wake of a device of any kind: some steps by itself, then the wake's effect or nothing; it is
 -- answered only where it took effect
--- WIRE-3
 pub record IsWake (far : Far) (answered : Bool) (far_new : Far) : Type 0 where
   pub steps : List LocalStep
   pub wakes : Bool
@@ -107,7 +103,6 @@ pub record IsWake (far : Far) (answered : Bool) (far_new : Far) : Type 0 where
   pub answered_is : answered ≡ true → wakes ≡ true
 
 -- a device brings this over a lossy line
--- WIRE-1, WIRE-3
 abbrev pub IsHonest : Far → ℕ → Passing → Far → ℕ → Type 0
 IsHonest far silence (Wakes wake) far_new silence_new =
     IsWake far (is_answered wake) far_new × (silence_new ≡ silence)

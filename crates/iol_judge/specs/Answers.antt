@@ -32,12 +32,10 @@ same_had a b = beq a.read b.read && bytes_eq a.text.items b.text.items && a.at =
     && a.count == b.count && option_eq is_ahead a.ahead b.ahead
 
 -- the segment sent last, behind the first, has this COUNT
--- DEV-13
 abbrev pub was_sent : Had → ℕ → Bool
 was_sent had count = nat_lt 0 had.at && count == had.count
 
 -- the segment behind it has
--- SEG-2
 abbrev pub is_next : Had → ℕ → Bool
 is_next had count = count == segment_number (had.count + 1)
 
@@ -46,7 +44,6 @@ is_open Open = true
 is_open found = false
 
 -- busy: 01 and zeros
--- ISDU-11
 abbrev pub is_busy : List ℕ → Bool
 is_busy od = slice_index od 0 == 1 && are_zeros (drop 1 od)
 
@@ -60,20 +57,17 @@ reason_of (Some BadChkpdu) = Some AnswerSum
 reason_of (Some fault) = Some AnswerKind
 
 -- why a whole text, with the octets behind it, isn't one
--- ISDU-9, SEG-1
 abbrev pub whole_fault : Bool → List ℕ → List ℕ → Option Reason
 whole_fault read text rest =
     option_or (reason_of (answer_fault read text))
     (if are_zeros rest then None else Some AnswerPadding)
 
 -- such a request is answered by a text of this service and total length
--- ISDU-4, ISDU-8
 abbrev pub is_answered_by : Bool → ℕ → ℕ → Bool
 is_answered_by read service total =
     answer_accepts service total && beq read (answers_read service)
 
 -- the total length, the least of the long ones before it came
--- ISDU-2
 abbrev pub total_begun : Result ℕ IsduFault → ℕ
 total_begun (Ok total) = total
 total_begun (Err fault) = 17
@@ -93,12 +87,10 @@ text_fault_at read (Complete text) octets = whole_fault read text (drop (length 
 text_fault_at read Wrong octets = Some AnswerLength
 
 -- why segments from the first on can't have these octets
--- ISDU-9, SEG-1, SEG-5
 abbrev pub text_fault : Bool → List ℕ → Option Reason
 text_fault read octets = text_fault_at read (stage octets) octets
 
 -- why a segment that had these octets can't have others
--- DEV-13
 abbrev pub same_fault : List ℕ → List ℕ → Option Reason
 same_fault octets od = if starts_with nat_eq octets od then None else Some SegmentChanged
 
@@ -109,14 +101,12 @@ place_in ahead at =
     then Some (at - ahead.at) else None
 
 -- why the segment at a place can't have these, where it was had behind one that wasn't
--- DEV-13
 abbrev pub ahead_fault : Option Ahead → ℕ → List ℕ → Option Reason
 ahead_fault None at od = None
 ahead_fault (Some ahead) at od =
     option_and_then (λ place. same_fault (drop place ahead.octets.items) od) (place_in ahead at)
 
 -- why an answer of this total length can't have these octets at a place
--- SEG-1
 abbrev pub padding_fault : ℕ → ℕ → List ℕ → Option Reason
 padding_fault total at od =
     if nat_le (at + length od) total || are_zeros (drop (total - at) od) then None
@@ -128,14 +118,12 @@ behind_fault (Ok total) at od = padding_fault total at od
 behind_fault (Err fault) at od = None
 
 -- why the segment sent last can't, behind those from the first on
--- SEG-1, SEG-5
 abbrev pub next_fault : Had → List ℕ → Option Reason
 next_fault had od = if had.at == length had.text.items
     then text_fault had.read (had.text.items ++ od)
     else behind_fault (total_at had.text.items) had.at od
 
 -- why the segment sent last can't have these octets: busy again, others than before, or no text
--- DEV-13, ISDU-11
 abbrev pub segment_fault : Had → List ℕ → Option Reason
 segment_fault had od =
     if had.at == 0 && is_busy od then Some BusyAgain else

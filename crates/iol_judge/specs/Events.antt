@@ -26,7 +26,6 @@ covers_events a b = false
 -- A message, and a wake-up request, which does what a message does
 
 -- the confirm holds new events back, and any other message ends that
--- EVT-2, EVT-3
 abbrev pub shown_after : Shown → Bool → Shown
 shown_after shown true = Held
 shown_after Held false = Any
@@ -34,7 +33,6 @@ shown_after shown false = shown
 
 -- The Event flag of the reply
 
--- DEV-8, EVT-2
 abbrev pub flag_fault : Shown → Bool → Option Reason
 flag_fault Held true = Some FlagAtConfirm
 flag_fault (Filled places) false = Some FlagGone
@@ -44,7 +42,6 @@ flag_fault shown flag = None
 abbrev pub first_places : ℕ → Shown
 first_places most = Filled (record { least = 1; most = most; octets = replicate 18 None })
 
--- DEV-8
 abbrev pub flag_told : Shown → Bool → Shown
 flag_told Any true = first_places 6
 flag_told Fresh true = first_places 1
@@ -54,7 +51,6 @@ flag_told shown flag = shown
 -- The octets of the diagnosis channel, once the flag was had
 
 -- how many places a StatusCode marks, the first ones; none where it marks others
--- EVT-4
 abbrev pub marked : ℕ → Option ℕ
 marked status =
     if status == 0x80 then Some 0 else
@@ -77,14 +73,12 @@ place_known octets address =
     if nat_le 1 address && nat_le address 18 then slice_index_or octets (address - 1) None else None
 
 -- an octet that isn't 0 stands in a filled place, and none changes
--- EVT-2, EVT-4
 abbrev pub fills : Places → ℕ → ℕ → Bool
 fills places address octet =
     (octet == 0 || nat_lt ((address - 1) / 3) places.most)
     && not (is_other (place_known places.octets address) octet)
 
 -- why a diagnosis address can't read as this octet
--- EVT-4
 abbrev pub places_fault : Places → ℕ → ℕ → Option Reason
 places_fault places address octet =
     if address == 0 then status_fault places (marked octet) else
@@ -116,7 +110,6 @@ places_told places address octet =
     if nat_le address 18 then octet_told places address octet else places
 
 -- once a diagnosis address was read as this octet
--- EVT-4
 abbrev pub events_told : Shown → ℕ → ℕ → Shown
 events_told (Filled places) address octet = Filled (places_told places address octet)
 events_told shown address octet = shown

@@ -30,7 +30,6 @@ only_by LastSegment UntilLeft = record no_kinds { last_left = true }
 only_by LastSegment UntilSent = record no_kinds { last_sent = true }
 
 -- one alone
--- DEV-20
 abbrev pub only_kind : Kind → Kinds
 only_kind kind = only_by kind.hands_over kind.recalls
 
@@ -40,7 +39,6 @@ has_by kinds FirstRead UntilSent = kinds.first_sent
 has_by kinds LastSegment UntilLeft = kinds.last_left
 has_by kinds LastSegment UntilSent = kinds.last_sent
 
--- DEV-20
 abbrev pub has_kind : Kinds → Kind → Bool
 has_kind kinds kind = has_by kinds kind.hands_over kind.recalls
 

@@ -107,7 +107,6 @@ abbrev pub lost_part : Result Layouts Open → List ℕ → List State → State
 lost_part known sent next part = and_then (taken_by known part sent) (added_taken next)
 
 -- a state as it was, for the message may be lost, and with the message worked
--- WIRE-1
 abbrev pub lost_into : Result Layouts Open → List ℕ → List State → State
     → Result (List State) Open
 lost_into known sent next state = and_then (added next state)
@@ -135,7 +134,6 @@ replied_part known odd seen sent reply next part = and_then (taken_by known part
     (λ taken. explained_into next (explained odd seen taken reply))
 
 -- each state that explains the reply
--- WIRE-2
 abbrev pub replied_into : Result Layouts Open → Odd → List (Option ℕ) → List ℕ → List ℕ → Next
     → State → Result Next Open
 replied_into known odd seen sent reply next state =
@@ -193,7 +191,6 @@ answered judged sent (Some reply) =
     if is_readable sent reply then replied judged sent reply else unanswered judged sent
 
 -- the judge, told an exchange
--- WIRE-1, WIRE-2
 abbrev pub exchanged : Judged → List ℕ → Option (List ℕ) → Judged
 exchanged judged sent answer =
     let counted = record judged { exchanges = one_more judged.exchanges; oddity = None } in
@@ -206,7 +203,6 @@ exchanged judged sent answer =
 
 -- a state as woken, as it is or after a power cycle, and where the request wasn't answered as it
 -- was too
--- DEV-1, DEV-16, WIRE-3
 abbrev pub woken_states : Wake → State → List State
 woken_states Answered state = woken_state state ∷ powered_state state ∷ []
 woken_states Unanswered state = state ∷ woken_state state ∷ powered_state state ∷ []
@@ -215,7 +211,6 @@ abbrev pub woken_into : Wake → List State → State → Result (List State) Op
 woken_into wake next state = each_in_turn added next (woken_states wake state)
 
 -- the judge, told a wake-up request
--- DEV-1, WIRE-3
 abbrev pub woke : Judged → Wake → Judged
 woke judged wake = elim judged.verdict [
   | Unjudged ↦ elim wake [
@@ -234,7 +229,6 @@ kinds_with kinds [] = kinds
 kinds_with kinds (state ∷ states) = kinds_with (both_kinds kinds state.kinds) states
 
 -- those that the exchanges so far admit
--- DEV-20
 abbrev pub kinds_left : Judged → Kinds
 kinds_left judged = elim judged.verdict [
   | Honest ↦ kinds_with no_kinds judged.states

@@ -46,7 +46,6 @@ is_read_with code size sent reply =
     ]
 
 -- the codes 4 to 7 with all lengths have every layout
--- WIRE-2
 abbrev pub is_readable : List ℕ → List ℕ → Bool
 is_readable sent reply = is_read_with 4 1 sent reply || is_read_with 5 2 sent reply
     || is_read_with 6 8 sent reply || is_read_with 7 32 sent reply
@@ -60,12 +59,10 @@ abbrev pub no_zeros : List ℕ → Reason → Option Reason
 no_zeros octets reason = if are_zeros octets then None else Some reason
 
 -- an octet of the page is another than was read
--- PAGE-1
 abbrev pub page_fault : List (Option ℕ) → ℕ → ℕ → Option Reason
 page_fault seen address octet = other_than (octet_seen seen address) octet PageChanged
 
 -- the on-request data of the reply to a read, once its Event flag was had
--- DEV-7, EVT-4
 abbrev pub data_fault : List (Option ℕ) → State → Bool → Channel → ℕ → List ℕ → Option Reason
 data_fault seen state flag Process address od = None
 data_fault seen state flag Page address od =
@@ -74,7 +71,6 @@ data_fault seen state flag Diagnosis address od =
     events_fault (flag_told state.events flag) address (slice_index od 0)
 data_fault seen state flag Isdu address od = isdu_fault state.transfer od
 
--- DEV-7, DEV-8, EVT-2
 abbrev pub reply_fault : List (Option ℕ) → State → Shape → Mc → Reply → Option Reason
 reply_fault seen state layout mc reply =
     if reply.invalid && (layout.pd_in == 0) then Some StatusWithoutData else
@@ -85,13 +81,11 @@ reply_fault seen state layout mc reply =
 
 -- What is odd in a reply: no device by the rules sends it, and no promise to a client rests on it
 
--- DEV-7, DEV-9
 abbrev pub page_oddity : Option ℕ → ℕ → ℕ → Option Reason
 page_oddity cycle address octet =
     if address == 1 then other_than cycle octet CycleTime else
     if is_of_page address then None else other_than (Some 0) octet PageZero
 
--- DEV-7, MSG-6
 abbrev pub data_oddity : Option ℕ → Channel → ℕ → List ℕ → Option Reason
 data_oddity cycle Process address od = no_zeros od ProcessNotZero
 data_oddity cycle Page address od = option_or (page_oddity cycle address (slice_index od 0))
@@ -99,7 +93,6 @@ data_oddity cycle Page address od = option_or (page_oddity cycle address (slice_
 data_oddity cycle Diagnosis address od = no_zeros (drop 1 od) RestNotZero
 data_oddity cycle Isdu address od = None
 
--- DEV-7, DEV-8
 abbrev pub reply_oddity : Option ℕ → Mc → Reply → Option Reason
 reply_oddity cycle mc reply =
     option_or (if reply.invalid then no_zeros reply.input.items InvalidNotZero else None)

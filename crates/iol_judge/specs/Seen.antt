@@ -18,7 +18,6 @@ abbrev pub is_of_page : ℕ → Bool
 is_of_page address = nat_le 2 address && nat_le address 11
 
 -- what a page address other than 0x01 reads as, where it is known
--- PAGE-1
 abbrev pub octet_seen : List (Option ℕ) → ℕ → Option ℕ
 octet_seen seen address =
     if is_of_page address then slice_index_or seen (address - 2) None else Some 0
@@ -29,7 +28,6 @@ page_noted seen address octet =
     if is_of_page address then slice_set seen (address - 2) (Some octet) else seen
 
 -- the layouts that a page with these octets at 0x03 to 0x06 asks for
--- PAGE-5
 unfoldable pub layouts_by : ℕ → ℕ → ℕ → ℕ → Result Layouts Open
 layouts_by capability revision input output =
     result_map_both (λ layouts. layouts) (λ fault. PageRefused)
@@ -41,7 +39,6 @@ layouts_known (Some capability) (Some revision) (Some input) (Some output) =
 layouts_known capability revision input output = Err PageUnread
 
 -- the layouts that the page asks for, where that is known
--- PAGE-5
 abbrev pub layouts_seen : List (Option ℕ) → Result Layouts Open
 layouts_seen seen =
     layouts_known (octet_seen seen 3) (octet_seen seen 4) (octet_seen seen 5) (octet_seen seen 6)

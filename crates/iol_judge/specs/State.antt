@@ -31,7 +31,6 @@ pub record State : Type 0 where
   pub transfer : Transfer
 
 -- after a wake-up request
--- DEV-1
 abbrev pub startup_state : Kinds → Option ℕ → Shown → State
 startup_state kinds cycle events = record {
   kinds = kinds;
@@ -42,17 +41,14 @@ startup_state kinds cycle events = record {
 }
 
 -- of a device that was awake
--- DEV-1, EVT-3
 abbrev pub woken_state : State → State
 woken_state state = startup_state state.kinds state.cycle (shown_after state.events false)
 
 -- of one that had a power cycle
--- DEV-16
 abbrev pub powered_state : State → State
 powered_state state = startup_state state.kinds state.cycle Fresh
 
 -- after the first wake-up request that was answered
--- DEV-1, DEV-20
 abbrev pub first_state : State
 first_state = startup_state all_kinds None Any
 
@@ -76,7 +72,6 @@ abbrev pub tells_apart : State → Mc → Bool
 tells_apart state mc = is_apart state.transfer mc.channel mc.read (flow_of mc.address)
 
 -- states that stand for what one does, so that all devices of each do the same on these octets
--- DEV-20
 abbrev pub parts : State → List ℕ → List State
 parts state sent =
     if tells_apart state (control_of (slice_index sent 0)) then all_parts state else state ∷ []

@@ -23,7 +23,6 @@ and_then (Ok found) go = go found
 and_then (Err why) go = Err why
 
 -- the layout of a mode, where it is known
--- DEV-2
 abbrev pub mode_layout : Result Layouts Open → Mode → Result Shape Open
 mode_layout known Startup = Ok startup_shape
 mode_layout (Ok layouts) Preoperate = Ok (unwrap_or layouts.pre startup_shape)
@@ -31,7 +30,6 @@ mode_layout (Ok layouts) Operate = Ok layouts.run
 mode_layout (Err why) mode = Err why
 
 -- the mode asked for, where the device has it, and where that is known
--- DEV-5
 abbrev pub mode_known : Result Layouts Open → Option Mode → Result (Option Mode) Open
 mode_known known None = Ok None
 mode_known known (Some Startup) = Ok (Some Startup)
@@ -41,13 +39,11 @@ mode_known (Ok layouts) (Some Operate) = Ok (Some Operate)
 mode_known (Err why) (Some mode) = Err why
 
 -- the octet of page address 0x01 once a message was worked
--- DEV-9
 abbrev pub cycle_after : Option ℕ → Channel → Bool → ℕ → ℕ → Option ℕ
 cycle_after old Page false address octet = if address == 1 then Some octet else old
 cycle_after old channel read address octet = old
 
 -- the state once the message was worked, by the link in which it was taken and the mode asked for
--- DEV-3, DEV-9, DEV-10, EVT-2
 abbrev pub state_after : Result Layouts Open → Link → State → List ℕ → Shape → MasterMsg
     → Option Mode → State
 state_after known link state octets layout message asked = record {
@@ -74,7 +70,6 @@ taken_message known link state octets layout (Some message) =
 
 -- what a state makes of octets, none where it doesn't take them; open where the page's layouts
 -- would have to be known
--- DEV-2
 abbrev pub taken_by : Result Layouts Open → State → List ℕ → Result (Option Taken) Open
 taken_by known state octets =
     let link = taken state.link octets in

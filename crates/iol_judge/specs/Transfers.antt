@@ -70,11 +70,9 @@ received_at (Complete text) octets last = completed (request_of text) last
 received_at Wrong octets last = Quiet
 
 -- of a request these octets came, the last of them under this COUNT
--- DEV-11
 abbrev pub received : List ℕ → Option ℕ → Transfer
 received octets last = received_at (stage octets) octets last
 
--- DEV-11, DEV-14, DEV-20
 abbrev pub count_written : HandsOver → Transfer → ℕ → List ℕ → Transfer
 count_written hands_over (Receiving text last) count octets =
     if is_last last count then Receiving text last else
@@ -93,20 +91,17 @@ count_written hands_over old count octets = Quiet
 -- A read on the ISDU channel
 
 -- a whole text: its device may have answered where it has handed the request over before
--- DEV-12, DEV-20
 abbrev pub whole_read : HandsOver → Bool → Option ℕ → Transfer
 whole_read FirstRead read last = Handed read last
 whole_read LastSegment read last = Asked read last
 
 -- how many octets the longest answer has, to a read or to a write
--- ISDU-4
 abbrev pub longest_answer : Bool → ℕ
 longest_answer true = LONGEST_TO_READ
 longest_answer false = LONGEST_TO_WRITE
 
 -- whether there is a segment at a place, of an answer of this total length, behind one that wasn't
 -- had. Where the length isn't known it has those of the shortest, and may have ended behind them
--- DEV-13
 abbrev pub missed_further : Bool → Result ℕ IsduFault → ℕ → Further
 missed_further read (Ok total) next = if nat_lt next total then GoesOn else Ends
 missed_further read (Err fault) next =
@@ -115,7 +110,6 @@ missed_further read (Err fault) next =
 
 -- whether an answer has a segment at a place behind one that was sent: one that was had, or one
 -- that the octets had say there is
--- DEV-13
 abbrev pub further : Had → ℕ → Further
 further had next =
     if nat_lt (length had.text.items) next
@@ -131,13 +125,11 @@ while_further Ends had = Quiet
 
 -- A segment that was sent is sent again, so that this is known: a device that recalls its answer
 -- until it was sent has it only while there is a segment behind the one sent last
--- DEV-20
 abbrev pub sent_again : Recalls → ℕ → Had → Had → Transfer
 sent_again UntilLeft size had again = Answered again
 sent_again UntilSent size had again = while_further (further had (had.at + size)) again
 
 -- of an answer of which a segment was sent
--- DEV-13, DEV-14
 abbrev pub answered_read : Recalls → ℕ → Had → ℕ → Transfer
 answered_read recalls size had count =
     if was_sent had count then sent_again recalls size had had else
@@ -151,7 +143,6 @@ abbrev pub or_ended : Transfer → Transfer
 or_ended (Answered had) = Perhaps had
 or_ended other = other
 
--- DEV-13, DEV-14
 abbrev pub count_read : Recalls → ℕ → Transfer → ℕ → Transfer
 count_read recalls size (Answered had) count = answered_read recalls size had count
 count_read recalls size (Perhaps had) count = or_ended (answered_read recalls size had count)
@@ -162,17 +153,14 @@ count_read recalls size Free count = Free
 count_read recalls size old count = Quiet
 
 -- an answer of which a segment was sent, from the first on
--- DEV-13
 abbrev pub first_again : Recalls → ℕ → Had → Transfer
 first_again recalls size had = sent_again recalls size had (record had { at = 0; count = 0 })
 
--- DEV-20
 abbrev pub asked_again : Recalls → Bool → Option ℕ → Transfer
 asked_again UntilLeft read last = Asked read last
 -- which is told apart before (`apart`)
 asked_again UntilSent read last = Free
 
--- DEV-12, DEV-13
 abbrev pub start_read : Kind → ℕ → Transfer → Transfer
 start_read kind size (Whole read last) = whole_read kind.hands_over read last
 start_read kind size (Handed read last) = Asked read last
@@ -185,7 +173,6 @@ start_read kind size old = Quiet
 -- A message
 
 -- of a device of this kind, with ISDU, by the size of a segment
--- DEV-11, DEV-12, DEV-13, DEV-14, DEV-20
 abbrev pub transfer_on : Kind → ℕ → Transfer → Bool → Flow → List ℕ → Transfer
 transfer_on kind size old false Start octets = received octets None
 transfer_on kind size old false (Count count) octets =
@@ -206,7 +193,6 @@ transfer_unknown old read (Count count) = if is_quiet old then Quiet else Free
 transfer_unknown old read flow = Quiet
 
 -- once a message was worked
--- DEV-10
 abbrev pub transfer_after : Kind → Option Bool → ℕ → Transfer → Channel → Bool → Flow → List ℕ
     → Transfer
 transfer_after kind isdu size old channel read flow octets = elim channel [
@@ -220,7 +206,6 @@ transfer_after kind isdu size old channel read flow octets = elim channel [
 
 -- Kinds that a message tells apart
 
--- DEV-20
 abbrev pub is_apart_at : Transfer → Bool → Flow → Bool
 is_apart_at (Whole read last) true Start = true
 is_apart_at (Handed read last) false (Count count) = is_last last count
@@ -233,13 +218,11 @@ is_apart_at (Perhaps had) true (Count count) = was_sent had count
 is_apart_at old read flow = false
 
 -- devices with this transfer may do different things, by their kind
--- DEV-20
 abbrev pub is_apart : Transfer → Channel → Bool → Flow → Bool
 is_apart old Isdu read flow = is_apart_at old read flow
 is_apart old channel read flow = false
 
 -- the transfers that it is one of: the application has the request, or an answer was sent
--- DEV-20
 abbrev pub apart : Transfer → List Transfer
 apart (Asked read last) = Handed read last ∷ Answered (none_had read) ∷ []
 apart old = old ∷ []
@@ -249,7 +232,6 @@ abbrev pub isdu_known : Result Layouts Unsaid → Option Bool
 isdu_known known = option_map (λ layouts. layouts.isdu) (result_ok known)
 
 -- in the layout in which the octets are taken: a device that changes it drops the transfer
--- DEV-3
 abbrev pub transfer_in : Option WaitingCommand → List ℕ → Transfer → Transfer
 transfer_in None octets old = old
 transfer_in (Some command) octets old = if bytes_eq octets command.octets then old else Quiet
@@ -257,7 +239,6 @@ transfer_in (Some command) octets old = if bytes_eq octets command.octets then o
 -- The reply to a read on the ISDU channel
 
 -- where no transfer is under way there is no answer, and a whole request is answered by busy first
--- DEV-12, DEV-14, ISDU-11
 abbrev pub isdu_fault : Transfer → List ℕ → Option Reason
 isdu_fault (Handed read last) od = if is_busy od then None else Some NotBusy
 isdu_fault (Asked read last) od = if is_busy od then None else text_fault read od

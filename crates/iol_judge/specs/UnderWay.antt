@@ -25,7 +25,6 @@ later_ones size text number (suc many) =
     later_ones size text number many ++ segment size text (number + many)
 
 -- segments of the text
--- DEV-13
 pub record AreAhead (size : ℕ) (text : List ℕ) (ahead : Ahead) : Type 0 where
   pub number : ℕ
   pub many : ℕ
@@ -34,7 +33,6 @@ pub record AreAhead (size : ℕ) (text : List ℕ) (ahead : Ahead) : Type 0 wher
 
 -- Segments of a text were had, of this size: so many from the first on, each of which begins within
 -- it, and some behind; and this one was sent last
--- DEV-13
 pub record AreHad (size : ℕ) (had : Had) (text : List ℕ) (sent : ℕ) : Type 0 where
   pub many : ℕ
   pub octets : had.text.items ≡ first_ones size text many
@@ -45,7 +43,6 @@ pub record AreHad (size : ℕ) (had : Had) (text : List ℕ) (sent : ℕ) : Type
   pub count : had.count ≡ segment_number sent
 
 -- a device that hands over at the last segment keeps the COUNT of that
--- DEV-20
 abbrev pub IsCounted : HandsOver → Option ℕ → Option ℕ → Type 0
 IsCounted FirstRead counted last = Unit {0}
 IsCounted LastSegment counted last = counted ≡ last
@@ -59,7 +56,6 @@ IsHanded hands_over counted read last (Answered request answer None) =
 IsHanded hands_over counted read last state = ⊥
 
 -- such a request is whole; handed over by now, where that is done with its last segment
--- DEV-11, DEV-20
 abbrev pub IsWhole : HandsOver → Option ℕ → Bool → Option ℕ → IsduState → Type 0
 IsWhole LastSegment counted read last state = IsHanded LastSegment counted read last state
 IsWhole FirstRead counted read last (Whole request count) =
@@ -80,7 +76,6 @@ IsAnswered size had state = ⊥
 
 -- the ISDU state, with the COUNT of the last write, is as known, by when the device hands over, and
 -- with segments of this size
--- DEV-11, DEV-12, DEV-13, DEV-14, DEV-20
 abbrev pub IsUnderWay : HandsOver → Option ℕ → ℕ → Transfer → IsduState → Type 0
 IsUnderWay hands_over counted size known.Quiet state = state ≡ Empty
 IsUnderWay hands_over counted size (known.Receiving text last) state =

@@ -11,8 +11,6 @@ use iol_isdu::{IsduFault, Octets, Place, Request, read_answer, total_of};
 const SHORTEST_LONG: usize = 17;
 
 /// Why segments from the first on can't have these octets, in the answer to a read, or to a write.
-///
-/// Rules ISDU-9, SEG-1, SEG-5.
 pub(crate) fn text_fault(read: bool, octets: &[u8]) -> Option<Reason>
     ensures { result ≡ text_fault read octets.now }
 {
@@ -27,8 +25,6 @@ pub(crate) fn text_fault(read: bool, octets: &[u8]) -> Option<Reason>
 }
 
 /// Why octets that aren't whole yet can't become an answer of this total length.
-///
-/// Rules ISDU-4, ISDU-8.
 fn open_fault(read: bool, octets: &[u8], total: usize) -> Option<Reason>
     ensures { result ≡ begun_fault read (slice_index octets.now 0 / 16) total }
 {
@@ -46,8 +42,6 @@ fn open_fault(read: bool, octets: &[u8], total: usize) -> Option<Reason>
 }
 
 /// Why a whole text, with the octets behind it, can't be the answer.
-///
-/// Rules ISDU-9, SEG-1.
 fn whole_fault(read: bool, text: &[u8], rest: &[u8]) -> Option<Reason>
     ensures { result ≡ whole_fault read text.now rest.now }
 {

@@ -46,8 +46,6 @@ impl Shown {
 
     /// Once a message was worked, their confirm or another. A wake-up request does what another
     /// message does.
-    ///
-    /// Rules EVT-2, EVT-3.
     pub fn after(&self, confirm: bool) -> Shown
         ensures { result ≡ shown_after self.now confirm }
     {
@@ -59,8 +57,6 @@ impl Shown {
     }
 
     /// Why the reply to that can't have this Event flag, none where it can.
-    ///
-    /// Rules DEV-8, EVT-2.
     pub fn flag_fault(&self, flag: bool) -> Option<Reason>
         ensures { result ≡ flag_fault self.now flag }
     {
@@ -72,8 +68,6 @@ impl Shown {
     }
 
     /// Once a reply had this Event flag.
-    ///
-    /// Rule DEV-8.
     pub fn flag_told(&self, flag: bool) -> Shown
         ensures { result ≡ flag_told self.now flag }
     {
@@ -97,8 +91,6 @@ impl Shown {
     }
 
     /// Why a diagnosis address can't read as this octet, none where it can.
-    ///
-    /// Rule EVT-4.
     pub fn fault(&self, address: u8, octet: u8) -> Option<Reason>
         ensures { result ≡ events_fault self.now address octet }
     {
@@ -116,8 +108,6 @@ impl Shown {
     }
 
     /// Once a diagnosis address was read as this octet.
-    ///
-    /// Rule EVT-4.
     pub fn told(&self, address: u8, octet: u8) -> Shown
         ensures { result ≡ events_told self.now address octet }
     {
@@ -162,8 +152,6 @@ impl Places {
     }
 
     /// Why a diagnosis address can't read as this octet, none where it can.
-    ///
-    /// Rule EVT-4.
     fn fault(&self, address: u8, octet: u8) -> Option<Reason>
         ensures { result ≡ places_fault self.now address octet }
     {
@@ -188,8 +176,6 @@ impl Places {
 
     /// Whether an address of a place may read as this octet: one that isn't 0 stands in a filled
     /// place, and none changes.
-    ///
-    /// Rules EVT-2, EVT-4.
     fn fills(&self, address: u8, octet: u8) -> bool
         ensures { result ≡ fills self.now address octet }
     {
@@ -239,8 +225,6 @@ ghost use Rattle.std.specs.Cmp.Lexicographic.{pointwise};
 ghost use Rattle.iol_judge.specs.Octets.{is_known_in};
 
 /// How many places a StatusCode marks, the first ones; none where it marks others.
-///
-/// Rule EVT-4.
 fn marked(status: u8) -> Option<u8>
     ensures { result ≡ marked status }
 {

@@ -203,8 +203,6 @@ impl Had {
     }
 
     /// Whether the segment sent last, behind the first, has this COUNT.
-    ///
-    /// Rule DEV-13.
     pub fn was_sent(&self, count: u8) -> bool
         ensures { result ≡ was_sent self.now count }
     {
@@ -212,8 +210,6 @@ impl Had {
     }
 
     /// Whether the segment behind it has this COUNT.
-    ///
-    /// Rule SEG-2.
     pub fn is_next(&self, count: u8) -> bool
         ensures { result ≡ is_next self.now count }
     {
@@ -221,8 +217,6 @@ impl Had {
     }
 
     /// Whether the octets that were had are no whole text.
-    ///
-    /// Rule SEG-5.
     pub fn is_open(&self) -> bool
         ensures { result ≡ is_open (stage self.now.text.items) }
     {
@@ -233,8 +227,6 @@ impl Had {
     }
 
     /// Whether it has a segment at a place behind one that was sent.
-    ///
-    /// Rule DEV-13.
     pub fn further(&self, next: usize) -> Further
         ensures value { result ≡ further self.now next }
         ensures near { (result ≡ Ends) ⊎ (next ≤ MOST_HAD) }
@@ -251,8 +243,6 @@ impl Had {
 
     /// Whether it has, behind one that wasn't had. Where the answer's length isn't known it may
     /// have ended, unless the shortest hasn't.
-    ///
-    /// Rule DEV-13.
     fn missed_further(&self, next: usize) -> Further
         ensures value { result ≡ missed_further self.now.read (total_at self.now.text.items) next }
         ensures near { (result ≡ Ends) ⊎ (next ≤ MOST_HAD) }
@@ -271,8 +261,6 @@ impl Had {
     }
 
     /// Why the segment can't have the octets of this reply, none where it can.
-    ///
-    /// Rules DEV-13, ISDU-11.
     pub fn fault(&self, reply: &ReplyView<'_>) -> Option<Reason>
         ensures { result ≡ segment_fault self.now reply.now.od.items }
     {
@@ -289,8 +277,6 @@ impl Had {
     }
 
     /// Why it can't, where it was had behind one that wasn't.
-    ///
-    /// Rule DEV-13.
     fn ahead_fault(&self, od: &[u8]) -> Option<Reason>
         ensures { result ≡ ahead_fault self.now.ahead self.now.at od.now }
     {
@@ -304,8 +290,6 @@ impl Had {
     }
 
     /// Why it can't, behind those that were had from the first on.
-    ///
-    /// Rules SEG-1, SEG-5.
     fn next_fault(&self, reply: &ReplyView<'_>) -> Option<Reason>
         ensures { result ≡ next_fault self.now reply.now.od.items }
     {
@@ -357,8 +341,6 @@ fn ahead_told(ahead: Option<Ahead>, at: u16, reply: &ReplyView<'_>) -> Ahead
 }
 
 /// Why a segment that had these octets can't have others.
-///
-/// Rule DEV-13.
 fn same_fault(octets: &[u8], od: &[u8]) -> Option<Reason>
     ensures { result ≡ same_fault octets.now od.now }
 {
@@ -370,8 +352,6 @@ fn same_fault(octets: &[u8], od: &[u8]) -> Option<Reason>
 }
 
 /// Why an answer of this total length can't have these octets at a place.
-///
-/// Rule SEG-1.
 fn padding_fault(total: usize, at: u16, od: &[u8]) -> Option<Reason>
     ensures { result ≡ padding_fault total at od.now }
 {
@@ -384,8 +364,6 @@ fn padding_fault(total: usize, at: u16, od: &[u8]) -> Option<Reason>
 }
 
 /// Whether octets say that the application isn't ready.
-///
-/// Rule ISDU-11.
 pub(crate) fn is_busy(od: &[u8]) -> bool
     ensures { result ≡ is_busy od.now }
 {

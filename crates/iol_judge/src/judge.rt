@@ -70,8 +70,6 @@ impl Judge {
     }
 
     /// The device has this page: the octets of 0x02 to 0x0B.
-    ///
-    /// Rule PAGE-1.
     pub fn page(&mut self, octets: &[u8; 10])
         ensures { self.new ≡ record self.old { seen = whole_page octets.now } }
     {
@@ -79,8 +77,6 @@ impl Judge {
     }
 
     /// A wake-up request was sent.
-    ///
-    /// Rules DEV-1, WIRE-3.
     pub fn wake(&mut self, answer: Wake)
         ensures { self.new ≡ woke self.old answer }
     {
@@ -92,8 +88,6 @@ impl Judge {
     }
 
     /// These octets were sent, and those came in the time of a reply, if any.
-    ///
-    /// Rules WIRE-1, WIRE-2.
     pub fn exchange(&mut self, sent: &[u8], answer: Option<&[u8]>)
         ensures { self.new ≡ exchanged self.old sent.now (option_copied answer.entry) }
     {
@@ -117,8 +111,6 @@ impl Judge {
 
     /// Which kinds of device the exchanges so far admit: none where the verdict is `NotHonest`, and
     /// all where nothing is said.
-    ///
-    /// Rule DEV-20.
     pub fn kinds(&self) -> Kinds
         ensures { result ≡ kinds_left self.now }
     {
@@ -224,8 +216,6 @@ impl Judge {
     }
 
     /// The octet of the page that a reply brings.
-    ///
-    /// Rule PAGE-1.
     fn note(&mut self, sent: &[u8], octets: &[u8])
         ensures { self.new ≡ record self.old { seen = noted self.old.seen sent.now octets.now } }
     {

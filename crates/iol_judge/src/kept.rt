@@ -99,8 +99,6 @@ impl Kept {
     ghost use Rattle.iol_judge.specs.State.{are_alike, covers, covers_alike, powered_state, woken_state};
 
     /// A device of any kind right after the first answered wake-up request.
-    ///
-    /// Rules DEV-1, DEV-20.
     pub fn first() -> Kept
         ensures { result ≡ first_state }
     {
@@ -121,8 +119,6 @@ impl Kept {
     }
 
     /// The state after a wake-up request, of a device that was awake.
-    ///
-    /// Rules DEV-1, EVT-3.
     pub fn woken(&self) -> Kept
         ensures { result ≡ woken_state self.now }
     {
@@ -130,8 +126,6 @@ impl Kept {
     }
 
     /// The state after a wake-up request, of a device that had a power cycle.
-    ///
-    /// Rules DEV-1, DEV-16.
     pub fn powered(&self) -> Kept
         ensures { result ≡ powered_state self.now }
     {
@@ -166,8 +160,6 @@ impl Kept {
     }
 
     /// Whether devices that it stands for may do different things on these octets, by their kind.
-    ///
-    /// Rule DEV-20.
     pub fn tells_apart(&self, sent: &[u8]) -> bool
         ensures { result ≡ tells_apart self.now (control_of (slice_index sent.now 0)) }
     {
@@ -176,8 +168,6 @@ impl Kept {
     }
 
     /// States that stand for what it does, each for one kind and one of the transfers.
-    ///
-    /// Rule DEV-20.
     pub fn parts(&self) -> Parts
         ensures { result.items ≡ all_parts self.now }
     {

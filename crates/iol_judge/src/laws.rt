@@ -13,8 +13,6 @@ use iol_segment::{cut_is_whole, texts_join};
 /// whatever is done with odd replies: be it of whatever kind the standard lets be, in all of its
 /// states, whatever it does by itself between the exchanges, and at each wake-up request and power
 /// cycle. Its kind is among those that are left.
-///
-/// Rules DEV-20, WIRE-1 to WIRE-3, WIRE-6.
 pub fn honest_lines_are_never_blamed()
     ensures { NeverBlamed }
 {

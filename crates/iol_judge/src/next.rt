@@ -77,8 +77,6 @@ fn remove_covered(states: &mut States, kept: &Kept)
 
 /// The states after an exchange without a reply that can be read: each as it was, for the message
 /// may be lost, and with the message worked, for the reply may be.
-///
-/// Rule WIRE-1.
 pub(crate) fn lose(
     states: &[Kept],
     layouts: &Known,
@@ -109,8 +107,6 @@ fn lose_one(kept: &Kept, layouts: &Known, sent: &[u8], next: &mut States) -> Res
 }
 
 /// The states after the message was worked by what one state stands for, told apart by kinds.
-///
-/// Rule DEV-20.
 // Its locals are large, and seldom needed.
 #[inline(never)]
 fn lose_apart(kept: &Kept, layouts: &Known, sent: &[u8], next: &mut States) -> Result<(), Open>
@@ -170,8 +166,6 @@ impl Next {
 }
 
 /// The states after a reply that can be read: each that explains it.
-///
-/// Rule WIRE-2.
 pub(crate) fn reply(
     states: &[Kept],
     layouts: &Known,
@@ -211,8 +205,6 @@ fn reply_one(
 }
 
 /// The states after a reply of what one state stands for, told apart by kinds.
-///
-/// Rule DEV-20.
 // Its locals are large, and seldom needed.
 #[inline(never)]
 fn reply_apart(
@@ -258,8 +250,6 @@ fn reply_part(
 
 /// The states after a wake-up request: each as woken, as it is or after a power cycle, and, where
 /// it wasn't answered, as it was too, for the request may be lost.
-///
-/// Rules DEV-16, WIRE-3.
 pub(crate) fn wake(states: &[Kept], wake: Wake, next: &mut States) -> Result<(), Open>
     ensures { result_with result next.new.items
         ≡ each_in_turn (woken_into wake) next.old.items states.now }

@@ -6,10 +6,10 @@ use thiserror::Error;
 /// Why nothing can be said of a capture from some exchange on.
 #[derive(Clone, Copy, Debug, PartialEq, Eq, Error)]
 pub enum Open {
-    /// 1: a mode was asked for before the page's octets 0x03 to 0x06 were known (PAGE-5).
+    /// 1: a mode was asked for before the page's octets 0x03 to 0x06 were known.
     #[error("PageUnread")]
     PageUnread,
-    /// 2: the page's octets 0x03 to 0x06 ask for no layouts (PAGE-5).
+    /// 2: the page's octets 0x03 to 0x06 ask for no layouts.
     #[error("PageRefused")]
     PageRefused,
     /// 3: more states of a device are possible than are kept.

@@ -7,8 +7,6 @@ use iol_mseq::{Layout, view_master, view_reply};
 
 /// Whether a reply can be read: there is a layout in which what was sent is a message, and this a
 /// good reply to it. One that can't be read was damaged on the line.
-///
-/// Rule WIRE-2.
 pub(crate) fn is_readable(sent: &[u8], reply: &[u8]) -> bool
     ensures { result ≡ is_readable sent.now reply.now }
 {

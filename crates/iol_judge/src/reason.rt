@@ -6,69 +6,67 @@ use thiserror::Error;
 /// Why no device by the rules could have sent a reply.
 #[derive(Clone, Copy, Debug, PartialEq, Eq, Error)]
 pub enum Reason {
-    /// 1: the device doesn't take such a message in its mode, and answers nothing (DEV-2).
+    /// 1: the device doesn't take such a message in its mode, and answers nothing.
     #[error("NotTaken")]
     NotTaken,
-    /// 2: the reply hasn't the length that the layout of the device's mode gives (MSG-4).
+    /// 2: the reply hasn't the length that the layout of the device's mode gives.
     #[error("ReplyLength")]
     ReplyLength,
-    /// 3: the PD status is 1 in a layout without process data in (DEV-8).
+    /// 3: the PD status is 1 in a layout without process data in.
     #[error("StatusWithoutData")]
     StatusWithoutData,
-    /// 4: the PD status is 1, and the process data in isn't all zeros (DEV-8).
+    /// 4: the PD status is 1, and the process data in isn't all zeros.
     #[error("InvalidNotZero")]
     InvalidNotZero,
-    /// 5: the Event flag is 1 in the reply to the confirm of events (EVT-2).
+    /// 5: the Event flag is 1 in the reply to the confirm of events.
     #[error("FlagAtConfirm")]
     FlagAtConfirm,
-    /// 6: the Event flag is 0, and the events weren't confirmed (EVT-2).
+    /// 6: the Event flag is 0, and the events weren't confirmed.
     #[error("FlagGone")]
     FlagGone,
-    /// 7: the StatusCode doesn't mark as many places as the device shows (EVT-4).
+    /// 7: the StatusCode doesn't mark as many places as the device shows.
     #[error("StatusCode")]
     StatusCode,
-    /// 8: an octet of an event isn't the one that was read before, or of an empty place isn't 0
-    /// (EVT-2, EVT-4).
+    /// 8: an octet of an event isn't the one that was read before, or of an empty place isn't 0.
     #[error("EventOctet")]
     EventOctet,
-    /// 9: an octet of the page isn't the one that was read before (PAGE-1).
+    /// 9: an octet of the page isn't the one that was read before.
     #[error("PageChanged")]
     PageChanged,
-    /// 10: a page address outside 0x01 to 0x0B doesn't read as 0 (PAGE-1).
+    /// 10: a page address outside 0x01 to 0x0B doesn't read as 0.
     #[error("PageZero")]
     PageZero,
-    /// 11: page address 0x01 doesn't read as what was written there, or read before (DEV-9).
+    /// 11: page address 0x01 doesn't read as what was written there, or read before.
     #[error("CycleTime")]
     CycleTime,
-    /// 12: a read of the process channel doesn't bring zeros (DEV-7).
+    /// 12: a read of the process channel doesn't bring zeros.
     #[error("ProcessNotZero")]
     ProcessNotZero,
-    /// 13: the octets behind the first, of a page or diagnosis read, aren't zeros (MSG-6).
+    /// 13: the octets behind the first, of a page or diagnosis read, aren't zeros.
     #[error("RestNotZero")]
     RestNotZero,
-    /// 14: a read of the ISDU channel doesn't bring zeros, and no request was begun (DEV-14).
+    /// 14: a read of the ISDU channel doesn't bring zeros, and no request was begun.
     #[error("NoAnswerDue")]
     NoAnswerDue,
-    /// 15: the first read behind a whole request doesn't bring busy (DEV-12, ISDU-11).
+    /// 15: the first read behind a whole request doesn't bring busy.
     #[error("NotBusy")]
     NotBusy,
-    /// 16: busy, though the answer's first segment was had before (DEV-13, ISDU-11).
+    /// 16: busy, though the answer's first segment was had before.
     #[error("BusyAgain")]
     BusyAgain,
-    /// 17: an answer that is none to such a request: its service, or the length of its text
-    /// (ISDU-4, ISDU-8).
+    /// 17: an answer that is none to such a request: its service, or the length of its text.
     #[error("AnswerKind")]
     AnswerKind,
-    /// 18: the total length in an answer is one that no text has (ISDU-2).
+    /// 18: the total length in an answer is one that no text has.
     #[error("AnswerLength")]
     AnswerLength,
-    /// 19: the XOR of all octets of an answer isn't 0 (ISDU-1).
+    /// 19: the XOR of all octets of an answer isn't 0.
     #[error("AnswerSum")]
     AnswerSum,
-    /// 20: the octets behind an answer, in its last segment, aren't zeros (SEG-1).
+    /// 20: the octets behind an answer, in its last segment, aren't zeros.
     #[error("AnswerPadding")]
     AnswerPadding,
-    /// 21: a segment of an answer isn't the one that was read before (DEV-13).
+    /// 21: a segment of an answer isn't the one that was read before.
     #[error("SegmentChanged")]
     SegmentChanged,
 }

@@ -83,8 +83,6 @@ fn learned(kept: Kept, mc: Mc, reply: &ReplyView<'_>) -> Kept
 }
 
 /// Why the state can't have sent the reply, none where it can, but for what is odd.
-///
-/// Rules DEV-7, DEV-8, EVT-2.
 fn fault_of(
     seen: &Seen,
     kept: &Kept,
@@ -108,8 +106,6 @@ fn fault_of(
 }
 
 /// Why the on-request data can't be those of the reply to a read, but for what is odd.
-///
-/// Rules DEV-7, DEV-14.
 fn data_fault(seen: &Seen, kept: &Kept, mc: Mc, reply: &ReplyView<'_>) -> Option<Reason>
     ensures { result ≡ data_fault seen.now kept.now reply.now.event mc.channel mc.address
         reply.now.od.items }
@@ -129,8 +125,6 @@ fn data_fault(seen: &Seen, kept: &Kept, mc: Mc, reply: &ReplyView<'_>) -> Option
 }
 
 /// Why this can't be the octet of an address of the page.
-///
-/// Rule PAGE-1.
 fn page_fault(seen: &Seen, address: u8, octet: u8) -> Option<Reason>
     ensures { result ≡ page_fault seen.now address octet }
 {
@@ -141,8 +135,6 @@ fn page_fault(seen: &Seen, address: u8, octet: u8) -> Option<Reason>
 }
 
 /// What is odd in the reply of a device with this octet at page address 0x01, if anything is.
-///
-/// Rules DEV-7, DEV-8.
 fn oddity_of(cycle: Option<u8>, mc: Mc, reply: &ReplyView<'_>) -> Option<Reason>
     ensures { result ≡ reply_oddity cycle mc reply.now }
 {
@@ -157,8 +149,6 @@ fn oddity_of(cycle: Option<u8>, mc: Mc, reply: &ReplyView<'_>) -> Option<Reason>
 }
 
 /// What is odd in the on-request data of the reply to a read, if anything is.
-///
-/// Rules DEV-7, MSG-6.
 fn data_oddity(cycle: Option<u8>, mc: Mc, od: &[u8]) -> Option<Reason>
     ensures { result ≡ data_oddity cycle mc.channel mc.address od.now }
 {
@@ -174,8 +164,6 @@ fn data_oddity(cycle: Option<u8>, mc: Mc, od: &[u8]) -> Option<Reason>
 }
 
 /// Whether it is odd that a page address reads as this octet.
-///
-/// Rules PAGE-1, DEV-9.
 fn page_oddity(cycle: Option<u8>, address: u8, octet: u8) -> Option<Reason>
     ensures { result ≡ page_oddity cycle address octet }
 {

@@ -67,8 +67,6 @@ impl Seen {
     }
 
     /// The octet that a page address other than 0x01 reads as, where it is known.
-    ///
-    /// Rule PAGE-1.
     pub fn octet(&self, address: u8) -> Option<u8>
         ensures { result ≡ octet_seen self.now address }
     {
@@ -88,8 +86,6 @@ impl Seen {
     }
 
     /// A good reply to a message with this control octet came.
-    ///
-    /// Rule PAGE-1.
     pub fn note_reply(&mut self, mc: Mc, reply: &[u8])
         ensures { self.new ≡ noted_by self.old mc reply.now }
     {
@@ -100,8 +96,6 @@ impl Seen {
 
     /// The layouts that the page asks for, by the octets 0x03 to 0x06. Open: one of them isn't
     /// known, or they ask for none.
-    ///
-    /// Rule PAGE-5.
     pub fn layouts(&self) -> Known
         ensures { result ≡ layouts_seen self.now }
     {

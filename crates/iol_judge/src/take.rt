@@ -18,8 +18,6 @@ use iol_page::MasterCommand;
 
 impl Kept {
     /// The mode in whose layout it takes these octets, with the command that waits there.
-    ///
-    /// Rules DEV-3, DEV-4.
     fn taking(&self, octets: &[u8]) -> (Mode, Option<Waiting>)
         ensures mode { result.0 ≡ (taken self.now.link octets.now).mode }
         ensures waits { result.1 ≡ (taken self.now.link octets.now).waits }
@@ -34,8 +32,6 @@ impl Kept {
     }
 
     /// The transfer there: a device that changes its mode drops it.
-    ///
-    /// Rule DEV-3.
     fn transfer_in(&self, octets: &[u8]) -> Transfer
         ensures { result ≡ transfer_in self.now.link.waits octets.now self.now.transfer }
     {
@@ -47,8 +43,6 @@ impl Kept {
 
     /// What it makes of octets, none where it doesn't take them; open where the page's layouts
     /// would have to be known.
-    ///
-    /// Rules DEV-2 to DEV-5, DEV-9 to DEV-14, DEV-20, EVT-2.
     pub fn take<'a>(&self, layouts: &Known, octets: &'a [u8]) -> Result<Option<Taken<'a>>, Open>
         ensures { result ≡ taken_by layouts.now self.now octets.now }
     {
@@ -90,8 +84,6 @@ fn isdu_of(layouts: &Known) -> Option<bool>
 }
 
 /// The layout of a mode, where it is known.
-///
-/// Rule DEV-2.
 pub fn layout_in(layouts: &Known, mode: Mode) -> Result<Layout, Open>
     ensures { result ≡ mode_layout layouts.now mode }
 {
@@ -104,8 +96,6 @@ pub fn layout_in(layouts: &Known, mode: Mode) -> Result<Layout, Open>
 }
 
 /// The message that octets are in a layout.
-///
-/// Rule DEV-2.
 #[tactic(auto, unfolding(iol_far::specs::Codec::message_in))]
 pub fn message_in<'a>(layout: &Layout, octets: &'a [u8]) -> Option<MasterView<'a>>
     ensures value { result ≡ message_in layout.now octets.now }
@@ -116,8 +106,6 @@ pub fn message_in<'a>(layout: &Layout, octets: &'a [u8]) -> Option<MasterView<'a
 }
 
 /// The master command that a message is.
-///
-/// Rule DEV-5.
 pub fn command_in(message: &MasterView<'_>) -> Option<MasterCommand>
     ensures { result ≡ command_in message.now }
 {
@@ -130,8 +118,6 @@ pub fn command_in(message: &MasterView<'_>) -> Option<MasterCommand>
 }
 
 /// The mode that a command asks for.
-///
-/// Rule DEV-5.
 pub fn mode_asked(command: Option<MasterCommand>) -> Option<Mode>
     ensures { result ≡ mode_asked command }
 {
@@ -144,8 +130,6 @@ pub fn mode_asked(command: Option<MasterCommand>) -> Option<Mode>
 }
 
 /// The mode asked for, where the device has it.
-///
-/// Rule DEV-5.
 fn known_mode(layouts: &Known, asked: Option<Mode>) -> Result<Option<Mode>, Open>
     ensures { result ≡ mode_known layouts.now asked }
 {
@@ -158,8 +142,6 @@ fn known_mode(layouts: &Known, asked: Option<Mode>) -> Result<Option<Mode>, Open
 }
 
 /// The command that waits once one asked for this mode.
-///
-/// Rule DEV-3.
 fn waits_after(
     mode: Mode,
     waits: Option<Waiting>,
@@ -179,8 +161,6 @@ fn waits_after(
 }
 
 /// The octet of page address 0x01 once a message was worked.
-///
-/// Rule DEV-9.
 fn cycle_after(old: Option<u8>, message: &MasterView<'_>) -> Option<u8>
     ensures { result ≡ cycle_after old message.now.mc.channel message.now.mc.read
         message.now.mc.address (slice_index message.now.od.items 0) }
@@ -194,8 +174,6 @@ fn cycle_after(old: Option<u8>, message: &MasterView<'_>) -> Option<u8>
 }
 
 /// Whether a message is the confirm of events.
-///
-/// Rule EVT-2.
 fn is_confirm(message: &MasterView<'_>) -> bool
     ensures { result ≡ is_confirm message.now.mc.channel message.now.mc.read
         message.now.mc.address }

@@ -94,8 +94,6 @@ impl Transfer {
 
     /// Whether devices with this transfer may do different things on a read or a write of the ISDU
     /// channel, by their kind.
-    ///
-    /// Rule DEV-20.
     #[tactic(auto, unfolding(iol_far::specs::Codec::flow_of))]
     pub fn is_apart(&self, mc: Mc) -> bool
         ensures { result ≡ is_apart_at self.now mc.read (flow_of mc.address) }
@@ -118,8 +116,6 @@ impl Transfer {
 
     /// Once a message was worked by a device of this kind, by whether it has ISDU, where that is
     /// known, and the size of a segment.
-    ///
-    /// Rules DEV-10 to DEV-14, DEV-20.
     pub fn after(
         self,
         kind: Kind,
@@ -153,8 +149,6 @@ impl Transfer {
     }
 
     /// Once a device with ISDU worked a message on the ISDU channel.
-    ///
-    /// Rules DEV-11 to DEV-14, DEV-20.
     #[tactic(auto, unfolding(iol_far::specs::Codec::flow_of))]
     fn moved(self, kind: Kind, size: u8, message: &MasterView<'_>) -> Transfer
         ensures { result ≡ transfer_on kind size self message.now.mc.read
@@ -176,7 +170,6 @@ impl Transfer {
         }
     }
 
-    /// Rules DEV-11, DEV-14, DEV-20.
     fn count_written(self, hands_over: HandsOver, count: u8, message: &MasterView<'_>) -> Transfer
         ensures { result ≡ count_written hands_over self count message.now.od.items }
     {
@@ -201,7 +194,6 @@ impl Transfer {
         }
     }
 
-    /// Rules DEV-12, DEV-13, DEV-20.
     fn start_read(self, kind: Kind, size: u8) -> Transfer
         ensures { result ≡ start_read kind size self }
     {
@@ -216,7 +208,6 @@ impl Transfer {
         }
     }
 
-    /// Rules DEV-13, DEV-14.
     fn count_read(self, recalls: Recalls, size: u8, count: u8) -> Transfer
         ensures { result ≡ count_read recalls size self count }
     {
@@ -248,8 +239,6 @@ impl Transfer {
     }
 
     /// Why a read of the ISDU channel can't bring this reply, none where it can.
-    ///
-    /// Rules DEV-12 to DEV-14, ISDU-9, ISDU-11.
     pub fn fault(&self, reply: &ReplyView<'_>) -> Option<Reason>
         ensures { result ≡ isdu_fault self.now reply.now.od.items }
     {
@@ -270,8 +259,6 @@ impl Transfer {
     }
 
     /// Once a read of the ISDU channel brought this reply.
-    ///
-    /// Rules DEV-12, DEV-13.
     pub fn told(self, reply: &ReplyView<'_>) -> Transfer
         ensures { result ≡ told_by self reply.now.od.items }
     {
@@ -287,8 +274,6 @@ impl Transfer {
 
 /// A START read behind a whole text: a device that handed the request over before may have
 /// answered.
-///
-/// Rules DEV-12, DEV-20.
 fn whole_read(hands_over: HandsOver, read: bool, last: Option<u8>) -> Transfer
     ensures { result ≡ whole_read hands_over read last }
 {
@@ -299,8 +284,6 @@ fn whole_read(hands_over: HandsOver, read: bool, last: Option<u8>) -> Transfer
 }
 
 /// A START read behind another, where the answer's first segment may have been sent.
-///
-/// Rule DEV-20.
 fn asked_again(recalls: Recalls, read: bool, last: Option<u8>) -> Transfer
     ensures { result ≡ asked_again recalls read last }
 {
@@ -311,8 +294,6 @@ fn asked_again(recalls: Recalls, read: bool, last: Option<u8>) -> Transfer
 }
 
 /// A read under COUNT, of an answer of which a segment was sent.
-///
-/// Rules DEV-13, DEV-14.
 fn answered_read(recalls: Recalls, size: u8, had: Had, count: u8) -> Transfer
     ensures { result ≡ answered_read recalls size had count }
 {
@@ -332,8 +313,6 @@ fn answered_read(recalls: Recalls, size: u8, had: Had, count: u8) -> Transfer
 
 /// This segment of an answer is sent again. A device that recalls its answer until it was sent has
 /// it only while there is a segment behind the one sent last.
-///
-/// Rule DEV-20.
 fn sent_again(recalls: Recalls, size: u8, had: Had, at: u16, count: u8) -> Transfer
     ensures { result ≡ sent_again recalls size had (record had { at = at; count = count }) }
 {
@@ -358,8 +337,6 @@ fn while_further(further: Further, had: Had, at: u16, count: u8) -> Transfer
 }
 
 /// A read under START, of an answer of which a segment was sent.
-///
-/// Rule DEV-13.
 fn first_again(recalls: Recalls, size: u8, had: Had) -> Transfer
     ensures { result ≡ first_again recalls size had }
 {
@@ -380,8 +357,6 @@ fn perhaps_told(had: Had, reply: &ReplyView<'_>) -> Transfer
 }
 
 /// The COUNT behind the last.
-///
-/// Rule SEG-2.
 pub fn next_count(last: Option<u8>) -> u8
     ensures { result ≡ next_count last }
 {
@@ -402,8 +377,6 @@ fn received_more(text: &Text, message: &MasterView<'_>, count: u8) -> Transfer
 }
 
 /// A request of which these octets came, the last of them under this COUNT.
-///
-/// Rule DEV-11.
 fn received(octets: &[u8], last: Option<u8>) -> Transfer
     ensures { result ≡ received octets.now last }
 {

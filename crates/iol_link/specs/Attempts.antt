@@ -10,7 +10,6 @@ use Rattle.iol_link.specs.declared.handler.AttemptView.{AttemptView}
 use Rattle.iol_link.specs.declared.handler.AttemptView.TheVariants as view
 
 -- how often a message is sent again at most (IEC 61131-9, 7.3.3: MaxRetry)
--- LINK-3
 abbrev pub max_retry : ℕ
 max_retry = 2
 
@@ -24,7 +23,6 @@ pub record Sending : Type 0 where
   pub tries : ℕ
 
 -- the reply that the answer spells, where it is well-formed in the layout as a reply to the message
--- LINK-2
 abbrev pub good_reply : Shape → MasterMsg → Option (List ℕ) → Option Reply
 good_reply layout message answer = option_and_then (reply_in layout message.mc.read) answer
 
@@ -41,7 +39,6 @@ attempt_in view.Again = Again
 attempt_in view.Lost = Lost
 
 -- after a good reply, and after a loss, the attempts count from 0
--- LINK-3
 abbrev pub tries_after : ℕ → Option Reply → ℕ
 tries_after tries (Some reply) = 0
 tries_after tries None = if tries == max_retry then 0 else tries + 1

@@ -7,14 +7,12 @@ use Rattle.iol_link.specs.Honest.{IsUnread}
 
 -- octets that are a good reply to nothing, in no layout, may come back over an
 -- honest wire in place of a reply
--- WIRE-2
 abbrev pub BadIsUnread : Type 0
 BadIsUnread = (sent octets : List ℕ)
     → ((layout : Shape) (read : Bool) → ¬ IsGoodReply layout read octets)
     → IsUnread sent (Some octets)
 
 -- such are those of a good reply with one bit flipped
--- WIRE-2
 abbrev pub FlippedIsUnread : Type 0
 FlippedIsUnread =
     (layout : Shape) (read : Bool) (sent octets : List ℕ) (place bit : ℕ) → AreOctets octets

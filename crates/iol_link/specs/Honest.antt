@@ -31,7 +31,6 @@ pub data Passage : Type 0 where
   Clean : Passage
 
 -- the far end after it
--- WIRE-1
 abbrev pub far_after : Passage → Far → List ℕ → Far
 far_after OutLost far sent = far
 far_after BackLost far sent = (hear far sent).far
@@ -78,7 +77,6 @@ pub record SeenWake (far : Far) (answered : Bool) (far_new : Far) : Type 0 where
   pub answered_is : answered ≡ true → wakes ≡ true
 
 -- the test read of a wake: that of the page's first octet
--- WIRE-3
 abbrev pub test_read : List ℕ
 test_read = 0xA2 ∷ 0x00 ∷ []
 
@@ -92,7 +90,6 @@ pub record UnseenWake (far : Far) (answered : Bool) (far_new : Far) : Type 0 whe
   pub far_is : far_new ≡ (hear (locals far steps) test_read).far
   pub answered_is : answered ≡ true → IsSome (hear (locals far steps) test_read).reply
 
--- WIRE-3
 abbrev pub HonestWake : Far → Bool → Far → Type 0
 HonestWake far answered far_new = SeenWake far answered far_new ⊎ UnseenWake far answered far_new
 

@@ -204,7 +204,7 @@ impl<W: Wire, K: Ledger, A: Handle> Held<W, K, A> {
     /// Expects this device from the next page on that a start-up reads whole.
     ///
     /// Where that page is another device's, the link goes down in the very turn, with
-    /// `Why::WrongDevice` and the identity that was found, and nothing but DeviceStartup (LINK-13)
+    /// `Why::WrongDevice` and the identity that was found, and nothing but DeviceStartup
     /// was written to the device. Requests wait on. A page that was checked already is not checked
     /// again.
     pub fn expect(&mut self, identity: Identity) -> Counting

@@ -51,7 +51,6 @@ layout_out (AtPreoperate s) = s.pre
 layout_out (AtOperate s) = s.layouts.run
 
 -- how many attempts in a row at the message that is out brought no good reply
--- LINK-2
 abbrev pub tries_of : Option Sending → ℕ
 tries_of None = 0
 tries_of (Some sent) = sent.tries
@@ -63,7 +62,6 @@ tries_in (AtPreoperate s) = s.sent.tries
 tries_in (AtOperate s) = tries_of s.out
 
 -- in OPERATE the message that is out stays so, else this one is out from now on
--- LINK-2
 abbrev pub putting : MasterMsg → State → State
 putting message (AtOperate s) =
     AtOperate (record { out = Some (sending_of s.out message); layouts = s.layouts })

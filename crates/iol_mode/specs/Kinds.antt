@@ -8,7 +8,6 @@ use Rattle.iol_mode.specs.declared.configuration.Devices.{Devices}
 use Rattle.iol_mode.specs.declared.configuration.Devices.TheVariants.{Own, Any}
 
 -- one for our own has a device that sees each pulse of a wake
--- WIRE-3
 abbrev pub SeesPulses : Devices → Far → Type 0
 SeesPulses Own far = far.misses_pulses ≡ false
 SeesPulses Any far = ⊤

@@ -77,7 +77,6 @@ module _ {W : Type 0} (facts : WireFacts W) where
   IsStartTried wire s attempt new = ⊥
 
   -- with any device
-  -- LINK-1
   abbrev pub IsStartTurn : W → State → NextMode → W → Type 0
   IsStartTurn wire (AtStartup s) outcome new =
       IsRise wire (is_behind s.step) startup_shape s.sent.message (startup_turned any_device s)
@@ -98,7 +97,6 @@ module _ {W : Type 0} (facts : WireFacts W) where
     pub accepted : IsHonestFor facts Own wire → (link : FarLink) → IsOperating s.layouts link
         → IsAccepted s.layouts (far wire).page link (sending_of s.out message).message
 
-  -- LINK-1
   abbrev pub IsOperateTurn : W → State → MasterMsg → NextMode → W → Type 0
   IsOperateTurn wire (AtOperate s) message outcome new = IsCycle wire s message outcome new
   IsOperateTurn wire s message outcome new = ⊥

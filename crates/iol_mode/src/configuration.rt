@@ -21,8 +21,6 @@ pub enum Devices {
     ///
     /// One that answers a wake which didn't reset it still has its mode, and a request with it: a
     /// start-up begins with DeviceStartup, so that it leaves both first.
-    ///
-    /// Rules LINK-13, REQ-14.
     Any,
 }
 

@@ -88,6 +88,8 @@ impl State {
     /// In OPERATE: this message is out from now on, where none is out.
     ///
     /// Nothing went out yet: both ends stand as before, and the far end accepts the octets.
+    ///
+    /// Rule LINK-10.
     #[tactic(auto, using(crate::proofs::Exchanging::put_accepted))]
     pub fn put_out(&mut self, message: MasterMsg)
         requires fits { StateFits self.old }
@@ -159,8 +161,6 @@ impl State {
 
     /// Takes what a wake brought: STARTUP, where the device answered it, else Down with `NoWake`.
     /// In a port for any device STARTUP begins with DeviceStartup, else with the page.
-    ///
-    /// Rules LINK-1, LINK-13.
     #[tactic(auto, using(crate::proofs::Startups::wake_stands))]
     pub fn receives_wake(&mut self, rate: Option<Rate>, devices: Devices)
         requires { IsDown self.old }

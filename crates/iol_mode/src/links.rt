@@ -139,8 +139,6 @@ impl<W: Wire> Link<W, State> {
 
     /// Makes a wake-up request, in Down: STARTUP, where the device answers it, else
     /// Down with `NoWake`. Answers the rate of that device.
-    ///
-    /// Rule LINK-1.
     pub fn wake(&mut self) -> Option<Rate>
         requires { IsDown self.old.state }
         ensures honest { W.facts.honest self.new.wire ≡ W.facts.honest self.old.wire }
@@ -169,8 +167,6 @@ impl<W: Wire> Link<W, State> {
     /// and DeviceOperate. To a device of V1.0 MasterCycleTime and DeviceOperate are written in
     /// STARTUP (profile). With the good reply to DeviceOperate the mode is OPERATE. Down with a
     /// fault of the page, or with `Lost` at the third attempt in a row that had no good reply.
-    ///
-    /// Rule LINK-1.
     pub fn rise(&mut self) -> Attempt
         requires { is_starting self.old.state ≡ true }
         ensures turn { IsStartTurn W.facts self.old.wire self.old.state
@@ -184,8 +180,6 @@ impl<W: Wire> Link<W, State> {
     ///
     /// The message has the sizes of the layout, and is no command that leaves OPERATE.
     /// Down with `Lost` at the third attempt in a row that had no good reply.
-    ///
-    /// Rules LINK-1, LINK-10.
     pub fn exchange(&mut self, message: &MasterMsg) -> Attempt
         requires takes { Takes self.old.state message.now }
         requires stays { IsTrue (stays message.now) }

@@ -26,8 +26,6 @@ fn page_control(read: bool, address: u8) -> Mc
 }
 
 /// Reads the page at an address, in STARTUP.
-///
-/// Rule LINK-4.
 #[tactic(auto, using(crate::proofs::Controls::read_parts))]
 pub(crate) fn page_read(address: u8) -> Handler
     requires { address ≤ 31 }
@@ -65,8 +63,6 @@ pub(crate) fn command_message(layout: &Layout, command: MasterCommand) -> Handle
 }
 
 /// MasterCycleTime.
-///
-/// Rule LINK-7.
 pub(crate) fn cycle_message(layout: &Layout, octet: u8) -> Handler
     requires { layout.now.pd_out ≡ 0 }
     ensures value { result ≡ unsent (cycle_message layout.now octet) }

@@ -9,18 +9,15 @@ use Rattle.iol_mseq.specs.declared.fault.MseqFault.TheVariants.{WrongLength, Wro
 use Rattle.iol_mseq.specs.declared.master.MasterMsg.{MasterMsg}
 
 -- how many octets of on-request data a master message has, by its first octet: a read has none
--- MSG-1
 abbrev pub sent_od : Shape → ℕ → ℕ
 sent_od layout control = if (nat_lt control 128) then layout.od else 0
 
 -- at least two octets, and as many as the layout has
--- MSG-3
 abbrev pub has_master_length : Shape → List ℕ → Bool
 has_master_length layout octets = nat_le 2 (length octets)
     && (length octets == 2 + layout.pd_out + sent_od layout (slice_index octets 0))
 
 -- bits 7 and 6 of the second octet are the layout's M-sequence type
--- MSG-3
 abbrev pub has_kind : Shape → List ℕ → Bool
 has_kind layout octets = slice_index octets 1 / 64 == type_bits layout.kind
 
@@ -54,7 +51,6 @@ pub record SpellsMaster (layout : Shape) (message : MasterMsg) (octets : List �
   pub good : IsGoodMaster layout octets
 
 -- the message that well-formed octets spell, as a function of them
--- MSG-1
 abbrev pub message_of : Shape → List ℕ → MasterMsg
 message_of layout octets = record {
   mc = control_of (slice_index octets 0);
@@ -63,7 +59,6 @@ message_of layout octets = record {
 }
 
 -- the message that octets spell in a layout, where they are well-formed in it
--- MSG-3
 abbrev pub master_in : Shape → List ℕ → Option MasterMsg
 master_in layout octets =
     if is_some (master_fault layout octets) then None else Some (message_of layout octets)

@@ -8,17 +8,14 @@ use Rattle.iol_mseq.specs.declared.fault.MseqFault.TheVariants.{WrongLength, Bad
 use Rattle.iol_mseq.specs.declared.reply.Reply.{Reply}
 
 -- how many octets of on-request data a reply has: to a write, none
--- MSG-2
 abbrev pub answered_od : Shape → Bool → ℕ
 answered_od layout read = if read then layout.od else 0
 
 -- as many octets as the layout has
--- MSG-4
 abbrev pub has_reply_length : Shape → Bool → List ℕ → Bool
 has_reply_length layout read octets = (length octets == answered_od layout read + layout.pd_in + 1)
 
 -- whether the last octet has the checksum
--- MSG-4
 abbrev pub is_checked : List ℕ → Bool
 is_checked octets = has_checksum (length octets - 1) octets
 
@@ -57,7 +54,6 @@ pub record SpellsReply (layout : Shape) (read : Bool) (reply : Reply)
   pub good : IsGoodReply layout read octets
 
 -- the reply that well-formed octets spell, as a function of them
--- MSG-2
 abbrev pub reply_of : Shape → Bool → List ℕ → Reply
 reply_of layout read octets =
     let od = answered_od layout read in
@@ -70,7 +66,6 @@ reply_of layout read octets =
     }
 
 -- the reply that octets spell in a layout, where they are well-formed in it
--- MSG-4
 abbrev pub reply_in : Shape → Bool → List ℕ → Option Reply
 reply_in layout read octets =
     if is_some (reply_fault layout read octets) then None else Some (reply_of layout read octets)

@@ -7,7 +7,6 @@ use Rattle.iol_mseq.specs.declared.fault.MseqFault.{MseqFault}
 use Rattle.iol_mseq.specs.declared.fault.MseqFault.TheVariants.{UnsupportedCode, BadLength}
 
 -- a layout: the M-sequence type, and how many octets each part has
--- LAY-1
 pub record Shape : Type 0 where
   pub kind : SequenceType
   pub od : ℕ
@@ -21,13 +20,11 @@ kind_of od pd_in pd_out =
     if (pd_in + pd_out == 0) then (if (od == 1) then Type0 else Type1) else Type2
 
 -- the layout with these lengths
--- LAY-1
 abbrev pub shape : ℕ → ℕ → ℕ → Shape
 shape od pd_in pd_out =
     record { kind = kind_of od pd_in pd_out; od = od; pd_in = pd_in; pd_out = pd_out }
 
 -- a number of octets that on-request data has
--- LAY-1
 abbrev pub is_size : ℕ → Bool
 is_size od = od == 1 || od == 2 || od == 8 || od == 32
 

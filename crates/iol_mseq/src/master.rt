@@ -76,8 +76,6 @@ impl<'a> MasterView<'a> {
 ///
 /// Octets that are well-formed in the layout spell one message, and that is the
 /// answer. Refusals, the first that holds: 4 WrongLength; 5 WrongType; 6 BadChecksum.
-///
-/// Rule MSG-3.
 pub fn read_master(layout: &Layout, octets: &[u8]) -> Result<MasterMsg, MseqFault>
     ensures good { IsOk result ↔ IsGoodMaster layout.now octets.now }
     ensures refused { result_err result ≡ master_fault layout.now octets.now }
@@ -113,8 +111,6 @@ pub fn view_master<'a>(layout: &Layout, octets: &'a [u8]) -> Result<MasterView<'
 }
 
 /// Writes a master message in a layout, whose parts have the layout's sizes.
-///
-/// Rule MSG-1.
 pub fn encode_master(layout: &Layout, message: &MasterMsg) -> Message
     requires { HasMasterParts layout.now message.now }
     ensures spelled { SpellsMaster layout.now message.now result.items }

@@ -92,8 +92,6 @@ pub fn append_zeros(message: &mut Message, size: u8)
 
 /// Puts the on-request data of the page and diagnosis channels at the end: the
 /// first octet is meant, the others are 0.
-///
-/// Rule MSG-6.
 pub fn append_first(message: &mut Message, size: OdLength, octet: u8)
     requires { array_vec_len message.old + size ≤ 66 }
     ensures { message.new.items ≡ message.old.items ++ first_of_zeros size octet }

@@ -90,8 +90,6 @@ impl<'a> ReplyView<'a> {
 ///
 /// Octets that are well-formed there spell one reply, and that is the answer.
 /// Refusals, the first that holds: 4 WrongLength; 6 BadChecksum.
-///
-/// Rule MSG-4.
 pub fn read_reply(layout: &Layout, read: bool, octets: &[u8]) -> Result<Reply, MseqFault>
     ensures good { IsOk result ↔ IsGoodReply layout.now read octets.now }
     ensures refused { result_err result ≡ reply_fault layout.now read octets.now }

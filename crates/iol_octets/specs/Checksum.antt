@@ -3,7 +3,6 @@ use Rattle.std.specs.Prelude.{◌≡◌, ℕ, ◌+◌, ◌*◌, ◌/◌, ◌%◌
 use Rattle.std.specs.Int.{bit_at}
 
 -- the XOR of 0x52 and all octets
--- CHK-1
 abbrev pub folded : List ℕ → ℕ
 folded octets = fold bit_xor 0x52 octets
 
@@ -55,7 +54,6 @@ abbrev pub AreOctets : List ℕ → Type 0
 AreOctets octets = (i : ℕ) → slice_index octets i < 256
 
 -- octets that have their checksum and of which one bit is flipped, wherever it is, don't have it
--- CHK-3
 abbrev pub FlipIsSeen : Type 0
 FlipIsSeen =
     (octets : List ℕ) (checked place bit : ℕ) → AreOctets octets → checked < length octets

@@ -19,7 +19,6 @@ abbrev pub control_octet : Mc → ℕ
 control_octet mc = (if mc.read then 128 else 0) + 32 * channel_code mc.channel + mc.address
 
 -- the channel of a number
--- OCT-1
 abbrev pub channel_of : ℕ → Channel
 channel_of zero = Process
 channel_of (suc zero) = Page
@@ -27,7 +26,6 @@ channel_of (suc (suc zero)) = Diagnosis
 channel_of (suc (suc (suc n))) = Isdu
 
 -- the one control octet that an octet is
--- OCT-1
 unfoldable pub control_of : ℕ → Mc
 control_of octet = record {
   read = nat_le 128 octet;

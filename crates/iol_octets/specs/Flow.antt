@@ -15,7 +15,6 @@ flow_address Abort = 0x1F
 flow_address (Reserved n) = n
 
 -- the numbers that a flow may hold
--- OCT-2
 abbrev pub IsFlow : Flow → Type 0
 IsFlow Start = Unit {0}
 IsFlow (Count n) = IsSegmentNumber n

@@ -36,8 +36,6 @@ pub fn has_checksum6(octets: &[u8], place: usize) -> bool
 }
 
 /// The XOR of the seed and all octets.
-///
-/// Rule CHK-1.
 fn fold(octets: &[u8]) -> u8
     ensures { result ≡ folded octets.now }
 {

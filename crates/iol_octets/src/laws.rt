@@ -10,8 +10,6 @@ pub fn checksums_fit()
 
 /// Octets that have their checksum and of which one bit is flipped don't have it.
 /// Two flipped bits may go unseen.
-///
-/// Rule CHK-3.
 #[tactic(auto, using(crate::proofs::Flips::flip_is_seen))]
 pub fn one_flip_is_seen()
     ensures { FlipIsSeen }

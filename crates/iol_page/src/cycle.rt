@@ -79,8 +79,6 @@ impl CycleTime {
 
     /// The shortest cycle time that takes at least so many microseconds. Refusal 39 BadCycleTime:
     /// above 132,800.
-    ///
-    /// Rule PAGE-8.
     pub fn from_micros(micros: u32) -> Result<CycleTime, CycleFault>
         ensures taken { IsOk result ↔ (micros ≤ longest_cycle) }
         ensures long { IfOk result (λ cycle. micros ≤ micros_of cycle.octet) }

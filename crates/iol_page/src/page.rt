@@ -67,8 +67,6 @@ impl Page {
     ghost use Rattle.iol_page.specs.Page.{layouts_of, page_octet};
 
     /// The page with these octets, that of address 0x02 first.
-    ///
-    /// Rule PAGE-1.
     pub fn from_octets(octets: &[u8; 10]) -> Page
         ensures { result ≡ octets.now }
     {

@@ -30,7 +30,6 @@ to_begin lacks next = if lacks then None else option_map (λ t. t.1) next
 
 module _ {W : Type 0} where
   -- that of a port
-  -- PORT-2
   abbrev pub begun_next : Parts W → Option Request
   begun_next p = to_begin (lacks_isdu p.station.session.isdu) (next_taken p.book.state.standing)
 

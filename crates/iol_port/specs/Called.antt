@@ -30,12 +30,10 @@ use Rattle.iol_port.specs.CorePort.{CoreDoes}
 use Rattle.iol_port.specs.EveryWire.{SubmitGives, CollectGives, WithdrawGives, CancelGives, ArchiveGives, TakeEventGives, SetOutputGives, ClearOutputGives, ExpectGives, SetCycleGives, RestartGives, TurnGives, page_shown}
 
 -- what is said of a call with its reply, and of what else it gives, at who has the parts
--- PORT-4
 abbrev pub Carrier : Type 1
 Carrier = Call → Answered → Type 0 → Type 0
 
 -- The calls, between these parts
--- PORT-7
 module _ {V : Type 0} (Carries : Carrier) (p next : Parts V) where
   abbrev pub Submits : Request → Result Ticket PortFault → Type 0
   Submits request result = Carries (call.Submit request) (ticket_reply result)
@@ -120,7 +118,6 @@ module _ {W : Type 0} (facts : WireFacts W) where
     pub value : shown
 
   -- a turn makes the one call of the wire that the port asks for
-  -- PORT-2, REQ-13
   pub record Turns (old new : Port W) : Type 0 where
     pub does : Does facts old.parts call.Turn answered.Nothing new.parts
     pub clean : CleanTurn facts old.parts new.parts

@@ -100,7 +100,6 @@ pub record LeavesOut (a c : PortState) (IsOut : Ticket → Type 0) : Type 0 wher
 -- A run comes to `a`, and goes on to `c`: of what is carried out from `a` on, nothing was cut off
 -- before with the device's word that it has the request no more: for any cause but the loss of the
 -- link and a restart
--- REQ-12
 abbrev pub CutForGoodStaysOut : Type 0
 CutForGoodStaysOut =
     (devices : Devices) (limits : Limits) (far : Far) (silence : ℕ) (pieces more : List Piece)
@@ -112,7 +111,6 @@ CutForGoodStaysOut =
 
 -- below the reset of the device: down, and at a port for any device STARTUP too, in which it has it
 -- leave its mode
--- LINK-13
 abbrev pub IsBelow : Devices → Mode → Type 0
 IsBelow devices Down = ⊤
 IsBelow Any Startup = ⊤

@@ -33,7 +33,6 @@ module _ {W : Type 0} (facts : WireFacts W) where
   -- calls, each at most once, in the order taken; and each Done tells its answer to that very
   -- request. Otherwise is only what the allowance says, which is none at a port for any device. The
   -- journal has the requests that were taken since it began, which all ended but the one under way.
-  -- PORT-4, BOOK-10
   pub record Claim (o : Opening W) (calls : List Call) (replies : List Answered) (p : Parts W) :
       Type 0 where
     pub earlier : List Call

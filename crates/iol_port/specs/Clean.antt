@@ -66,7 +66,7 @@ takes_all (Some room) carried count = nat_le (length carried + count) room
 
 -- how many turns lie between a request and those behind it: where one waits a port for any device
 -- sends IDLE 1 first
--- REQ-13, REQ-14
+-- REQ-13
 abbrev pub turns_between : Devices → List (Ticket × Request) → ℕ
 turns_between Any (next ∷ rest) = 1
 turns_between devices rest = 0
@@ -169,7 +169,6 @@ module _ {W : Type 0} (facts : WireFacts W) where
   -- room for events; both ends are level, the device awake; it has ISDU, as the port was told, and
   -- no events, and its record has room; the request is the next to be taken: no urgent one waits,
   -- or it is the first of them
-  -- REQ-13
   pub record MayStart (layouts : Layouts) (ticket : Ticket) (request : Request)
       (p : Parts W) : Type 0 where
     pub wire : W
@@ -191,7 +190,6 @@ module _ {W : Type 0} (facts : WireFacts W) where
   -- how the request stands after so many turns: it is taken, and nothing entered
   -- the record; its answer did, and it is not done; it is done with that answer,
   -- after as many turns as are needed; more turns were made
-  -- REQ-13
   abbrev pub IsOnTime : Layouts → Ticket → Request → Parts W → ℕ → Parts W → Type 0
   IsOnTime layouts ticket request old n new =
       ((n ≤ segments layouts.run.od (request_text request)
@@ -211,7 +209,6 @@ module _ {W : Type 0} (facts : WireFacts W) where
   -- From here requests that wait take the sum of their turns: the first may start, they wait in
   -- this order before all others, and the device's record has room for the pairs of all of them.
   -- At a port for any device there is one turn more between two
-  -- REQ-13
   pub record MayServe (layouts : Layouts) (first : Ticket × Request)
       (rest : List (Ticket × Request)) (p : Parts W) : Type 0 where
     pub starts : MayStart layouts first.0 first.1 p
@@ -237,7 +234,6 @@ module _ {W : Type 0} (facts : WireFacts W) where
   -- needed, and the others stand so after the turns that are left, but for those between two
   -- requests. Where no request is left more turns may have been made, of which only the record is
   -- said.
-  -- REQ-13
   abbrev pub AreServed :
       Devices → HandsOver → Layouts → ℕ → List (Ticket × Request) → List Carried → BookState
       → Parts W → Type 0
@@ -264,7 +260,6 @@ module _ {W : Type 0} (facts : WireFacts W) where
   -- one turn: the next request begins, or goes one stage on; behind a request a port for any device
   -- sends IDLE 1, and no request begins; on an honest wire the record only grows, and may grow as
   -- far as before
-  -- REQ-13
   pub record CleanTurn (p next : Parts W) : Type 0 where
     pub starts : (layouts : Layouts) (ticket : Ticket) (request : Request)
         → MayStart layouts ticket request p
@@ -286,7 +281,6 @@ module _ {W : Type 0} (facts : WireFacts W) where
         → (far (wire_of next.station.link)).room ≡ (far (wire_of p.station.link)).room
 
   -- so many turns and no other call: a request stands as it is to then
-  -- REQ-13
   abbrev pub CleanRuns : Parts W → List Call → Parts W → Type 0
   CleanRuns p calls next =
       (n : ℕ) → calls ≡ replicate (suc n) call.Turn

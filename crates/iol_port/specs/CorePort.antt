@@ -70,7 +70,6 @@ opened_at devices limits far silence =
     let none : Unit {0} = tt in opening_for (at_end far silence) devices limits none
 
 -- a call is one of each abstract port that the port stands for, with whatever far end
--- PORT-4
 abbrev pub CoreDoes : Parts (Unit {0}) → Call → Answered → Parts (Unit {0}) → Type 0
 CoreDoes p c reply next = (far : Far) (silence : ℕ) → Does (at_end far silence) p c reply next
 
@@ -95,7 +94,6 @@ CoreOpens limits p = CoreOpensFor Own limits p
 
 -- with each far end of which it stands for a sound abstract port, the record fits the journal,
 -- and between requests both ends are level
--- BOOK-10
 abbrev pub CoreKeeps : Parts (Unit {0}) → Type 0
 CoreKeeps p =
     (far : Far) (silence : ℕ) (a : PortState) → StandsFor (at_end far silence) p a → IsSound a
@@ -109,12 +107,10 @@ PieceDoes p far silence piece next far_new silence_new =
     × StandsFor (at_end far_new silence_new) next b
 
 -- what goes out
--- PORT-4
 unfoldable pub SendDoes : Parts (Unit {0}) → Parts (Unit {0}) → Type 0
 SendDoes p next = (far : Far) (silence : ℕ) → PieceDoes p far silence Send next far silence
 
 -- what came back, where an honest exchange with that far end could bring it
--- PORT-4
 unfoldable pub ReceiveDoes : Parts (Unit {0}) → Option (List ℕ) → Parts (Unit {0}) → Type 0
 ReceiveDoes p came next =
     (far far_new : Far) (silence silence_new : ℕ)
@@ -122,7 +118,6 @@ ReceiveDoes p came next =
     → PieceDoes p far silence Receive next far_new silence_new
 
 -- what came of a wake, where an honest one could bring it
--- PORT-4
 unfoldable pub WakeDoes : Parts (Unit {0}) → Bool → Parts (Unit {0}) → Type 0
 WakeDoes p answered next =
     (far far_new : Far) (silence : ℕ) → HonestWake far answered far_new
@@ -132,7 +127,7 @@ WakeDoes p answered next =
 
 -- the next request is begun or denied where nothing was out, and a message is out: the one
 -- that was, or a new one for what is due
--- PORT-1, PORT-8
+-- PORT-8
 pub record SendGives (old new : Parts (Unit {0})) : Type 0 where
   pub core : old.sent ≡ false
       → IsSent (event_room old.kept) (core_of (station_begun old)) (core_of new.station)
@@ -146,7 +141,7 @@ pub record SendGives (old new : Parts (Unit {0})) : Type 0 where
 -- what came back is judged by what was sent and by what start-ups ask, and what that says goes
 -- to the book and to the kept events; both are counted. A reset of the device ends what a request
 -- that was cut off may still do
--- PORT-1, PORT-9, PORT-12
+-- PORT-9
 pub record ReceiveGives (old : Parts (Unit {0})) (came : Option (List ℕ)) (new : Parts (Unit {0})) :
     Type 0 where
   pub said : Said
@@ -166,7 +161,6 @@ pub record ReceiveGives (old : Parts (Unit {0})) (came : Option (List ℕ)) (new
 
 -- a start-up begins where the wake was answered, which ends what a request that was cut off
 -- may still do where that has reset the device; else the link is still down
--- PORT-1, PORT-9, PORT-12
 pub record WakeGives (old : Parts (Unit {0})) (answered : Bool) (new : Parts (Unit {0})) :
     Type 0 where
   pub core : core_of new.station ≡ after_wake answered old.station.session

@@ -46,13 +46,11 @@ verdict_counted WrongLength c = record c { wrong_length = one_more c.wrong_lengt
 verdict_counted WrongChecksum c = record c { wrong_checksum = one_more c.wrong_checksum }
 
 -- a message that went out before is a repeat
--- LINK-2
 abbrev pub repeat_counted : ℕ → Counters → Counters
 repeat_counted zero c = c
 repeat_counted (suc tries) c = record c { repeats = one_more c.repeats }
 
 -- the last attempt in a row without a good reply has lost the link
--- LINK-3
 abbrev pub loss_counted : ℕ → Verdict → Counters → Counters
 loss_counted tries Good c = c
 loss_counted tries bad c =
@@ -84,7 +82,7 @@ said_counted (said.Cut cause) c = record c { unknown = cause_counted cause c.unk
 said_counted other c = c
 
 -- a restart cuts off the request that was under way
--- PORT-6, PORT-12
+-- PORT-12
 abbrev pub restart_counted : Option Request → Counters → Counters
 restart_counted None c = c
 restart_counted (Some request) c = said_counted (said.Cut cause.Restarted) c

@@ -73,7 +73,6 @@ module _ {W : Type 0} where
   KeepsMemory old new = new.book.memory ≡ old.book.memory
 
   -- a request is entered, which leaves this book
-  -- PORT-7
   pub record SubmitGives (old : Parts W) (book : BookState) (result : Result Ticket PortFault)
       (new : Parts W) : Type 0 where
     pub allowed : OnOk result (submit_refusal old.book.state ≡ None)
@@ -85,7 +84,6 @@ module _ {W : Type 0} where
     pub rest : IsBookCall old new
 
   -- the outcome that was posted for the ticket, or why there is none
-  -- PORT-7
   pub record CollectGives (old : Parts W) (ticket : Ticket) (result : Result Outcome PortFault)
       (new : Parts W) : Type 0 where
     pub answer : result ≡ by_book (collect_answer old.book.state.standing ticket)
@@ -93,7 +91,6 @@ module _ {W : Type 0} where
     pub memory : KeepsMemory old new
     pub rest : IsBookCall old new
 
-  -- PORT-7
   pub record WithdrawGives (old : Parts W) (ticket : Ticket) (result : Result (Unit {0}) PortFault)
       (new : Parts W) : Type 0 where
     pub answer : result_err result
@@ -104,7 +101,7 @@ module _ {W : Type 0} where
 
   -- refused as long as it isn't the request under way; else an abort waits, for
   -- this cause unless one waits already
-  -- PORT-7, REQ-8
+  -- REQ-8
   pub record CancelGives (old : Parts W) (ticket : Ticket) (result : Result (Unit {0}) PortFault)
       (new : Parts W) : Type 0 where
     pub answer : result_err result
@@ -117,7 +114,6 @@ module _ {W : Type 0} where
     pub unchanged : OnErr result (new ≡ old)
 
   -- these entries are the journal as it was, and the new one is empty
-  -- PORT-7
   pub record ArchiveGives (old : Parts W) (result : Result (List Entry) PortFault)
       (new : Parts W) : Type 0 where
     pub allowed : is_ok result ≡ may_archive old.book.state
@@ -135,7 +131,6 @@ module _ {W : Type 0} where
     pub rest : new ≡ record old { kept = drop 1 old.kept }
 
   -- refused by the layout that was told last; else it is wanted
-  -- PORT-7
   pub record SetOutputGives (old : Parts W) (image : Image) (result : Result (Unit {0}) PortFault)
       (new : Parts W) : Type 0 where
     pub answer : result_err result
@@ -184,7 +179,7 @@ module _ {W : Type 0} where
 
   -- the wire stays, the link is down and has no fault; the request under way is cut
   -- off, and there is no image
-  -- PORT-6, REQ-11
+  -- PORT-6
   pub record RestartGives (old new : Parts W) : Type 0 where
     pub wire : wire_of new.station.link ≡ wire_of old.station.link
     pub mode : mode_of new.station.link ≡ Down
@@ -204,11 +199,9 @@ module _ {W : Type 0} where
   takes_next p = is_operating p.station.link && is_ready p.station.session (event_room p.kept)
 
   -- the station and the book with which a turn begins: that request is taken and begun, or denied
-  -- REQ-2
   abbrev pub station_begun : Parts W → StationState W
   station_begun p = prepared (begun_next p) p.station (event_room p.kept)
 
-  -- REQ-2
   abbrev pub book_begun : Parts W → BookState
   book_begun p =
       taken_where (takes_next p) (lacks_isdu p.station.session.isdu)
@@ -216,7 +209,6 @@ module _ {W : Type 0} where
 
   -- The ticket's request waited, none was taken, and a start-up told that the device has no
   -- ISDU; all that the turn does in the book is to give it this outcome, without a taking
-  -- REQ-3
   pub record IsDenied (old new : Parts W) (ticket : Ticket) : Type 0 where
     pub told : old.station.session.isdu ≡ Some false
     pub waited : IsTrue (waits old.book.state.standing ticket)
@@ -227,7 +219,7 @@ module _ {W : Type 0} where
     -- A turn: the next request is begun or denied; the station makes its own one, with room
     -- for events where at most 58 are kept, and what that says goes to the book and to the
     -- kept events; a reset of the device ends what a request that was cut off may still do
-    -- PORT-1, PORT-12
+    -- PORT-1
     pub record TurnGives (old new : Parts W) : Type 0 where
       pub said : Said
       pub brought : Brought
@@ -248,7 +240,7 @@ module _ {W : Type 0} where
           → HasNoIsdu old.book.state ticket ⊎ IsDenied old new ticket
 
     -- One call, with the answer that a list of calls has for it
-    -- PORT-3
+    -- PORT-3, PORT-7
     abbrev pub CallGives : Parts W → Call → Answered → Parts W → Type 0
     CallGives old (call.Submit request) reply new =
         (result : Result Ticket PortFault) × (reply ≡ ticket_reply result)

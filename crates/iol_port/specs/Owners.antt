@@ -48,7 +48,6 @@ abbrev pub settled : Outcome → Owner → Owner
 settled result owner = record owner { taking = ended result owner.taking }
 
 -- What a step does: whatever is carried out, or ends, is the request that was taken last
--- REQ-12
 abbrev pub owners_after : Step → Owners → Owners
 owners_after (Take ticket request) owners = record owners {
   current =
@@ -69,7 +68,6 @@ owners_through [] owners = owners
 owners_through (step ∷ steps) owners = owners_through steps (owners_after step owners)
 
 -- an archive begins a new journal
--- BOOK-8
 abbrev pub archiving : Owners → Owners
 archiving owners = record owners { current = []; archived = all owners }
 

@@ -6,14 +6,12 @@ use Rattle.iol_app.specs.StationState.{is_operating}
 use Rattle.iol_port.specs.View.{Parts}
 
 -- a page was read whole, and is that of the device that was expected when it was checked
--- LINK-11
 abbrev pub IsOfRightDevice : Option Told → Type 0
 IsOfRightDevice None = ⊥
 IsOfRightDevice (Some told) = is_expected told.expected told.page ≡ true
 
 -- in OPERATE, where alone a request is taken and an output goes out, this holds of the page of
 -- the present session
--- LINK-11
 abbrev pub IsForRightDevice : {W : Type 0} → Parts W → Type 0
 IsForRightDevice p = IsTrue (is_operating p.station.link)
     → IsOfRightDevice p.station.session.present

@@ -13,6 +13,5 @@ module _ {W : Type 0} (facts : WireFacts W) where
   -- The wire is what the first one became by wakes and exchanges, and by nothing else: so what
   -- holds
   -- of a wire and itself, and is kept by each of these, holds of these two
-  -- PORT-2
   abbrev pub ComesFrom : W → W → Type 0
   ComesFrom first now = (calls : List Asked) × AreCalls calls first now

@@ -101,7 +101,6 @@ impl Counters {
         }
     }
 
-    /// Rule LINK-2.
     fn repeat(&mut self, tries: u8)
         ensures { self.new ≡ repeat_counted tries self.old }
     {
@@ -121,7 +120,6 @@ impl Counters {
         }
     }
 
-    /// Rule LINK-3.
     fn loss(&mut self, tries: u8, verdict: Verdict)
         ensures { self.new ≡ loss_counted tries verdict self.old }
     {

@@ -99,8 +99,6 @@ impl<W: Wire, A: Handle> Port<W, A> {
     /// The same, for these devices.
     ///
     /// For any it has them leave their mode first, and asks before it repeats.
-    ///
-    /// Rules LINK-13, REQ-14.
     pub fn open_for(
         alloc: A,
         wire: W,
@@ -239,7 +237,7 @@ impl<W: Wire, A: Handle> Port<W, A> {
     /// Expects this device from the next page on that a start-up reads whole.
     ///
     /// Where that page is another device's, the link goes down in the very turn, with
-    /// `Why::WrongDevice` and the identity that was found, and nothing but DeviceStartup (LINK-13)
+    /// `Why::WrongDevice` and the identity that was found, and nothing but DeviceStartup
     /// was written to the device. Requests wait on. A page that was checked already is not checked
     /// again.
     pub fn expect(&mut self, identity: Identity) -> Counting
@@ -322,8 +320,6 @@ impl<W: Wire, A: Handle> Port<W, A> {
     /// What the one call of the wire in the next turn will be.
     ///
     /// Each call but this and the others that only look may change it: ask right before the turn.
-    ///
-    /// Rule PORT-2.
     pub fn asks(&self) -> Asked
         ensures { result ≡ asks_of self.now.parts }
     {
@@ -336,8 +332,6 @@ impl<W: Wire, A: Handle> Port<W, A> {
     /// waits longest, or where none is urgent the other one that does. Its first segment goes out
     /// in this turn; where the device has no ISDU it is denied, never taken, and IDLE 1 goes out.
     /// At most 64 events are kept, and a list of events is read only where there is room for it.
-    ///
-    /// Rules PORT-4, REQ-13.
     pub fn turn(&mut self)
         ensures { Turns W.facts self.old self.new }
     {
@@ -349,7 +343,7 @@ impl<W: Wire, A: Handle> Port<W, A> {
     /// A turn makes the one call of the wire that the port `asks` for, and no other
     /// call touches the wire.
     ///
-    /// Rules PORT-2, PORT-3, PORT-4.
+    /// Rules PORT-2, PORT-3, PORT-4, PORT-7.
     pub fn call(&mut self, asked: &Call) -> Answered
         ensures does { Does W.facts self.old.parts asked.now result self.new.parts }
         ensures gives { CallGives W.facts self.old.parts asked.now result self.new.parts }
@@ -406,7 +400,7 @@ impl<W: Wire, A: Handle> Port<W, A> {
     /// Refused by 24 where there is no memory for the list, before the first call and with
     /// nothing done. A list of no calls needs none.
     ///
-    /// Rules PORT-3, PORT-4, REQ-13.
+    /// Rules REQ-13, PORT-3.
     pub fn run<B: Allocator>(
         &mut self,
         alloc: B,
@@ -503,8 +497,6 @@ impl<W: Wire, A: Handle> Port<W, A> {
     /// exchanges, and by nothing else; its book has the limits of the opening; and the device's
     /// record fits the journal, if when the port was opened the wire was honest, and the device had
     /// been handed no request; at a port for our own devices it has to see each pulse of a wake.
-    ///
-    /// Rule PORT-2.
     pub fn keeps_record(&self)
         ensures replayed { IsReplayed self.now.parts.book.state }
         ensures run { IsRun W.facts self.now.opening self.now.parts }

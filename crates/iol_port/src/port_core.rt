@@ -110,8 +110,6 @@ impl<A: Allocator + Copy> PortCore<A> {
     /// The same, for these devices.
     ///
     /// For any it has them leave their mode first, and asks before it repeats.
-    ///
-    /// Rules LINK-13, REQ-14.
     pub fn open_for(alloc: A, limits: &Limits, devices: Devices) -> Result<PortCore<A>, PortFault>
         ensures parts { IfOk result (λ p. IsNewFor devices limits.now p) }
         ensures opens { IfOk result (λ p. CoreOpensFor devices limits.now p) }
@@ -148,8 +146,6 @@ impl<A: Allocator + Copy> PortCore<A> {
     /// Refused, with nothing changed, by the first of 21 where as many tickets are outstanding
     /// as the limit of the opening says, 22 where the journal has no room for the request's
     /// entries, 23 where the last ticket was 2^64 - 1, and 24 where a growth was refused.
-    ///
-    /// Rule PORT-7.
     pub fn submit(&mut self, request: Request) -> Result<Ticket, PortFault>
         ensures is { Submits (CoreCalled self.old self.new) self.old self.new
             request result }
@@ -162,8 +158,6 @@ impl<A: Allocator + Copy> PortCore<A> {
     /// all others, and answers its ticket. A request that is under way isn't stopped by it.
     ///
     /// Refused, with nothing changed, as `submit` is: 21, 22 and 23 count both kinds.
-    ///
-    /// Rule PORT-7.
     pub fn submit_urgent(&mut self, request: Request) -> Result<Ticket, PortFault>
         ensures is { SubmitsUrgent (CoreCalled self.old self.new) self.old self.new
             request result }
@@ -176,8 +170,6 @@ impl<A: Allocator + Copy> PortCore<A> {
     ///
     /// Refused, with nothing changed, by 25 where no such ticket is outstanding,
     /// and by 26 where it has no outcome yet.
-    ///
-    /// Rule PORT-7.
     pub fn collect(&mut self, ticket: Ticket) -> Result<Outcome, PortFault>
         ensures { Collects (CoreCalled self.old self.new) self.old self.new
             ticket result }
@@ -200,8 +192,6 @@ impl<A: Allocator + Copy> PortCore<A> {
     ///
     /// Refused, with nothing changed, by 25 where no such ticket is outstanding,
     /// and by 27 where it waits no longer.
-    ///
-    /// Rule PORT-7.
     pub fn withdraw(&mut self, ticket: Ticket) -> Result<(), PortFault>
         ensures { Withdraws (CoreCalled self.old self.new) self.old self.new
             ticket result }
@@ -219,7 +209,7 @@ impl<A: Allocator + Copy> PortCore<A> {
     /// Refused, with nothing changed, by 25 where no such ticket is outstanding,
     /// and by 36 where it waits, or has an outcome.
     ///
-    /// Rules PORT-7, REQ-8.
+    /// Rule REQ-8.
     pub fn cancel(&mut self, ticket: Ticket) -> Result<(), PortFault>
         ensures { Cancels (CoreCalled self.old self.new) self.old self.new
             ticket result }
@@ -241,7 +231,7 @@ impl<A: Allocator + Copy> PortCore<A> {
     ///
     /// What was sent has to be answered first; the answer may be that nothing came.
     ///
-    /// Rules PORT-6, PORT-9, REQ-11.
+    /// Rules REQ-11, PORT-6.
     pub fn restart(&mut self)
         requires { awaited self.old ≡ Awaited.Nothing }
         ensures { Restarts (CoreCalled self.old self.new) self.old self.new }
@@ -256,8 +246,6 @@ impl<A: Allocator + Copy> PortCore<A> {
     ///
     /// Refused, with nothing changed, by the first of 34 where no start-up has told the lengths
     /// of the process data yet, and 29 where the image has not the length that was told last.
-    ///
-    /// Rule PORT-7.
     pub fn set_output(&mut self, image: &Image) -> Result<(), PortFault>
         ensures { SetsOutput (CoreCalled self.old self.new) self.old self.new
             image.now result }
@@ -275,11 +263,11 @@ impl<A: Allocator + Copy> PortCore<A> {
     /// Expects this device from the next page on that a start-up reads whole.
     ///
     /// Where that page is another device's, the link goes down in the very turn, with
-    /// `Why::WrongDevice` and the identity that was found, and nothing but DeviceStartup (LINK-13)
+    /// `Why::WrongDevice` and the identity that was found, and nothing but DeviceStartup
     /// was written to the device. Requests wait on. A page that was checked already is not checked
     /// again.
     ///
-    /// Rules PORT-10, LINK-11.
+    /// Rule PORT-10.
     pub fn expect(&mut self, identity: Identity) -> Counting
         ensures { Expects (CoreCalled self.old self.new) self.old self.new
             (Some identity) result }
@@ -290,8 +278,6 @@ impl<A: Allocator + Copy> PortCore<A> {
     }
 
     /// Expects any device, as a port does that is new.
-    ///
-    /// Rules PORT-10, LINK-11.
     pub fn expect_any(&mut self) -> Counting
         ensures { Expects (CoreCalled self.old self.new) self.old self.new
             None result }
@@ -304,7 +290,7 @@ impl<A: Allocator + Copy> PortCore<A> {
     /// Has start-ups write this cycle time to MasterCycleTime, where it is at least the device's
     /// MinCycleTime; else, and with none, they write MinCycleTime as it stands in the page.
     ///
-    /// Rules PORT-10, LINK-12.
+    /// Rule PORT-10.
     pub fn set_cycle(&mut self, cycle: Option<CycleTime>) -> Counting
         ensures { SetsCycle (CoreCalled self.old self.new) self.old self.new
             cycle result }
@@ -325,8 +311,6 @@ impl<A: Allocator + Copy> PortCore<A> {
     }
 
     /// What was counted since the opening. A message that is out counts once it is answered.
-    ///
-    /// Rule PORT-12.
     pub fn counters(&self) -> &Counters
         ensures { ShowsCounters (CoreCalled self.now self.now) self.now result.now }
     {
@@ -334,8 +318,6 @@ impl<A: Allocator + Copy> PortCore<A> {
     }
 
     /// From when on counts what start-ups are to ask.
-    ///
-    /// Rule PORT-10.
     fn counting(&self) -> Counting
         ensures { result ≡ counting (page_shown self.now) }
     {
@@ -355,7 +337,7 @@ impl<A: Allocator + Copy> PortCore<A> {
 
     /// Hands out the event that was kept longest. Refused by 30 where none is kept.
     ///
-    /// Rules PORT-5, PORT-7.
+    /// Rule PORT-5.
     pub fn take_event(&mut self) -> Result<Event, PortFault>
         ensures { TakesEvent (CoreCalled self.old self.new) self.old self.new
             result }
@@ -376,8 +358,6 @@ impl<A: Allocator + Copy> PortCore<A> {
     /// a request was cut off by a lost link or a restart and the device wasn't reset
     /// since, as it may still carry that request out. A wake that succeeds resets it; at
     /// a port for any device it is reset once it has left its mode.
-    ///
-    /// Rule PORT-7.
     pub fn archive(&mut self) -> Result<Vec<Entry, A>, PortFault>
         ensures is { Archives (CoreCalled self.old self.new) self.old self.new
             (λ entries. entries.items) result }
@@ -424,7 +404,7 @@ impl<A: Allocator + Copy> PortCore<A> {
     ///
     /// Until what goes out is answered it is given again, and nothing changes.
     ///
-    /// Rules PORT-1, PORT-4, PORT-8, REQ-2.
+    /// Rule PORT-8.
     pub fn send(&mut self) -> Asked
         ensures says { IsAskedOut result self.new.station.link.state }
         ensures asked { result ≡ asks_of self.old }
@@ -447,7 +427,7 @@ impl<A: Allocator + Copy> PortCore<A> {
     /// Without a good reply the message stays out, and the next `send` gives it again, or at a port
     /// for any device a question in its place; the third time in a row has lost the link.
     ///
-    /// Rules PD-7, PORT-1, PORT-4, PORT-9, PORT-12, REQ-14.
+    /// Rules PD-7, PORT-9.
     pub fn receive(&mut self, came: &Option<Message>)
         requires { awaited self.old ≡ Awaited.Reply }
         ensures gives { ReceiveGives self.old (octets_in came.now) self.new }
@@ -465,7 +445,7 @@ impl<A: Allocator + Copy> PortCore<A> {
     /// Takes what came of a wake-up request: the rate of the device that answered it, or that
     /// none did.
     ///
-    /// Rules PORT-1, PORT-4, PORT-9, PORT-12.
+    /// Rule PORT-9.
     pub fn receive_wake(&mut self, rate: Option<Rate>)
         requires { awaited self.old ≡ Awaited.Wake }
         ensures gives { WakeGives self.old (is_some rate) self.new }
@@ -481,7 +461,7 @@ impl<A: Allocator + Copy> PortCore<A> {
 
     /// One turn over this wire, with no call between its pieces.
     ///
-    /// Rules PORT-1, PORT-12.
+    /// Rule PORT-1.
     pub(crate) fn turn<W: Wire>(&mut self, wire: &mut W)
         requires free { self.old.sent ≡ false }
         requires stands { LinkStands W.facts wire.old (core_of self.old.station) }
@@ -522,8 +502,6 @@ impl<A: Allocator + Copy> PortCore<A> {
     /// A law of each port, without code: in OPERATE, where alone a request is taken and an output
     /// goes out, the page of the present session was read whole. It is that of the device that
     /// was expected when it was checked, if one was.
-    ///
-    /// Rule LINK-11.
     pub fn serves_right_device(&self)
         ensures { IsForRightDevice self.now }
     {

@@ -52,8 +52,6 @@ pub(crate) fn by_output(answer: Result<(), OutputFault>) -> Result<(), PortFault
 }
 
 /// A turn in which the device came to be known to be reset: it was not before, and is behind it.
-///
-/// Rule LINK-13.
 pub(crate) fn resets(began: bool, ended: bool) -> bool
     ensures { result ≡ (not began && ended) }
 {
@@ -61,8 +59,6 @@ pub(crate) fn resets(began: bool, ended: bool) -> bool
 }
 
 /// Whether a start-up told that the device has no ISDU.
-///
-/// Rule REQ-3.
 pub(crate) fn lacks_isdu(told: Option<bool>) -> bool
     ensures { result ≡ lacks_isdu told }
 {
@@ -100,8 +96,6 @@ pub(crate) fn begin_next<A: Allocator + Copy>(core: &mut Core, book: &mut Book<A
 
 /// The request that is next is taken and begun. Out of line, since most turns take
 /// none, and a request is large.
-///
-/// Rule REQ-2.
 #[inline(never)]
 fn take_next<A: Allocator + Copy>(core: &mut Core, book: &mut Book<A>)
     requires operate { mode_in core.old.state ≡ mode.Operate }
@@ -148,8 +142,6 @@ pub(crate) fn settle<A: Allocator + Copy>(
 }
 
 /// Out of line, since most turns say nothing, and what the others say is large.
-///
-/// Rule PORT-1.
 #[inline(never)]
 fn tell<A: Allocator + Copy>(book: &mut Book<A>, kept: &mut ArrayVec<Event, KEPT>, said: Said)
     requires asked { Asks said book.old.state.standing.taken }

@@ -61,8 +61,6 @@ pub fn record_is_answered_by_the_first_params<B: Allocator + Copy, A: Handle>(
 
 /// A law of the definitions, without code: a lossy line may have a device that answers a wake whose
 /// pulse it missed, and then has the request still that it was handed before.
-///
-/// Rule WIRE-3.
 #[tactic(auto, using(crate::proofs::MissedPulse::pulses_are_missed))]
 pub fn pulses_are_missed()
     ensures { PulsesAreMissed }

@@ -63,8 +63,6 @@ pub(crate) fn page_of(words: Words) -> Option<Page>
 }
 
 /// The words behind `kind`: when the device hands a request over, and how long it knows its answer.
-///
-/// Rule DEV-20.
 pub(crate) fn kind_of(mut words: Words) -> Option<Kind>
     ensures { option_map Setting.Kind result ≡ kind_form (words_left words.entry) }
 {
@@ -104,8 +102,6 @@ fn recalls_of(word: &[u8]) -> Option<Recalls>
 }
 
 /// The word behind `pulses`: the device may miss those of wake-up requests.
-///
-/// Rule WIRE-3.
 pub(crate) fn pulses_of(mut words: Words) -> Option<()>
     ensures { option_map (λ _. Setting.MissesPulses) result ≡ pulses_form (words_left words.entry) }
 {

@@ -19,7 +19,6 @@ abbrev pub flow_at : ℕ → Flow
 flow_at i = if i == 0 then Start else Count (segment_number i)
 
 -- how many segments a text has
--- SEG-1
 abbrev pub segments : ℕ → List ℕ → ℕ
 segments size text = (length text + (size - 1)) / size
 
@@ -33,7 +32,6 @@ pairs_from size text i zero = []
 pairs_from size text i (suc n) = pair size text i ∷ pairs_from size text (suc i) n
 
 -- the cut of a text: its segments in order, each with its flow
--- SEG-1
 abbrev pub cut : ℕ → List ℕ → List (Flow × ArrayVec ℕ)
 cut size text = pairs_from size text 0 (segments size text)
 

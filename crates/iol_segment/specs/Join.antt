@@ -13,7 +13,6 @@ use Rattle.iol_segment.specs.declared.took.JoinFault.TheVariants.{WrongCount, Ba
 
 -- what joined octets are: too few yet, a text with octets behind it or none, or of
 -- a total length that no text has
--- SEG-5
 pub data Stage : Type 0 where
   Open : Stage
   Complete : List ℕ → Stage
@@ -41,7 +40,6 @@ is_whole_by (Err fault) text = false
 is_whole_by (Ok n) text = nat_le n (length text)
 
 -- the text is as long as it says
--- SEG-3
 abbrev pub is_whole : List ℕ → Bool
 is_whole text = is_whole_by (total_at text) text
 
@@ -62,7 +60,7 @@ pub record Taken : Type 0 where
   pub joining : Joining
 
 -- a segment was taken under START, or under a COUNT, and the octets are these
--- SEG-3, SEG-5
+-- SEG-5
 abbrev pub staged : Option ℕ → List ℕ → Stage → Taken
 staged count octets Open =
     record {
@@ -77,7 +75,6 @@ staged count octets (Complete text) =
 staged count octets Wrong = record { took = Err BadIsduLength; joining = empty }
 
 -- 1 behind START, 0 behind 15
--- SEG-2
 abbrev pub next_count : Option ℕ → ℕ
 next_count None = segment_number 1
 next_count (Some c) = segment_number (c + 1)

@@ -182,7 +182,6 @@ impl Joiner {
         self.text.clear();
     }
 
-    /// Rules SEG-3, SEG-5.
     fn refuse(&mut self) -> Result<Took, JoinFault>
         ensures took { result ≡ Err WrongCount }
         ensures joining { self.new ≡ empty }
@@ -221,6 +220,8 @@ impl Joiner {
     }
 
     /// Takes the next segment, the COUNT of which is kept.
+    ///
+    /// Rule SEG-5.
     fn add(&mut self, count: Option<u8>, octets: &[u8]) -> Result<Took, JoinFault>
         ensures took { result
             ≡ (staged count (self.old.text ++ octets.now)
@@ -253,7 +254,7 @@ fn is_whole(octets: &[u8]) -> bool
 
 /// Takes the octets of a segment, as far as they belong to the text.
 ///
-/// Rule SEG-5.
+/// Rules SEG-1, SEG-5.
 fn grow(text: &mut Text, octets: &[u8]) -> Result<Took, JoinFault>
     ensures grown { Grown (stage (text.old.items ++ octets.now)) (text.old.items ++ octets.now)
         result text.new.items }

@@ -32,8 +32,6 @@ pub fn cut_is_whole()
 /// length isn't whole before its last segment, and is whole with it. Each request's
 /// and answer's text holds its own length. No answer's is refused, or begins with
 /// 00 or with 01, which the device sends where it has no answer, or none yet.
-///
-/// Rule ISDU-11.
 pub fn texts_join()
     ensures { (size : ℕ) → 1 ≤ size → TextLaws size }
 {

@@ -93,19 +93,16 @@ rate_by fate = None
 
 -- whether the pulse alone is lost, and the device misses it: it may, and before the steps it was
 -- as such a device is
--- WIRE-3
 abbrev pub misses_pulse : Fate → Far → Far → Bool
 misses_pulse NoWake before far = is_orderly before && far.misses_pulses
 misses_pulse fate before far = false
 
 -- then it hears the test read as it is
--- WIRE-3
 abbrev pub reached_by : {P : Type 0} → Fate → Far → Running P → Running P
 reached_by fate before device =
     if misses_pulse fate before device.far then heard device test_read else woken_by fate device
 
 -- and a rate is found where it replies
--- WIRE-3
 abbrev pub rate_found : Fate → Far → Far → Option Rate
 rate_found fate before far =
     if misses_pulse fate before far then option_map (λ reply. Com2) (hear far test_read).reply

@@ -326,8 +326,6 @@ impl<P: App, A: Allocator + Copy> Sim<P, A> {
     }
 
     /// Whether the pulse alone is lost, and the device, which was orderly or not, misses it.
-    ///
-    /// Rule WIRE-3.
     fn misses_pulse(&self, fate: Fate, orderly: bool) -> bool
         ensures { (before : Far) → orderly ≡ is_orderly before
             → result ≡ misses_pulse fate before self.now.device.far }
@@ -345,8 +343,6 @@ impl<P: App, A: Allocator + Copy> Sim<P, A> {
 
     /// The device misses the pulse, and hears the test read behind it alone. The rate of its
     /// reply is answered.
-    ///
-    /// Rule WIRE-3.
     fn miss_pulse(&mut self) -> Option<Rate>
         ensures rate { result
             ≡ option_map (λ reply. Rate.Com2) (hear self.old.device.far test_read).reply }
@@ -359,8 +355,6 @@ impl<P: App, A: Allocator + Copy> Sim<P, A> {
     }
 
     /// The wake-up request is made of a device that was orderly before the steps, or not.
-    ///
-    /// Rule WIRE-3.
     fn make_wake(&mut self, fate: Fate, orderly: bool) -> Option<Rate>
         ensures rate { (before : Far) → orderly ≡ is_orderly before
             → result ≡ rate_found fate before self.old.device.far }

@@ -14,12 +14,10 @@ abbrev pub is_read : List ℕ → Bool
 is_read octets = nat_le 128 (slice_index octets 0)
 
 -- how many octets a message has that begins with these
--- MSG-3
 abbrev pub message_length : Shape → List ℕ → ℕ
 message_length layout octets = 2 + layout.pd_out + sent_od layout (slice_index octets 0)
 
 -- how many the reply to it has
--- MSG-4
 abbrev pub reply_length : Shape → List ℕ → ℕ
 reply_length layout sent = answered_od layout (is_read sent) + layout.pd_in + 1
 
@@ -32,7 +30,6 @@ is_test_read octets = bytes_eq octets test_read
 
 -- What octets are that a message in this layout begins with. A test read stands behind a wake-up
 -- request, and is a message in a layout of M-sequence type 0 alone; there it may be any read
--- MSG-3
 abbrev pub meaning_in : Shape → Requests → List ℕ → Meaning
 meaning_in layout requests octets =
     if is_test_read octets && not (type_bits layout.kind == 0) then TestRead else

@@ -9,13 +9,11 @@ use Rattle.iol_far.specs.Far.{command_in, mode_asked, waits_after}
 use Rattle.iol_far.specs.Level.{Link, taken}
 use Rattle.iol_judge.specs.declared.open.Open.{Open}
 
--- DEV-1
 abbrev pub started_link : Link
 started_link = record { mode = Startup; waits = None }
 
 -- The mode in whose layout a message is that begins with these octets. Behind a mode command
 -- the command itself is in the old one, and any other message in the new one
--- DEV-3, DEV-4
 abbrev pub begun_in : Link → List ℕ → Mode
 begun_in link octets = elim link.waits [
   | None ↦ link.mode
@@ -23,13 +21,11 @@ begun_in link octets = elim link.waits [
 ]
 
 -- the mode asked for, unless the device is known not to have it
--- DEV-5
 abbrev pub mode_into : Result Layouts Open → Option Mode → Option Mode
 mode_into (Ok layouts) (Some Preoperate) = if is_some layouts.pre then Some Preoperate else None
 mode_into known asked = asked
 
 -- the link once a message had a good reply
--- DEV-3, DEV-4
 abbrev pub link_after : Link → Result Layouts Open → List ℕ → MasterMsg → Link
 link_after link known octets message =
     let now = taken link octets in

@@ -65,7 +65,6 @@ looked_in state (Ok layout) = looked state layout
 looked_in state (Err why) = step state (Err (fault.NoLayout why))
 
 -- the layout of a message that begins with these octets, where it is known
--- DEV-2
 abbrev pub layout_begun : Splitting → Result Shape Open
 layout_begun state = mode_layout (layouts_seen state.seen) (begun_in state.link state.sent)
 
@@ -85,7 +84,6 @@ message_heard other state octet = step state (Err fault.GapInMessage)
 -- A reply
 
 -- what a good reply says of the page and the mode
--- PAGE-1, DEV-3, DEV-5
 abbrev pub learned : Splitting → Splitting
 learned state = elim (master_in state.layout state.sent) [
   | Some message ↦ if is_some (reply_in state.layout message.mc.read state.answer)

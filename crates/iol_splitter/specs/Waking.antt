@@ -40,12 +40,10 @@ sought state octet = record state {
 }
 
 -- the device is in STARTUP
--- DEV-1
 abbrev pub woken : Splitting → Splitting
 woken state = record state { link = started_link; phase = Rest; sent = []; answer = [] }
 
 -- a good reply to the test read
--- MSG-4
 abbrev pub is_test_reply : ℕ → ℕ → Bool
 is_test_reply value check = is_some (reply_in startup_shape true (value ∷ check ∷ []))
 

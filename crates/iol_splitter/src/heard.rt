@@ -190,8 +190,6 @@ impl Splitter {
     }
 
     /// What a good reply says of the page and the mode.
-    ///
-    /// Rules PAGE-1, DEV-3 to DEV-5.
     fn learn(&mut self)
         ensures { self.new ≡ learned self.old }
     {

@@ -13,8 +13,6 @@ use iol_judge::honest_lines_are_never_blamed;
 /// or more is behind a reply that isn't whole. A wake-up request is shown by the decoder, or by its
 /// test read: at the begin of a stream, or in a layout in which that is no message. Where it may be
 /// a read of page address 0x02 as well, both are told, the request as unanswered.
-///
-/// Rules MSG-3, MSG-4, DEV-3, DEV-4.
 #[tactic(auto, using(crate::proofs::Splits::written_is_split, crate::proofs::Example::some_are_written))]
 pub fn what_is_written_is_split()
     ensures split { WrittenIsSplit }
@@ -24,8 +22,6 @@ pub fn what_is_written_is_split()
 /// Whatever device by the rules brings octets over a line that loses messages and replies, or
 /// damages them so that it shows, a judge that is told what they are split into never calls it not
 /// honest, where they are written by the rules.
-///
-/// Rules WIRE-1 to WIRE-3.
 pub fn octets_are_never_blamed()
     ensures { OctetsNeverBlamed }
 {

@@ -45,8 +45,6 @@ impl Spoken {
     ghost use Rattle.iol_splitter.specs.Linking.{begun_in, link_after, started_link};
 
     /// Right after a wake-up request.
-    ///
-    /// Rule DEV-1.
     pub fn started() -> Spoken
         ensures { result ≡ started_link }
     {
@@ -58,8 +56,6 @@ impl Spoken {
 
     /// The mode in whose layout a message is that begins with these octets. Behind a mode command
     /// the command itself is in the old one.
-    ///
-    /// Rules DEV-3, DEV-4.
     pub fn mode_of(&self, begun: &[u8]) -> Mode
         ensures { result ≡ begun_in self.now begun.now }
     {
@@ -71,8 +67,6 @@ impl Spoken {
     }
 
     /// Once a message had a good reply.
-    ///
-    /// Rules DEV-3 to DEV-5.
     pub fn turn(&mut self, layouts: &Known, octets: &[u8], message: &MasterView<'_>)
         requires { length octets.now ≤ 66 }
         ensures { self.new ≡ link_after self.old layouts.now octets.now message.now }
@@ -90,8 +84,6 @@ impl Spoken {
     }
 
     /// A message other than the command that waits is in the new layout.
-    ///
-    /// Rules DEV-3, DEV-4.
     fn take(&mut self, octets: &[u8])
         ensures { self.new ≡ taken self.old octets.now }
     {
@@ -107,8 +99,6 @@ impl Spoken {
 }
 
 /// The mode asked for, unless the device is known not to have it.
-///
-/// Rule DEV-5.
 fn mode_into(layouts: &Known, asked: Option<Mode>) -> Option<Mode>
     ensures { result ≡ mode_into layouts.now asked }
 {

@@ -58,8 +58,6 @@ fn is_read(octets: &[u8]) -> bool
 }
 
 /// How many octets a message has, by its first.
-///
-/// Rule MSG-3.
 fn message_length(layout: &Layout, octets: &[u8]) -> usize
     ensures value { result ≡ message_length layout.now octets.now }
     ensures most { result ≤ 66 }
@@ -73,8 +71,6 @@ fn message_length(layout: &Layout, octets: &[u8]) -> usize
 }
 
 /// How many octets the reply to a message has.
-///
-/// Rule MSG-4.
 pub(crate) fn reply_length(layout: &Layout, sent: &[u8]) -> usize
     ensures { result ≡ reply_length layout.now sent.now }
 {

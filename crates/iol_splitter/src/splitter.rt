@@ -96,8 +96,6 @@ impl Splitter {
     }
 
     /// The device has this page: the octets of 0x02 to 0x0B. A page that was read needn't be told.
-    ///
-    /// Rule PAGE-1.
     pub fn page(&mut self, octets: &[u8; 10])
         ensures { self.new ≡ record self.old { seen = whole_page octets.now } }
     {

@@ -58,8 +58,6 @@ impl Splitter {
     }
 
     /// The device is in STARTUP.
-    ///
-    /// Rule DEV-1.
     fn start(&mut self)
         ensures { self.new ≡ woken self.old }
     {
@@ -71,8 +69,6 @@ impl Splitter {
 }
 
 /// Whether two octets are a good reply to the test read.
-///
-/// Rule MSG-4.
 fn is_test_reply(value: u8, check: u8) -> bool
     ensures { result ≡ is_test_reply value check }
 {

@@ -8,7 +8,6 @@ pub record Frozen : Type 0 where
   pub events : List Event
   pub told : Bool
 
--- EVT-8
 abbrev pub MayFrozen : Step → Option Frozen → Type 0
 MayFrozen (Freeze events) f = (f ≡ None) × (1 ≤ length events) × (length events ≤ 6)
 MayFrozen (Report events) f = f ≡ Some (record { events = events; told = false })
@@ -20,7 +19,6 @@ abbrev pub untold : Option Frozen → Option Frozen
 untold None = None
 untold (Some frozen) = Some (record frozen { told = false })
 
--- EVT-8
 abbrev pub frozen_after : Step → Option Frozen → Option Frozen
 frozen_after (Freeze events) f = Some (record { events = events; told = false })
 frozen_after (Report events) f = Some (record { events = events; told = true })

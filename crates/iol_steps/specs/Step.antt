@@ -31,7 +31,6 @@ use Rattle.iol_steps.specs.declared.said.Said.TheVariants.{Answered, Cut, Report
 abbrev pub Image : Type 0
 Image = List ℕ
 
--- PORT-4
 pub data Step : Type 0 where
   -- a request, under the number of its ticket, is under way
   Take : ℕ → Request → Step
@@ -104,7 +103,6 @@ pub record Terms : Type 0 where
   pub expected : Option Identity
 
 -- the device is the one that is expected, if one is
--- LINK-11
 abbrev pub is_right : Terms → Bool
 is_right terms = is_expected terms.expected terms.page
 
@@ -163,7 +161,6 @@ silence_left moment = silence_by moment.call moment.silence
 
 -- two steps that don't stand in one turn: a second of a kind, a denial beside a
 -- taking, and a busy reply beside the taking or the carrying out of its request
--- PORT-4
 abbrev pub clash : Step → Step → Bool
 clash (Take ticket request) (Take other next) = true
 clash (Take ticket request) (Deny other) = true

@@ -6,7 +6,6 @@ use Rattle.iol_watch.specs.declared.verdict.Verdict.TheVariants.{ByTheRules, Not
 use Rattle.iol_watch.specs.Watched.{Watched, exchanged, paged, woke}
 
 -- the last message had no good reply, and no wake-up request is due
--- LINK-2
 abbrev pub is_out : Watched → Bool
 is_out watched = elim watched.verdict [
   | ByTheRules ↦ is_some watched.master.out
@@ -14,14 +13,12 @@ is_out watched = elim watched.verdict [
 ]
 
 -- the same octets again, behind an exchange that left the message out, are never blamed
--- LINK-2
 abbrev pub RepeatsAreFair : Type 0
 RepeatsAreFair = (watched : Watched) (octets : List ℕ) (answer again : Option (List ℕ))
     → is_out (exchanged watched octets answer) ≡ true
     → (exchanged (exchanged watched octets answer) octets again).verdict ≡ ByTheRules
 
 -- a wake-up request is never blamed
--- LINK-1
 abbrev pub WakesAreFair : Type 0
 WakesAreFair = (watched : Watched) (wake : Wake)
     → watched.verdict ≡ ByTheRules → (woke watched wake).verdict ≡ ByTheRules

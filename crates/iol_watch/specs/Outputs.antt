@@ -18,19 +18,16 @@ aged (Last octets) = Before octets
 aged carried = carried
 
 -- once a wake-up request was made
--- PD-6
 abbrev pub woken_output : Output → Output
 woken_output output = record { carried = aged output.carried; valid = false }
 
 -- whether a message may carry these octets that leaves the device's output invalid
--- PD-4, PD-6
 abbrev pub allows_octets : Carried → List ℕ → Bool
 allows_octets Unknown octets = true
 allows_octets (Before before) octets = bytes_eq octets before.items || are_zeros octets
 allows_octets (Last last) octets = bytes_eq octets last.items
 
 -- once a new message of OPERATE carries these octets
--- PD-4, PD-5
 abbrev pub carried : Output → Option MasterCommand → List ℕ → Result Output MasterFault
 carried output command octets =
     let valid : Bool = elim command [

@@ -10,14 +10,12 @@ use Rattle.iol_watch.specs.declared.phase.Phase.TheVariants.{Startup, Preoperate
 use Rattle.iol_watch.specs.declared.master.StartUp.{StartUp}
 
 -- the layout of its messages
--- LINK-9
 abbrev pub phase_layout : Phase → Shape
 phase_layout (Preoperate layouts) = unwrap_or layouts.pre startup_shape
 phase_layout (Operate layouts) = layouts.run
 phase_layout phase = startup_shape
 
 -- once the good reply to a master command came
--- LINK-6, LINK-7, LINK-8, LINK-9
 abbrev pub entered : Phase → Result Layouts Open → Option MasterCommand → Phase
 entered Startup (Ok layouts) (Some DevicePreoperate) = Preoperate layouts
 entered Startup (Ok layouts) (Some DeviceOperate) = Operate layouts
@@ -30,7 +28,6 @@ in_operate phase = false
 
 -- Whether a new master command is allowed; an octet that is none isn't. In STARTUP the page asks
 -- for layouts of a device of V1.1, or of V1.0
--- LINK-5, LINK-6, LINK-7, LINK-8, LINK-10, LINK-13, PAGE-3, PAGE-6
 abbrev pub allows : Phase → Result Layouts Open → StartUp → Option MasterCommand → Bool
 allows Startup asked done (Some MasterIdent) = true
 allows Startup asked done (Some DeviceIdent) = true
@@ -44,7 +41,6 @@ allows phase asked done command = false
 
 -- whether MasterCycleTime may be this octet, by MinCycleTime, where that is known: this one, or
 -- a longer time that was chosen
--- LINK-12, PAGE-8
 abbrev pub allows_cycle : Option ℕ → ℕ → Bool
 allows_cycle None octet = false
 allows_cycle (Some least) octet = octet == least || (nat_lt least octet && nat_lt octet 192)

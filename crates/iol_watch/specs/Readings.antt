@@ -10,7 +10,6 @@ abbrev pub no_events : Events
 no_events = record { flag = false; reading = Resting }
 
 -- whether a new read or write of this diagnosis address is due
--- EVT-5, EVT-6, EVT-7, EVT-8
 abbrev pub is_due : Events → Bool → ℕ → Bool
 is_due events read address = elim events.reading [
   | Resting ↦ read && events.flag && (address == 0)
@@ -20,7 +19,6 @@ is_due events read address = elim events.reading [
 ]
 
 -- with one more octet
--- EVT-6, EVT-7
 abbrev pub reading_after : Reading → ℕ → Reading
 reading_after reading octet =
     let next = taken (elim reading [ UnderWay reader ↦ reader | _ ↦ [] ]) octet in
@@ -31,6 +29,5 @@ reading_after reading octet =
     ]
 
 -- once the good reply to a read brought this octet, or one to the confirm came
--- EVT-8
 abbrev pub read_on : Bool → ℕ → Reading → Reading
 read_on read octet reading = if read then reading_after reading octet else Resting

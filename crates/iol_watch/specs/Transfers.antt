@@ -21,14 +21,12 @@ begun octets last = if nat_le (length octets) LONGEST
     then Ok (Written (record { items = octets }) last) else Err RequestText
 
 -- a text, and the octets behind it
--- ISDU-3, SEG-1
 abbrev pub whole : Option Request → List ℕ → Result Transfer MasterFault
 whole None rest = Err RequestText
 whole (Some request) rest =
     if are_zeros rest then Ok (Asked (is_read request)) else Err RequestText
 
 -- of a request these octets were written, the last of them under this COUNT
--- SEG-1, SEG-5
 abbrev pub written : List ℕ → Option ℕ → Result Transfer MasterFault
 written octets last = elim (stage octets) [
   | Open ↦ begun octets last
@@ -36,12 +34,10 @@ written octets last = elim (stage octets) [
   | Wrong ↦ Err RequestText
 ]
 
--- REQ-2, REQ-3
 abbrev pub start_sent : Bool → Transfer → List ℕ → Result Transfer MasterFault
 start_sent true Quiet octets = written octets None
 start_sent isdu transfer octets = Err NotDue
 
--- REQ-4
 abbrev pub count_sent : Transfer → ℕ → List ℕ → Result Transfer MasterFault
 count_sent (Written text last) count octets = if count == next_count last
     then written (text.items ++ octets) (Some count) else Err NotInLine
@@ -50,12 +46,10 @@ count_sent transfer count octets = Err NotDue
 
 -- The answer's segments
 
--- REQ-5
 abbrev pub start_asked : Transfer → Result Transfer MasterFault
 start_asked (Asked read) = Ok (Asked read)
 start_asked transfer = Err NotDue
 
--- REQ-5
 abbrev pub count_asked : Transfer → ℕ → Result Transfer MasterFault
 count_asked (Answered read text last) count =
     if count == next_count last then Ok (Answered read text (Some count)) else Err NotInLine
@@ -66,12 +60,10 @@ abbrev pub answer_begun : Bool → List ℕ → Option ℕ → Transfer
 answer_begun read octets last = if nat_le (length octets) LONGEST
     then Answered read (record { items = octets }) last else Refused
 
--- ISDU-9, REQ-7
 abbrev pub answer_joined : Bool → List ℕ → Transfer
 answer_joined read text = if is_some (answer_fault read text) then Refused else Quiet
 
 -- of an answer these octets came, the last of them under this COUNT
--- REQ-5, REQ-7
 abbrev pub answered : Bool → List ℕ → Option ℕ → Transfer
 answered read octets last = elim (stage octets) [
   | Open ↦ answer_begun read octets last
@@ -80,7 +72,6 @@ answered read octets last = elim (stage octets) [
 ]
 
 -- busy, no service, or the answer's first segment
--- REQ-5, REQ-7, ISDU-11
 abbrev pub asked_told : Bool → List ℕ → Transfer
 asked_told read octets =
     if slice_index octets 0 == BUSY then Asked read else
@@ -88,13 +79,11 @@ asked_told read octets =
     answered read octets None
 
 -- the same of a START read in place of a START write: of which the device has heard nothing
--- REQ-14
 abbrev pub doubted_told : Bool → List ℕ → Transfer
 doubted_told read octets =
     if slice_index octets 0 == NO_SERVICE then Quiet else asked_told read octets
 
 -- once the good reply to a read on the ISDU channel brought these octets
--- REQ-5, REQ-14
 abbrev pub told : Transfer → List ℕ → Transfer
 told (Asked read) octets = asked_told read octets
 told (Doubted read) octets = doubted_told read octets
@@ -104,14 +93,12 @@ told transfer octets = transfer
 -- A message in place of a repeat
 
 -- a START read, in place of a START write that holds a whole request
--- REQ-14
 abbrev pub asks_instead : Transfer → List ℕ → List ℕ → Bool
 asks_instead (Asked read) out octets =
     (slice_index out 0 == START_WRITE) && (slice_index octets 0 == START_READ)
 asks_instead transfer out octets = false
 
 -- once that goes out, and once it goes out again
--- REQ-14
 abbrev pub doubted : Transfer → Transfer
 doubted (Asked read) = Doubted read
 doubted transfer = transfer
@@ -122,18 +109,15 @@ asked_again transfer = transfer
 
 -- A message
 
--- REQ-1
 abbrev pub idle_sent : Transfer → Result Transfer MasterFault
 idle_sent Quiet = Ok Quiet
 idle_sent transfer = Err NotDue
 
--- REQ-9
 abbrev pub abort_sent : Transfer → Result Transfer MasterFault
 abort_sent Quiet = Err NotDue
 abort_sent transfer = Ok Quiet
 
 -- once a new message is sent on the ISDU channel, to a device that has ISDU or not
--- REQ-1, REQ-9, OCT-2
 abbrev pub moved : Bool → Transfer → Bool → Flow → List ℕ → Result Transfer MasterFault
 moved isdu transfer true Start octets = start_asked transfer
 moved isdu transfer false Start octets = start_sent isdu transfer octets

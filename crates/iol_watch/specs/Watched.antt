@@ -41,7 +41,6 @@ new_master = record {
 }
 
 -- once a wake-up request was made, by what is known of the page
--- LINK-1, PD-6, EVT-9, REQ-11
 abbrev pub woken : Master → List (Option ℕ) → Wake → Master
 woken master seen answer = record new_master {
   phase = elim answer [ Answered ↦ Startup | Unanswered ↦ Down ];
@@ -51,7 +50,6 @@ woken master seen answer = record new_master {
 
 -- A new message on the page channel
 
--- LINK-6, LINK-7, LINK-8, LINK-10
 abbrev pub command_sent : Master → Option MasterCommand → Result Master MasterFault
 command_sent master command =
     if allows master.phase (layouts_seen master.seen) master.done command
@@ -62,7 +60,6 @@ command_sent master command =
     })
     else Err NotStartUp
 
--- LINK-12
 abbrev pub cycle_sent : Master → ℕ → Result Master MasterFault
 cycle_sent master octet = if allows_cycle (octet_seen master.seen 2) octet
     then Ok (record master { done = record master.done { cycle = true } })
@@ -90,7 +87,6 @@ isdu_sent master isdu message = result_map_both
     (moved isdu master.transfer message.mc.read (flow_of message.mc.address) message.od.items)
 
 -- in PREOPERATE or OPERATE
--- EVT-5, EVT-6, EVT-7, EVT-8
 abbrev pub sent_on : Master → Layouts → MasterMsg → Result Master MasterFault
 sent_on master layouts message = elim message.mc.channel [
   | Process ↦ Ok master
@@ -103,7 +99,6 @@ sent_on master layouts message = elim message.mc.channel [
 -- A message
 
 -- a new message, by the mode: in OPERATE the process data out has to fit
--- PD-4
 abbrev pub sent_at : Phase → Master → MasterMsg → Result Master MasterFault
 sent_at (Preoperate layouts) master message = sent_on master layouts message
 sent_at (Operate layouts) master message =
@@ -113,7 +108,6 @@ sent_at (Operate layouts) master message =
     ]
 sent_at phase master message = sent_in_startup master message
 
--- MSG-3
 abbrev pub sent_new : Master → List ℕ → Result Master MasterFault
 sent_new master octets = elim (message_in (phase_layout master.phase) octets) [
   | Some message ↦ sent_at master.phase master message
@@ -130,13 +124,11 @@ left_out master octets twice =
     record master { out = Some (record { octets = record { items = octets }; twice = twice }) }
 
 -- A START read in its place: it is out from now on, and the attempts are counted on
--- REQ-14
 abbrev pub asked_instead : Bool → List ℕ → Result Master MasterFault → Result Master MasterFault
 asked_instead twice octets (Ok master) =
     Ok (record (left_out master octets twice) { transfer = doubted master.transfer })
 asked_instead twice octets (Err fault) = Err fault
 
--- LINK-2, REQ-14
 abbrev pub sent_again : Option Missed → Master → List ℕ → Result Master MasterFault
 sent_again None master octets = sent_new master octets
 sent_again (Some out) master octets =
@@ -146,7 +138,6 @@ sent_again (Some out) master octets =
     Err NotRepeated
 
 -- once it sends these octets
--- LINK-1, LINK-3
 abbrev pub sent : Master → List ℕ → Result Master MasterFault
 sent master octets = elim master.phase [
   | Down ↦ Err WakeDue
@@ -156,7 +147,6 @@ sent master octets = elim master.phase [
 -- What comes back
 
 -- without a good reply: lost behind two attempts
--- LINK-2, LINK-3
 abbrev pub missed : Master → List ℕ → Master
 missed master octets = elim master.out [
   | None ↦ left_out master octets false
@@ -165,7 +155,6 @@ missed master octets = elim master.out [
 ]
 
 -- the good reply to a write to the page: another mode drops the transfer
--- LINK-9, DEV-3
 abbrev pub mode_entered : Master → Option MasterCommand → Master
 mode_entered master command = record master {
   phase = entered master.phase (layouts_seen master.seen) command;
@@ -174,7 +163,6 @@ mode_entered master command = record master {
 }
 
 -- the good reply to a read of events, or to the confirm of them
--- EVT-6, EVT-7, EVT-8
 abbrev pub events_on : Master → Bool → List ℕ → Master
 events_on master read octets = record master {
   events = record master.events {
@@ -196,7 +184,6 @@ written_to Diagnosis master message octets = events_on master false octets
 written_to channel master message octets = master
 
 -- a good reply: the message is out no more, and the Event flag is the reply's
--- LINK-9, EVT-5
 abbrev pub replied : Master → MasterMsg → Reply → Master
 replied master message reply =
     let flagged = record master {
@@ -211,7 +198,6 @@ heard_reply master octets message None = missed master octets
 heard_reply master octets message (Some reply) = replied master message reply
 
 -- once this came in the time of a reply to what was sent, if anything did
--- LINK-2, LINK-3, MSG-4
 abbrev pub heard : Master → List ℕ → Option (List ℕ) → Master
 heard master octets answer =
     let layout = phase_layout master.phase in
@@ -241,7 +227,6 @@ paged watched page =
     record watched { told = page; master = record watched.master { seen = page } }
 
 -- the watch, told a wake-up request
--- LINK-1
 abbrev pub woke : Watched → Wake → Watched
 woke watched wake = elim watched.verdict [
   | NotByTheRules number fault ↦ watched
@@ -260,7 +245,6 @@ judged_as watched octets answer (Err fault) = record watched {
 }
 
 -- the watch, told an exchange
--- LINK-2, LINK-3
 abbrev pub exchanged : Watched → List ℕ → Option (List ℕ) → Watched
 exchanged watched octets answer =
     let counted = record watched { exchanges = min (watched.exchanges + 1) (2 ^ 64 - 1) } in

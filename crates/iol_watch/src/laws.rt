@@ -3,8 +3,6 @@ ghost use Rattle.iol_watch.specs.Laws.{FaultsStay, RepeatsAreFair, WakesAreFair}
 
 /// What the watch never blames, and that it stays with its verdict: a message without a good reply
 /// that is sent again, a wake-up request; the first fault, whatever comes behind it.
-///
-/// Rules LINK-1, LINK-2.
 #[tactic(auto, using(crate::proofs::Fair::repeats_are_fair))]
 pub fn repeats_and_wakes_are_fair()
     ensures repeats { RepeatsAreFair }

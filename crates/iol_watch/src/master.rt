@@ -74,8 +74,6 @@ impl Master {
     }
 
     /// Once a wake-up request was made, by what is known of the page.
-    ///
-    /// Rules LINK-1, PD-6, EVT-9, REQ-11.
     pub fn woken(self, seen: Seen, answer: Wake) -> Master
         ensures { result ≡ woken self seen answer }
     {
@@ -114,8 +112,6 @@ impl Master {
 
     /// A START read in place of the message that is to be sent again: from now on it is that. The
     /// attempts are counted on.
-    ///
-    /// Rule REQ-14.
     fn ask_instead(&mut self, octets: &[u8], twice: bool) -> Result<(), MasterFault>
         ensures { result_with result self.new
             ≡ asked_instead twice octets.now (sent_new self.old octets.now) }
@@ -177,8 +173,6 @@ impl Master {
     }
 
     /// On the page channel. Refusal 3 NotStartUp.
-    ///
-    /// Rules LINK-6 to LINK-8, LINK-10, LINK-12.
     fn send_to_page(&mut self, message: &MasterView<'_>) -> Result<(), MasterFault>
         ensures { result_with result self.new ≡ sent_to_page self.old message.now }
     {
@@ -204,8 +198,6 @@ impl Master {
     }
 
     /// MasterCycleTime.
-    ///
-    /// Rule LINK-12.
     fn send_cycle(&mut self, octet: u8) -> Result<(), MasterFault>
         ensures { result_with result self.new ≡ cycle_sent self.old octet }
     {
@@ -217,8 +209,6 @@ impl Master {
     }
 
     /// Whether a new master command is allowed.
-    ///
-    /// Rules LINK-5 to LINK-8, LINK-10, LINK-13.
     fn allows(&self, command: Option<MasterCommand>) -> bool
         ensures { result ≡ allows self.now.phase (layouts_seen self.now.seen) self.now.done
             command }
@@ -241,8 +231,6 @@ impl Master {
     }
 
     /// Once this came in the time of a reply to what was sent, if anything did.
-    ///
-    /// Rules LINK-2, LINK-3.
     pub fn hear(&mut self, sent: &[u8], answer: Option<&[u8]>)
         ensures { self.new ≡ heard self.old sent.now (option_copied answer.entry) }
     {
@@ -257,8 +245,6 @@ impl Master {
     }
 
     /// Without a good reply.
-    ///
-    /// Rules LINK-2, LINK-3.
     fn miss(&mut self, sent: &[u8])
         requires { length sent.now ≤ 66 }
         ensures { self.new ≡ missed self.old sent.now }
@@ -299,8 +285,6 @@ impl Master {
     }
 
     /// Once the good reply to a write to the page came: another mode drops the transfer.
-    ///
-    /// Rules LINK-9, DEV-3.
     fn enter(&mut self, command: Option<MasterCommand>)
         ensures { self.new ≡ mode_entered self.old command }
     {
@@ -313,8 +297,6 @@ impl Master {
 }
 
 /// Whether MasterCycleTime may be this octet, by MinCycleTime, where that is known.
-///
-/// Rules LINK-12, PAGE-8.
 fn allows_cycle(least: Option<u8>, octet: u8) -> bool
     ensures { result ≡ allows_cycle least octet }
 {

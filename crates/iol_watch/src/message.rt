@@ -5,8 +5,6 @@ ghost use Rattle.iol_mseq.specs.Replies.{reply_in};
 use iol_mseq::{Layout, ReplyView, view_reply};
 
 /// The good reply that came, if one did.
-///
-/// Rule MSG-4.
 pub(crate) fn reply_in<'a>(
     layout: &Layout,
     read: bool,

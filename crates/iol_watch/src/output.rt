@@ -30,8 +30,6 @@ pub(crate) struct Output {
 
 impl Carried {
     /// Whether a message may carry these octets that leaves the device's output invalid.
-    ///
-    /// Rules PD-4, PD-6.
     fn allows(&self, octets: &[u8]) -> bool
         ensures { result ≡ allows_octets self.now octets.now }
     {
@@ -66,8 +64,6 @@ impl Output {
     }
 
     /// Once a wake-up request was made.
-    ///
-    /// Rule PD-6.
     pub fn woken(self) -> Output
         ensures { result ≡ woken_output self }
     {
@@ -78,8 +74,6 @@ impl Output {
     }
 
     /// Once a new message of OPERATE is sent, which may be a command. Refusal 5 OutputOctets.
-    ///
-    /// Rules PD-4, PD-5.
     pub fn carry(&mut self, message: &MasterView<'_>) -> Result<(), MasterFault>
         ensures { result_with result self.new
             ≡ carried self.old (command_in message.now) message.now.out.items }

@@ -19,8 +19,6 @@ pub(crate) enum Phase {
 
 impl Phase {
     /// The layout of its messages; that of STARTUP where a wake-up request is due.
-    ///
-    /// Rule LINK-9.
     pub fn layout(&self) -> Layout
         ensures { result ≡ phase_layout self.now }
     {
@@ -32,8 +30,6 @@ impl Phase {
     }
 
     /// Once the good reply to a master command came, by what is known of the page's layouts.
-    ///
-    /// Rules LINK-6 to LINK-9.
     pub fn entered(self, layouts: Result<Layouts, Open>, command: Option<MasterCommand>) -> Phase
         ensures { result ≡ entered self layouts command }
     {

@@ -38,8 +38,6 @@ impl Events {
     }
 
     /// Whether a new read or write of this diagnosis address is due.
-    ///
-    /// Rules EVT-5 to EVT-8.
     pub fn is_due(&self, read: bool, address: u8) -> bool
         ensures { result ≡ is_due self.now read address }
     {
@@ -53,8 +51,6 @@ impl Events {
 
     /// Once the good reply to a read of the event memory brought this octet, or one to the
     /// confirm came.
-    ///
-    /// Rules EVT-6, EVT-7.
     pub fn go_on(&mut self, read: bool, octet: u8)
         ensures { self.new ≡ record self.old { reading = read_on read octet self.old.reading } }
     {

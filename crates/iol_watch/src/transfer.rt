@@ -54,8 +54,6 @@ impl Transfer {
     /// Once a new message is sent on the ISDU channel, to a device that has ISDU or not.
     ///
     /// Refusals: 6 NotDue, 7 RequestText, 8 NotInLine.
-    ///
-    /// Rules REQ-1 to REQ-5, REQ-7, REQ-9.
     pub fn moved(self, isdu: bool, message: &MasterView<'_>) -> Result<Transfer, MasterFault>
         ensures { result ≡ moved isdu self message.now.mc.read (flow_of message.now.mc.address)
             message.now.od.items }
@@ -72,7 +70,6 @@ impl Transfer {
         }
     }
 
-    /// Rules REQ-2, REQ-3.
     fn start_sent(self, isdu: bool, octets: &[u8]) -> Result<Transfer, MasterFault>
         ensures { result ≡ start_sent isdu self octets.now }
     {
@@ -82,7 +79,6 @@ impl Transfer {
         }
     }
 
-    /// Rule REQ-4.
     fn count_sent(self, count: u8, message: &MasterView<'_>) -> Result<Transfer, MasterFault>
         ensures { result ≡ count_sent self count message.now.od.items }
     {
@@ -96,7 +92,6 @@ impl Transfer {
         }
     }
 
-    /// Rule REQ-5.
     fn start_asked(self) -> Result<Transfer, MasterFault>
         ensures { result ≡ start_asked self }
     {
@@ -106,7 +101,6 @@ impl Transfer {
         }
     }
 
-    /// Rule REQ-5.
     fn count_asked(self, count: u8) -> Result<Transfer, MasterFault>
         ensures { result ≡ count_asked self count }
     {
@@ -119,7 +113,6 @@ impl Transfer {
         }
     }
 
-    /// Rule REQ-1.
     fn kept_if_quiet(self) -> Result<Transfer, MasterFault>
         ensures { result ≡ idle_sent self }
     {
@@ -129,7 +122,6 @@ impl Transfer {
         }
     }
 
-    /// Rule REQ-9.
     fn aborted(self) -> Result<Transfer, MasterFault>
         ensures { result ≡ abort_sent self }
     {
@@ -141,8 +133,6 @@ impl Transfer {
 
     /// Whether these octets may be a START read in place of the message that is out: a START write
     /// that holds a whole request.
-    ///
-    /// Rule REQ-14.
     pub fn asks_instead(&self, out: &[u8], octets: &[u8]) -> bool
         ensures { result ≡ asks_instead self.now out.now octets.now }
     {
@@ -152,8 +142,6 @@ impl Transfer {
     }
 
     /// Once that START read goes out.
-    ///
-    /// Rule REQ-14.
     pub fn doubt(&mut self)
         ensures { self.new ≡ doubted self.old }
     {
@@ -164,8 +152,6 @@ impl Transfer {
 
     /// Once the message that is out goes out again: what the device has isn't in doubt any more,
     /// since a reply that got lost may have been the answer.
-    ///
-    /// Rule REQ-14.
     pub fn repeat(&mut self)
         ensures { self.new ≡ asked_again self.old }
     {
@@ -175,8 +161,6 @@ impl Transfer {
     }
 
     /// Once this good reply to a read on the ISDU channel came.
-    ///
-    /// Rules REQ-5, REQ-7, REQ-14, ISDU-11.
     pub fn told(self, reply: &ReplyView<'_>) -> Transfer
         ensures { result ≡ told self reply.now.od.items }
     {
@@ -191,8 +175,6 @@ impl Transfer {
 }
 
 /// The flow that a message on the ISDU channel has.
-///
-/// Rule OCT-2.
 #[tactic(auto, unfolding(iol_far::specs::Codec::flow_of))]
 fn flow_of(mc: Mc) -> Flow
     ensures { result ≡ flow_of mc.address }
@@ -212,8 +194,6 @@ fn joined(text: &Text, octets: &[u8]) -> Joined
 }
 
 /// Of a request these octets were written, the last of them under this COUNT.
-///
-/// Rules SEG-1, SEG-5.
 fn written(octets: &[u8], last: Option<u8>) -> Result<Transfer, MasterFault>
     ensures { result ≡ written octets.now last }
 {
@@ -236,8 +216,6 @@ fn begun(octets: &[u8], last: Option<u8>) -> Result<Transfer, MasterFault>
 }
 
 /// A text was written, and these octets behind it.
-///
-/// Rules ISDU-3, SEG-1.
 fn whole(text: &[u8], rest: &[u8]) -> Result<Transfer, MasterFault>
     ensures { result ≡ whole (request_of text.now) rest.now }
 {
@@ -249,8 +227,6 @@ fn whole(text: &[u8], rest: &[u8]) -> Result<Transfer, MasterFault>
 }
 
 /// The reply to a START read: busy, no service, or the answer's first segment.
-///
-/// Rules REQ-5, REQ-7, ISDU-11.
 fn asked_told(read: bool, octets: &[u8]) -> Transfer
     ensures { result ≡ asked_told read octets.now }
 {
@@ -263,8 +239,6 @@ fn asked_told(read: bool, octets: &[u8]) -> Transfer
 
 /// The reply to a START read that went out in place of a START write: where the device has heard
 /// nothing of that, no request is under way.
-///
-/// Rule REQ-14.
 fn doubted_told(read: bool, octets: &[u8]) -> Transfer
     ensures { result ≡ doubted_told read octets.now }
 {
@@ -275,8 +249,6 @@ fn doubted_told(read: bool, octets: &[u8]) -> Transfer
 }
 
 /// Of an answer these octets came, the last of them under this COUNT.
-///
-/// Rules REQ-5, REQ-7.
 fn answered(read: bool, octets: &[u8], last: Option<u8>) -> Transfer
     ensures { result ≡ answered read octets.now last }
 {
@@ -299,8 +271,6 @@ fn answer_begun(read: bool, octets: &[u8], last: Option<u8>) -> Transfer
 }
 
 /// A text came.
-///
-/// Rules ISDU-9, REQ-7.
 fn answer_joined(read: bool, text: &[u8]) -> Transfer
     ensures { result ≡ answer_joined read text.now }
 {

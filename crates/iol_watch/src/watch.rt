@@ -50,8 +50,6 @@ impl Watch {
 
     /// The device has this page: the octets of 0x02 to 0x0B. The master may know it without a
     /// start-up that reads it.
-    ///
-    /// Rule PAGE-1.
     pub fn page(&mut self, octets: &[u8; 10])
         ensures { self.new ≡ paged self.old (whole_page octets.now) }
     {
@@ -60,8 +58,6 @@ impl Watch {
     }
 
     /// A wake-up request was sent. It is by the rules at any time: a restart.
-    ///
-    /// Rules LINK-1, PORT-6.
     pub fn wake(&mut self, answer: Wake)
         ensures { self.new ≡ woke self.old answer }
     {
@@ -74,8 +70,6 @@ impl Watch {
     }
 
     /// These octets were sent, and those came in the time of a reply, if any.
-    ///
-    /// Rules LINK-2, LINK-3.
     pub fn exchange(&mut self, sent: &[u8], answer: Option<&[u8]>)
         ensures { self.new ≡ exchanged self.old sent.now (option_copied answer.entry) }
     {

@@ -15,7 +15,6 @@ limits_of journal busy queue given =
     record { journal = journal; busy = busy; queue = queue; given = given }
 
 -- each number is in its range
--- BOOK-11
 abbrev pub AreInRange : Limits → Type 0
 AreInRange limits =
     IsJournalLimit limits.journal × IsBusyLimit limits.busy × IsQueueLimit limits.queue
