@@ -3,7 +3,7 @@ ghost use Rattle.std.specs.Prelude.{IfOk};
 ghost use Rattle.iol_master.specs.Tickets.{HasGiven};
 
 use anyhow::{Result, bail};
-use iol_book::{BusyLimit, JournalLimit, Limits, QueueLimit};
+use iol_book::Limits;
 use iol_device::Device;
 use iol_image::Image;
 use iol_isdu::Place;
@@ -21,15 +21,6 @@ const PAGE: [u8; 10] = [0x17, 0x2D, 0x11, 0x10, 0x00, 0x12, 0x34, 0x00, 0x01, 0x
 /// How many requests a device's record has room for.
 const ROOM: u32 = 100;
 
-fn limits() -> Limits {
-    Limits {
-        journal: JournalLimit::new(100).unwrap(),
-        busy: BusyLimit::new(100).unwrap(),
-        queue: QueueLimit::MOST,
-        given: 0,
-    }
-}
-
 /// A port over a line, at whose far end is a device with this number as its
 /// parameter and its process data.
 pub fn open_port(alloc: Global, number: u16) -> Result<Port<Sim<Params>>>
@@ -45,7 +36,7 @@ pub fn open_port(alloc: Global, number: u16) -> Result<Port<Sim<Params>>>
     let Ok(line) = Sim::new(alloc, device, Vec::new(alloc)) else {
         bail!("no memory");
     };
-    match Port::open(alloc, line, &limits()) {
+    match Port::open(alloc, line, &Limits::default()) {
         Ok(port) => Ok(port),
         Err((fault, _)) => Err(fault.into()),
     }

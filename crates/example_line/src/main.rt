@@ -12,7 +12,7 @@ mod line;
 use crate::line::{exchange, wake};
 use anyhow::Result;
 use iol_app::Asked;
-use iol_book::{BusyLimit, JournalLimit, Limits, QueueLimit, Ticket};
+use iol_book::{Limits, Ticket};
 use iol_isdu::{Place, Request};
 use iol_port::PortCore;
 
@@ -26,15 +26,6 @@ const LIMIT: Place = Place { index: 41, sub: 0 };
 const NEW_LIMIT: u16 = 240;
 
 const TURNS: u32 = 60;
-
-fn limits() -> Limits {
-    Limits {
-        journal: JournalLimit::new(100).unwrap(),
-        busy: BusyLimit::new(100).unwrap(),
-        queue: QueueLimit::MOST,
-        given: 0,
-    }
-}
 
 /// One turn: what the port sends goes out, and the port is told what came back.
 fn turn(rt: &(impl Input + Print + AllocGlobal), port: &mut PortCore) -> Result<()> {
@@ -65,7 +56,7 @@ fn report(rt: &impl Eprint, port: &mut PortCore, tickets: &[Ticket]) -> Result<(
 }
 
 fn main(rt: HostRuntime) -> Result<()> {
-    let mut port = PortCore::open(rt.alloc(), &limits())?;
+    let mut port = PortCore::open(rt.alloc(), &Limits::default())?;
     let tickets = [
         port.submit(Request::read(TEMPERATURE))?,
         port.submit(Request::write(LIMIT, &NEW_LIMIT.to_be_bytes())?)?,

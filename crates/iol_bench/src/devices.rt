@@ -5,7 +5,7 @@ ghost use Rattle.iol_page.specs.Page.{layouts_of};
 
 use crate::check_word::CheckWord;
 use crate::fault::BenchFault;
-use iol_book::{BusyLimit, JournalLimit, Limits, QueueLimit};
+use iol_book::{JournalLimit, Limits};
 use iol_device::Device;
 use iol_image::Image;
 use iol_isdu::Place;
@@ -32,9 +32,7 @@ pub(crate) const ROOM: u32 = 10_000;
 fn limits() -> Limits {
     Limits {
         journal: JournalLimit::new(50_000).unwrap(),
-        busy: BusyLimit::new(100).unwrap(),
-        queue: QueueLimit::MOST,
-        given: 0,
+        ..Limits::default()
     }
 }
 

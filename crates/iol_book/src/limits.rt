@@ -18,6 +18,20 @@ pub struct Limits {
     pub queue: QueueLimit,
 }
 
+impl Default for Limits {
+    /// A journal of 1,000 entries, 100 busy replies and 64 tickets, of which none was given.
+    fn default() -> Limits
+        ensures { result ≡ record { journal = 1000; busy = 100; queue = 64; given = 0 } }
+    {
+        Limits {
+            journal: JournalLimit { entries: 1_000 },
+            busy: BusyLimit { replies: 100 },
+            given: 0,
+            queue: QueueLimit::MOST,
+        }
+    }
+}
+
 /// The most entries that a journal may have: 4 to 1,000,000.
 ///
 /// Contracts see the number. An urgent request needs as many entries as another: 4 where it is

@@ -2,7 +2,7 @@
 ghost use Rattle.std.specs.Prelude.{◌≡◌, All, IfOk, vec_len};
 ghost use Rattle.iol_master.specs.Tickets.{HasGiven};
 
-use iol_book::{BusyLimit, JournalLimit, Limits, QueueLimit};
+use iol_book::Limits;
 use iol_device::Device;
 use iol_isdu::Place;
 use iol_page::Page;
@@ -22,16 +22,6 @@ const PAGE: [u8; 10] = [0x17, 0x2D, 0x11, 0x00, 0x00, 0x12, 0x34, 0x00, 0x01, 0x
 /// The most requests that a device's record has room for.
 const ROOM: u32 = 1_000;
 
-/// What each port is opened with.
-fn limits() -> Limits {
-    Limits {
-        journal: JournalLimit::new(1_000).unwrap(),
-        busy: BusyLimit::new(100).unwrap(),
-        queue: QueueLimit::MOST,
-        given: 0,
-    }
-}
-
 /// A port over a clean wire, in operation after 15 turns.
 fn open_port(alloc: Global) -> Result<Port<Sim<Params>>, AllocError>
     ensures { IfOk result (λ p. HasGiven p 0) }
@@ -46,7 +36,7 @@ fn open_port(alloc: Global) -> Result<Port<Sim<Params>>, AllocError>
     let Ok(wire) = Sim::new(alloc, device, Vec::new(alloc)) else {
         return Err(AllocError);
     };
-    Port::open(alloc, wire, &limits()).map_err(|_| AllocError)
+    Port::open(alloc, wire, &Limits::default()).map_err(|_| AllocError)
 }
 
 /// So many ports, which gave no ticket yet.

@@ -6,7 +6,7 @@ ghost use Rattle.iol_master.specs.Ledgers.{IsBlankFor};
 
 use crate::calls::{cancels_as, check, gives, of_book, read, turns};
 use crate::opening::{alone, open_one};
-use iol_book::{BookFault, BusyLimit, JournalLimit, Limits, QueueLimit, Ticket};
+use iol_book::{BookFault, JournalLimit, Limits, Ticket};
 use iol_cell::Handle;
 use iol_link::{Rate, Wire};
 use iol_master::{Desk, Gate, Master, MasterFault, Settled, Tally};
@@ -48,13 +48,11 @@ impl Gate for Open {
     }
 }
 
-/// What a port is opened with that has room for what is submitted here.
+/// What a port is opened with: its first ticket is 8.
 fn limits() -> Limits {
     Limits {
-        journal: JournalLimit::new(1_000).unwrap(),
-        busy: BusyLimit::new(100).unwrap(),
-        queue: QueueLimit::MOST,
         given: 7,
+        ..Limits::default()
     }
 }
 

@@ -2,11 +2,10 @@
 ghost use Rattle.iol_master.specs.Ledgers.{IsBlankFor};
 
 use crate::calls::{answer, check, read};
-use crate::opening::usual_limits;
 use crate::seats::is_image;
 use crate::slow::{ALARM, Flags, INPUT, START_UP, VALUE, is_set, sending, slow_wire};
 use iol_app::Mode;
-use iol_book::{BookFault, Outcome, Ticket};
+use iol_book::{BookFault, Limits, Outcome, Ticket};
 use iol_image::Image;
 use iol_isdu::Cause;
 use iol_link::Wire;
@@ -128,7 +127,7 @@ fn makes_each_call<W: Wire + Drop, K: Ledger, R: Wait + Abort>(
 ) -> Result<W, PortFault>
     requires { IsBlankFor hands K.name K.parts 1 }
 {
-    let core = PortCore::open(alloc, &usual_limits())?;
+    let core = PortCore::open(alloc, &Limits::default())?;
     let (line, mut worker) = Line::<K>::open(core, wire, hands);
     check(rt, answers(rt, &line, &mut worker, output, wanted));
     check(rt, cancels(rt, &line, &mut worker));
@@ -211,7 +210,7 @@ fn lets_in<W: Wire + Send + Drop, K: Ledger + Sync, R: Threads + Wait + Abort + 
 ) -> Result<(), PortFault>
     requires { IsBlankFor hands K.name K.parts 1 }
 {
-    let core = PortCore::open(alloc, &usual_limits())?;
+    let core = PortCore::open(alloc, &Limits::default())?;
     let (line, mut worker) = Line::<K>::open(core, wire, hands);
     serve(rt, &line, &mut worker, START_UP);
     flags.armed.store(true, Ordering::SeqCst);

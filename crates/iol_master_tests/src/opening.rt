@@ -3,7 +3,7 @@ ghost use Rattle.std.specs.Prelude.{◌≡◌, ◌≤◌, ◌∷◌, [], All, If
 ghost use Rattle.iol_master.specs.Tickets.{HasGiven};
 ghost use Rattle.iol_master.specs.Ledgers.{IsBlankFor};
 
-use iol_book::{BusyLimit, JournalLimit, Limits, QueueLimit};
+use iol_book::Limits;
 use iol_cell::Handle;
 use iol_device::Device;
 use iol_isdu::Place;
@@ -17,16 +17,6 @@ use std::alloc::{AllocError, Allocator, Global};
 use std::process::Abort;
 use std::sync::ledger::{Blank, Ledger};
 use std::test::Fail;
-
-/// What each port is opened with.
-pub fn usual_limits() -> Limits {
-    Limits {
-        journal: JournalLimit::new(1_000).unwrap(),
-        busy: BusyLimit::new(100).unwrap(),
-        queue: QueueLimit::MOST,
-        given: 0,
-    }
-}
 
 /// A wire with these steps, to a device with this page, which keeps this value at 16/0.
 pub fn wired(
@@ -55,7 +45,7 @@ pub fn wired(
 pub fn open_port<W: Wire + Drop>(alloc: Global, wire: W) -> Result<Port<W>, Fail>
     ensures { IfOk result (λ p. HasGiven p 0) }
 {
-    match Port::open(alloc, wire, &usual_limits()) {
+    match Port::open(alloc, wire, &Limits::default()) {
         Ok(port) => Ok(port),
         Err((fault, _)) => Err(Fail::from(fault)),
     }

@@ -6,11 +6,11 @@ ghost use Rattle.iol_master.specs.Ledgers.{IsBlankFor};
 use crate::calls::{answer, check, read};
 use crate::desks::Open;
 use crate::lines::serve;
-use crate::opening::{open_one, open_port, usual_limits, wired};
+use crate::opening::{open_one, open_port, wired};
 use crate::seats::{is_empty, is_image, shown_port, shows};
 use crate::slow::{ALARM, INPUT, START_UP, VALUE};
 use iol_app::Mode;
-use iol_book::{Entry, Outcome, Ticket};
+use iol_book::{Entry, Limits, Outcome, Ticket};
 use iol_cell::ImageSeat;
 use iol_image::Image;
 use iol_isdu::{Answer, Cause, Place, Request};
@@ -400,7 +400,7 @@ fn line_is_served<W: Wire + Drop, K: Ledger, R: Wait + Abort>(
 ) -> Result<W, PortFault>
     requires { IsBlankFor hands K.name K.parts 1 }
 {
-    let core = PortCore::open(alloc, &usual_limits())?;
+    let core = PortCore::open(alloc, &Limits::default())?;
     let (line, mut worker) = Line::<K>::open(core, wire, hands);
     check(rt, line_through(rt, &line, &mut worker, wanted));
     Ok(worker.into_wire())

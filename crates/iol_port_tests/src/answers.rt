@@ -5,8 +5,8 @@ ghost use Rattle.iol_app.specs.StationState.{wire_of};
 ghost use Rattle.iol_sim.specs.Params.{AnsweredBy};
 
 use crate::device::{PLACE, ROOM};
-use crate::limits::usual_limits;
 use crate::{first_app_follows_record, record_is_answered_by_the_first_params};
+use iol_book::Limits;
 use iol_device::Device;
 use iol_isdu::Request;
 use iol_page::Page;
@@ -33,7 +33,7 @@ fn played(alloc: Global, params: Params, calls: &[Call]) -> Result<Port<Sim<Para
     let Ok(wire) = Sim::new(alloc, device, Vec::new(alloc)) else {
         return Err("no wire")?;
     };
-    let Ok(mut port) = Port::open(alloc, wire, &usual_limits()) else {
+    let Ok(mut port) = Port::open(alloc, wire, &Limits::default()) else {
         return Err("no port")?;
     };
     let _answers = port.run(alloc, calls)?;

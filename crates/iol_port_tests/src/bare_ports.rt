@@ -1,9 +1,8 @@
 //! Ports over a wire that answers nothing: memory that is refused, and laws.
 
-use crate::limits::usual_limits;
 use crate::ports::{Calls, read};
 use iol_app::Mode;
-use iol_book::{BookFault, Ticket};
+use iol_book::{BookFault, Limits, Ticket};
 use iol_cell::Handle;
 use iol_link::{Rate, Wire};
 use iol_mseq::Message;
@@ -58,7 +57,7 @@ fn is_port_refused<W: Wire + PartialEq + Drop, A: Handle>(
     refusal: Refusal,
 ) -> bool {
     refusing.order(refusal);
-    match Port::open(alloc, wire, &usual_limits()) {
+    match Port::open(alloc, wire, &Limits::default()) {
         Ok(_) => false,
         Err((fault, back)) => {
             refusing.has_refused()
@@ -70,7 +69,7 @@ fn is_port_refused<W: Wire + PartialEq + Drop, A: Handle>(
 
 /// Whether a port over this wire is opened, down, and hands the wire back.
 fn is_given_back<W: Wire + PartialEq + Drop, A: Handle>(alloc: A, wire: W, wanted: &W) -> bool {
-    let Ok(port) = Port::open(alloc, wire, &usual_limits()) else {
+    let Ok(port) = Port::open(alloc, wire, &Limits::default()) else {
         return false;
     };
     let is_down = port.status().mode == Mode::Down;
@@ -123,7 +122,7 @@ fn is_refused_at<W: Wire + Drop, A: Handle>(
     refusal: Refusal,
 ) -> bool {
     refusing.order(Refusal::Never);
-    match Port::open(alloc, wire, &usual_limits()) {
+    match Port::open(alloc, wire, &Limits::default()) {
         Ok(mut port) => is_refused(&mut port, refusing, submit, refusal),
         Err(_) => false,
     }
@@ -137,7 +136,7 @@ fn is_granted_at<W: Wire + Drop, A: Handle>(
     refusal: Refusal,
 ) -> bool {
     refusing.order(Refusal::Never);
-    let Ok(mut port) = Port::open(alloc, wire, &usual_limits()) else {
+    let Ok(mut port) = Port::open(alloc, wire, &Limits::default()) else {
         return false;
     };
     refusing.order(refusal);
@@ -192,7 +191,7 @@ fn runs_once<W: Wire + Drop, A: Handle>(alloc: A, refusing: &RefusingAlloc, wire
         Answered::Nothing,
         Answered::Refused(PortFault::Book(BookFault::NotYet)),
     ];
-    let Ok(mut port) = Port::open(alloc, wire, &usual_limits()) else {
+    let Ok(mut port) = Port::open(alloc, wire, &Limits::default()) else {
         return false;
     };
     is_run_refused(&mut port, refusing, &calls, Refusal::From(0))

@@ -1,7 +1,6 @@
 //! Tests of a book: memory refused in turn. What it answers to a thousand lists of calls is in
 //! `tests/books`.
-use crate::limits::usual_limits;
-use iol_book::{Book, BookFault, Entry, Ticket};
+use iol_book::{Book, BookFault, Entry, Limits, Ticket};
 use iol_cell::Handle;
 use iol_isdu::{Place, Request};
 use refusing_alloc::{Refusal, RefusingAlloc};
@@ -74,7 +73,7 @@ fn eight_go_through<A: Handle>(
     refusal: Refusal,
 ) -> bool {
     refusing.order(Refusal::Never);
-    let Ok(mut book) = Book::open(alloc, &usual_limits()) else {
+    let Ok(mut book) = Book::open(alloc, &Limits::default()) else {
         return false;
     };
     refusing.order(refusal);
@@ -98,7 +97,7 @@ fn each_request_for_memory_is_refused(rt: HostRuntime) {
     let refusing = RefusingAlloc::new(rt.alloc());
     for refusal in [Refusal::Only(0), Refusal::Only(1)] {
         refusing.order(refusal);
-        let refused = Book::open(&refusing, &usual_limits()).err();
+        let refused = Book::open(&refusing, &Limits::default()).err();
         assert!(rt; refused == Some(BookFault::OutOfMemory));
     }
     for number in 0..AT_SUBMITS {

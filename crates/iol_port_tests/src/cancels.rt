@@ -1,8 +1,7 @@
 //! A request that is cancelled while there is no memory.
 use crate::device::{Parameter, device};
-use crate::limits::usual_limits;
 use crate::ports::{Calls, read, turn};
-use iol_book::{BookFault, Outcome, Ticket};
+use iol_book::{BookFault, Limits, Outcome, Ticket};
 use iol_cell::Handle;
 use iol_isdu::Cause;
 use iol_link::Wire;
@@ -45,7 +44,7 @@ fn is_cancelled<P: Calls>(port: &mut P) -> bool {
 
 /// Whether a request is cancelled where all memory is refused from its turn on.
 fn takes_no_memory<W: Wire + Drop, A: Handle>(alloc: A, refusing: &RefusingAlloc, wire: W) -> bool {
-    let Ok(mut port) = Port::open(alloc, wire, &usual_limits()) else {
+    let Ok(mut port) = Port::open(alloc, wire, &Limits::default()) else {
         return false;
     };
     let is_submitted = are_submitted(&mut port);

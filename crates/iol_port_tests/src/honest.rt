@@ -8,9 +8,8 @@ ghost use Rattle.iol_port.specs.CorePort.{awaited};
 ghost use Rattle.iol_line.specs.Honestly.{Exchanges};
 
 use crate::device::{PLACE, Parameter, octets_of, open_device};
-use crate::limits::usual_limits;
 use iol_app::{Asked, Mode};
-use iol_book::{Outcome, Ticket};
+use iol_book::{Limits, Outcome, Ticket};
 use iol_device::{App, Device};
 use iol_isdu::{Answer, Request};
 use iol_line::HonestPort;
@@ -36,7 +35,7 @@ enum Fate {
 fn port_to(alloc: Global, device: &Device<Parameter>) -> Result<HonestPort, PortFault>
     ensures { IfOk result (λ p. p.at.far ≡ device.now.far) }
 {
-    HonestPort::open(alloc, &usual_limits(), device)
+    HonestPort::open(alloc, &Limits::default(), device)
 }
 
 /// The device works, and a wake-up request comes to it.

@@ -31,7 +31,6 @@ mod device;
 #[cfg(test)]
 mod honest;
 #[cfg(test)]
-mod limits;
 #[cfg(test)]
 mod links;
 #[cfg(test)]

@@ -1,6 +1,5 @@
 //! Ports over the simulated wire.
 use crate::device::{Parameter, device, octets_of};
-use crate::limits::usual_limits;
 use iol_book::{Limits, Outcome, Ticket};
 use iol_cell::{Handle, ImageSeat, ImageWriter, image_cell};
 use iol_device::App;
@@ -63,7 +62,7 @@ fn handed_back<W: Wire + Drop>(
         wire,
         &Limits {
             given,
-            ..usual_limits()
+            ..Limits::default()
         },
     ) else {
         return None;
@@ -218,7 +217,7 @@ fn publishes<W: Wire + Drop, R: Wait>(
     seat: &mut ImageSeat,
     alloc: Global,
 ) -> bool {
-    let Ok(mut port) = Port::open(alloc, wire, &usual_limits()) else {
+    let Ok(mut port) = Port::open(alloc, wire, &Limits::default()) else {
         return false;
     };
     turn(&mut port, 15);

@@ -1,5 +1,5 @@
 //! The memory of a port that has one ticket at a time.
-use iol_book::{BookFault, BusyLimit, JournalLimit, Limits, Outcome, QueueLimit, Ticket};
+use iol_book::{BookFault, JournalLimit, Limits, Outcome, QueueLimit, Ticket};
 use iol_cell::Handle;
 use iol_isdu::{Place, Request};
 use iol_port::{PortCore, PortFault};
@@ -45,9 +45,8 @@ fn one_ticket_at_a_time_fits_in_two_kilobytes(rt: HostRuntime) -> Result<(), Fai
     // The journal has room for one ticket, and has to be handed out after each.
     let limits = Limits {
         journal: JournalLimit::new(4).unwrap(),
-        busy: BusyLimit::new(100).unwrap(),
         queue: QueueLimit::new(1).unwrap(),
-        given: 0,
+        ..Limits::default()
     };
     let mut port = PortCore::open(&heap, &limits)?;
     assert!(rt; heap.used() == AT_OPENING);

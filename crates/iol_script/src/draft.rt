@@ -13,7 +13,7 @@ use crate::parts::Words;
 use crate::script::Script;
 use crate::setting::{devices_of, kind_of, limits_of, page_of, param_of, pulses_of};
 use crate::wire_line::{WireLine, parse_wire};
-use iol_book::{BusyLimit, JournalLimit, Limits, QueueLimit};
+use iol_book::Limits;
 use iol_far::Kind;
 use iol_isdu::Place;
 use iol_mode::Devices;
@@ -326,21 +326,9 @@ impl<A: Allocator> Draft<A> {
             misses_pulses: self.misses_pulses,
             params: self.params,
             devices: self.devices.unwrap_or(Devices::Own),
-            limits: self.limits.unwrap_or(usual_limits()),
+            limits: self.limits.unwrap_or_default(),
             steps: self.steps,
         }
-    }
-}
-
-/// What a port is opened with where no line says it.
-fn usual_limits() -> Limits
-    ensures { result ≡ record { journal = 1000; busy = 100; queue = 64; given = 0 } }
-{
-    Limits {
-        journal: JournalLimit::new(1_000).unwrap(),
-        busy: BusyLimit::new(100).unwrap(),
-        queue: QueueLimit::MOST,
-        given: 0,
     }
 }
 
