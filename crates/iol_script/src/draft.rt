@@ -326,7 +326,7 @@ impl<A: Allocator> Draft<A> {
             misses_pulses: self.misses_pulses,
             params: self.params,
             devices: self.devices.unwrap_or(Devices::Own),
-            limits: self.limits.unwrap_or_default(),
+            limits: self.limits.unwrap_or(Limits::default()),
             steps: self.steps,
         }
     }
