@@ -8,7 +8,7 @@ ghost use Rattle.iol_script.specs.CheckLines.{first_bad, parsed_form};
 ghost use Rattle.iol_commands.specs.Printed.{Adds};
 ghost use Rattle.iol_commands.specs.Checked.{asked_layout, layout_after, Prints, PrintsMessage, PrintsReply, PrintsAll};
 ghost use Rattle.iol_script.specs.Text.{numbered_lines};
-ghost use Rattle.iol_commands.specs.Input.{IsTooLong, OfLines, TakesInput, Writes};
+ghost use Rattle.iol_commands.specs.Input.{Answers};
 
 use crate::fault::ProgramFault;
 use crate::printing::{print_layout, print_message, print_refusal, print_reply};
@@ -30,17 +30,10 @@ pub fn check<A: Allocator + Copy, R: Read, W: Write>(
     reader: &mut R,
     writer: &mut W,
 ) -> Result<(), ProgramFault>
-    // What is read.
-    ensures too_long { result ≡ Err TooLong → IsTooLong (R.remaining reader.old) }
-    ensures bad_line { (n : ℕ) → result ≡ Err (Line n)
-        → OfLines (R.remaining reader.old) (λ lines. first_bad lines ≡ Some n) }
-    ensures good { OnOk result (OfLines (R.remaining reader.old) (λ lines. first_bad lines
-        ≡ None)) }
-    ensures taken { TakesInput (R.remaining reader.old) (R.remaining reader.new) }
-
-    // What is written.
-    ensures printed { OnOk result (Writes (R.remaining reader.old)
-        (W.contents writer.old) (W.contents writer.new) (PrintsAll startup_shape)) }
+    ensures answers { Answers (λ lines n. first_bad lines ≡ Some n)
+        (λ lines. first_bad lines ≡ None) (PrintsAll startup_shape)
+        (R.remaining reader.old) (R.remaining reader.new)
+        (W.contents writer.old) (W.contents writer.new) result }
     ensures nothing { OnErr result (result ≢ Err WriteFailed
         → Keeps (W.contents writer.old) (W.contents writer.new)) }
     ensures threads { result ≢ Err NoThread }

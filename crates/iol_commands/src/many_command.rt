@@ -9,7 +9,7 @@ ghost use Rattle.iol_commands.specs.declared.fault.ProgramFault.TheVariants.{Lin
 ghost use Rattle.iol_commands.specs.declared.fault.ProgramFault.TheVariants.{OutOfMemory, TooLong};
 ghost use Rattle.iol_commands.specs.declared.fault.ProgramFault.TheVariants.{WriteFailed};
 ghost use Rattle.iol_commands.specs.ManyPrinted.{PrintsCounts};
-ghost use Rattle.iol_commands.specs.Input.{IsTooLong, OfLines, TakesInput, Writes};
+ghost use Rattle.iol_commands.specs.Input.{Answers, OfLines};
 
 use crate::fault::ProgramFault;
 use crate::many_printing::print_counts;
@@ -35,18 +35,12 @@ pub fn many<T: Threads + Wait + Sync, R: Read, W: Write>(
     reader: &mut R,
     writer: &mut W,
 ) -> Result<(), ProgramFault>
-    // What is read.
-    ensures too_long { result ≡ Err TooLong → IsTooLong (R.remaining reader.old) }
-    ensures bad_line { (n : ℕ) → result ≡ Err (Line n)
-        → OfLines (R.remaining reader.old) (λ lines. plan_of lines ≡ Err n) }
-    ensures good { OnOk result (OfLines (R.remaining reader.old) (λ lines. IsOk (plan_of lines))) }
+    ensures answers { Answers (λ lines n. plan_of lines ≡ Err n)
+        (λ lines. IsOk (plan_of lines)) PrintsCounts
+        (R.remaining reader.old) (R.remaining reader.new)
+        (W.contents writer.old) (W.contents writer.new) result }
     ensures no_thread { result ≡ Err NoThread
         → OfLines (R.remaining reader.old) (λ lines. IsOk (plan_of lines)) }
-    ensures taken { TakesInput (R.remaining reader.old) (R.remaining reader.new) }
-
-    // What is written.
-    ensures printed { OnOk result (Writes (R.remaining reader.old)
-        (W.contents writer.old) (W.contents writer.new) PrintsCounts) }
     ensures nothing { OnErr result (result ≢ Err WriteFailed
         → Keeps (W.contents writer.old) (W.contents writer.new)) }
 {

@@ -7,7 +7,7 @@ ghost use Rattle.iol_script.specs.Script.{IsScript, first_bad_run, value_of};
 ghost use Rattle.iol_script.specs.Text.{numbered_lines};
 ghost use Rattle.iol_commands.specs.declared.fault.ProgramFault.TheVariants.{Line, NoThread, OutOfMemory, TooLong, WriteFailed};
 ghost use Rattle.iol_commands.specs.RunPlayed.{first_far, first_wire, new_device, PrintsRun};
-ghost use Rattle.iol_commands.specs.Input.{IsTooLong, OfLines, TakesInput, Writes};
+ghost use Rattle.iol_commands.specs.Input.{Answers};
 
 use crate::fault::ProgramFault;
 use crate::playing::play_lines;
@@ -38,17 +38,10 @@ pub fn run<A: Handle, R: Read, W: Write>(
     reader: &mut R,
     writer: &mut W,
 ) -> Result<(), ProgramFault>
-    // What is read.
-    ensures too_long { result ≡ Err TooLong → IsTooLong (R.remaining reader.old) }
-    ensures bad_line { (n : ℕ) → result ≡ Err (Line n)
-        → OfLines (R.remaining reader.old) (λ lines. first_bad_run lines ≡ Some n) }
-    ensures good { OnOk result (OfLines (R.remaining reader.old) (λ lines. first_bad_run lines
-        ≡ None)) }
-    ensures taken { TakesInput (R.remaining reader.old) (R.remaining reader.new) }
-
-    // What is written.
-    ensures printed { OnOk result (Writes (R.remaining reader.old)
-        (W.contents writer.old) (W.contents writer.new) PrintsRun) }
+    ensures answers { Answers (λ lines n. first_bad_run lines ≡ Some n)
+        (λ lines. first_bad_run lines ≡ None) PrintsRun
+        (R.remaining reader.old) (R.remaining reader.new)
+        (W.contents writer.old) (W.contents writer.new) result }
     ensures nothing { OnErr result (result ≢ Err WriteFailed
         → Keeps (W.contents writer.old) (W.contents writer.new)) }
     ensures threads { result ≢ Err NoThread }

@@ -5,7 +5,7 @@ ghost use Rattle.iol_script.specs.Script.{IsScript, calls_in, first_bad_run, val
 ghost use Rattle.iol_script.specs.Text.{numbered_lines};
 ghost use Rattle.iol_commands.specs.declared.fault.ProgramFault.TheVariants.{Line, NoThread, OutOfMemory, TooLong, WriteFailed};
 ghost use Rattle.iol_commands.specs.TracePrinted.{PrintsTrace, TracesOut};
-ghost use Rattle.iol_commands.specs.Input.{IsTooLong, OfLines, TakesInput, Writes};
+ghost use Rattle.iol_commands.specs.Input.{Answers};
 
 use crate::fault::ProgramFault;
 use crate::run_command::wire_of;
@@ -31,17 +31,10 @@ pub fn trace<A: Handle, R: Read, W: Write>(
     reader: &mut R,
     writer: &mut W,
 ) -> Result<(), ProgramFault>
-    // What is read.
-    ensures too_long { result ≡ Err TooLong → IsTooLong (R.remaining reader.old) }
-    ensures bad_line { (n : ℕ) → result ≡ Err (Line n)
-        → OfLines (R.remaining reader.old) (λ lines. first_bad_run lines ≡ Some n) }
-    ensures good { OnOk result (OfLines (R.remaining reader.old) (λ lines. first_bad_run lines
-        ≡ None)) }
-    ensures taken { TakesInput (R.remaining reader.old) (R.remaining reader.new) }
-
-    // What is written.
-    ensures printed { OnOk result (Writes (R.remaining reader.old)
-        (W.contents writer.old) (W.contents writer.new) PrintsTrace) }
+    ensures answers { Answers (λ lines n. first_bad_run lines ≡ Some n)
+        (λ lines. first_bad_run lines ≡ None) PrintsTrace
+        (R.remaining reader.old) (R.remaining reader.new)
+        (W.contents writer.old) (W.contents writer.new) result }
     ensures nothing { OnErr result (result ≢ Err WriteFailed → result ≢ Err OutOfMemory
         → Keeps (W.contents writer.old) (W.contents writer.new)) }
     ensures threads { result ≢ Err NoThread }

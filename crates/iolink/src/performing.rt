@@ -4,7 +4,7 @@ ghost use Rattle.std.specs.Io.KnownBytes.{Keeps};
 ghost use Rattle.iolink.specs.declared.command.Mode.TheVariants.{Many, Trace};
 ghost use Rattle.iol_commands.specs.declared.fault.ProgramFault.TheVariants.{Line, NoThread, OutOfMemory, TooLong, WriteFailed};
 ghost use Rattle.iolink.specs.Performed.{IsBadAt, IsGood, Prints};
-ghost use Rattle.iol_commands.specs.Input.{IsTooLong, OfLines, TakesInput, Writes};
+ghost use Rattle.iol_commands.specs.Input.{Answers, OfLines};
 
 use crate::command::Mode;
 use crate::ending::Ending;
@@ -24,18 +24,11 @@ pub(crate) fn perform<T: Threads + Wait + Sync, R: Read, W: Write>(
     reader: &mut R,
     writer: &mut W,
 ) -> Result<(), ProgramFault>
-    // What is read.
-    ensures too_long { result ≡ Err TooLong → IsTooLong (R.remaining reader.old) }
-    ensures bad_line { (n : ℕ) → result ≡ Err (Line n)
-        → OfLines (R.remaining reader.old) (λ lines. IsBadAt mode lines n) }
-    ensures good { OnOk result (OfLines (R.remaining reader.old) (IsGood mode)) }
+    ensures answers { Answers (IsBadAt mode) (IsGood mode) (Prints mode)
+        (R.remaining reader.old) (R.remaining reader.new)
+        (W.contents writer.old) (W.contents writer.new) result }
     ensures threads { mode ≢ Many → result ≢ Err NoThread }
     ensures no_thread { result ≡ Err NoThread → OfLines (R.remaining reader.old) (IsGood mode) }
-    ensures taken { TakesInput (R.remaining reader.old) (R.remaining reader.new) }
-
-    // What is written.
-    ensures printed { OnOk result (Writes (R.remaining reader.old)
-        (W.contents writer.old) (W.contents writer.new) (Prints mode)) }
     ensures nothing { OnErr result
         (result ≢ Err WriteFailed → (mode ≡ Trace → result ≢ Err OutOfMemory)
         → Keeps (W.contents writer.old) (W.contents writer.new)) }
