@@ -18,6 +18,11 @@ parts_of handle = handle.held.value.port
 abbrev pub IsRefused : ℕ → IolPort → IolPort → Type 0
 IsRefused result old new = (result ≡ 252) × (new ≡ old)
 
+-- a call that writes elsewhere: one of a closed handle is refused, and writes nothing
+abbrev pub LeavesClosed : {X : Type 0} → ℕ → IolPort → IolPort → X → X → Type 0
+LeavesClosed result old new out after =
+    IsFalse old.is_open → IsRefused result old new × (after ≡ out)
+
 -- a call that doesn't fit what waits for its answer: refused, with nothing of the port changed
 abbrev pub IsNotAsked : ℕ → IolPort → IolPort → Type 0
 IsNotAsked result old new = (result ≡ 255) × (parts_of new ≡ parts_of old)

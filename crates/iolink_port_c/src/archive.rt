@@ -3,7 +3,7 @@ ghost use Rattle.std.specs.Prelude.{◌≡◌, ◌+◌, slice_get, IsSome, IsNon
 ghost use Rattle.std.specs.Vec.{vec_capacity};
 ghost use Rattle.iol_book.specs.BookModel.{may_archive, archived, memory_archived};
 ghost use Rattle.iol_port.specs.EveryWire.{IsBookCall};
-ghost use Rattle.iolink_port_c.specs.Calls.{parts_of, IsRefused};
+ghost use Rattle.iolink_port_c.specs.Calls.{parts_of, LeavesClosed};
 ghost use Rattle.iolink_port_c.specs.JournalCalls.{Archives, RefusesArchive, KeepsNone};
 ghost use Rattle.iolink_port_c.specs.Shown.{IsEntry, IsNext, HasNoRequest, HasNoOutcome};
 
@@ -45,8 +45,7 @@ pub struct IolEntry {
 /// still be carried out: `count` is 0 then, and the journal that was kept before stays.
 #[unsafe(no_mangle)]
 pub extern "C" fn iol_port_archive(alloc: Global, handle: &mut IolPort, count: &mut u32) -> u8
-    ensures closed { IsFalse handle.old.is_open → IsRefused result handle.old handle.new }
-    ensures unwritten { IsFalse handle.old.is_open → count.new ≡ count.old }
+    ensures closed { LeavesClosed result handle.old handle.new count.old count.new }
     ensures stays { handle.new.is_open ≡ handle.old.is_open }
     ensures refused { IsTrue handle.old.is_open →
         IsFalse (may_archive (parts_of handle.old).book.state) →
@@ -84,8 +83,7 @@ pub extern "C" fn iol_port_archive(alloc: Global, handle: &mut IolPort, count: &
 /// end the kind is 0, and the memory of that journal is given back.
 #[unsafe(no_mangle)]
 pub extern "C" fn iol_port_entry(alloc: Global, handle: &mut IolPort, out: &mut IolEntry) -> u8
-    ensures closed { IsFalse handle.old.is_open → IsRefused result handle.old handle.new }
-    ensures unwritten { IsFalse handle.old.is_open → out.new ≡ out.old }
+    ensures closed { LeavesClosed result handle.old handle.new out.old out.new }
     ensures stays { handle.new.is_open ≡ handle.old.is_open }
     ensures done { IsTrue handle.old.is_open → result ≡ 0 }
     ensures port { handle.new.held.value.port ≡ handle.old.held.value.port }

@@ -1,8 +1,8 @@
 //! What a port has counted.
-ghost use Rattle.std.specs.Prelude.{◌≡◌, IsTrue, IsFalse};
+ghost use Rattle.std.specs.Prelude.{◌≡◌, IsTrue};
 ghost use Rattle.iol_port.specs.declared.call.Call.TheVariants as call;
 ghost use Rattle.iol_port.specs.declared.call.Answered.TheVariants as answered;
-ghost use Rattle.iolink_port_c.specs.Calls.{parts_of, IsRefused, CallDoes};
+ghost use Rattle.iolink_port_c.specs.Calls.{parts_of, LeavesClosed, CallDoes};
 ghost use Rattle.iolink_port_c.specs.Shown.{counters_shown};
 
 use crate::held::IolPort;
@@ -54,8 +54,7 @@ pub extern "C" fn iol_port_counters(
     handle: &mut IolPort,
     out: &mut IolCounters,
 ) -> u8
-    ensures closed { IsFalse handle.old.is_open → IsRefused result handle.old handle.new }
-    ensures unwritten { IsFalse handle.old.is_open → out.new ≡ out.old }
+    ensures closed { LeavesClosed result handle.old handle.new out.old out.new }
     ensures stays { handle.new.is_open ≡ handle.old.is_open }
     ensures same { handle.new.held.value ≡ handle.old.held.value }
     ensures counters { IsTrue handle.old.is_open →

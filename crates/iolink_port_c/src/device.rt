@@ -6,7 +6,7 @@ ghost use Rattle.iol_port.specs.declared.call.Call.TheVariants as call;
 ghost use Rattle.iol_port.specs.declared.call.Answered.TheVariants as answered;
 ghost use Rattle.iol_port.specs.EveryWire.{page_shown};
 ghost use Rattle.iolink_handle.specs.Shown.{AreShown};
-ghost use Rattle.iolink_port_c.specs.Calls.{parts_of, IsRefused, CallDoes, Guards, GuardsOut};
+ghost use Rattle.iolink_port_c.specs.Calls.{parts_of, LeavesClosed, CallDoes, Guards, GuardsOut};
 ghost use Rattle.iolink_port_c.specs.DeviceCalls.{identity_at, largest_device, counting_number};
 ghost use Rattle.iolink_port_c.specs.DeviceCalls.{IsCycleOf, Expects, Paces};
 
@@ -136,8 +136,7 @@ pub struct IolPage {
 /// leaves `out` as it is. It has no octet in down and before a start-up has checked it.
 #[unsafe(no_mangle)]
 pub extern "C" fn iol_port_page(alloc: Global, handle: &mut IolPort, out: &mut IolPage) -> u8
-    ensures closed { IsFalse handle.old.is_open → IsRefused result handle.old handle.new }
-    ensures unwritten { IsFalse handle.old.is_open → out.new ≡ out.old }
+    ensures closed { LeavesClosed result handle.old handle.new out.old out.new }
     ensures stays { handle.new.is_open ≡ handle.old.is_open }
     ensures same { handle.new.held.value ≡ handle.old.held.value }
     ensures page { IsTrue handle.old.is_open → (result ≡ 0)

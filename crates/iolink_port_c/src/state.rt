@@ -1,5 +1,5 @@
 //! The link, process data and events.
-ghost use Rattle.std.specs.Prelude.{◌≡◌, unwrap_or, [], IsTrue, IsFalse};
+ghost use Rattle.std.specs.Prelude.{◌≡◌, unwrap_or, [], IsTrue};
 ghost use Rattle.iol_port.specs.declared.call.Call.TheVariants as call;
 ghost use Rattle.iol_port.specs.declared.call.Answered.TheVariants as answered;
 ghost use Rattle.iol_image.specs.Image.{IsImage};
@@ -8,7 +8,7 @@ ghost use Rattle.iol_port.specs.CorePort.{awaited};
 ghost use Rattle.iol_port.specs.View.{status_of};
 ghost use Rattle.iolink_handle.specs.Shown.{AreShown};
 ghost use Rattle.iolink_port_c.specs.Shown.{IsShown};
-ghost use Rattle.iolink_port_c.specs.Calls.{parts_of, IsRefused, IsNotAsked, CallDoes, Guards, GuardsOut};
+ghost use Rattle.iolink_port_c.specs.Calls.{parts_of, LeavesClosed, IsNotAsked, CallDoes, Guards, GuardsOut};
 ghost use Rattle.iolink_port_c.specs.StateCalls.{Restarts, SetsOutput, ClearsOutput, TakesEvent};
 
 use crate::held::IolPort;
@@ -80,8 +80,7 @@ pub extern "C" fn iol_port_clear_output(alloc: Global, handle: &mut IolPort) -> 
 /// The device's input: 0, or 252 where the handle is closed, which leaves `out` as it is.
 #[unsafe(no_mangle)]
 pub extern "C" fn iol_port_image(alloc: Global, handle: &mut IolPort, out: &mut IolImage) -> u8
-    ensures closed { IsFalse handle.old.is_open → IsRefused result handle.old handle.new }
-    ensures unwritten { IsFalse handle.old.is_open → out.new ≡ out.old }
+    ensures closed { LeavesClosed result handle.old handle.new out.old out.new }
     ensures stays { handle.new.is_open ≡ handle.old.is_open }
     ensures same { handle.new.held.value ≡ handle.old.held.value }
     ensures image { IsTrue handle.old.is_open → (result ≡ 0)
@@ -142,8 +141,7 @@ pub struct IolStatus {
 /// which leaves `out` as it is.
 #[unsafe(no_mangle)]
 pub extern "C" fn iol_port_status(alloc: Global, handle: &mut IolPort, out: &mut IolStatus) -> u8
-    ensures closed { IsFalse handle.old.is_open → IsRefused result handle.old handle.new }
-    ensures unwritten { IsFalse handle.old.is_open → out.new ≡ out.old }
+    ensures closed { LeavesClosed result handle.old handle.new out.old out.new }
     ensures stays { handle.new.is_open ≡ handle.old.is_open }
     ensures same { handle.new.held.value ≡ handle.old.held.value }
     ensures status { IsTrue handle.old.is_open →
