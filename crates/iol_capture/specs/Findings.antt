@@ -1,5 +1,5 @@
 -- What is printed of a judged capture.
-use Rattle.std.specs.Prelude.{◌≡◌, ℕ, Bool, false, not, ◌&&◌, ◌||◌, ◌==◌, Option, Some, None, Result, OnOk, List, [], ◌++◌, if◌then◌else◌, String, string_bytes, codes, flat_map}
+use Rattle.std.specs.Prelude.{ℕ, Bool, false, not, ◌&&◌, ◌||◌, ◌==◌, Option, Some, None, List, [], ◌++◌, if◌then◌else◌, codes, flat_map}
 use Rattle.std.specs.Fmt.{decimal}
 use Rattle.iol_judge.specs.declared.open.Open.{Open}
 use Rattle.iol_judge.specs.declared.open.Open.TheVariants as «open»
@@ -20,10 +20,6 @@ use Rattle.iol_watch.specs.declared.verdict.Verdict.TheVariants as master
 use Rattle.iol_watch.specs.Numbers.{fault_number}
 use Rattle.iol_capture.specs.Judging.{Judging}
 use Rattle.iol_capture.specs.Watching.{Watching}
-
--- where it's `Ok`, this text was added
-abbrev pub Prints : {T E A : Type 0} → Result T E → String A → String A → List ℕ → Type 0
-Prints result old new text = OnOk result (string_bytes new ≡ string_bytes old ++ text)
 
 -- the name of a reason, what a device by the rules doesn't send, and the rule
 abbrev pub reason_text : Reason → List ℕ

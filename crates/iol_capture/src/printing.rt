@@ -1,7 +1,8 @@
 //! What is printed of a judged capture.
 ghost use Rattle.std.specs.Prelude.{◌≡◌, IfOk, codes};
 ghost use Rattle.std.specs.String.{string_bytes};
-ghost use Rattle.iol_capture.specs.Findings.{Prints, are_told, because_text, blamed_text, count_text, fault_text, finding_of, finding_text, from_text, honest_text, kind_text, kinds_text, master_text, odd_texts, open_text, reason_text, unsure_text, verdict_text};
+ghost use Rattle.iol_script.specs.Printing.{Prints};
+ghost use Rattle.iol_capture.specs.Findings.{are_told, because_text, blamed_text, count_text, fault_text, finding_of, finding_text, from_text, honest_text, kind_text, kinds_text, master_text, odd_texts, open_text, reason_text, unsure_text, verdict_text};
 
 use crate::judgement::{Counts, Judgement, OddExchange};
 use crate::watching::Watching;

@@ -38,14 +38,14 @@ PrintsReply present read octets text =
     (λ fault. text ≡ refusal_text fault)
 
 -- what is printed for a line in the present layout
-abbrev pub Prints : Shape → Form → List ℕ → Type 0
-Prints present skip text = text ≡ []
-Prints present (layout line) text =
+abbrev pub PrintsLine : Shape → Form → List ℕ → Type 0
+PrintsLine present skip text = text ≡ []
+PrintsLine present (layout line) text =
     MatchResult (asked_layout line) (λ taken. text ≡ layout_text taken)
     (λ fault. text ≡ refusal_text fault)
-Prints present (master octets) text = PrintsMessage present octets text
-Prints present (read_reply octets) text = PrintsReply present true octets text
-Prints present (write_reply octets) text = PrintsReply present false octets text
+PrintsLine present (master octets) text = PrintsMessage present octets text
+PrintsLine present (read_reply octets) text = PrintsReply present true octets text
+PrintsLine present (write_reply octets) text = PrintsReply present false octets text
 
 -- what is printed for lines, one after the other; each fits a form
 abbrev pub PrintsAll : Shape → List (ℕ × List ℕ) → List ℕ → Type 0
@@ -53,4 +53,4 @@ PrintsAll present [] text = text ≡ []
 PrintsAll present ((number, line) ∷ lines) text =
     MatchOption (line_form line) ⊥
     (λ form. (first : List ℕ) × (later : List ℕ) × (text ≡ first ++ later)
-    × Prints present form first × PrintsAll (layout_after present form) lines later)
+    × PrintsLine present form first × PrintsAll (layout_after present form) lines later)

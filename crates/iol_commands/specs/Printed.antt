@@ -1,5 +1,5 @@
 -- What `check` prints.
-use Rattle.std.specs.Prelude.{◌≡◌, ℕ, ◌/◌, ◌%◌, Bool, true, if◌then◌else◌, List, [], ◌∷◌, ◌++◌, flat_map, codes}
+use Rattle.std.specs.Prelude.{◌≡◌, ℕ, ◌/◌, ◌%◌, Bool, true, if◌then◌else◌, Result, OnOk, List, [], ◌∷◌, ◌++◌, String, string_bytes, flat_map, codes}
 use Rattle.std.specs.Fmt.{decimal, digit_glyph}
 use Rattle.iol_octets.specs.CheckOctets.{type_bits}
 use Rattle.iol_octets.specs.declared.control.Mc.{Mc}
@@ -15,6 +15,11 @@ use Rattle.iol_mseq.specs.declared.reply.Reply.{Reply}
 -- a text stands behind what was printed before, and this holds of it
 abbrev pub Adds : List ℕ → List ℕ → (List ℕ → Type 0) → Type 0
 Adds before after holds = (text : List ℕ) × (after ≡ before ++ text) × holds text
+
+-- where it's `Ok`, some text was added, and this holds of it
+abbrev pub PrintsSome : {T E A : Type 0} → Result T E → String A → String A
+    → (List ℕ → Type 0) → Type 0
+PrintsSome result old new holds = OnOk result (Adds (string_bytes old) (string_bytes new) holds)
 
 -- an octet in two hexadecimal digits, the letters as capitals
 abbrev pub hexadecimal : ℕ → List ℕ

@@ -1,12 +1,12 @@
 //! `check`: what the octets of each line spell.
-ghost use Rattle.std.specs.Prelude.{◌≡◌, ◌≢◌, ◌<◌, ◌+◌, ◌++◌, ◌⊎◌, List, ℕ, Err, OnErr, OnOk, IfOk, IfErr, Some, None};
+ghost use Rattle.std.specs.Prelude.{◌≡◌, ◌≢◌, ◌⊎◌, ℕ, Err, OnErr, OnOk, IfOk, IfErr, Some, None};
 ghost use Rattle.std.specs.Io.KnownBytes.{Keeps};
 ghost use Rattle.std.specs.String.{string_bytes};
 ghost use Rattle.iol_mseq.specs.Shape.{startup_shape};
-ghost use Rattle.iol_commands.specs.declared.fault.ProgramFault.TheVariants.{Line, NoThread, OutOfMemory, TooLong, WriteFailed};
+ghost use Rattle.iol_commands.specs.declared.fault.ProgramFault.TheVariants.{Line, NoThread, OutOfMemory, WriteFailed};
 ghost use Rattle.iol_script.specs.CheckLines.{first_bad, parsed_form};
-ghost use Rattle.iol_commands.specs.Printed.{Adds};
-ghost use Rattle.iol_commands.specs.Checked.{asked_layout, layout_after, Prints, PrintsMessage, PrintsReply, PrintsAll};
+ghost use Rattle.iol_commands.specs.Printed.{PrintsSome};
+ghost use Rattle.iol_commands.specs.Checked.{asked_layout, layout_after, PrintsLine, PrintsMessage, PrintsReply, PrintsAll};
 ghost use Rattle.iol_script.specs.Text.{numbered_lines};
 ghost use Rattle.iol_commands.specs.Input.{Answers};
 
@@ -68,8 +68,8 @@ fn answer<A: Allocator>(
     layout: &mut Layout,
     line: &CheckLine,
 ) -> Result<(), AllocError>
-    ensures printed { OnOk result (Adds (string_bytes output.old) (string_bytes output.new)
-        (Prints layout.old (parsed_form line.now))) }
+    ensures printed { PrintsSome result output.old output.new
+        (PrintsLine layout.old (parsed_form line.now)) }
     ensures layout { layout.new ≡ layout_after layout.old (parsed_form line.now) }
 {
     match line {
@@ -103,8 +103,7 @@ pub(crate) fn answer_message<A: Allocator>(
     layout: &Layout,
     octets: &[u8],
 ) -> Result<(), AllocError>
-    ensures { OnOk result (Adds (string_bytes output.old) (string_bytes output.new)
-        (PrintsMessage layout.now octets.now)) }
+    ensures { PrintsSome result output.old output.new (PrintsMessage layout.now octets.now) }
 {
     match read_master(layout, octets) {
         Ok(message) => print_message(output, &message),
@@ -119,8 +118,7 @@ pub(crate) fn answer_reply<A: Allocator>(
     read: bool,
     octets: &[u8],
 ) -> Result<(), AllocError>
-    ensures { OnOk result (Adds (string_bytes output.old) (string_bytes output.new)
-        (PrintsReply layout.now read octets.now)) }
+    ensures { PrintsSome result output.old output.new (PrintsReply layout.now read octets.now) }
 {
     match read_reply(layout, read, octets) {
         Ok(reply) => print_reply(output, read, &reply),

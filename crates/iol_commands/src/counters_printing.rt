@@ -1,6 +1,6 @@
 //! What is printed for a port's counters, and for the causes that it counts by.
-ghost use Rattle.std.specs.Prelude.{◌≡◌, ◌++◌, OnOk, map};
-ghost use Rattle.std.specs.String.{string_bytes};
+ghost use Rattle.std.specs.Prelude.{◌≡◌, map};
+ghost use Rattle.iol_script.specs.Printing.{Prints};
 ghost use Rattle.iol_commands.specs.CountersPrinted.{cause_name, named_counters};
 ghost use Rattle.iol_commands.specs.CountersPrinted.{counter_text, counters_text};
 
@@ -50,8 +50,7 @@ fn print_counter<A: Allocator>(
     name: &str,
     count: u64,
 ) -> Result<(), AllocError>
-    ensures { OnOk result (string_bytes output.new
-        ≡ string_bytes output.old ++ counter_text (name.now, count)) }
+    ensures { Prints result output.old output.new (counter_text (name.now, count)) }
 {
     write!(output, " {name} {count}")
 }
@@ -61,8 +60,7 @@ pub(crate) fn print_counters<A: Allocator>(
     output: &mut String<A>,
     counters: &Counters,
 ) -> Result<(), AllocError>
-    ensures { OnOk result (string_bytes output.new
-        ≡ string_bytes output.old ++ counters_text counters.now) }
+    ensures { Prints result output.old output.new (counters_text counters.now) }
 {
     output.push_str("counters")?;
     for (name, count) in &named_counters(counters) {

@@ -1,12 +1,12 @@
 //! `many`: many ports, and clients in threads of their own.
-ghost use Rattle.std.specs.Prelude.{◌≡◌, ◌≢◌, ◌<◌, ◌≤◌, ◌+◌, ◌⊎◌, length, ℕ};
+ghost use Rattle.std.specs.Prelude.{◌≡◌, ◌≢◌, ◌≤◌, ◌⊎◌, length, ℕ};
 ghost use Rattle.std.specs.Prelude.{Err, IfErr, IfOk, IsOk, OnErr, OnOk};
 ghost use Rattle.std.specs.Io.KnownBytes.{Keeps};
 ghost use Rattle.std.specs.String.{string_bytes};
 ghost use Rattle.iol_script.specs.Plan.{plan_of};
 ghost use Rattle.iol_script.specs.Text.{numbered_lines};
 ghost use Rattle.iol_commands.specs.declared.fault.ProgramFault.TheVariants.{Line, NoThread};
-ghost use Rattle.iol_commands.specs.declared.fault.ProgramFault.TheVariants.{OutOfMemory, TooLong};
+ghost use Rattle.iol_commands.specs.declared.fault.ProgramFault.TheVariants.{OutOfMemory};
 ghost use Rattle.iol_commands.specs.declared.fault.ProgramFault.TheVariants.{WriteFailed};
 ghost use Rattle.iol_commands.specs.ManyPrinted.{PrintsCounts};
 ghost use Rattle.iol_commands.specs.Input.{Answers, OfLines};

@@ -1,6 +1,5 @@
 //! What `many` prints for the counts of its ports.
-ghost use Rattle.std.specs.Prelude.{◌≡◌, ◌++◌, OnOk};
-ghost use Rattle.std.specs.String.{string_bytes};
+ghost use Rattle.iol_script.specs.Printing.{Prints};
 ghost use Rattle.iol_commands.specs.ManyPrinted.{counters_line, counts_text, port_text, ports_text};
 ghost use Rattle.iol_commands.specs.ManyPrinted.{tickets_line};
 
@@ -16,8 +15,7 @@ fn print_tickets<A: Allocator>(
     port: usize,
     counted: &Counted,
 ) -> Result<(), AllocError>
-    ensures { OnOk result (string_bytes output.new
-        ≡ string_bytes output.old ++ tickets_line port counted.now) }
+    ensures { Prints result output.old output.new (tickets_line port counted.now) }
 {
     let Counted {
         tickets,
@@ -38,8 +36,7 @@ fn print_counted<A: Allocator>(
     port: usize,
     counters: &Counters,
 ) -> Result<(), AllocError>
-    ensures { OnOk result (string_bytes output.new
-        ≡ string_bytes output.old ++ counters_line shown port counters.now) }
+    ensures { Prints result output.old output.new (counters_line shown port counters.now) }
 {
     match shown {
         Shown::Tickets => Ok(()),
@@ -57,8 +54,7 @@ fn print_port<A: Allocator>(
     port: usize,
     counts: &PortCounts,
 ) -> Result<(), AllocError>
-    ensures { OnOk result (string_bytes output.new
-        ≡ string_bytes output.old ++ port_text shown port counts.now) }
+    ensures { Prints result output.old output.new (port_text shown port counts.now) }
 {
     print_tickets(output, port, &counts.requests)?;
     print_counted(output, shown, port, &counts.counters)
@@ -70,8 +66,7 @@ fn print_ports<A: Allocator>(
     shown: Shown,
     ports: &[PortCounts],
 ) -> Result<(), AllocError>
-    ensures { OnOk result (string_bytes output.new
-        ≡ string_bytes output.old ++ ports_text shown ports.now) }
+    ensures { Prints result output.old output.new (ports_text shown ports.now) }
 {
     for (place, counts) in ports.iter().enumerate() {
         print_port(output, shown, place + 1, counts)?;
@@ -85,8 +80,7 @@ pub(crate) fn print_counts<A: Allocator>(
     counts: &Counts,
     shown: Shown,
 ) -> Result<(), AllocError>
-    ensures { OnOk result (string_bytes output.new
-        ≡ string_bytes output.old ++ counts_text shown counts.now) }
+    ensures { Prints result output.old output.new (counts_text shown counts.now) }
 {
     print_ports(output, shown, counts.ports.as_slice())?;
     let total = counts.total;

@@ -1,8 +1,8 @@
 //! What is printed for one call of the wire.
-ghost use Rattle.std.specs.Prelude.{◌≡◌, ◌++◌, OnOk};
-ghost use Rattle.std.specs.String.{string_bytes};
+ghost use Rattle.std.specs.Prelude.{◌≡◌};
 ghost use Rattle.iol_far.specs.Octets.{octets_in};
-ghost use Rattle.iol_commands.specs.Printed.{Adds};
+ghost use Rattle.iol_script.specs.Printing.{Prints};
+ghost use Rattle.iol_commands.specs.Printed.{PrintsSome};
 ghost use Rattle.iol_commands.specs.Passing.{rate_name, wake_text, line_front, asks_read, PrintsSent, PrintsCame, PrintsPassed};
 
 use crate::check_command::{answer_message, answer_reply};
@@ -22,9 +22,7 @@ pub(crate) fn print_passed<A: Allocator>(
     layout: &Layout,
     passed: &Passed,
 ) -> Result<(), AllocError>
-    ensures { OnOk result
-        (Adds (string_bytes output.old) (string_bytes output.new)
-        (PrintsPassed number layout.now passed.now)) }
+    ensures { PrintsSome result output.old output.new (PrintsPassed number layout.now passed.now) }
 {
     match passed {
         Passed::Wake(rate) => print_wake(output, number, *rate),
@@ -54,8 +52,7 @@ fn print_wake<A: Allocator>(
     number: u64,
     rate: Option<Rate>,
 ) -> Result<(), AllocError>
-    ensures { OnOk result (string_bytes output.new
-        ≡ string_bytes output.old ++ wake_text number rate) }
+    ensures { Prints result output.old output.new (wake_text number rate) }
 {
     let name = rate_name(rate);
     writeln!(output, "{number} wake {name}")
@@ -68,8 +65,7 @@ fn print_front<A: Allocator>(
     way: &str,
     octets: &[u8],
 ) -> Result<(), AllocError>
-    ensures { OnOk result (string_bytes output.new
-        ≡ string_bytes output.old ++ line_front number way.now octets.now) }
+    ensures { Prints result output.old output.new (line_front number way.now octets.now) }
 {
     write!(output, "{number} {way}")?;
     print_octets(output, octets)?;
@@ -90,9 +86,7 @@ fn print_sent<A: Allocator>(
     layout: &Layout,
     octets: &[u8],
 ) -> Result<(), AllocError>
-    ensures { OnOk result
-        (Adds (string_bytes output.old) (string_bytes output.new)
-        (PrintsSent number layout.now octets.now)) }
+    ensures { PrintsSome result output.old output.new (PrintsSent number layout.now octets.now) }
 {
     print_front(output, number, ">", octets)?;
     answer_message(output, layout, octets)
@@ -106,9 +100,8 @@ fn print_came<A: Allocator>(
     read: bool,
     answer: &Option<Message>,
 ) -> Result<(), AllocError>
-    ensures { OnOk result
-        (Adds (string_bytes output.old) (string_bytes output.new)
-        (PrintsCame number layout.now read (octets_in answer.now))) }
+    ensures { PrintsSome result output.old output.new
+        (PrintsCame number layout.now read (octets_in answer.now)) }
 {
     let Some(octets) = answer else {
         return writeln!(output, "{number} < none");

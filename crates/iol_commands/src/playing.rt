@@ -1,11 +1,11 @@
 //! The calls of a script, made on a port, with what each of them answers.
-ghost use Rattle.std.specs.Prelude.{◌≡◌, ◌++◌, OnOk, IfOk, replicate};
+ghost use Rattle.std.specs.Prelude.{◌≡◌, IfOk, replicate};
 ghost use Rattle.std.specs.List.{list_any};
-ghost use Rattle.std.specs.String.{string_bytes};
 ghost use Rattle.iol_port.specs.declared.call.Call.TheVariants.{Turn};
+ghost use Rattle.iol_script.specs.Printing.{Prints};
 ghost use Rattle.iol_script.specs.Script.{calls_in, line_calls};
 ghost use Rattle.iol_script.specs.Text.{numbered_lines};
-ghost use Rattle.iol_commands.specs.Printed.{Adds};
+ghost use Rattle.iol_commands.specs.Printed.{PrintsSome};
 ghost use Rattle.iol_commands.specs.RunPlayed.{lacks_memory, PortPlays};
 ghost use Rattle.iol_commands.specs.RunPrinted.{answers_text};
 
@@ -28,8 +28,8 @@ pub(crate) fn play_lines<W: Wire, A: Handle>(
     port: &mut Port<W, A>,
     input: &[u8],
 ) -> Result<(), AllocError>
-    ensures { OnOk result (Adds (string_bytes output.old) (string_bytes output.new)
-        (PortPlays W.facts port.old.parts (calls_in (numbered_lines input.now)) port.new.parts)) }
+    ensures { PrintsSome result output.old output.new
+        (PortPlays W.facts port.old.parts (calls_in (numbered_lines input.now)) port.new.parts) }
 {
     runs_join();
     let turns = turns_of(alloc)?;
@@ -61,8 +61,8 @@ fn play_line<W: Wire, A: Handle>(
     line: &CallLine,
 ) -> Result<(), AllocError>
     requires { turns.now ≡ replicate PIECE Turn }
-    ensures { OnOk result (Adds (string_bytes output.old) (string_bytes output.new)
-        (PortPlays W.facts port.old.parts (line_calls line.now) port.new.parts)) }
+    ensures { PrintsSome result output.old output.new
+        (PortPlays W.facts port.old.parts (line_calls line.now) port.new.parts) }
 {
     match line {
         CallLine::Once(call) => play(alloc, output, port, slice::from_ref(call)),
@@ -79,8 +79,8 @@ fn play_turns<W: Wire, A: Handle>(
     count: usize,
 ) -> Result<(), AllocError>
     requires { turns.now ≡ replicate PIECE Turn }
-    ensures { OnOk result (Adds (string_bytes output.old) (string_bytes output.new)
-        (PortPlays W.facts port.old.parts (replicate count Turn) port.new.parts)) }
+    ensures { PrintsSome result output.old output.new
+        (PortPlays W.facts port.old.parts (replicate count Turn) port.new.parts) }
 {
     runs_join();
     let mut made = 0;
@@ -99,8 +99,8 @@ fn play<W: Wire, A: Handle>(
     port: &mut Port<W, A>,
     calls: &[Call],
 ) -> Result<(), AllocError>
-    ensures { OnOk result (Adds (string_bytes output.old) (string_bytes output.new)
-        (PortPlays W.facts port.old.parts calls.now port.new.parts)) }
+    ensures { PrintsSome result output.old output.new
+        (PortPlays W.facts port.old.parts calls.now port.new.parts) }
 {
     let Ok(answers) = port.run(alloc, calls) else {
         return Err(AllocError);
@@ -133,8 +133,7 @@ fn print_answers<A: Allocator>(
     calls: &[Call],
     answers: &[Answered],
 ) -> Result<(), AllocError>
-    ensures { OnOk result (string_bytes output.new
-        ≡ string_bytes output.old ++ answers_text calls.now answers.now) }
+    ensures { Prints result output.old output.new (answers_text calls.now answers.now) }
 {
     for (call, answer) in calls.iter().zip(answers) {
         print_answer(output, call, answer)?;

@@ -1,6 +1,6 @@
 //! What is printed for a line.
-ghost use Rattle.std.specs.Prelude.{◌≡◌, ◌++◌, OnOk};
-ghost use Rattle.std.specs.String.{string_bytes};
+ghost use Rattle.std.specs.Prelude.{◌≡◌};
+ghost use Rattle.iol_script.specs.Printing.{Prints};
 ghost use Rattle.iol_commands.specs.Printed.{hexadecimal, number_text, type_text, process_text, control_text, written_text, answered_text, status_text, octets_text, part_text, layout_text, fault_name, channel_text, refusal_text, message_text, reply_text};
 
 use iol_mseq::{Layout, MasterMsg, MseqFault, Reply};
@@ -12,7 +12,7 @@ pub(crate) fn print_hexadecimal<A: Allocator>(
     output: &mut String<A>,
     octet: u8,
 ) -> Result<(), AllocError>
-    ensures { OnOk result (string_bytes output.new ≡ string_bytes output.old ++ hexadecimal octet) }
+    ensures { Prints result output.old output.new (hexadecimal octet) }
 {
     write!(output, "{octet:02X}")
 }
@@ -23,8 +23,7 @@ pub(crate) fn print_octets<A: Allocator>(
     output: &mut String<A>,
     octets: &[u8],
 ) -> Result<(), AllocError>
-    ensures { OnOk result (string_bytes output.new
-        ≡ string_bytes output.old ++ octets_text octets.now) }
+    ensures { Prints result output.old output.new (octets_text octets.now) }
 {
     for octet in octets {
         output.push_str(" ")?;
@@ -39,8 +38,7 @@ fn print_part<A: Allocator>(
     name: &str,
     octets: &[u8],
 ) -> Result<(), AllocError>
-    ensures { OnOk result (string_bytes output.new
-        ≡ string_bytes output.old ++ part_text name.now octets.now) }
+    ensures { Prints result output.old output.new (part_text name.now octets.now) }
 {
     if octets.is_empty() {
         return Ok(());
@@ -55,16 +53,14 @@ fn print_number<A: Allocator>(
     name: &str,
     number: u8,
 ) -> Result<(), AllocError>
-    ensures { OnOk result (string_bytes output.new
-        ≡ string_bytes output.old ++ number_text name.now number) }
+    ensures { Prints result output.old output.new (number_text name.now number) }
 {
     write!(output, "{name}{number}")
 }
 
 /// The M-sequence type, and how many octets on-request data has.
 fn print_type<A: Allocator>(output: &mut String<A>, layout: &Layout) -> Result<(), AllocError>
-    ensures { OnOk result (string_bytes output.new
-        ≡ string_bytes output.old ++ type_text layout.now) }
+    ensures { Prints result output.old output.new (type_text layout.now) }
 {
     print_number(output, "layout type ", layout.kind().bits())?;
     print_number(output, " od ", layout.od().get())
@@ -72,8 +68,7 @@ fn print_type<A: Allocator>(output: &mut String<A>, layout: &Layout) -> Result<(
 
 /// How many octets of process data go in and out.
 fn print_process<A: Allocator>(output: &mut String<A>, layout: &Layout) -> Result<(), AllocError>
-    ensures { OnOk result (string_bytes output.new
-        ≡ string_bytes output.old ++ process_text layout.now) }
+    ensures { Prints result output.old output.new (process_text layout.now) }
 {
     print_number(output, " in ", layout.pd_in())?;
     print_number(output, " out ", layout.pd_out())
@@ -84,8 +79,7 @@ pub(crate) fn print_layout<A: Allocator>(
     output: &mut String<A>,
     layout: &Layout,
 ) -> Result<(), AllocError>
-    ensures { OnOk result (string_bytes output.new
-        ≡ string_bytes output.old ++ layout_text layout.now) }
+    ensures { Prints result output.old output.new (layout_text layout.now) }
 {
     print_type(output, layout)?;
     print_process(output, layout)?;
@@ -110,8 +104,7 @@ pub(crate) fn print_refusal<A: Allocator>(
     output: &mut String<A>,
     fault: &MseqFault,
 ) -> Result<(), AllocError>
-    ensures { OnOk result (string_bytes output.new
-        ≡ string_bytes output.old ++ refusal_text fault.now) }
+    ensures { Prints result output.old output.new (refusal_text fault.now) }
 {
     let number = fault.code();
     let name = name_of(fault);
@@ -132,8 +125,7 @@ fn channel_name(channel: Channel) -> &'static str
 
 /// The direction, the channel and the address.
 fn print_control<A: Allocator>(output: &mut String<A>, mc: &Mc) -> Result<(), AllocError>
-    ensures { OnOk result (string_bytes output.new
-        ≡ string_bytes output.old ++ control_text mc.now) }
+    ensures { Prints result output.old output.new (control_text mc.now) }
 {
     output.push_str(if mc.read { "read " } else { "write " })?;
     output.push_str(channel_name(mc.channel))?;
@@ -146,8 +138,7 @@ fn print_written<A: Allocator>(
     output: &mut String<A>,
     message: &MasterMsg,
 ) -> Result<(), AllocError>
-    ensures { OnOk result (string_bytes output.new
-        ≡ string_bytes output.old ++ written_text message.now) }
+    ensures { Prints result output.old output.new (written_text message.now) }
 {
     if message.mc.read {
         return Ok(());
@@ -161,8 +152,7 @@ pub(crate) fn print_message<A: Allocator>(
     output: &mut String<A>,
     message: &MasterMsg,
 ) -> Result<(), AllocError>
-    ensures { OnOk result (string_bytes output.new
-        ≡ string_bytes output.old ++ message_text message.now) }
+    ensures { Prints result output.old output.new (message_text message.now) }
 {
     print_control(output, &message.mc)?;
     print_part(output, " out", message.out.as_slice())?;
@@ -176,8 +166,7 @@ fn print_answered<A: Allocator>(
     read: bool,
     reply: &Reply,
 ) -> Result<(), AllocError>
-    ensures { OnOk result (string_bytes output.new
-        ≡ string_bytes output.old ++ answered_text read reply.now) }
+    ensures { Prints result output.old output.new (answered_text read reply.now) }
 {
     if !read {
         return output.push_str("ack");
@@ -188,8 +177,7 @@ fn print_answered<A: Allocator>(
 
 /// The Event flag and the process data status.
 fn print_status<A: Allocator>(output: &mut String<A>, reply: &Reply) -> Result<(), AllocError>
-    ensures { OnOk result (string_bytes output.new
-        ≡ string_bytes output.old ++ status_text reply.now) }
+    ensures { Prints result output.old output.new (status_text reply.now) }
 {
     output.push_str(if reply.event { " event 1" } else { " event 0" })?;
     output.push_str(if reply.invalid {
@@ -205,8 +193,7 @@ pub(crate) fn print_reply<A: Allocator>(
     read: bool,
     reply: &Reply,
 ) -> Result<(), AllocError>
-    ensures { OnOk result (string_bytes output.new
-        ≡ string_bytes output.old ++ reply_text read reply.now) }
+    ensures { Prints result output.old output.new (reply_text read reply.now) }
 {
     print_answered(output, read, reply)?;
     print_part(output, " in", reply.input.as_slice())?;

@@ -1,11 +1,11 @@
 //! `run`: a port over a simulated wire, as a script says.
-ghost use Rattle.std.specs.Prelude.{◌≡◌, ◌≢◌, ◌<◌, ◌≤◌, ◌⊎◌, ℕ, Err, OnErr, OnOk, IfOk, IfErr, IsOk, None, Some, false};
+ghost use Rattle.std.specs.Prelude.{◌≡◌, ◌≢◌, ◌⊎◌, ℕ, Err, OnErr, OnOk, IfOk, IfErr, IsOk, None, Some, false};
 ghost use Rattle.std.specs.Io.KnownBytes.{Keeps};
 ghost use Rattle.std.specs.String.{string_bytes};
 ghost use Rattle.iol_page.specs.Page.{layouts_of};
 ghost use Rattle.iol_script.specs.Script.{IsScript, first_bad_run, value_of};
 ghost use Rattle.iol_script.specs.Text.{numbered_lines};
-ghost use Rattle.iol_commands.specs.declared.fault.ProgramFault.TheVariants.{Line, NoThread, OutOfMemory, TooLong, WriteFailed};
+ghost use Rattle.iol_commands.specs.declared.fault.ProgramFault.TheVariants.{Line, NoThread, OutOfMemory, WriteFailed};
 ghost use Rattle.iol_commands.specs.RunPlayed.{first_far, first_wire, new_device, PrintsRun};
 ghost use Rattle.iol_commands.specs.Input.{Answers};
 

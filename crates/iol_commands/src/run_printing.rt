@@ -1,7 +1,7 @@
 //! What `run` prints for the answers to its calls, and for the device's record.
-ghost use Rattle.std.specs.Prelude.{◌≡◌, ◌++◌, OnOk, Some};
-ghost use Rattle.std.specs.String.{string_bytes};
+ghost use Rattle.std.specs.Prelude.{◌≡◌, Some};
 ghost use Rattle.std.specs.Option.{option_copied};
+ghost use Rattle.iol_script.specs.Printing.{Prints};
 ghost use Rattle.iol_commands.specs.RunPrinted.{listed_text, place_text, request_text, device_text};
 ghost use Rattle.iol_commands.specs.RunPrinted.{outcome_text, ticket_text, collected_text};
 ghost use Rattle.iol_commands.specs.RunPrinted.{image_text, code_text, event_text};
@@ -31,8 +31,7 @@ use std::alloc::{AllocError, Allocator};
 
 /// The octets, each behind a space, or a dash where there is none.
 fn print_listed<A: Allocator>(output: &mut String<A>, octets: &[u8]) -> Result<(), AllocError>
-    ensures { OnOk result (string_bytes output.new
-        ≡ string_bytes output.old ++ listed_text octets.now) }
+    ensures { Prints result output.old output.new (listed_text octets.now) }
 {
     if octets.is_empty() {
         return output.push_str(" -");
@@ -42,7 +41,7 @@ fn print_listed<A: Allocator>(output: &mut String<A>, octets: &[u8]) -> Result<(
 
 /// An index and a subindex.
 fn print_place<A: Allocator>(output: &mut String<A>, place: Place) -> Result<(), AllocError>
-    ensures { OnOk result (string_bytes output.new ≡ string_bytes output.old ++ place_text place) }
+    ensures { Prints result output.old output.new (place_text place) }
 {
     let Place { index, sub } = place;
     write!(output, "{index} {sub}")
@@ -50,8 +49,7 @@ fn print_place<A: Allocator>(output: &mut String<A>, place: Place) -> Result<(),
 
 /// A request, with the octets of a write.
 fn print_request<A: Allocator>(output: &mut String<A>, request: &Request) -> Result<(), AllocError>
-    ensures { OnOk result (string_bytes output.new
-        ≡ string_bytes output.old ++ request_text request.now) }
+    ensures { Prints result output.old output.new (request_text request.now) }
 {
     match request {
         Request::Read(place) => {
@@ -71,8 +69,7 @@ fn print_device_answer<A: Allocator>(
     output: &mut String<A>,
     answer: &Answer,
 ) -> Result<(), AllocError>
-    ensures { OnOk result (string_bytes output.new
-        ≡ string_bytes output.old ++ device_text answer.now) }
+    ensures { Prints result output.old output.new (device_text answer.now) }
 {
     match answer {
         Answer::Read(octets) => {
@@ -89,8 +86,7 @@ fn print_device_answer<A: Allocator>(
 
 /// How a request ended.
 fn print_outcome<A: Allocator>(output: &mut String<A>, outcome: &Outcome) -> Result<(), AllocError>
-    ensures { OnOk result (string_bytes output.new
-        ≡ string_bytes output.old ++ outcome_text outcome.now) }
+    ensures { Prints result output.old output.new (outcome_text outcome.now) }
 {
     match outcome {
         Outcome::Done(answer) => {
@@ -108,8 +104,7 @@ fn print_outcome<A: Allocator>(output: &mut String<A>, outcome: &Outcome) -> Res
 
 /// A ticket.
 fn print_ticket<A: Allocator>(output: &mut String<A>, ticket: Ticket) -> Result<(), AllocError>
-    ensures { OnOk result (string_bytes output.new
-        ≡ string_bytes output.old ++ ticket_text ticket) }
+    ensures { Prints result output.old output.new (ticket_text ticket) }
 {
     let number = ticket.0;
     write!(output, "ticket {number}")
@@ -121,8 +116,7 @@ fn print_collected<A: Allocator>(
     call: &Call,
     outcome: &Outcome,
 ) -> Result<(), AllocError>
-    ensures { OnOk result (string_bytes output.new
-        ≡ string_bytes output.old ++ collected_text call.now outcome.now) }
+    ensures { Prints result output.old output.new (collected_text call.now outcome.now) }
 {
     if let Call::Collect(ticket) = call {
         print_ticket(output, *ticket)?;
@@ -137,8 +131,7 @@ fn print_image<A: Allocator>(
     output: &mut String<A>,
     image: Option<&Image>,
 ) -> Result<(), AllocError>
-    ensures { OnOk result (string_bytes output.new
-        ≡ string_bytes output.old ++ image_text (option_copied image.entry)) }
+    ensures { Prints result output.old output.new (image_text (option_copied image.entry)) }
 {
     let Some(image) = image else {
         return output.push_str("image none\n");
@@ -150,7 +143,7 @@ fn print_image<A: Allocator>(
 
 /// A code in four hexadecimal digits.
 fn print_code<A: Allocator>(output: &mut String<A>, code: u16) -> Result<(), AllocError>
-    ensures { OnOk result (string_bytes output.new ≡ string_bytes output.old ++ code_text code) }
+    ensures { Prints result output.old output.new (code_text code) }
 {
     let [high, low] = code.to_be_bytes();
     print_hexadecimal(output, high)?;
@@ -159,7 +152,7 @@ fn print_code<A: Allocator>(output: &mut String<A>, code: u16) -> Result<(), All
 
 /// An event's qualifier and its code.
 fn print_event<A: Allocator>(output: &mut String<A>, event: Event) -> Result<(), AllocError>
-    ensures { OnOk result (string_bytes output.new ≡ string_bytes output.old ++ event_text event) }
+    ensures { Prints result output.old output.new (event_text event) }
 {
     output.push_str("event ")?;
     print_hexadecimal(output, event.qualifier)?;
@@ -193,7 +186,7 @@ fn why_name(why: Why) -> &'static str
 }
 
 fn print_why<A: Allocator>(output: &mut String<A>, why: Option<Why>) -> Result<(), AllocError>
-    ensures { OnOk result (string_bytes output.new ≡ string_bytes output.old ++ why_text why) }
+    ensures { Prints result output.old output.new (why_text why) }
 {
     if let Some(why) = why {
         output.push_str(" ")?;
@@ -208,8 +201,7 @@ fn print_link<A: Allocator>(
     mode: Mode,
     why: Option<Why>,
 ) -> Result<(), AllocError>
-    ensures { OnOk result (string_bytes output.new
-        ≡ string_bytes output.old ++ link_text mode why) }
+    ensures { Prints result output.old output.new (link_text mode why) }
 {
     output.push_str("status ")?;
     output.push_str(mode_name(mode))?;
@@ -218,7 +210,7 @@ fn print_link<A: Allocator>(
 
 /// A status.
 fn print_state<A: Allocator>(output: &mut String<A>, status: Status) -> Result<(), AllocError>
-    ensures { OnOk result (string_bytes output.new ≡ string_bytes output.old ++ state_text status) }
+    ensures { Prints result output.old output.new (state_text status) }
 {
     print_link(output, status.mode, status.why)?;
     output.push_str(if status.event_form { " eventform" } else { "" })?;
@@ -263,8 +255,7 @@ fn port_fault_name(fault: PortFault) -> &'static str
 
 /// The number and the name of a refusal.
 fn print_refused<A: Allocator>(output: &mut String<A>, fault: PortFault) -> Result<(), AllocError>
-    ensures { OnOk result (string_bytes output.new
-        ≡ string_bytes output.old ++ refused_text fault) }
+    ensures { Prints result output.old output.new (refused_text fault) }
 {
     let number = fault.code();
     let name = port_fault_name(fault);
@@ -273,8 +264,7 @@ fn print_refused<A: Allocator>(output: &mut String<A>, fault: PortFault) -> Resu
 
 /// A call without an answer: a turn prints nothing.
 fn print_nothing<A: Allocator>(output: &mut String<A>, call: &Call) -> Result<(), AllocError>
-    ensures { OnOk result (string_bytes output.new
-        ≡ string_bytes output.old ++ nothing_text call.now) }
+    ensures { Prints result output.old output.new (nothing_text call.now) }
 {
     match call {
         Call::Turn => Ok(()),
@@ -294,8 +284,7 @@ fn counting_line(counting: Counting) -> &'static str
 
 /// The octets of a page, or that there is none.
 fn print_page<A: Allocator>(output: &mut String<A>, page: Option<&Page>) -> Result<(), AllocError>
-    ensures { OnOk result (string_bytes output.new
-        ≡ string_bytes output.old ++ page_text (option_copied page.entry)) }
+    ensures { Prints result output.old output.new (page_text (option_copied page.entry)) }
 {
     let Some(page) = page else {
         return output.push_str("page none\n");
@@ -311,8 +300,7 @@ pub(crate) fn print_answer<A: Allocator>(
     call: &Call,
     answered: &Answered,
 ) -> Result<(), AllocError>
-    ensures { OnOk result (string_bytes output.new
-        ≡ string_bytes output.old ++ answer_text call.now answered.now) }
+    ensures { Prints result output.old output.new (answer_text call.now answered.now) }
 {
     match answered {
         Answered::Ticket(ticket) => {
@@ -337,8 +325,7 @@ pub(crate) fn print_answer<A: Allocator>(
 
 /// A request that the device carried out, and its answer.
 fn print_carried<A: Allocator>(output: &mut String<A>, entry: &Carried) -> Result<(), AllocError>
-    ensures { OnOk result (string_bytes output.new
-        ≡ string_bytes output.old ++ carried_text entry.now) }
+    ensures { Prints result output.old output.new (carried_text entry.now) }
 {
     output.push_str("carried ")?;
     print_request(output, &entry.request)?;
@@ -351,8 +338,7 @@ fn print_entries<A: Allocator>(
     output: &mut String<A>,
     entries: &[Carried],
 ) -> Result<(), AllocError>
-    ensures { OnOk result (string_bytes output.new
-        ≡ string_bytes output.old ++ entries_text entries.now) }
+    ensures { Prints result output.old output.new (entries_text entries.now) }
 {
     for entry in entries {
         print_carried(output, entry)?;
@@ -365,8 +351,7 @@ pub(crate) fn print_records<C: Allocator + Copy, A: Allocator>(
     output: &mut String<A>,
     sim: &Sim<Params, C>,
 ) -> Result<(), AllocError>
-    ensures { OnOk result (string_bytes output.new
-        ≡ string_bytes output.old ++ records_text sim.now) }
+    ensures { Prints result output.old output.new (records_text sim.now) }
 {
     print_record(output, sim.device().carried())?;
     let Some(away) = sim.away() else {
@@ -377,8 +362,7 @@ pub(crate) fn print_records<C: Allocator + Copy, A: Allocator>(
 
 /// The record of the device that isn't plugged in.
 fn print_away<A: Allocator>(output: &mut String<A>, entries: &[Carried]) -> Result<(), AllocError>
-    ensures { OnOk result (string_bytes output.new
-        ≡ string_bytes output.old ++ away_text (Some entries.now)) }
+    ensures { Prints result output.old output.new (away_text (Some entries.now)) }
 {
     let count = entries.len();
     writeln!(output, "away {count}")?;
@@ -387,8 +371,7 @@ fn print_away<A: Allocator>(output: &mut String<A>, entries: &[Carried]) -> Resu
 
 /// The device's record: how many requests it carried out, and each of them.
 fn print_record<A: Allocator>(output: &mut String<A>, entries: &[Carried]) -> Result<(), AllocError>
-    ensures { OnOk result (string_bytes output.new
-        ≡ string_bytes output.old ++ record_text entries.now) }
+    ensures { Prints result output.old output.new (record_text entries.now) }
 {
     let count = entries.len();
     writeln!(output, "record {count}")?;

@@ -1,12 +1,12 @@
 //! The calls of a script, made on a port over a wire with a tap, with what each of
 //! them answers and what passes meanwhile.
-ghost use Rattle.std.specs.Prelude.{◌≡◌, ◌++◌, ◌+◌, ◌-◌, ◌<◌, ◌≤◌, ◌^◌, ◌⊎◌, [], ◌∷◌, OnOk, IfErr, length, replicate};
+ghost use Rattle.std.specs.Prelude.{◌≡◌, ◌+◌, ◌<◌, ◌≤◌, ◌^◌, ◌⊎◌, [], ◌∷◌, OnOk, IfErr, length, replicate};
 ghost use Rattle.std.specs.String.{string_bytes};
 ghost use Rattle.iol_port.specs.declared.call.Call.TheVariants.{Turn};
 ghost use Rattle.iol_script.specs.Script.{calls_in, line_calls};
 ghost use Rattle.iol_script.specs.Text.{numbered_lines};
 ghost use Rattle.iol_commands.specs.declared.fault.ProgramFault.TheVariants.{OutOfMemory, WriteFailed};
-ghost use Rattle.iol_commands.specs.Printed.{Adds};
+ghost use Rattle.iol_commands.specs.Printed.{PrintsSome};
 ghost use Rattle.iol_commands.specs.TracePrinted.{layout_in, layout_now, place, Flows, PortTraces, TracesFrom, PrintsNoteOf};
 
 use crate::fault::ProgramFault;
@@ -151,10 +151,8 @@ impl<A: Handle> Tracer<A> {
     /// Makes one call, and prints what passes meanwhile and what it answers.
     fn make<W: Wire>(&mut self, port: &mut Port<Tap<W>, A>, call: &Call) -> Result<(), AllocError>
         requires { self.old.number + 1 < 2 ^ 64 }
-        ensures traced { OnOk result
-            (Adds (string_bytes self.old.output) (string_bytes self.new.output)
-            (PortTraces W.facts
-            self.old.number port.old.parts (call.now ∷ []) self.new.number port.new.parts)) }
+        ensures traced { PrintsSome result self.old.output self.new.output (PortTraces W.facts
+            self.old.number port.old.parts (call.now ∷ []) self.new.number port.new.parts) }
         ensures number { OnOk result (self.new.number ≤ self.old.number + 1) }
     {
         let layout = layout_now(port.status().mode, port.page());
@@ -175,9 +173,8 @@ impl<A: Handle> Tracer<A> {
         wire: &Tap<W>,
     ) -> Result<(), AllocError>
         requires { self.old.number + 1 < 2 ^ 64 }
-        ensures printed { OnOk result
-            (Adds (string_bytes self.old.output) (string_bytes self.new.output)
-            (PrintsNoteOf call.now self.old.number layout.now wire.now.last self.new.number)) }
+        ensures printed { PrintsSome result self.old.output self.new.output
+            (PrintsNoteOf call.now self.old.number layout.now wire.now.last self.new.number) }
         ensures number { OnOk result (self.new.number ≤ self.old.number + 1) }
     {
         match (call, wire.last()) {

@@ -1,4 +1,5 @@
 pub mod Text
+pub mod Printing
 pub mod Numerals
 pub mod CheckLines
 pub mod Cycles

@@ -26,8 +26,8 @@ IsGood Trace lines = first_bad_run lines ≡ None
 IsGood Many lines = IsOk (plan_of lines)
 
 -- a command prints this text for the lines of its input
-abbrev pub Prints : Mode → List (ℕ × List ℕ) → List ℕ → Type 0
-Prints Check lines text = PrintsAll startup_shape lines text
-Prints Run lines text = PrintsRun lines text
-Prints Trace lines text = PrintsTrace lines text
-Prints Many lines text = PrintsCounts lines text
+abbrev pub PrintsInMode : Mode → List (ℕ × List ℕ) → List ℕ → Type 0
+PrintsInMode Check lines text = PrintsAll startup_shape lines text
+PrintsInMode Run lines text = PrintsRun lines text
+PrintsInMode Trace lines text = PrintsTrace lines text
+PrintsInMode Many lines text = PrintsCounts lines text

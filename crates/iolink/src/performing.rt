@@ -1,9 +1,9 @@
 //! A command, carried out over a reader and a writer.
-ghost use Rattle.std.specs.Prelude.{◌≡◌, ◌≢◌, ◌<◌, ℕ, Err, OnErr, OnOk};
+ghost use Rattle.std.specs.Prelude.{◌≡◌, ◌≢◌, ℕ, Err, OnErr, OnOk};
 ghost use Rattle.std.specs.Io.KnownBytes.{Keeps};
 ghost use Rattle.iolink.specs.declared.command.Mode.TheVariants.{Many, Trace};
-ghost use Rattle.iol_commands.specs.declared.fault.ProgramFault.TheVariants.{Line, NoThread, OutOfMemory, TooLong, WriteFailed};
-ghost use Rattle.iolink.specs.Performed.{IsBadAt, IsGood, Prints};
+ghost use Rattle.iol_commands.specs.declared.fault.ProgramFault.TheVariants.{NoThread, OutOfMemory, WriteFailed};
+ghost use Rattle.iolink.specs.Performed.{IsBadAt, IsGood, PrintsInMode};
 ghost use Rattle.iol_commands.specs.Input.{Answers, OfLines};
 
 use crate::command::Mode;
@@ -24,7 +24,7 @@ pub(crate) fn perform<T: Threads + Wait + Sync, R: Read, W: Write>(
     reader: &mut R,
     writer: &mut W,
 ) -> Result<(), ProgramFault>
-    ensures answers { Answers (IsBadAt mode) (IsGood mode) (Prints mode)
+    ensures answers { Answers (IsBadAt mode) (IsGood mode) (PrintsInMode mode)
         (R.remaining reader.old) (R.remaining reader.new)
         (W.contents writer.old) (W.contents writer.new) result }
     ensures threads { mode ≢ Many → result ≢ Err NoThread }
