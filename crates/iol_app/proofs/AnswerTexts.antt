@@ -11,8 +11,8 @@ use Rattle.iol_isdu.specs.Answers.{is_read, answer_body, IsAnswerText}
 use Rattle.iol_isdu.specs.Texts.{FitsAnswer}
 use Rattle.iol_isdu.specs.Laws.{OneAnswerInFront, OneAnswerText}
 use Rattle.iol_segment.specs.Cut.{segment}
-use Rattle.iol_segment.specs.TextLaws.{joined}
-use Rattle.iol_far.specs.Isdu.{is_kind, answer_text}
+use Rattle.iol_segment.specs.TextLaws.{segments_up_to}
+use Rattle.iol_far.specs.Isdu.{is_kind, answer_text_to}
 use Rattle.iol_steps.specs.Exchange.{TextNamesAnswer}
 
 -- the first octets of a text that is filled up: a part of it, or all of it and more
@@ -43,14 +43,15 @@ segment_filled size text front more i is long =
     rw (is, ← long, drop-append_seam front more) (filled size more (replicate size 0))
 
 -- the segments up to the i-th are a part of the text, or all of it and more
-joined_filled : (size : ℕ) (text : List ℕ) (i : ℕ) → Filled (suc i * size) text (joined size text i)
+joined_filled : (size : ℕ) (text : List ℕ) (i : ℕ)
+    → Filled (suc i * size) text (segments_up_to size text i)
 joined_filled size text zero =
     let one : 1 * size ≡ size = omega arith in
     rw one (segment_filled size text [] text 0 refl (omega arith))
 joined_filled size text (suc i) = next (joined_filled size text i)
   where
     front : List ℕ
-    front = joined size text i
+    front = segments_up_to size text i
 
     part : List ℕ
     part = segment size text (suc i)
@@ -77,12 +78,13 @@ fits_answer read answer e = grind (arith, common_steps)
 pub text_names : OneAnswerInFront → OneAnswerText → TextNamesAnswer
 text_names front each size request i octets answer begins other fitting is =
     let read = is_read request in
-    let text : List ℕ = answer_text request other in
+    let text : List ℕ = answer_text_to request other in
     let spells = (each read other (fits_answer read other fitting) text).1 refl in
     by_part text spells (joined_filled size text i) is
   where
     by_part : (text : List ℕ) → IsAnswerText (is_read request) other text
-        → Filled (suc i * size) text (joined size text i) → octets ≡ joined size text i
+        → Filled (suc i * size) text (segments_up_to size text i)
+        → octets ≡ segments_up_to size text i
         → other ≡ answer
     by_part text spells (inl h) same =
         (front (is_read request) other answer text begins.text [] (begins.rest ++ h.0) spells

@@ -9,56 +9,56 @@ use Rattle.iol_page.specs.declared.page.Layouts.{Layouts}
 use Rattle.iol_isdu.specs.declared.values.Request.{Request}
 use Rattle.iol_isdu.specs.declared.values.Cause.{Cause}
 use Rattle.iol_isdu.specs.declared.values.Cause.TheVariants.{Cancelled}
-use Rattle.iol_far.specs.Isdu.{IsduState, handed}
+use Rattle.iol_far.specs.Isdu.{IsduState, handed_request}
 use Rattle.iol_far.specs.Far.{Far}
 use Rattle.iol_mseq.specs.Shape.{Shape}
 use Rattle.iol_far.specs.declared.kind.Kind.{Kind}
 use Rattle.iol_far.specs.declared.kind.HandsOver.{HandsOver}
-use Rattle.iol_far.specs.Level.{Link, IsIdle}
+use Rattle.iol_far.specs.Level.{FarLink, IsIdle}
 use Rattle.iol_link.specs.Attempts.{Sending}
 use Rattle.iol_mode.specs.declared.states.Operate.{Operate}
 use Rattle.iol_mode.specs.Next.{message_out}
 use Rattle.iol_steps.specs.Session.{MaySession}
-use Rattle.iol_steps.specs.Step.{Image, Moment, Deny, repeats_at, doubts_at}
+use Rattle.iol_steps.specs.Step.{ImageOctets, Moment, Deny, repeats_at, doubts_at}
 use Rattle.iol_steps.specs.Bridge.{Hidden, IsOpen}
-use Rattle.iol_steps.specs.Station.{Reading, AnswerFits}
+use Rattle.iol_steps.specs.Station.{ReadingState, AnswerFits}
 use Rattle.iol_steps.specs.Exchange.{MayAbort}
-use Rattle.iol_app.specs.declared.event_work.Reading as app
+use Rattle.iol_app.specs.declared.event_work.ReadingProgress as app
 use Rattle.iol_app.specs.declared.request.Current.{Current}
-use Rattle.iol_app.specs.declared.session.Exchange.{Exchange}
-use Rattle.iol_app.specs.declared.session.Exchange.TheVariants.{Request as NextMessage}
+use Rattle.iol_app.specs.declared.session.Purpose.{Purpose}
+use Rattle.iol_app.specs.declared.session.Purpose.TheVariants.{Request as NextMessage}
 use Rattle.iol_app.specs.Due.{may_follow}
 use Rattle.iol_mode.specs.declared.configuration.Devices.{Devices}
 use Rattle.iol_app.specs.Messages.{head_for, data_for}
-use Rattle.iol_app.specs.Requests.{request_in, begun, aborted, waiting, is_over}
+use Rattle.iol_app.specs.Requests.{request_under_way, new_current, current_with_abort, waiting_abort, is_over}
 use Rattle.iol_app.specs.Moves.{progress_of, move_for}
 use Rattle.iol_app.specs.Ends.{BusySeen, AbortAt}
 use Rattle.iol_app.specs.State.{SessionState, IsOutBy, OutSuits, od_size}
 use Rattle.iol_app.proofs.Moving.{resting_idle, sent_busy}
 use Rattle.iol_app.proofs.Shown.{shown_as}
-use Rattle.iol_app.specs.Core.{Ghost, Stands, BeginGives, Work, work_of, repeats_in, vain_by, vain_in, AgainBy, OutBy, LevelOut, OperateRequest, operate_core, asking_ghost, session_in, reading_in}
+use Rattle.iol_app.specs.Core.{Ghost, BothEndsStand, BeginGives, Work, work_of, repeats_in, vain_by, vain_in, AgainBy, OutBy, LevelOut, OperateRequest, operate_core, asking_ghost, session_in, reading_in}
 
 -- where one may follow, the progress stays as it is
 begun_progress : (devices : Devices) (clear : Bool) (size : ℕ) (request : Request)
-    → may_follow devices clear ≡ true → progress_of devices clear (Some (begun size request))
+    → may_follow devices clear ≡ true → progress_of devices clear (Some (new_current size request))
     ≡ progress_of devices clear None
 begun_progress devices clear size request follows = grind (arith, common_steps)
 
 pub waiting_at : (doubts : Bool) (limit busy : ℕ) (asked : Bool) (cause : Cause)
     (abort : Option Cause) → AbortAt doubts limit abort busy asked
     → MayAbort doubts limit busy asked cause
-    → AbortAt doubts limit (waiting abort cause) busy asked
+    → AbortAt doubts limit (waiting_abort abort cause) busy asked
 waiting_at doubts limit busy asked cause abort h may = grind (arith, common_steps)
 
 pub cancelled_at : (doubts : Bool) (limit busy : ℕ) (asked : Bool) (abort : Option Cause)
     → AbortAt doubts limit abort busy asked
-    → AbortAt doubts limit (waiting abort Cancelled) busy true
+    → AbortAt doubts limit (waiting_abort abort Cancelled) busy true
 cancelled_at doubts limit busy asked abort h = grind (arith, common_steps)
 
 -- what a message is for stays, where its request changes in nothing but that
-pub record SameFor (devices : Devices) (old new : Option Current) (e : Exchange) : Type 0 where
+pub record SameFor (devices : Devices) (old new : Option Current) (e : Purpose) : Type 0 where
   pub move : move_for e old ≡ move_for e new
-  pub head : (r : app.Reading) → head_for e r old ≡ head_for e r new
+  pub head : (r : app.ReadingProgress) → head_for e r old ≡ head_for e r new
   pub data_out : (size : ℕ) → data_for e size old ≡ data_for e size new
   pub vain : (tries : ℕ) → vain_by devices e old tries ≡ vain_by devices e new tries
   pub again : (tries : ℕ) → IfSome old (AgainBy devices e tries)
@@ -66,12 +66,12 @@ pub record SameFor (devices : Devices) (old new : Option Current) (e : Exchange)
   pub goes_on : e ≡ NextMessage → IfSome old (λ c. is_over c.progress ≡ false)
       → IfSome new (λ c. is_over c.progress ≡ false)
 
-begun_same : (devices : Devices) (e : Option Exchange) (current : Current)
+begun_same : (devices : Devices) (e : Option Purpose) (current : Current)
     → current.again ≡ false → OutSuits e None → IfSome e (SameFor devices None (Some current))
 begun_same devices e current once suits = grind (arith, common_steps)
 
-aborted_same : (devices : Devices) (cause : Cause) (current : Current) (e : Option Exchange)
-    → IfSome e (SameFor devices (Some current) (Some (aborted cause current)))
+aborted_same : (devices : Devices) (cause : Cause) (current : Current) (e : Option Purpose)
+    → IfSome e (SameFor devices (Some current) (Some (current_with_abort cause current)))
 aborted_same devices cause current e = grind (arith, common_steps)
 
 -- so that the message out stays the session's, and both ends level
@@ -79,14 +79,14 @@ module _ (t : SessionState) (old new : Option Current)
     (progress : progress_of t.configuration.devices t.clear old
     ≡ progress_of t.configuration.devices t.clear new)
     (noted : IfSome old (λ c. c.again ≡ false) → IfSome new (λ c. c.again ≡ false)) where
-  abbrev Same : Exchange → Type 0
+  abbrev Same : Purpose → Type 0
   Same e = SameFor t.configuration.devices old new e
 
-  abbrev at : Option Exchange → Option Current → Work
+  abbrev at : Option Purpose → Option Current → Work
   at e current = work_of (record t { exchange = e; current = current })
 
-  out_same : (layouts : Layouts) (out : Option Sending) (e : Option Exchange) (R : Reading)
-      (page : List ℕ) (kind : Kind) (link : Link) (sent : Option Image) → IfSome e Same
+  out_same : (layouts : Layouts) (out : Option Sending) (e : Option Purpose) (R : ReadingState)
+      (page : List ℕ) (kind : Kind) (link : FarLink) (sent : Option ImageOctets) → IfSome e Same
       → OutBy layouts out e (at e old) R page kind link sent
       → OutBy layouts out e (at e new) R page kind link sent
   out_same layouts None None R page kind link sent same h = noted h
@@ -97,37 +97,37 @@ module _ (t : SessionState) (old new : Option Current)
       assumption (goes, once, goes_on, same.again out.tries h.again)
   out_same layouts out e R page kind link sent same h = absurd h
 
-  vain_same : (e : Option Exchange) (tries : ℕ) → IfSome e Same
+  vain_same : (e : Option Purpose) (tries : ℕ) → IfSome e Same
       → vain_in (at e old) tries ≡ vain_in (at e new) tries
   vain_same e tries same = grind (arith, common_steps)
 
-  level_same : (g : Ghost) (run : Shape) (link : Link) (e : Option Exchange)
+  level_same : (g : Ghost) (run : Shape) (link : FarLink) (e : Option Purpose)
       (out : Option Sending) (far : Far) → IfSome e Same
       → LevelOut g run link (at e old) out far → LevelOut g run link (at e new) out far
   level_same g run link e None far same h = rw (← progress) h
   level_same g run link e (Some out) far same h =
       rw (← vain_same e out.tries same, ← progress) h
 
-  joined_same : (e : Option Exchange) (m : Option MasterMsg) → IfSome e Same
+  joined_same : (e : Option Purpose) (m : Option MasterMsg) → IfSome e Same
       → IsOutBy e (record t { current = old }) m → IsOutBy e (record t { current = new }) m
   joined_same e m same h = grind (arith, common_steps)
 
-  repeats_same : (hands_over : HandsOver) (size : ℕ) (e : Option Exchange) → IfSome e Same
+  repeats_same : (hands_over : HandsOver) (size : ℕ) (e : Option Purpose) → IfSome e Same
       → repeats_in hands_over size (at e old) ≡ repeats_in hands_over size (at e new)
   repeats_same hands_over size e same = grind (arith, common_steps)
 
   -- both ends stand with it
   stands_same : (s : Operate) (g : Ghost) (far : Far) (n : ℕ) (hidden : Hidden) (busy : ℕ)
-      (asked fresh : Bool) → Stands (operate_core s t old) g far n
+      (asked fresh : Bool) → BothEndsStand (operate_core s t old) g far n
       → IfSome t.exchange Same
       → (IsTrue fresh
-      → IsIdle (progress_of t.configuration.devices t.clear new) × (handed far.isdu ≡ None))
-      → hidden.late ≡ None → IsOpen far.isdu (request_in new) hidden
+      → IsIdle (progress_of t.configuration.devices t.clear new) × (handed_request far.isdu ≡ None))
+      → hidden.late ≡ None → IsOpen far.isdu (request_under_way new) hidden
       → (repeats_in g.kind.hands_over s.layouts.run.od (at t.exchange new) ≡ false
-      → AnswerFits g.request.base (request_in new) hidden far.carried)
+      → AnswerFits g.request.base (request_under_way new) hidden far.carried)
       → BusySeen (doubts_at t.configuration.devices g.kind.recalls) t.limit new busy asked
-      → (IsSome (request_in new) → IsTrue (knows_isdu g.page))
-      → Stands (operate_core s t new) (record g {
+      → (IsSome (request_under_way new) → IsTrue (knows_isdu g.page))
+      → BothEndsStand (operate_core s t new) (record g {
         request = record g.request { hidden = hidden; busy = busy; asked = asked };
         fresh = fresh;
       }) far n
@@ -151,24 +151,24 @@ module _ (t : SessionState) (old new : Option Current)
 -- Begun
 
 -- where none is under way nothing hands one over
-unbegun : (devices : Devices) (hands_over : HandsOver) (size : ℕ) (e : Option Exchange)
+unbegun : (devices : Devices) (hands_over : HandsOver) (size : ℕ) (e : Option Purpose)
     → unwrap_or (option_map (λ x. repeats_at devices hands_over size (move_for x None)) e) false
     ≡ false
 unbegun devices hands_over size e = grind (arith, common_steps)
 
 opened : (state : IsduState) (h : Hidden) (r : Request) → IsOpen state None h → h.late ≡ None
-    → IsOpen state (Some r) (record { answer = None; late = None }) × (handed state ≡ None)
+    → IsOpen state (Some r) (record { answer = None; late = None }) × (handed_request state ≡ None)
 opened state h r opens late = grind (arith, common_steps)
 
 pub begin_gives : (s : Operate) (t : SessionState) (g : Ghost) (far : Far) (n : ℕ)
     (request : Request)
-    → Stands (operate_core s t None) g far n → OutSuits t.exchange None → t.isdu ≡ Some true
+    → BothEndsStand (operate_core s t None) g far n → OutSuits t.exchange None → t.isdu ≡ Some true
     → may_follow t.configuration.devices t.clear ≡ true
     → BeginGives (operate_core s t None)
-    (operate_core s t (Some (begun (od_size t.layout) request))) g far n request
+    (operate_core s t (Some (new_current (od_size t.layout) request))) g far n request
 begin_gives s t g far n request h suits known follows =
     let devices = t.configuration.devices in
-    let next : Option Current = Some (begun (od_size t.layout) request) in
+    let next : Option Current = Some (new_current (od_size t.layout) request) in
     let stays : progress_of devices t.clear next ≡ progress_of devices t.clear None =
     begun_progress devices t.clear (od_size t.layout) request follows in
     let has : IsTrue (knows_isdu g.page) = sym (rw known at h.shown.isdu) in
@@ -176,7 +176,7 @@ begin_gives s t g far n request h suits known follows =
     record {
       stands = stands_same t None next (sym stays) (λ k. refl) s g far n
           (record { answer = None; late = None }) 0 false true h
-          (begun_same devices t.exchange (begun (od_size t.layout) request) refl suits)
+          (begun_same devices t.exchange (new_current (od_size t.layout) request) refl suits)
           (λ k. (rw stays (resting_idle devices t.clear), opens.1)) refl opens.0
           (λ once. inl (
             refl,
@@ -191,7 +191,7 @@ begin_gives s t g far n request h suits known follows =
     }
 
 pub denies : (s : Operate) (t : SessionState) (g : Ghost) (far : Far) (n : ℕ) (moment : Moment)
-    (ticket : ℕ) → Stands (operate_core s t None) g far n → t.isdu ≡ Some false
+    (ticket : ℕ) → BothEndsStand (operate_core s t None) g far n → t.isdu ≡ Some false
     → moment.terms.page ≡ g.page
     → MaySession moment (Deny ticket) (session_in (operate_core s t None) g far)
 denies s t g far n moment ticket h none page =
@@ -201,12 +201,13 @@ denies s t g far n moment ticket h none page =
 
 pub aborts_by : (cause : Cause) (asks : Bool) (s : Operate) (t : SessionState)
     (current : Current) (g : Ghost) (far : Far) (n : ℕ)
-    → Stands (operate_core s t (Some current)) g far n
+    → BothEndsStand (operate_core s t (Some current)) g far n
     → AbortAt (doubts_at t.configuration.devices g.kind.recalls) t.limit
-    (waiting current.abort cause) g.request.busy asks
-    → Stands (operate_core s t (Some (aborted cause current))) (asking_ghost asks g) far n
+    (waiting_abort current.abort cause) g.request.busy asks
+    → BothEndsStand (operate_core s t (Some (current_with_abort cause current)))
+    (asking_ghost asks g) far n
 aborts_by cause asks s t current g far n h may =
-    let next : Option Current = Some (aborted cause current) in
+    let next : Option Current = Some (current_with_abort cause current) in
     let same = aborted_same t.configuration.devices cause current t.exchange in
     stands_same t (Some current) next refl (λ k. k) s g far n g.request.hidden g.request.busy asks
     g.fresh h same h.fresh h.request.late h.request.opens

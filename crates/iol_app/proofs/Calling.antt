@@ -4,7 +4,7 @@ use Rattle.std.proofs.Common.{arith, ◌≡◌, ℕ, Bool, List}
 use Rattle.std.specs.Prelude.{Option, None, IfSome}
 use Rattle.iol_event.specs.declared.event.Event.{Event}
 use Rattle.iol_image.specs.Image.{IsImage}
-use Rattle.iol_steps.specs.Step.{Image}
+use Rattle.iol_steps.specs.Step.{ImageOctets}
 use Rattle.iol_far.specs.declared.carried.Carried.{Carried}
 use Rattle.iol_far.specs.Far.{Far}
 use Rattle.iol_mode.specs.declared.configuration.Configuration.{Configuration}
@@ -13,57 +13,58 @@ use Rattle.iol_mode.specs.declared.states.State.{State}
 use Rattle.iol_steps.specs.declared.mode.Mode.TheVariants.{Down as ModeDown}
 use Rattle.iol_steps.specs.Session.{session_through}
 use Rattle.iol_steps.specs.Bridge.{Hidden, IsOpen}
-use Rattle.iol_steps.specs.Kinds.{Seen, restart_steps}
+use Rattle.iol_steps.specs.Kinds.{MasterFields, restart_steps}
 use Rattle.iol_steps.specs.Station.{session_of}
 use Rattle.iol_steps.specs.Exchange.{hidden_lost}
 use Rattle.iol_app.proofs.OpenLevel.{lost_opens}
-use Rattle.iol_app.specs.Requests.{request_in}
-use Rattle.iol_app.specs.State.{SessionState, wanting}
+use Rattle.iol_app.specs.Requests.{request_under_way}
+use Rattle.iol_app.specs.State.{SessionState, session_wanting}
 use Rattle.iol_mode.specs.Kinds.{SeesPulses}
-use Rattle.iol_app.specs.StationState.{StateFits as Joined}
-use Rattle.iol_app.specs.Core.{Core, Ghost, Stands, RequestStands, work_of, seen_in, session_in, opened_core, opened_ghost, wanting_core, restarted_core, restarted_ghost}
+use Rattle.iol_app.specs.StationState.{SessionFits}
+use Rattle.iol_app.specs.Core.{CoreState, Ghost, BothEndsStand, RequestStands, work_of, seen_in, session_in, opened_core, opened_ghost, wanting_core, restarted_core, restarted_ghost}
 
 pub opens : (devices : Devices) (limit : ℕ) (far : Far) (silence : ℕ) (told : Bool)
     (due : Event × List Event)
     → SeesPulses devices far
-    → Stands (opened_core devices limit) (opened_ghost far told due) far silence
+    → BothEndsStand (opened_core devices limit) (opened_ghost far told due) far silence
 opens devices limit far silence told due sees = grind (arith, common_steps)
 
-joined_want : (state : State) (t : SessionState) (image : Option (List ℕ)) → Joined state t
-    → Joined state (wanting image t)
+joined_want : (state : State) (t : SessionState) (image : Option (List ℕ)) → SessionFits state t
+    → SessionFits state (session_wanting image t)
 joined_want state t image h = grind (arith, common_steps)
 
-pub wants : (c : Core) (g : Ghost) (far : Far) (silence : ℕ) (image : Option Image)
-    → IfSome image IsImage → Stands c g far silence → Stands (wanting_core image c) g far silence
+pub wants : (c : CoreState) (g : Ghost) (far : Far) (silence : ℕ) (image : Option ImageOctets)
+    → IfSome image IsImage → BothEndsStand c g far silence
+    → BothEndsStand (wanting_core image c) g far silence
 wants c g far silence image some h = grind (arith, common_steps, joined_want)
 
 -- start-ups are to ask something else of the device
-joined_asks : (state : State) (t : SessionState) (k : Configuration) → Joined state t
-    → Joined state (record t { configuration = k })
+joined_asks : (state : State) (t : SessionState) (k : Configuration) → SessionFits state t
+    → SessionFits state (record t { configuration = k })
 joined_asks state t k h = grind (arith, common_steps)
 
-pub asks_else : (c : Core) (g : Ghost) (far : Far) (silence : ℕ) (k : Configuration)
-    → k.devices ≡ c.session.configuration.devices → Stands c g far silence
-    → Stands (record c { session = record c.session { configuration = k } }) g far silence
+pub asks_else : (c : CoreState) (g : Ghost) (far : Far) (silence : ℕ) (k : Configuration)
+    → k.devices ≡ c.session.configuration.devices → BothEndsStand c g far silence
+    → BothEndsStand (record c { session = record c.session { configuration = k } }) g far silence
 asks_else c g far silence k same h = grind (arith, common_steps, joined_asks)
 
 -- a restart, in every mode
-request_opens : (state : State) (t : SessionState) (g : Ghost) (far : Far) → Joined state t
+request_opens : (state : State) (t : SessionState) (g : Ghost) (far : Far) → SessionFits state t
     → RequestStands state (work_of t) t.events g far
-    → IsOpen far.isdu (request_in t.current) g.request.hidden
+    → IsOpen far.isdu (request_under_way t.current) g.request.hidden
 request_opens state t g far j h = grind (arith, common_steps)
 
-session_is : (seen : Seen) (h : Hidden) (carried : List Carried)
+session_is : (seen : MasterFields) (h : Hidden) (carried : List Carried)
     → session_through (restart_steps seen.request) (session_of seen h carried)
     ≡ session_of (record seen { request = None; mode = ModeDown; why = None })
     (hidden_lost seen.request h) carried
 session_is seen h carried = grind (arith, common_steps)
 
-pub restarted_session : (c : Core) (g : Ghost) (far : Far)
-    → session_through (restart_steps (request_in c.session.current)) (session_in c g far)
+pub restarted_session : (c : CoreState) (g : Ghost) (far : Far)
+    → session_through (restart_steps (request_under_way c.session.current)) (session_in c g far)
     ≡ session_in (restarted_core c) (restarted_ghost c g) far
 restarted_session c g far = session_is (seen_in c g) g.request.hidden far.carried
 
-pub restarts : (c : Core) (g : Ghost) (far : Far) (silence : ℕ) → Stands c g far silence
-    → Stands (restarted_core c) (restarted_ghost c g) far silence
+pub restarts : (c : CoreState) (g : Ghost) (far : Far) (silence : ℕ) → BothEndsStand c g far silence
+    → BothEndsStand (restarted_core c) (restarted_ghost c g) far silence
 restarts c g far silence h = grind (arith, common_steps, lost_opens, request_opens)

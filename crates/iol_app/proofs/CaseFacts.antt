@@ -9,23 +9,23 @@ use Rattle.iol_isdu.specs.Answers.{is_read, answer_fault}
 use Rattle.iol_isdu.specs.declared.values.Request.{Request}
 use Rattle.iol_isdu.specs.declared.values.Cause.{Cause}
 use Rattle.iol_isdu.specs.declared.values.Cause.TheVariants.{BusyTooLong, Protocol}
-use Rattle.iol_segment.specs.TextLaws.{joined as joined_octets}
+use Rattle.iol_segment.specs.TextLaws.{segments_up_to}
 use Rattle.iol_segment.specs.Cut.{Cutting, last_given}
-use Rattle.iol_segment.specs.Join.{Joining, Stage, Taken, stage, staged, taken as taken_by, Complete}
+use Rattle.iol_segment.specs.Join.{Joining, Stage, JoinStep, stage, stage_step, join_step, Complete}
 use Rattle.iol_far.specs.declared.kind.HandsOver.{HandsOver}
 use Rattle.iol_far.specs.declared.kind.Recalls.{Recalls}
 use Rattle.iol_far.specs.declared.kind.Recalls.TheVariants.{UntilSent}
-use Rattle.iol_far.specs.Level.{Clear, Had as IsHad, Unsure, Move, Leave, Other, IsIdle, is_open, asked as level_asked, may_be_none, Busy as IsBusy, Stands as FarStands, grown_by}
+use Rattle.iol_far.specs.Level.{Clear, Had as IsHad, Unsure, Move, Leave, Other, IsIdle, is_open, progress_after_ask, may_be_none, Busy as IsBusy, Stands as FarStands, grown_by}
 use Rattle.iol_mode.specs.declared.configuration.Devices.{Devices}
 use Rattle.iol_mode.specs.declared.configuration.Devices.TheVariants.{Own, Any}
-use Rattle.iol_mode.specs.Kinds.{trusted}
+use Rattle.iol_mode.specs.Kinds.{trusted_recalls}
 use Rattle.iol_steps.specs.Step.{repeats_at, misreads_at, doubts_at, Moment}
 use Rattle.iol_steps.specs.Exchange.{ReadsAnswer, MayAbort}
 use Rattle.iol_app.specs.declared.request.Current.{Current}
-use Rattle.iol_app.specs.declared.request.Progress.TheVariants.{Refused}
-use Rattle.iol_app.specs.declared.session.Exchange.{Exchange}
-use Rattle.iol_app.specs.declared.session.Exchange.TheVariants.{Request as NextMessage}
-use Rattle.iol_app.specs.Requests.{text_of, sending, sent_anew, one_more, waiting, refused, are_zeros, forgotten_by, ReplyEffect, GoesOn, HasText, joined, received, IsJoining, finished}
+use Rattle.iol_app.specs.declared.request.RequestProgress.TheVariants.{Refused}
+use Rattle.iol_app.specs.declared.session.Purpose.{Purpose}
+use Rattle.iol_app.specs.declared.session.Purpose.TheVariants.{Request as NextMessage}
+use Rattle.iol_app.specs.Requests.{text_of, segment_progress, sent_anew, one_more_busy, waiting_abort, current_after_refusal, are_all_zeros, forgotten_by, ReplyEffect, GoesOn, HasText, effect_of_segment, effect_of_count_read, IsJoining, effect_of_text}
 use Rattle.iol_app.specs.Moves.{before_last, progress_of, segment_move}
 use Rattle.iol_app.specs.Ends.{BusyAt, AbortAt}
 use Rattle.iol_app.proofs.Joining.{taken_next}
@@ -34,9 +34,9 @@ use Rattle.iol_app.specs.Core.{vain_by, AgainBy}
 use Rattle.iol_isdu.specs.declared.fault.IsduFault.{IsduFault}
 use Rattle.iol_isdu.specs.declared.values.Answer.{Answer}
 use Rattle.iol_far.specs.declared.carried.Carried.{Carried}
-use Rattle.iol_far.specs.Isdu.{IsduState, fits, answer_text, isdu_data}
+use Rattle.iol_far.specs.Isdu.{IsduState, fits, answer_text_to, isdu_data}
 use Rattle.iol_steps.specs.Bridge.{Hidden}
-use Rattle.iol_steps.specs.Kinds.{Seen, WasAborted, brought_steps}
+use Rattle.iol_steps.specs.Kinds.{MasterFields, WasAborted, brought_steps}
 use Rattle.iol_steps.specs.Station.{AnswerFits}
 use Rattle.iol_app.proofs.OwnSession.{SessionRuns}
 
@@ -47,7 +47,8 @@ first_idle devices source given e = grind (arith, common_steps)
 pub busy_waits : (doubts : Bool) (limit busy : ℕ) (cancels : Bool) (abort : Option Cause)
     (counted : ℕ) → counted ≡ min busy 65535 → AbortAt doubts limit abort busy cancels
     → AbortAt doubts limit
-    (if one_more counted == limit then waiting abort BusyTooLong else abort) (busy + 1) cancels
+    (if one_more_busy counted == limit then waiting_abort abort BusyTooLong else abort)
+    (busy + 1) cancels
 busy_waits doubts limit busy cancels abort counted e k = grind (arith, common_steps)
 
 -- only a request's first segment hands it over
@@ -62,13 +63,13 @@ any_again devices other = grind (arith, common_steps)
 
 pub refused_waits : (doubts : Bool) (limit busy : ℕ) (cancels : Bool) (abort : Option Cause)
     → IsTrue doubts → AbortAt doubts limit abort busy cancels
-    → BusyAt doubts Refused busy × AbortAt doubts limit (waiting abort Protocol) busy cancels
+    → BusyAt doubts Refused busy × AbortAt doubts limit (waiting_abort abort Protocol) busy cancels
 refused_waits doubts limit busy cancels abort may h = grind (arith, common_steps)
 
 -- the one segment goes out anew
 pub anew_busy : (doubts : Bool) (cutter : Cutting Request) (busy : ℕ) → busy ≡ 0
     → cutter.given ≡ 1
-    → BusyAt doubts (sending (last_given cutter.size (text_of cutter) cutter.given)) busy
+    → BusyAt doubts (segment_progress (last_given cutter.size (text_of cutter) cutter.given)) busy
 anew_busy doubts cutter busy e one = grind (arith, nat_tests, common_steps, text_some)
 
 pub anew_clear : (clear : Bool) (current : Current)
@@ -89,18 +90,18 @@ pub vain_some : (devices : Devices) (current : Current) (tries k : ℕ) → devi
 vain_some devices current tries k any some = grind (arith, common_steps)
 
 -- zeros where a text would end
-pub zeros : (octets : List ℕ) → are_zeros octets ≡ bytes_eq octets (replicate (length octets) 0)
+pub zeros : (octets : List ℕ) → are_all_zeros octets ≡ bytes_eq octets (replicate (length octets) 0)
 zeros [] = refl
 zeros (octet ∷ octets) = ap (λ (b : Bool). (octet == 0) && b) (zeros octets)
 
 staged_forgotten : (count : Option ℕ) (octets od : List ℕ) (at : Stage) → forgotten_by
-    (staged count octets at).took od ≡ true → (are_zeros od ≡ true) × (is_open at ≡ false)
+    (stage_step count octets at).took od ≡ true → (are_all_zeros od ≡ true) × (is_open at ≡ false)
 staged_forgotten count octets od at e = grind (arith, common_steps)
 
 -- such are none of an answer, or are as a device sends them that has forgotten it
 pub forgotten_none : {size had : ℕ} {joining : Joining} (od : List ℕ) (k : ℕ)
     → IsJoining size had joining
-    → forgotten_by (taken_by joining (Count ((had + 1) % 16)) od).took od ≡ true
+    → forgotten_by (join_step joining (Count ((had + 1) % 16)) od).took od ≡ true
     → may_be_none UntilSent (suc k) joining.text od ≡ true
 forgotten_none {size} {had} {joining} od k h e =
     let found = staged_forgotten (Some (suc had % 16)) (joining.text ++ od) od
@@ -109,24 +110,24 @@ forgotten_none {size} {had} {joining} od k h e =
 
 -- where they end a text, it is refused, or taken for an answer's by who asked for them once
 abbrev pub EndsText : Bool → Current → ReplyEffect → Type 0
-EndsText again current (GoesOn next) = next ≡ refused current
+EndsText again current (GoesOn next) = next ≡ current_after_refusal current
 EndsText again current (HasText text) = again ≡ false
 
-none_zeros : (text od : List ℕ) (k : ℕ) → are_zeros od ≡ bytes_eq od (replicate (length od) 0)
+none_zeros : (text od : List ℕ) (k : ℕ) → are_all_zeros od ≡ bytes_eq od (replicate (length od) 0)
     → may_be_none UntilSent (suc k) text od ≡ true
-    → (are_zeros od ≡ true) × (is_open (stage (text ++ od)) ≡ false)
+    → (are_all_zeros od ≡ true) × (is_open (stage (text ++ od)) ≡ false)
 none_zeros text od k same e = grind (arith, common_steps)
 
 finished_ends : (again : Bool) (current : Current) (text : List ℕ) (fault : Option IsduFault)
     → EndsText again current (if again && true
-    then GoesOn (refused current) else finished text fault current)
+    then GoesOn (current_after_refusal current) else effect_of_text text fault current)
 finished_ends again current text fault = grind (arith, common_steps)
 
 staged_ends : (again : Bool) (current : Current) (had : ℕ)
-    (count : Option ℕ) (octets od : List ℕ) (at : Stage) → are_zeros od ≡ true
-    → is_open at ≡ false → let t : Taken = staged count octets at in
+    (count : Option ℕ) (octets od : List ℕ) (at : Stage) → are_all_zeros od ≡ true
+    → is_open at ≡ false → let t : JoinStep = stage_step count octets at in
     EndsText again current (if again && forgotten_by t.took od
-    then GoesOn (refused current) else joined had t.took t.joining current)
+    then GoesOn (current_after_refusal current) else effect_of_segment had t.took t.joining current)
 staged_ends again current had count octets od (Complete text) none closed =
     rw none (finished_ends again current text
     (answer_fault (is_read current.cutter.source) text))
@@ -135,14 +136,14 @@ staged_ends again current had count octets od at none closed = grind (arith, com
 pub none_ends : {size had : ℕ} {joining : Joining} (current : Current)
     (od : List ℕ) (k : ℕ) (again : Bool) → IsJoining size had joining
     → may_be_none UntilSent (suc k) joining.text od ≡ true
-    → EndsText again current (received again joining (had + 1) od current)
+    → EndsText again current (effect_of_count_read again joining (had + 1) od current)
 none_ends {size} {had} {joining} current od k again h e =
     let none = none_zeros joining.text od k (zeros od) e in
     rw (taken_next size had joining od h) (staged_ends again current (had + 1)
     (Some (suc had % 16)) (joining.text ++ od) od (stage (joining.text ++ od)) none.0 none.1)
 
 pub trusts_none : (devices : Devices) (recalls : Recalls) (vain : ℕ) (text od : List ℕ)
-    → may_be_none (trusted devices recalls) vain text od ≡ true
+    → may_be_none (trusted_recalls devices recalls) vain text od ≡ true
     → ((devices ≡ Any) ⊎ IsTrue (misreads_at devices recalls))
     × ((k : ℕ) × (vain ≡ suc k) × (may_be_none UntilSent (suc k) text od ≡ true))
 trusts_none devices recalls vain text od e = grind (arith, common_steps)
@@ -155,8 +156,8 @@ doubts_of devices recalls h = grind (arith, common_steps)
 -- a START read that brought nothing: an answer that is recalled begins otherwise
 pub asked_nothing : (devices : Devices) (recalls : Recalls) (source : Request) (od : List ℕ)
     → (slice_index od 0 == 1) ≡ false → (slice_index od 0 == 0) ≡ true
-    → (level_asked (trusted devices recalls) source od ≡ IsHad source 0 od)
-    ⊎ ((level_asked (trusted devices recalls) source od ≡ Unsure source)
+    → (progress_after_ask (trusted_recalls devices recalls) source od ≡ IsHad source 0 od)
+    ⊎ ((progress_after_ask (trusted_recalls devices recalls) source od ≡ Unsure source)
     × IsTrue (doubts_at devices recalls))
 asked_nothing devices recalls source od other none = grind (arith, common_steps)
 
@@ -167,13 +168,14 @@ pub not_both : (x y : Bool) → (x ≡ true → y ≡ true → ⊥) → (x && y)
 not_both x y h = grind (arith, common_steps)
 
 -- of a request whose message isn't out nothing is noted
-pub other_once : (devices : Devices) (e : Exchange) (tries : ℕ) (current : Option Current)
+pub other_once : (devices : Devices) (e : Purpose) (tries : ℕ) (current : Option Current)
     → (e ≡ NextMessage → ⊥) → IfSome current (AgainBy devices e tries)
     → IfSome current (λ c. c.again ≡ false)
 other_once devices e tries current other h = grind (arith, common_steps)
 
 -- the session where a request is cut off, whether it had an answer or not
-pub aborted_session : (m : Moment) (seen : Seen) (h : Hidden) (c : List Carried) (r : Request)
+pub aborted_session : (m : Moment) (seen : MasterFields) (h : Hidden) (c : List Carried)
+    (r : Request)
     (cause : Cause) → seen.request ≡ Some r
     → MayAbort (doubts_at m.terms.devices m.terms.kind.recalls) m.terms.busy_limit seen.busy
     seen.asked cause → SessionRuns m seen h c (brought_steps (WasAborted cause) seen.request)
@@ -205,7 +207,7 @@ pub had_answer : (hands_over : HandsOver) (size : ℕ) (base : List Carried) (r 
     (text : List ℕ) (s : IsduState) (counted : Option ℕ) (c : List Carried) (h : Hidden)
     (x : Answer) → FarStands hands_over size base (IsHad r i text) s counted c
     → AnswerFits base (Some r) h c
-    → ((a : Answer) → IsTrue (fits r a) → text ≡ joined_octets size (answer_text r a) i → a ≡ x)
+    → ((a : Answer) → IsTrue (fits r a) → text ≡ segments_up_to size (answer_text_to r a) i → a ≡ x)
     → h.answer ≡ Some x
 had_answer hands_over size base r i text s counted c h x stands fits only =
     grind (arith, common_steps)

@@ -9,13 +9,13 @@ use Rattle.iol_isdu.specs.declared.values.Request.{Request}
 use Rattle.iol_isdu.specs.declared.values.Answer.{Answer}
 use Rattle.iol_isdu.specs.declared.values.Cause.{Cause}
 use Rattle.iol_segment.specs.Cut.{Cutting}
-use Rattle.iol_segment.specs.Join.{Joining, taken as taken_by}
+use Rattle.iol_segment.specs.Join.{Joining, join_step}
 use Rattle.iol_far.specs.declared.carried.Carried.{Carried}
 use Rattle.iol_far.specs.declared.kind.Recalls.TheVariants.{UntilSent}
-use Rattle.iol_far.specs.Level.{Progress, Busy as IsBusy, Had as IsHad, Unsure, Ask, Other, asked as level_asked, may_be_none, IsSettled, grown_by}
+use Rattle.iol_far.specs.Level.{Progress, Busy as IsBusy, Had as IsHad, Unsure, Ask, Other, progress_after_ask, may_be_none, IsSettled, grown_by}
 use Rattle.iol_mode.specs.declared.configuration.Devices.{Devices}
 use Rattle.iol_mode.specs.declared.configuration.Devices.TheVariants.{Any}
-use Rattle.iol_mode.specs.Kinds.{trusted}
+use Rattle.iol_mode.specs.Kinds.{trusted_recalls}
 use Rattle.iol_steps.specs.declared.said.Said.TheVariants.{Busy as SaidBusy, Answered, Cut as SaidCut, Reported}
 use Rattle.iol_steps.specs.Step.{Busy, Done, Unknown, Report, ShowImage, misreads_at}
 use Rattle.iol_steps.specs.Kinds.{WasBusy, WasAnswered, WasAborted, WasReported, quiet_said}
@@ -23,17 +23,17 @@ use Rattle.iol_steps.specs.Exchange.{ReadsAnswer, TextNamesAnswer}
 use Rattle.iol_app.proofs.EventReading.{undue}
 use Rattle.iol_steps.specs.Station.{frozen_of}
 use Rattle.iol_event.specs.declared.event.Event.{Event}
-use Rattle.iol_event.specs.Reading.{taken as taken_octet}
+use Rattle.iol_event.specs.Reading.{reader_step}
 use Rattle.iol_app.proofs.Moves.{had_text, answers_data, answers_base, asks_none}
 use Rattle.iol_app.specs.declared.request.Current.{Current}
-use Rattle.iol_app.specs.declared.request.Progress.{Progress as Cursor}
-use Rattle.iol_app.specs.declared.request.Progress.TheVariants.{Sending as Cut, Doubting, Asking, Receiving, Refused}
-use Rattle.iol_app.specs.declared.session.Exchange.{Exchange}
-use Rattle.iol_app.specs.declared.session.Exchange.TheVariants.{Abort, ReadEvent, ConfirmEvents, Request as NextMessage, Idle}
-use Rattle.iol_app.specs.Requests.{IsUnsent, text_of, sent_on, sent_anew, one_more, waited, refused, forgotten_by, ReplyEffect, GoesOn, HasText, asked, doubted, received, replied, replied_at, going, current_after, IsEffectSaid, IsJoining, request_in}
-use Rattle.iol_app.specs.Moves.{move_for, progress_of, next_segment, octets_had, IsReading, is_forgotten, IsTakenUp, AnswersAreTakenUp}
+use Rattle.iol_app.specs.declared.request.RequestProgress.{RequestProgress}
+use Rattle.iol_app.specs.declared.request.RequestProgress.TheVariants.{Sending as Cut, Doubting, Asking, Receiving, Refused}
+use Rattle.iol_app.specs.declared.session.Purpose.{Purpose}
+use Rattle.iol_app.specs.declared.session.Purpose.TheVariants.{Abort, ReadEvent, ConfirmEvents, Request as NextMessage, Idle}
+use Rattle.iol_app.specs.Requests.{IsUnsent, text_of, current_after_segment, sent_anew, one_more_busy, current_after_busy, current_after_refusal, forgotten_by, ReplyEffect, GoesOn, HasText, effect_of_start_read, effect_of_question, effect_of_count_read, effect_of_reply, replied_at, current_of_effect, current_after, IsEffectSaid, IsJoining, request_under_way}
+use Rattle.iol_app.specs.Moves.{move_for, progress_of, next_segment, octets_had, IsReading, is_forgotten, TakesUpSegment, AnswersAreTakenUp}
 use Rattle.iol_app.specs.EventReading.{reader_of, list_read}
-use Rattle.iol_app.specs.State.{IsTaken, clear_after, od_size}
+use Rattle.iol_app.specs.State.{IsExchangeSaid, clear_after, od_size}
 use Rattle.iol_app.proofs.Moving.{sent_busy, sent_follows, busy_follows, asked_after, resting_idle, unsent_idle}
 use Rattle.iol_app.proofs.Stations.{resting_quiet}
 use Rattle.iol_app.specs.Core.{seen_in, core_out}
@@ -51,25 +51,25 @@ module _ (names : TextNamesAnswer) (taken : AnswersAreTakenUp) (good : Good) whe
   open turn use {layouts, w, t, g, far, n, steps}
   open (words turn Clean) use {o, passed as far', told, R, devices, trust, doubts}
 
-  abbrev For : Exchange → Option Current → Type 0
+  abbrev For : Purpose → Option Current → Type 0
   For e current = Replied good e current
 
-  abbrev cursor : Cutting Request → Cursor → Bool → Option Cause → Current
+  abbrev cursor : Cutting Request → RequestProgress → Bool → Option Cause → Current
   cursor cutter p again abort =
       record { cutter = cutter; progress = p; again = again; abort = abort }
 
-  abbrev at : Cutting Request → Cursor → Bool → Option Cause → Option Current
+  abbrev at : Cutting Request → RequestProgress → Bool → Option Cause → Option Current
   at cutter p again abort = Some (cursor cutter p again abort)
 
   -- of a request whose message isn't out nothing is noted
-  unnoted : {e : Exchange} {current : Option Current} → For e current → (e ≡ NextMessage → ⊥)
+  unnoted : {e : Purpose} {current : Option Current} → For e current → (e ≡ NextMessage → ⊥)
       → IfSome current (λ c. c.again ≡ false)
   unnoted {e} {current} a unlike =
       other_once devices e w.tries current unlike a.stands.request.out.again
 
   -- nothing is under way, or no segment of it, and nothing comes
   idle : (current : Option Current) (a : For Idle current) → IsUnsent current
-      → said ≡ quiet_said (request_in current) → Comes a current
+      → said ≡ quiet_said (request_under_way current) → Comes a current
   idle current a unsent says =
       goes_on a (keeps a refl refl) current refl (λ k. unsent_idle devices t.clear current unsent)
       (inr (refl, unsent_idle devices true current unsent)) a.stands.request.busy
@@ -78,10 +78,11 @@ module _ (names : TextNamesAnswer) (taken : AnswersAreTakenUp) (good : Good) whe
   -- a segment of the request
   segment : {cutter : Cutting Request} {flow : Flow} {piece : ArrayVec ℕ} {again : Bool}
       {abort : Option Cause} (a : For NextMessage (at cutter (Cut flow piece) again abort))
-      → said ≡ SaidBusy → Comes a (Some (sent_on (cursor cutter (Cut flow piece) false abort)))
+      → said ≡ SaidBusy → Comes a (Some
+      (current_after_segment (cursor cutter (Cut flow piece) false abort)))
   segment {cutter} {flow} {piece} {abort} a says =
       let current : Current = cursor cutter (Cut flow piece) false abort in
-      goes_on a (keeps a refl refl) (Some (sent_on current)) refl
+      goes_on a (keeps a refl refl) (Some (current_after_segment current)) refl
       (first_idle devices cutter.source cutter.given)
       (inl (sym (sent_follows trust (its a).vain devices
       false current flow piece od a.valid.current.progress))) (
@@ -111,9 +112,9 @@ module _ (names : TextNamesAnswer) (taken : AnswersAreTakenUp) (good : Good) whe
 
     -- what came is none of an answer, or can't be known to be one
     refuses : IsTrue doubts → ReadsAnswer what → Follows a (Unsure source) → said ≡ SaidBusy
-        → Comes a (Some (refused sure))
+        → Comes a (Some (current_after_refusal sure))
     refuses may asks is says =
-        goes_on a (keeps a refl refl) (Some (refused sure)) refl
+        goes_on a (keeps a refl refl) (Some (current_after_refusal sure)) refl
         (λ k. absurd (subst ReadsAnswer k asks)) (inl is)
         (refused_waits doubts t.limit g.request.busy g.request.asked abort may up.busy.1)
         refl refl says
@@ -121,7 +122,7 @@ module _ (names : TextNamesAnswer) (taken : AnswersAreTakenUp) (good : Good) whe
     -- a START read answered busy
     busy : (counted : ℕ) → what ≡ Ask → counted ≡ min g.request.busy 65535
         → Follows a (IsBusy source) → (slice_index od 0 == 1) ≡ true → said ≡ SaidBusy
-        → Comes a (Some (waited (one_more counted) t.limit sure))
+        → Comes a (Some (current_after_busy (one_more_busy counted) t.limit sure))
     busy counted asks count follows is says =
         let asking : ReadsAnswer what = subst ReadsAnswer (sym asks) tt in
         let reads = keeps a refl refl in
@@ -157,7 +158,8 @@ module _ (names : TextNamesAnswer) (taken : AnswersAreTakenUp) (good : Good) whe
 
     -- what is said of what a reply came to, and the request then
     abbrev Goes_to : ReplyEffect → Type 0
-    Goes_to outcome = IsEffectSaid (is_read source) outcome said → Comes a (going outcome)
+    Goes_to outcome = IsEffectSaid (is_read source) outcome said
+        → Comes a (current_of_effect outcome)
 
     -- the request has its answer, and none is under way
     told_answer : (p : Progress) (x : Answer) → IsSettled p → Follows a p
@@ -197,14 +199,14 @@ module _ (names : TextNamesAnswer) (taken : AnswersAreTakenUp) (good : Good) whe
     answer_segment : IsReading current.progress → ReadsAnswer what
         → is_forgotten current.progress current.again od ≡ false
         → Follows a (IsHad source (next_segment current.progress) (octets_had current.progress od))
-        → Goes_to (replied t.limit od current)
+        → Goes_to (effect_of_reply t.limit od current)
     answer_segment reading asks kept had says =
         let size : cutter.size ≡ layouts.run.od = a.valid.size
         ∙ ap od_size stands.joined.told.0 in
         let (x, fitting, whole, low) = had_text up.out.goes trust (its a).vain g.kind.hands_over
         base source i octets far'.isdu far'.counted far'.carried (read_level asks had).stands asks
         (sym (follows a) ∙ had) in
-        by_outcome x (replied t.limit od current)
+        by_outcome x (effect_of_reply t.limit od current)
         (taken current t.limit od x a.valid.current kept reading fitting (simp size whole)
         (simp size low)) says
       where
@@ -214,7 +216,8 @@ module _ (names : TextNamesAnswer) (taken : AnswersAreTakenUp) (good : Good) whe
         octets : List ℕ
         octets = octets_had current.progress od
 
-        by_outcome : (x : Answer) (outcome : ReplyEffect) → IsTakenUp current x i octets outcome
+        by_outcome : (x : Answer) (outcome : ReplyEffect)
+            → TakesUpSegment current x i octets outcome
             → Goes_to outcome
         by_outcome x (GoesOn next) (joining, is, text_is) says = rw is
             (goes_on a (keeps a refl refl) (at cutter (Receiving joining i) false abort) refl
@@ -228,15 +231,17 @@ module _ (names : TextNamesAnswer) (taken : AnswersAreTakenUp) (good : Good) whe
 
   start_read : {cutter : Cutting Request} {counted : ℕ} {again : Bool} {abort : Option Cause}
       (a : For NextMessage (at cutter (Asking counted) again abort))
-      → Goes_to a (asked counted t.limit od (cursor cutter (Asking counted) false abort))
+      → Goes_to a (effect_of_start_read counted t.limit od
+      (cursor cutter (Asking counted) false abort))
   start_read {cutter} {counted} {abort} a =
       by_octet (slice_index od 0 == 1) (slice_index od 0 == 0) refl refl
     where
-      follows : Follows a (level_asked trust cutter.source od)
+      follows : Follows a (progress_after_ask trust cutter.source od)
       follows = asked_after trust (its a).vain devices cutter counted od a.valid.current.progress
 
       by_octet : (b z : Bool) → (slice_index od 0 == 1) ≡ b → (slice_index od 0 == 0) ≡ z
-          → Goes_to a (asked counted t.limit od (cursor cutter (Asking counted) false abort))
+          → Goes_to a (effect_of_start_read counted t.limit od
+          (cursor cutter (Asking counted) false abort))
       by_octet true z b e =
           rw b (busy a counted refl a.stands.request.busy.0 (follows ∙ rw b refl) b)
       by_octet false false f z = answer_segment a tt tt refl (follows ∙ rw (f, z) refl)
@@ -254,7 +259,7 @@ module _ (names : TextNamesAnswer) (taken : AnswersAreTakenUp) (good : Good) whe
   question_unheard : (cutter : Cutting Request) (again : Bool) (abort : Option Cause)
       (a : For NextMessage (at cutter Doubting again abort))
       → (slice_index od 0 == 1) ≡ false → (slice_index od 0 == 0) ≡ true
-      → Goes_to a (doubted again t.limit od (cursor cutter Doubting false abort))
+      → Goes_to a (effect_of_question again t.limit od (cursor cutter Doubting false abort))
   question_unheard cutter true abort a f z =
       let any = doubting_any a in
       let k = vain_again devices (cursor cutter Doubting true abort) w.tries any
@@ -274,12 +279,12 @@ module _ (names : TextNamesAnswer) (taken : AnswersAreTakenUp) (good : Good) whe
 
   question_read : {cutter : Cutting Request} {again : Bool} {abort : Option Cause}
       (a : For NextMessage (at cutter Doubting again abort))
-      → Goes_to a (doubted again t.limit od (cursor cutter Doubting false abort))
+      → Goes_to a (effect_of_question again t.limit od (cursor cutter Doubting false abort))
   question_read {cutter} {again} {abort} a =
       by_octet (slice_index od 0 == 1) (slice_index od 0 == 0) refl refl
     where
       by_octet : (b z : Bool) → (slice_index od 0 == 1) ≡ b → (slice_index od 0 == 0) ≡ z
-          → Goes_to a (doubted again t.limit od (cursor cutter Doubting false abort))
+          → Goes_to a (effect_of_question again t.limit od (cursor cutter Doubting false abort))
       by_octet true z b e = rw (not_zero (slice_index od 0) b, b)
           (busy a 0 refl (rw a.stands.request.busy.0 refl) (rw b refl) b)
       by_octet false false f z = answer_segment a tt tt refl (rw (f, z) refl)
@@ -288,7 +293,7 @@ module _ (names : TextNamesAnswer) (taken : AnswersAreTakenUp) (good : Good) whe
   -- a COUNT read
   count_read : {cutter : Cutting Request} {joining : Joining} {last : ℕ} {again : Bool}
       {abort : Option Cause} (a : For NextMessage (at cutter (Receiving joining last) again abort))
-      → Goes_to a (received again joining (last + 1) od
+      → Goes_to a (effect_of_count_read again joining (last + 1) od
       (cursor cutter (Receiving joining last) false abort))
   count_read {cutter} {joining} {last} {again} {abort} a =
       by_none (may_be_none trust (its a).vain joining.text od) refl
@@ -303,7 +308,7 @@ module _ (names : TextNamesAnswer) (taken : AnswersAreTakenUp) (good : Good) whe
       sure = cursor cutter (Receiving joining last) false abort
 
       new : ReplyEffect
-      new = received again joining (last + 1) od sure
+      new = effect_of_count_read again joining (last + 1) od sure
 
       IsNone : Bool → Type 0
       IsNone b = may_be_none trust (its a).vain joining.text od ≡ b
@@ -315,10 +320,10 @@ module _ (names : TextNamesAnswer) (taken : AnswersAreTakenUp) (good : Good) whe
       -- at a port for our own kind nothing went out anew
       kept : IsNone false → is_forgotten (Receiving joining last) again od ≡ false
       kept none = not_both again
-          (forgotten_by (taken_by joining (Count ((last + 1) % 16)) od).took od) (λ twice forgot.
+          (forgotten_by (join_step joining (Count ((last + 1) % 16)) od).took od) (λ twice forgot.
           let any = any_again devices (λ own. cc (a.valid.sure own).0) in
           let k = vain_again devices current w.tries any a.stands.request.out.again twice in
-          cc (ap (λ (d : Devices). may_be_none (trusted d g.kind.recalls) (its a).vain
+          cc (ap (λ (d : Devices). may_be_none (trusted_recalls d g.kind.recalls) (its a).vain
           joining.text od) any ∙ ap (λ (v : ℕ). may_be_none UntilSent v joining.text od) k.1
           ∙ forgotten_none od k.0 joins forgot))
 
@@ -345,7 +350,8 @@ module _ (names : TextNamesAnswer) (taken : AnswersAreTakenUp) (good : Good) whe
       by_none false none = answer_segment a tt tt (kept none) (follows false none)
 
   -- every message of the request
-  request_message : (cutter : Cutting Request) (p : Cursor) (again : Bool) (abort : Option Cause)
+  request_message : (cutter : Cutting Request) (p : RequestProgress) (again : Bool)
+      (abort : Option Cause)
       (a : For NextMessage (at cutter p again abort))
       → Goes_to a (replied_at p again t.limit od (cursor cutter p false abort))
   request_message cutter (Cut flow piece) again abort a = segment a
@@ -384,9 +390,9 @@ module _ (names : TextNamesAnswer) (taken : AnswersAreTakenUp) (good : Good) whe
       open (its a) use {c, hidden}
 
   -- a message that says nothing of the request
-  other : {e : Exchange} {current : Option Current} (a : For e current) (reads : Reads a)
+  other : {e : Purpose} {current : Option Current} (a : For e current) (reads : Reads a)
       → move_for e current ≡ Other → clear_after e t.clear ≡ t.clear → (e ≡ NextMessage → ⊥)
-      → list_read e od t.events.reading ≡ None → said ≡ quiet_said (request_in current)
+      → list_read e od t.events.reading ≡ None → said ≡ quiet_said (request_under_way current)
       → Comes a current
   other {e} {current} a reads is same unlike none says =
       goes_on a reads current refl
@@ -396,10 +402,10 @@ module _ (names : TextNamesAnswer) (taken : AnswersAreTakenUp) (good : Good) whe
   -- an octet of the events; with the last one the list is the frozen one
   events_message : (current : Option Current) (a : For ReadEvent current)
       → MatchOption (list_read ReadEvent od t.events.reading)
-      (said ≡ quiet_said (request_in current)) (λ l. said ≡ Reported l) → Comes a current
+      (said ≡ quiet_said (request_under_way current)) (λ l. said ≡ Reported l) → Comes a current
   events_message current a says = by_list (list_read ReadEvent od t.events.reading) refl says
     where
-      k : Took (taken_octet (reader_of t.events.reading) (slice_index od 0)) r.event
+      k : Took (reader_step (reader_of t.events.reading) (slice_index od 0)) r.event
           far'.events
       k = took a a.stands.joined.out_for.head (a.stands.request.out.reads refl)
 
@@ -407,7 +413,8 @@ module _ (names : TextNamesAnswer) (taken : AnswersAreTakenUp) (good : Good) whe
       untold = told_now a ∙ undue R (a.stands.request.out.reads refl)
 
       by_list : (list : Option (List Event)) → list_read ReadEvent od t.events.reading ≡ list
-          → MatchOption list (said ≡ quiet_said (request_in current)) (λ l. said ≡ Reported l)
+          → MatchOption list (said ≡ quiet_said (request_under_way current))
+          (λ l. said ≡ Reported l)
           → Comes a current
       by_list None is says =
           let same = ap (frozen_of far'.events.frozen) (untold ∙ sym (k.more is)) in
@@ -439,8 +446,8 @@ module _ (names : TextNamesAnswer) (taken : AnswersAreTakenUp) (good : Good) whe
           }
 
   -- every message
-  pub message : (e : Exchange) (current : Option Current) (a : For e current)
-      → IsTaken e od (core_out layouts w t e current).session said
+  pub message : (e : Purpose) (current : Option Current) (a : For e current)
+      → IsExchangeSaid e od (core_out layouts w t e current).session said
       → Comes a (current_after e t.limit od current)
   message NextMessage None a says = cc a.valid.out
   message NextMessage (Some c) a says =

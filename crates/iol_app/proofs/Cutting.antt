@@ -8,7 +8,7 @@ use Rattle.iol_isdu.specs.declared.values.Cause.{Cause}
 use Rattle.iol_isdu.specs.Texts.{IsRequest}
 use Rattle.iol_segment.specs.Cut.{Cutting, segment, flow_at, pair_at, last_given}
 use Rattle.iol_app.specs.declared.request.Current.{Current}
-use Rattle.iol_app.specs.Requests.{text_of, sent_on, IsCurrent}
+use Rattle.iol_app.specs.Requests.{text_of, current_after_segment, IsCurrent}
 
 -- a segment has its size
 pub length-segment : (size : ℕ) (text : List ℕ) (i : ℕ) → length (segment size text i) ≡ size
@@ -39,5 +39,5 @@ given_goes_on size text given flow piece e = grind (arith, common_steps)
 pub sent_on_fits : (current : Current) → let cutter : Cutting Request = current.cutter in
     IsRequest cutter.source
     → 1 ≤ cutter.size → cutter.size ≤ 32 → 0 < length (text_of cutter)
-    → GoesOn cutter.size (text_of cutter) cutter.given → IsCurrent (sent_on current)
+    → GoesOn cutter.size (text_of cutter) cutter.given → IsCurrent (current_after_segment current)
 sent_on_fits current request some most text on = grind (arith, common_steps)

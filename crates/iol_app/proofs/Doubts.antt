@@ -17,48 +17,50 @@ use Rattle.iol_link.specs.Attempts.{Sending}
 use Rattle.iol_mode.specs.declared.configuration.Devices.{Devices}
 use Rattle.iol_mode.specs.declared.states.State.{State}
 use Rattle.iol_mode.specs.declared.states.State.TheVariants.{Operate as AtOperate}
-use Rattle.iol_mode.specs.States.{NextMode, OperateFits, NextModeFits, StateFits, operate_by, waked, state_of}
+use Rattle.iol_mode.specs.States.{NextMode, OperateFits, NextModeFits, StateFits, operate_by, mode_after_wake, next_state}
 use Rattle.iol_app.specs.declared.request.Current.{Current}
-use Rattle.iol_app.specs.declared.session.Exchange.{Exchange}
-use Rattle.iol_app.specs.Reports.{is_reading}
-use Rattle.iol_app.specs.Requests.{request_in}
-use Rattle.iol_app.specs.State.{SessionState, IsSession, output_length, doubts, asked_instead, missed_by, missed_in, IsOutBy}
-use Rattle.iol_app.specs.StationState.{StateFits as Joined, missed_state, missed_session, missed_out, settled_session, state_after, session_after}
-use Rattle.iol_app.specs.Core.{Core, after_missed, after_exchange}
+use Rattle.iol_app.specs.declared.session.Purpose.{Purpose}
+use Rattle.iol_app.specs.Reports.{has_begun_reading}
+use Rattle.iol_app.specs.Requests.{request_under_way}
+use Rattle.iol_app.specs.State.{SessionState, IsSession, told_output_length, doubts, question_instead, missed_by, missed_in, IsOutBy}
+use Rattle.iol_app.specs.StationState.{SessionFits, missed_state, missed_session, missed_out, settled_session, state_after_turn, session_after_turn}
+use Rattle.iol_app.specs.Core.{CoreState, after_missed, after_exchange}
 
-pub missed_request_by : (devices : Devices) (exchange : Option Exchange) (current : Option Current)
-    → request_in (missed_by devices exchange current) ≡ request_in current
+pub missed_request_by : (devices : Devices) (exchange : Option Purpose) (current : Option Current)
+    → request_under_way (missed_by devices exchange current) ≡ request_under_way current
 missed_request_by devices exchange current = grind (arith, common_steps)
 
 pub missed_request : (state : State) (s : SessionState)
-    → request_in (missed_session state s).current ≡ request_in s.current
+    → request_under_way (missed_session state s).current ≡ request_under_way s.current
 missed_request state s = grind (arith, common_steps, missed_request_by)
 
 pub missed_reading : (state : State) (s : SessionState)
-    → is_reading (missed_session state s) ≡ is_reading s
+    → has_begun_reading (missed_session state s) ≡ has_begun_reading s
 missed_reading state s = grind (arith, common_steps)
 
 -- a wake leaves no message out
 pub woken_state : (devices : Devices) (answered : Bool) (s : SessionState)
-    → state_after (waked devices answered) s ≡ state_of (waked devices answered)
+    → state_after_turn (mode_after_wake devices answered) s
+    ≡ next_state (mode_after_wake devices answered)
 woken_state devices answered s = grind (arith, common_steps)
 
 pub woken_session : (devices : Devices) (answered : Bool) (s : SessionState)
-    → session_after (waked devices answered) s ≡ settled_session (waked devices answered) s
+    → session_after_turn (mode_after_wake devices answered) s
+    ≡ settled_session (mode_after_wake devices answered) s
 woken_session devices answered s = grind (arith, common_steps)
 
 -- A question in place of a message that is out, which is one of the session
 
 -- what the session says of the message stays, where it goes out again as it was
-missed_out_by : (t : SessionState) (exchange : Option Exchange) (out : Option Sending)
+missed_out_by : (t : SessionState) (exchange : Option Purpose) (out : Option Sending)
     → let s : SessionState = record t { exchange = exchange } in
     IsOutBy exchange s (message_out out)
     → IsOutBy exchange (missed_in s) (message_out (missed_out s out))
 missed_out_by t exchange out h = grind (arith, common_steps, question_head t.output.carried.items)
 
 -- so the session fits the mode as before
-missed_joined : (state : Operate) (s : SessionState) → Joined (AtOperate state) s
-    → Joined (missed_state (AtOperate state) s) (missed_in s)
+missed_joined : (state : Operate) (s : SessionState) → SessionFits (AtOperate state) s
+    → SessionFits (missed_state (AtOperate state) s) (missed_in s)
 missed_joined state s h =
     record { told = h.told; out_for = missed_out_by s s.exchange state.out h.out_for }
 
@@ -68,7 +70,7 @@ question_stays out = refl
 
 -- and the mode is one still
 missed_fits : (layouts : Layouts) (sent : Sending) (s : SessionState) (b : Bool)
-    → IsOutput (output_length s.layout) s.output → s.layout ≡ Some layouts.run
+    → IsOutput (told_output_length s.layout) s.output → s.layout ≡ Some layouts.run
     → OperateFits (record { out = Some sent; layouts = layouts })
     → let message : MasterMsg = if b then question s.output.carried.items else sent.message in
     OperateFits (record { out = Some (record sent { message = message }); layouts = layouts })
@@ -81,32 +83,32 @@ missed_fits layouts sent s b output told h =
 pub after_fits : (sent : Sending) (layouts : Layouts) (attempt : Attempt) (s : SessionState)
     → let outcome : NextMode = operate_by sent layouts attempt in
     IsSession s → s.layout ≡ Some layouts.run → NextModeFits outcome
-    → Joined (state_of outcome) (settled_session outcome s)
+    → SessionFits (next_state outcome) (settled_session outcome s)
     → StateFits (after_exchange outcome s).state
-    × Joined (after_exchange outcome s).state (after_exchange outcome s).session
+    × SessionFits (after_exchange outcome s).state (after_exchange outcome s).session
 after_fits sent layouts attempt s valid told fits joined =
     let fitting = missed_fits layouts sent s (doubts s) valid.output told in
     let linked = missed_joined (record { out = Some sent; layouts = layouts }) s in
     grind (arith, common_steps)
 
-abbrev pub core_of : State → SessionState → Core
+abbrev pub core_of : State → SessionState → CoreState
 core_of state s = record { state = state; session = s }
 
 -- what the code makes of it: the session asks for this message
 asked_core : (o : Operate) (s : SessionState) (m : MasterMsg) → is_some o.out ≡ true
-    → Some m ≡ asked_instead s
+    → Some m ≡ question_instead s
     → (putting_instead m (AtOperate o) ≡ missed_state (AtOperate o) s)
     × (missed_in s ≡ missed_session (AtOperate o) s)
 asked_core o s m out asked = grind (arith, common_steps)
 
 -- the code's own words
 module _ (state new : State) (s after : SessionState) (o : Operate) (m : MasterMsg)
-    (is : state ≡ AtOperate o) (out : is_some o.out ≡ true) (joined : Joined state s)
-    (after_is : after ≡ missed_in s) (asked : Some m ≡ asked_instead s)
+    (is : state ≡ AtOperate o) (out : is_some o.out ≡ true) (joined : SessionFits state s)
+    (after_is : after ≡ missed_in s) (asked : Some m ≡ question_instead s)
     (new_is : new ≡ putting_instead m state) where
-  pub asked_joined : Joined new after
+  pub asked_joined : SessionFits new after
   asked_joined = rw (new_is, after_is, is)
-      (subst (λ (x : State). Joined x (missed_in s)) (sym (asked_core o s m out asked).0)
+      (subst (λ (x : State). SessionFits x (missed_in s)) (sym (asked_core o s m out asked).0)
       (missed_joined o s (rw is at joined)))
 
   pub asked_after : core_of new after ≡ after_missed (core_of state s)

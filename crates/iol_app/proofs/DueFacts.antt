@@ -5,14 +5,14 @@ use Rattle.std.specs.Prelude.{◌⊎◌}
 use Rattle.iol_steps.specs.Exchange.{output_due}
 use Rattle.iol_app.specs.declared.event_work.EventRoom.{EventRoom}
 use Rattle.iol_app.specs.declared.event_work.EventRoom.TheVariants.{Left}
-use Rattle.iol_app.specs.declared.session.Exchange.{Exchange}
-use Rattle.iol_app.specs.declared.session.Exchange.TheVariants.{ReadEvent, ConfirmEvents, Request}
+use Rattle.iol_app.specs.declared.session.Purpose.{Purpose}
+use Rattle.iol_app.specs.declared.session.Purpose.TheVariants.{ReadEvent, ConfirmEvents, Request}
 use Rattle.iol_app.specs.Requests.{Suits, aborts}
 use Rattle.iol_app.specs.Due.{is_under_way, is_confirm_due, is_resting, due_of}
 use Rattle.iol_app.specs.Ends.{output_for}
 use Rattle.iol_app.specs.State.{SessionState}
 
-pub record IsDue (s : SessionState) (room : EventRoom) (exchange : Exchange) : Type 0 where
+pub record IsDue (s : SessionState) (room : EventRoom) (exchange : Purpose) : Type 0 where
   pub suits : Suits exchange s.current
   pub output : output_for exchange ≡ output_due s.output.wanted s.output.told
   pub confirm : exchange ≡ ConfirmEvents → is_confirm_due s.events.reading ≡ true

@@ -15,10 +15,10 @@ use Rattle.iol_mode.specs.Stands.{StateStands}
 use Rattle.iol_mode.specs.States.{InDown, StateFits, is_reset}
 use Rattle.iol_steps.specs.declared.mode.Mode.TheVariants.{Down as ModeDown, Operate as ModeOperate}
 use Rattle.iol_steps.specs.declared.said.Said.TheVariants.{Idle}
-use Rattle.iol_steps.specs.Step.{Step, Move as MoveTo, WireCall, Moment, silence_by, CallFits, is_clash_free, is_for_book, is_report, resets}
+use Rattle.iol_steps.specs.Step.{PortStep, Move as MoveTo, WireCall, Moment, silence_by, CallFits, is_clash_free, is_for_book, is_report, resets}
 use Rattle.iol_steps.specs.Bridge.{Hidden, IsOpen, hidden_through, told_through, wake_steps, told_wake, exchange_steps, told_exchanged}
 use Rattle.iol_steps.specs.Session.{MayMove, MaySession, session_after}
-use Rattle.iol_steps.specs.FrozenEvents.{untold, MayFrozen, frozen_after}
+use Rattle.iol_steps.specs.FrozenEvents.{untold_events, MayFrozen, frozen_after}
 use Rattle.iol_steps.specs.Images.{MayImages, images_after}
 use Rattle.iol_steps.specs.Station.{Resting, frozen_of, images_of}
 use Rattle.iol_app.proofs.Given.{Laws, page_locals, page_after, kind_after, sees_kept, misses_passed}
@@ -27,12 +27,12 @@ use Rattle.iol_app.proofs.OwnSession.{SessionRuns, wake_session, exchange_sessio
 use Rattle.iol_app.proofs.FrozenPart.{FrozenRuns, ConfirmsTold, wake_frozen, exchange_frozen}
 use Rattle.iol_app.proofs.ImagesPart.{ImagesRuns, OutputsSent, wake_images, exchange_images}
 use Rattle.iol_app.proofs.Clash.{Before, no_busy, no_confirm, wake_before, exchange_before}
-use Rattle.iol_app.specs.Requests.{request_in}
+use Rattle.iol_app.specs.Requests.{request_under_way}
 use Rattle.iol_app.proofs.Told.{told_exchange}
 use Rattle.iol_app.proofs.Shown.{shown_as}
 use Rattle.iol_app.specs.Ends.{SentSeen}
-use Rattle.iol_app.specs.StationState.{StateFits as Joined, mode_in}
-use Rattle.iol_app.specs.Core.{Core, Ghost, Stands, CallGives, Work, work_of, RequestStands, EventsStand, OutputStands, CalmAt, FreshAt, ShownStands, moment_of, seen_in, shown_in, images_in, settled_core}
+use Rattle.iol_app.specs.StationState.{SessionFits, mode_in}
+use Rattle.iol_app.specs.Core.{CoreState, Ghost, BothEndsStand, CallGives, Work, work_of, RequestStands, EventsStand, OutputStands, CalmAt, FreshAt, ShownStands, moment_of, seen_in, shown_in, images_in, settled_core}
 
 -- outside OPERATE no request was begun just now
 stale : (state : State) (w : Work) (far : Far) → mode_in state ≢ ModeOperate → FreshAt state w far
@@ -46,7 +46,7 @@ none_rests : (awake : Bool) → false ≡ (awake && false)
 none_rests awake = grind (arith, common_steps)
 
 -- a start takes back what was told
-pub untold_of : (f : List Event) (t : Bool) → untold (frozen_of f t) ≡ frozen_of f false
+pub untold_of : (f : List Event) (t : Bool) → untold_events (frozen_of f t) ≡ frozen_of f false
 untold_of f t = grind (arith, common_steps)
 
 pub unconfirming : (o : List ℕ) (far : Far) (t : Bool) → octets_confirm o ≡ false
@@ -60,10 +60,10 @@ pub opens_passed : (h : Hidden) (far : Far) (own : List LocalStep) (passage : Pa
     → IsOpen (far_after passage (locals far own) o).isdu None (hidden_through None far own h)
 opens_passed h far own passage o holds opens = grind (arith, common_steps, own_open)
 
-module _ (c : Core) (g : Ghost) (far : Far) where
+module _ (c : CoreState) (g : Ghost) (far : Far) where
   -- the far end's part, with no request under way
   pub record Effect (far' : Far) : Type 0 where
-    pub steps : List Step
+    pub steps : List PortStep
     pub hidden : Hidden
     pub told : Bool
     pub session : (m : Moment) → SessionRuns m (seen_in c g) g.request.hidden far.carried steps
@@ -71,16 +71,16 @@ module _ (c : Core) (g : Ghost) (far : Far) where
     pub frozen : FrozenRuns far.events.frozen g.events.told steps far'.events.frozen told
     pub images : (m : Moment) → ImagesRuns m (images_in c g far) steps
         (images_of (shown_in c.session g.sent) far')
-    pub before : (ys : List Step) → no_busy ys ≡ true → no_confirm ys ≡ true
+    pub before : (ys : List PortStep) → no_busy ys ≡ true → no_confirm ys ≡ true
         → IsTrue (is_clash_free ys) → Before steps ys
     pub opens : IsOpen far'.isdu None hidden
     pub page : far'.page ≡ far.page
     pub kind : far'.kind ≡ far.kind
     pub misses : far'.misses_pulses ≡ far.misses_pulses
 
-  module _ (laws : Laws) (free : request_in c.session.current ≡ None)
+  module _ (laws : Laws) (free : request_under_way c.session.current ≡ None)
       (opens : IsOpen far.isdu None g.request.hidden) (own : List LocalStep) where
-    pub opens_seen : IsOpen far.isdu (request_in c.session.current) g.request.hidden
+    pub opens_seen : IsOpen far.isdu (request_under_way c.session.current) g.request.hidden
     opens_seen = rw free opens
 
     abbrev there : Far
@@ -155,7 +155,7 @@ module _ (c : Core) (g : Ghost) (far : Far) where
         }
 
   -- what the port makes of it, outside OPERATE
-  module _ (far' : Far) (effect : Effect far') (n n' : ℕ) (stands : Stands c g far n)
+  module _ (far' : Far) (effect : Effect far') (n n' : ℕ) (stands : BothEndsStand c g far n)
       (below : mode_in c.state ≢ ModeOperate) where
     -- with this of its hidden part, and of whether the frozen list is told
     abbrev pub ended : Hidden → Bool → Ghost
@@ -166,7 +166,7 @@ module _ (c : Core) (g : Ghost) (far : Far) where
     }
 
     -- how the new mode and the session stand
-    pub record Left (next : Core) (hidden : Hidden) (told : Bool) : Type 0 where
+    pub record Left (next : CoreState) (hidden : Hidden) (told : Bool) : Type 0 where
       pub request : RequestStands next.state (work_of next.session) next.session.events
           (ended hidden told) far'
       pub events : EventsStand next.state next.session.exchange next.session.events
@@ -176,7 +176,7 @@ module _ (c : Core) (g : Ghost) (far : Far) where
       pub quiet : CalmAt next.state n'
 
     -- what an outcome has to bring
-    pub record Ends (call : WireCall) (ys : List Step) (next : Core) (hidden : Hidden)
+    pub record Ends (call : WireCall) (ys : List PortStep) (next : CoreState) (hidden : Hidden)
         (told : Bool) : Type 0 where
       pub limit : next.session.limit ≡ c.session.limit
       pub configuration : next.session.configuration ≡ c.session.configuration
@@ -194,10 +194,11 @@ module _ (c : Core) (g : Ghost) (far : Far) where
       pub shown : ShownStands next g.page
 
     -- the steps of both, one after the other
-    pub gives : (call : WireCall) (ys : List Step) (next : Core) (hidden : Hidden) (told : Bool)
+    pub gives : (call : WireCall) (ys : List PortStep) (next : CoreState) (hidden : Hidden)
+        (told : Bool)
         → Ends call ys next hidden told → CallFits (mode_in c.state) call
         → n' ≡ silence_by call n → StateFits next.state → StateStands next.state n' far'
-        → Joined next.state next.session → CallGives c g far n Idle next far' n'
+        → SessionFits next.state next.session → CallGives c g far n Idle next far' n'
     gives call ys next hidden told e fits_call silence fits link joined =
         let m = moment_of c g n call in
         let before = effect.before ys e.plain.0 e.plain.1 e.plain.2 in
@@ -227,7 +228,7 @@ module _ (c : Core) (g : Ghost) (far : Far) where
         }
 
     -- it goes down, for a cause
-    pub falls : (call : WireCall) (why : Why) → request_in c.session.current ≡ None
+    pub falls : (call : WireCall) (why : Why) → request_under_way c.session.current ≡ None
         → MayMove (moment_of c g n call) (mode_in c.state) ModeDown (Some why)
         → Ends call (MoveTo ModeDown (Some why) ∷ [])
         (settled_core (InDown (record { why = Some why })) c.session) effect.hidden effect.told
@@ -245,7 +246,7 @@ module _ (c : Core) (g : Ghost) (far : Far) where
       shown = shown_as stands.shown (λ e. refl) refl stands.shown.present stands.shown.no_form;
     }
 
-    pub loses : (call : WireCall) (why : Why) → request_in c.session.current ≡ None
+    pub loses : (call : WireCall) (why : Why) → request_under_way c.session.current ≡ None
         → MayMove (moment_of c g n call) (mode_in c.state) ModeDown (Some why)
         → CallFits (mode_in c.state) call → n' ≡ silence_by call n
         → CallGives c g far n Idle (settled_core (InDown (record { why = Some why })) c.session)

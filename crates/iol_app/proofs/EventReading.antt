@@ -1,14 +1,14 @@
 -- The reading of events goes with the far end's frozen list.
 use Rattle.std.proofs.Common.{◌≡◌, ℕ, Bool, true, false, not, List, arith}
 use Rattle.std.specs.Prelude.{Option, Some, None}
-use Rattle.iol_event.specs.Memory.{Events, IsEventMemory, is_empty, released}
+use Rattle.iol_event.specs.Memory.{Events, IsEventMemory, is_empty, events_after_release}
 use Rattle.iol_event.specs.Laws.{MemoryStaysValid, WaitsForAll, GivesFrozen}
 use Rattle.iol_far.specs.Codec.{layout_in}
 use Rattle.iol_far.specs.Far.{Far, hear, heard_as, events_after}
 use Rattle.iol_far.specs.Local.{LocalStep, locals}
 use Rattle.iol_far.specs.Laws.{confirms as octets_confirm}
 use Rattle.iol_steps.specs.Bridge.{confirms_by}
-use Rattle.iol_steps.specs.Station.{Reading, is_due, wants_octet, EventsFit}
+use Rattle.iol_steps.specs.Station.{ReadingState, wants_confirm, wants_octet, EventsFit}
 use Rattle.iol_steps.specs.Exchange.{reading_kept}
 use Rattle.iol_app.proofs.Given.{by_locals}
 use Rattle.iol_app.proofs.Accepted.{by_accepted}
@@ -36,19 +36,20 @@ module _ (laws : ReaderLaws) where
       (λ w m e. memory_worked far.events (confirms_by m.mc) h)
       (λ w c k m e. memory_worked far.events (confirms_by m.mc) h)
 
-pub undue : (r : Reading) → wants_octet r ≡ true → is_due r ≡ false
+pub undue : (r : ReadingState) → wants_octet r ≡ true → wants_confirm r ≡ false
 undue r given = grind (arith, common_steps)
 
 -- what is kept
-pub kept_due : (r : Reading) (event : Bool) → is_due (reading_kept r event) ≡ is_due r
+pub kept_due : (r : ReadingState) (event : Bool)
+    → wants_confirm (reading_kept r event) ≡ wants_confirm r
 kept_due r event = grind (arith, common_steps)
 
-pub kept_fits : (r : Reading) (event : Bool) (m : Events) → event ≡ not (is_empty m.frozen)
+pub kept_fits : (r : ReadingState) (event : Bool) (m : Events) → event ≡ not (is_empty m.frozen)
     → m.held ≡ false → EventsFit r false m → EventsFit (reading_kept r event) false m
 kept_fits r event m is held fit = grind (arith, common_steps)
 
 -- what is heard and is no confirm ends the hold
-released_held : (m : Events) → (released m).held ≡ false
+released_held : (m : Events) → (events_after_release m).held ≡ false
 released_held m = grind (arith, common_steps)
 
 pub ends_hold : (far : Far) (o reply : List ℕ) → octets_confirm o ≡ false

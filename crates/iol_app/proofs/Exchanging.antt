@@ -9,14 +9,14 @@ use Rattle.iol_page.specs.declared.page.Layouts.{Layouts}
 use Rattle.iol_isdu.specs.declared.values.Request.{Request}
 use Rattle.iol_event.specs.declared.event.Event.{Event}
 use Rattle.iol_far.specs.declared.carried.Carried.{Carried}
-use Rattle.iol_far.specs.declared.mode.Mode.TheVariants.{Operate as FarOperate}
+use Rattle.iol_far.specs.declared.mode.DeviceMode.TheVariants.{Operate as FarOperate}
 use Rattle.iol_far.specs.declared.kind.HandsOver.{HandsOver}
 use Rattle.iol_far.specs.Codec.{layout_in}
 use Rattle.iol_far.specs.Far.{Far, output_of}
 use Rattle.iol_far.specs.Local.{LocalStep, locals}
 use Rattle.iol_mseq.specs.Master.{HasMasterParts}
 use Rattle.iol_far.specs.Linked.{TextsAreHeard}
-use Rattle.iol_far.specs.Level.{Progress, Move, Begin, IsLevel, taken}
+use Rattle.iol_far.specs.Level.{Progress, Move, Begin, IsLevel, accepting_link}
 use Rattle.iol_far.specs.Laws.{confirms as octets_confirm}
 use Rattle.iol_link.specs.Attempts.{Sending}
 use Rattle.iol_link.specs.Honest.{Passage, far_after}
@@ -26,11 +26,11 @@ use Rattle.iol_mode.specs.declared.why.Why.TheVariants.{Lost}
 use Rattle.iol_steps.specs.declared.mode.Mode.TheVariants.{Down as ModeDown, Operate as ModeOperate}
 use Rattle.iol_steps.specs.declared.said.Said.{Said}
 use Rattle.iol_steps.specs.declared.said.Said.TheVariants.{Busy as SaidBusy, Answered, Cut as SaidCut, Reported}
-use Rattle.iol_steps.specs.Step.{Step, Moment, silence_left, repeats_at, doubts_at, is_clash_free, WireCall, Exchanged, silence_by, CallFits, is_for_book, is_report, book_said, reports_said, no_make}
+use Rattle.iol_steps.specs.Step.{PortStep, Moment, silence_left, repeats_at, doubts_at, is_clash_free, WireCall, Exchanged, silence_by, CallFits, is_for_book, is_report, book_said, reports_said, no_make}
 use Rattle.iol_steps.specs.Bridge.{Hidden, IsOpen, hidden_through, hidden_again, again_steps, told_through, exchange_steps, told_exchanged}
-use Rattle.iol_steps.specs.Kinds.{Brought, Missed, Gone, WasBusy, WasAnswered, WasAborted, WasReported, Had, lost_steps, Seen, brought_steps, quiet_said, lost_said}
-use Rattle.iol_steps.specs.Station.{Reading, AnswerFits, is_due, images_of}
-use Rattle.iol_steps.specs.Exchange.{hidden_lost, told_by}
+use Rattle.iol_steps.specs.Kinds.{ExchangeResult, Missed, Gone, WasBusy, WasAnswered, WasAborted, WasReported, Had, lost_steps, MasterFields, brought_steps, quiet_said, lost_said}
+use Rattle.iol_steps.specs.Station.{ReadingState, AnswerFits, wants_confirm, images_of}
+use Rattle.iol_steps.specs.Exchange.{hidden_lost, is_output_told}
 use Rattle.iol_steps.specs.Turn.{ImageIsLast}
 use Rattle.iol_app.proofs.Given.{Laws, page_locals, page_after, kind_after, level_locals, level_after, sees_kept, misses_passed}
 use Rattle.iol_steps.specs.Session.{MaySession, session_after}
@@ -48,32 +48,32 @@ use Rattle.iol_app.proofs.Told.{told_locals, told_exchange, confirms_told}
 use Rattle.iol_app.proofs.FirstOctet.{confirms_of}
 use Rattle.iol_app.proofs.Shown.{shown_as}
 use Rattle.iol_app.specs.declared.request.Current.{Current}
-use Rattle.iol_app.specs.declared.session.Exchange.{Exchange}
-use Rattle.iol_app.specs.Requests.{request_in}
+use Rattle.iol_app.specs.declared.session.Purpose.{Purpose}
+use Rattle.iol_app.specs.Requests.{request_under_way}
 use Rattle.iol_app.specs.Moves.{progress_of, move_for, confirms_events}
 use Rattle.iol_app.specs.Messages.{question}
 use Rattle.iol_app.specs.State.{SessionState, IsSession, doubts, missed_by}
-use Rattle.iol_app.specs.StationState.{StateFits as Joined, mode_in}
+use Rattle.iol_app.specs.StationState.{SessionFits, mode_in}
 use Rattle.iol_app.proofs.OperateMessages.{exchange_confirms}
 use Rattle.iol_app.proofs.SmallFacts.{confirms_is, more_silence, same_carried}
 use Rattle.iol_app.proofs.Sessions.{question_parts}
 use Rattle.iol_app.proofs.Doubts.{missed_request_by}
 use Rattle.iol_app.proofs.Missing.{stays, busy_missed}
 use Rattle.iol_app.proofs.Telling.{told_layout}
-use Rattle.iol_app.specs.Core.{Core, Ghost, OfRequest, OfEvents, Stands, ReceiveGives, work_of, vain_by, after_missed, RequestStands, EventsStand, OutputStands, CalmAt, ShownStands, core_out, reading_in, ordered_by, moment_of, seen_in, shown_in, images_in, settled_core}
-use Rattle.iol_mode.specs.Kinds.{trusted}
+use Rattle.iol_app.specs.Core.{CoreState, Ghost, OfRequest, OfEvents, BothEndsStand, ReceiveGives, work_of, vain_by, after_missed, RequestStands, EventsStand, OutputStands, CalmAt, ShownStands, core_out, reading_in, ordered_by, moment_of, seen_in, shown_in, images_in, settled_core}
+use Rattle.iol_mode.specs.Kinds.{trusted_recalls}
 use Rattle.iol_far.specs.declared.kind.Recalls.{Recalls}
 use Rattle.iol_mode.specs.declared.configuration.Devices.{Devices}
 
 -- what goes out again hands over what it did
-repeats_missed : (devices : Devices) (hands_over : HandsOver) (size : ℕ) (e : Exchange)
+repeats_missed : (devices : Devices) (hands_over : HandsOver) (size : ℕ) (e : Purpose)
     (current : Option Current)
     → repeats_at devices hands_over size (move_for e (missed_by devices (Some e) current)) ≡ false
     → repeats_at devices hands_over size (move_for e current) ≡ false
 repeats_missed devices hands_over size e current once = grind (arith, common_steps)
 
 -- what is said of what an exchange brings
-abbrev pub Says : Brought → Option Request → Said → Type 0
+abbrev pub Says : ExchangeResult → Option Request → Said → Type 0
 Says Missed request said = said ≡ quiet_said request
 Says Gone request said = said ≡ lost_said request
 Says WasBusy request said = said ≡ SaidBusy
@@ -83,7 +83,7 @@ Says (WasReported events) request said = said ≡ Reported events
 Says Had request said = said ≡ quiet_said request
 Says kind request said = ⊥
 
-said_of : (kind : Brought) (request : Option Request) (said : Said) → Says kind request said
+said_of : (kind : ExchangeResult) (request : Option Request) (said : Said) → Says kind request said
     → (filter is_for_book (brought_steps kind request) ≡ book_said said)
     × (filter is_report (brought_steps kind request) ≡ reports_said said)
     × (no_make (brought_steps kind request) ≡ true)
@@ -97,7 +97,7 @@ lost_parts : (m : Moment) (f : List Event) (told : Bool) (i : Images) (r : Optio
     × ImagesRuns m i (lost_steps r) (record i { image = None })
 lost_parts m f told i r = grind (arith, common_steps)
 
-lost_session : (m : Moment) (seen : Seen) (h : Hidden) (c : List Carried)
+lost_session : (m : Moment) (seen : MasterFields) (h : Hidden) (c : List Carried)
     → seen.mode ≡ ModeOperate → 3 ≤ silence_left m
     → SessionRuns m seen h c (lost_steps seen.request)
     (record seen { request = None; mode = ModeDown; why = Some Lost }) (hidden_lost seen.request h)
@@ -110,7 +110,7 @@ pub record Words : Type 0 where
   pub o : List ℕ
   pub passed : Far
   pub told : Bool
-  pub R : Reading
+  pub R : ReadingState
   pub devices : Devices
   pub trust : Recalls
   -- whether it may be in doubt what the device made of a request
@@ -118,15 +118,15 @@ pub record Words : Type 0 where
 
 -- and of the request that it is for
 pub record RequestWords : Type 0 where
-  pub c : Core
+  pub c : CoreState
   pub request : Option Request
   -- what is hidden of it behind the device's own steps
   pub own : Hidden
   -- where the device is handed the request again, it has no answer any more
   pub hidden : Hidden
   -- the far end's steps, and that the request is handed over again
-  pub xs : List Step
-  pub back : List Step
+  pub xs : List PortStep
+  pub back : List PortStep
   pub what : Move
   -- whether the message hands the device its request with each hearing
   pub repeats : Bool
@@ -156,14 +156,14 @@ module _ (turn : Turn) (passage : Passage) where
         told = told_exchanged far steps passage o g.events.told;
         R = reading_in t.events g.events;
         devices = t.configuration.devices;
-        trust = trusted t.configuration.devices g.kind.recalls;
+        trust = trusted_recalls t.configuration.devices g.kind.recalls;
         doubts = doubts_at t.configuration.devices g.kind.recalls;
       }
 
-  module _ (e : Exchange) (current : Option Current) where
+  module _ (e : Purpose) (current : Option Current) where
     abbrev pub request_words : RequestWords
     request_words =
-        let request : Option Request = request_in current in
+        let request : Option Request = request_under_way current in
         let own : Hidden = hidden_through request far steps g.request.hidden in
         record {
           c = core_out layouts w t e current;
@@ -192,8 +192,9 @@ module _ (turn : Turn) (passage : Passage) where
       pub outputs : OutputTold g.sent (output_for e ≡ None) t.output.told passed
       pub sends : OutputsSent g.sent (locals far steps) o
 
-module _ (turn : Turn) (passage : Passage) (e : Exchange) (current : Option Current)
-    (stands : Stands (core_out turn.layouts turn.w turn.t e current) turn.g turn.far turn.n) where
+module _ (turn : Turn) (passage : Passage) (e : Purpose) (current : Option Current)
+    (stands : BothEndsStand (core_out turn.layouts turn.w turn.t e current) turn.g turn.far
+    turn.n) where
   open turn use {laws, layouts, w, t, g, far, n, steps}
   open (words turn passage) use {o, passed, told, R, devices, doubts as in_doubt}
   open (request_words turn passage e current) use {c, request, own as h, hidden as h', xs, back}
@@ -228,7 +229,7 @@ module _ (turn : Turn) (passage : Passage) (e : Exchange) (current : Option Curr
   tied' once = rw (carried_after passage (locals far steps) o) (own_tied.1 once)
 
   -- the steps stand before those of an outcome
-  pub before_ends : (ys : List Step) → no_busy ys ≡ true → no_confirm ys ≡ true
+  pub before_ends : (ys : List PortStep) → no_busy ys ≡ true → no_confirm ys ≡ true
       → IsTrue (is_clash_free ys) → Before xs (back ++ ys)
   before_ends ys busy confirm free =
       let b = beside_again request passed.isdu h ys in
@@ -236,11 +237,11 @@ module _ (turn : Turn) (passage : Passage) (e : Exchange) (current : Option Curr
       (b.confirm confirm) (b.free free)
 
   pub confirms : octets_confirm o ≡ confirms_events e
-  confirms = sym (confirms_of (layout_in g.page (taken up.link o).mode) o w.message
+  confirms = sym (confirms_of (layout_in g.page (accepting_link up.link o).mode) o w.message
       up.out.goes.spells) ∙ exchange_confirms e t.events.reading current w.message
       stands.joined.out_for.head
 
-  due : octets_confirm o ≡ true → is_due R ≡ true
+  due : octets_confirm o ≡ true → wants_confirm R ≡ true
   due k = up.out.confirm (confirms_is e (sym confirms ∙ k))
 
   told_before : EventsTold R (octets_confirm o) far g.events.told
@@ -254,8 +255,8 @@ module _ (turn : Turn) (passage : Passage) (e : Exchange) (current : Option Curr
       record g { request = of_request; events = of_events; fresh = false }
 
   -- what an outcome has to bring
-  pub record Ends (said : Said) (call : WireCall) (next : Core) (of_request : OfRequest)
-      (of_events : OfEvents) (kind : Brought) : Type 0 where
+  pub record Ends (said : Said) (call : WireCall) (next : CoreState) (of_request : OfRequest)
+      (of_events : OfEvents) (kind : ExchangeResult) : Type 0 where
     pub terms : (next.session.limit ≡ t.limit)
         × (next.session.configuration ≡ t.configuration)
     pub session : SessionRuns (moment_of c g n call) (seen_in c g) h' passed.carried
@@ -271,7 +272,7 @@ module _ (turn : Turn) (passage : Passage) (e : Exchange) (current : Option Curr
     pub last : ImageIsLast (moment_of c g n call) (mode_in next.state) (images_in c g far)
         (images_in next (ended of_request of_events) passed)
     pub wanted : silence_by call n ≡ 0
-        → output_of passed ≡ ordered_by (told_by (output_for e) t.output.told)
+        → output_of passed ≡ ordered_by (is_output_told (output_for e) t.output.told)
         w.message.out.items
     pub request_is : RequestStands next.state (work_of next.session) next.session.events
         (ended of_request of_events) passed
@@ -283,15 +284,15 @@ module _ (turn : Turn) (passage : Passage) (e : Exchange) (current : Option Curr
     pub shown : ShownStands next g.page
 
   module _ (p : Passes turn passage e current) where
-    pub gives : {far' : Far} {n' : ℕ} {said : Said} {call : WireCall} {next : Core}
-        {of_request : OfRequest} {of_events : OfEvents} {kind : Brought} → far' ≡ passed
+    pub gives : {far' : Far} {n' : ℕ} {said : Said} {call : WireCall} {next : CoreState}
+        {of_request : OfRequest} {of_events : OfEvents} {kind : ExchangeResult} → far' ≡ passed
         → Ends said call next of_request of_events kind → CallFits ModeOperate call
         → n' ≡ silence_by call n → StateStands next.state n' far' → StateFits next.state
-        → Joined next.state next.session → CalmAt next.state n'
+        → SessionFits next.state next.session → CalmAt next.state n'
         → ReceiveGives c g far n said next far' n'
     gives {n'} {said} {call} {next} {of_request} {of_events} {kind} far_is b fits silent link
         state_fits joined calm =
-        let ys : List Step = brought_steps kind request in
+        let ys : List PortStep = brought_steps kind request in
         let said_is = said_of kind request said b.says in
         let m = moment_of c g n call in
         let beside = beside_again request passed.isdu h ys in
@@ -358,7 +359,7 @@ module _ (turn : Turn) (passage : Passage) (e : Exchange) (current : Option Curr
     abbrev pub again : Sending
     again = record { message = w.message; tries = w.tries + 1 }
 
-    abbrev pub missed_core : Core
+    abbrev pub missed_core : CoreState
     missed_core = after_missed (core_out layouts again t e current)
 
     module _ (heard : TextsAreHeard) (valid : IsSession c.session) where
@@ -377,7 +378,8 @@ module _ (turn : Turn) (passage : Passage) (e : Exchange) (current : Option Curr
       carries : IfSome g.sent (λ image. carried ≡ image)
       carries = same_carried g.sent carried carried refl (rw layout_is at stands.sent)
 
-      same_request : request_in (missed_by t.configuration.devices (Some e) current) ≡ request
+      same_request : request_under_way (missed_by t.configuration.devices (Some e) current)
+          ≡ request
       same_request = missed_request_by t.configuration.devices (Some e) current
 
       -- the request, once the ends are level with what is out from now on

@@ -11,21 +11,21 @@ use Rattle.iol_page.specs.declared.master_command.MasterCommand.{MasterCommand}
 use Rattle.iol_link.specs.Honest.{Passage, OutLost, BackLost, Clean, far_after, HonestExchange, IsUnread, IsAnswer}
 use Rattle.iol_link.specs.Attempts.{good_reply}
 use Rattle.iol_far.specs.declared.carried.Carried.{Carried}
-use Rattle.iol_far.specs.declared.mode.Mode as device
-use Rattle.iol_far.specs.declared.mode.Mode.TheVariants.{Operate as FarOperate}
+use Rattle.iol_far.specs.declared.mode.DeviceMode as device
+use Rattle.iol_far.specs.declared.mode.DeviceMode.TheVariants.{Operate as FarOperate}
 use Rattle.iol_far.specs.Isdu.{IsduState}
-use Rattle.iol_far.specs.Codec.{layout_in, message_in, octets_of}
-use Rattle.iol_far.specs.Far.{Far, WaitingCommand, layout_of, accepted, hear, heard_as, worked, reply_to, output_of, command_in, valid_after, out_after, waits_after, mode_asked, known_mode, is_mode}
+use Rattle.iol_far.specs.Codec.{layout_in, message_in, reply_octets}
+use Rattle.iol_far.specs.Far.{Far, WaitingCommand, layout_of, accepted_message, hear, heard_as, far_after_message, reply_to, output_of, command_in, valid_after, out_after, waits_after, mode_asked, known_mode, is_mode}
 use Rattle.iol_far.specs.Local.{locals}
 use Rattle.iol_far.specs.declared.kind.Kind.{Kind}
 use Rattle.iol_far.specs.declared.kind.Recalls.{Recalls}
-use Rattle.iol_far.specs.Level.{Link, Progress, Move, Begin, taken as taken_link, IsOutOnce, IsIdle, RecallsAtLeast, IsSent, IsLevel}
+use Rattle.iol_far.specs.Level.{FarLink, Progress, Move, Begin, accepting_link, IsOutOnce, IsIdle, RecallsAtLeast, IsSent, IsLevel}
 use Rattle.iol_far.specs.Laws.{IsSized, ReplySays}
 use Rattle.iol_steps.specs.declared.mode.Mode.{Mode}
 use Rattle.iol_steps.specs.declared.mode.Mode.TheVariants.{Operate}
-use Rattle.iol_steps.specs.Step.{Image}
+use Rattle.iol_steps.specs.Step.{ImageOctets}
 use Rattle.iol_steps.specs.Station.{far_mode, output_by, AnswerFits, ProgressFits}
-use Rattle.iol_steps.specs.Exchange.{told_by}
+use Rattle.iol_steps.specs.Exchange.{is_output_told}
 use Rattle.iol_isdu.specs.declared.values.Request.{Request}
 use Rattle.iol_steps.specs.Bridge.{Hidden, IsOpen, hidden_again}
 use Rattle.iol_app.proofs.OpenLevel.{replied_opens, open_again}
@@ -36,30 +36,31 @@ use Rattle.iol_app.proofs.ImagesPart.{OutputsSent}
 use Rattle.iol_app.specs.Ends.{OutputTold}
 
 -- in OPERATE the octets heard are the output
-out_is : (mode : device.Mode) (old new : List ℕ) → mode ≡ FarOperate → out_after mode old new ≡ new
+out_is : (mode : device.DeviceMode) (old new : List ℕ) → mode ≡ FarOperate
+    → out_after mode old new ≡ new
 out_is mode old new given = grind (arith, common_steps)
 
 -- the mode that a command waits for, where none waits for its own, finds no valid output
-moved_told : (at into : device.Mode) (valid told : Bool) → is_mode at into ≡ false
+moved_told : (at into : device.DeviceMode) (valid told : Bool) → is_mode at into ≡ false
     → into ≡ FarOperate → (valid ≡ true → at ≡ FarOperate) → valid ≡ told → false ≡ told
 moved_told at into valid told elsewhere up given same = grind (arith, common_steps)
 
 -- a message that is worked leaves the output valid in OPERATE alone, as told, and the image sent
-output_worked : (mode : Mode) (at : device.Mode) (valid told : Bool)
-    (command : Option MasterCommand) (old items : List ℕ) (sent : Option Image)
+output_worked : (mode : Mode) (at : device.DeviceMode) (valid told : Bool)
+    (command : Option MasterCommand) (old items : List ℕ) (sent : Option ImageOctets)
     → at ≡ far_mode mode → (valid ≡ true → (at ≡ FarOperate) × IsSome sent)
     → (output_by mode command ≡ None → valid ≡ told)
     → (mode ≡ Operate → IfSome sent (λ image. items ≡ image))
     → (output_by mode command ≡ Some true → IsSome sent)
     → (valid_after at valid command ≡ true → (at ≡ FarOperate) × IsSome sent)
-    × (valid_after at valid command ≡ told_by (output_by mode command) told)
+    × (valid_after at valid command ≡ is_output_told (output_by mode command) told)
     × IfSome (if valid_after at valid command && nat_lt 0 (length (out_after at old items))
     then Some (out_after at old items) else None) (λ x. sent ≡ Some x)
 output_worked mode at valid told command old items sent same before as_told carries tells =
     grind (arith, common_steps)
 
-waits_stay : (mode : device.Mode) (waits : Option WaitingCommand) (octets : List ℕ)
-    (asked : Option device.Mode) → IfSome waits (λ c. is_mode mode c.into ≡ false)
+waits_stay : (mode : device.DeviceMode) (waits : Option WaitingCommand) (octets : List ℕ)
+    (asked : Option device.DeviceMode) → IfSome waits (λ c. is_mode mode c.into ≡ false)
     → IfSome (waits_after mode waits octets asked) (λ c. is_mode mode c.into ≡ false)
 waits_stay mode waits octets asked h = grind (arith, common_steps)
 
@@ -74,7 +75,7 @@ pub record Goes : Type 0 where
   pub kind : Kind
   pub run : Shape
   pub base : List Carried
-  pub link : Link
+  pub link : FarLink
   pub progress : Progress
   pub message : MasterMsg
   pub o : List ℕ
@@ -83,13 +84,13 @@ pub record Goes : Type 0 where
   pub trust : Recalls
   pub vain : ℕ
   pub mode : Mode
-  pub sent : Option Image
+  pub sent : Option ImageOctets
   pub told : Bool
 
 pub record IsGoing (x : Goes) : Type 0 where
   pub sent_at : IsSent x.page x.run.od x.link x.progress x.o x.message x.what
   pub trusts : RecallsAtLeast x.trust x.kind.recalls
-  pub at_mode : (taken_link x.link x.o).mode ≡ far_mode x.mode
+  pub at_mode : (accepting_link x.link x.o).mode ≡ far_mode x.mode
   pub layout : layout_in x.page (far_mode x.mode) ≡ x.run
   pub carries : x.mode ≡ Operate → IfSome x.sent (λ image. x.message.out.items ≡ image)
   pub tells : output_by x.mode (command_in x.message) ≡ Some true → IsSome x.sent
@@ -123,7 +124,7 @@ module _ (laws : Laws) (going : Goes) (sending : IsGoing going) where
 
   -- and it replies to whatever it accepts
   says_at : (far : Far) → Level far → (there : Far) (m : MasterMsg)
-      → accepted far o ≡ Some (there, m)
+      → accepted_message far o ≡ Some (there, m)
       → ReplySays page kind going.trust vain run.od base link progress o message what (hear far o)
   says_at far level there m e =
       says_of far level _ (ap (λ (q : Option (Far × MasterMsg)). (heard_as far o q).reply) e)
@@ -143,14 +144,14 @@ module _ (laws : Laws) (going : Goes) (sending : IsGoing going) where
     reads_reply reply e =
         let g = (hear here o).far in
         let says = says_of here level_now reply e in
-        let turned = ap (λ (l : Link). l.mode) says.before.link_is in
+        let turned = ap (λ (l : FarLink). l.mode) says.before.link_is in
         let same : layout_of g ≡ run =
         rw (says.before.page_is, turned, sending.at_mode) sending.layout in
         let sized : IsSized g = laws.sized.hears here o
         (sized_locals laws h.steps from h.regular.sized) in
         let read = rw same at (laws.reads g message sized) in
         let came = rw (sending.at_mode, sending.layout) at says.reply_is in
-        let octets : reply ≡ octets_of (reply_to g run message) = cc in
+        let octets : reply ≡ reply_octets (reply_to g run message) = cc in
         rw octets read
 
     unread : (a : Option (List ℕ)) → IsUnread o a → good_reply run message a ≡ None
@@ -193,12 +194,12 @@ module _ (laws : Laws) (going : Goes) (sending : IsGoing going) where
 
   module _ (g : Far) (same : g.page ≡ page) (level : Level g) where
     -- whatever it accepts is the message, in the layout of the mode
-    accepts_as : (there : Far) (m : MasterMsg) → accepted g o ≡ Some (there, m)
+    accepts_as : (there : Far) (m : MasterMsg) → accepted_message g o ≡ Some (there, m)
         → (m ≡ message) × (there.mode ≡ far_mode mode) × (there.awake ≡ true)
     accepts_as there m e =
         let before = (says_at g level there m e).before in
         let at : there.mode ≡ far_mode mode =
-        rw e at (ap (λ (l : Link). l.mode) before.link_is) ∙ sending.at_mode in
+        rw e at (ap (λ (l : FarLink). l.mode) before.link_is) ∙ sending.at_mode in
         let reads : message_in (layout_in g.page there.mode) o ≡ Some m =
         accepted_as (λ q. IfSome q (λ x. message_in (layout_in g.page x.0.mode) o ≡ Some x.1))
         g o tt (λ a n f. f) (λ a c q n f. f) there m e in
@@ -206,11 +207,11 @@ module _ (laws : Laws) (going : Goes) (sending : IsGoing going) where
         (is, at, rw e at before.awake)
 
     heard_by : (P : Option (Far × MasterMsg) → Type 0) → P None
-        → ((there : Far) → accepted g o ≡ Some (there, message) → there.mode ≡ far_mode mode
-        → there.awake ≡ true → P (Some (there, message))) → P (accepted g o)
-    heard_by P none some = split (accepted g o) refl
+        → ((there : Far) → accepted_message g o ≡ Some (there, message) → there.mode ≡ far_mode mode
+        → there.awake ≡ true → P (Some (there, message))) → P (accepted_message g o)
+    heard_by P none some = split (accepted_message g o) refl
       where
-        split : (q : Option (Far × MasterMsg)) → accepted g o ≡ q → P q
+        split : (q : Option (Far × MasterMsg)) → accepted_message g o ≡ q → P q
         split None e = none
         split (Some (there, m)) e =
             let is = accepts_as there m e in
@@ -218,8 +219,8 @@ module _ (laws : Laws) (going : Goes) (sending : IsGoing going) where
 
     -- with a reply it has worked the message
     replied_by : (P : Far → Type 0) (reply : List ℕ) → (hear g o).reply ≡ Some reply
-        → ((there : Far) → accepted g o ≡ Some (there, message) → there.mode ≡ far_mode mode
-        → there.awake ≡ true → P (worked there o message)) → P (hear g o).far
+        → ((there : Far) → accepted_message g o ≡ Some (there, message) → there.mode ≡ far_mode mode
+        → there.awake ≡ true → P (far_after_message there o message)) → P (hear g o).far
     replied_by P reply e f =
         heard_by (λ q. (heard_as g o q).reply ≡ Some reply → P (heard_as g o q).far)
         (λ r. absurd (let z : Path (Option (List ℕ)) None (Some reply) = r in cc))
@@ -235,7 +236,7 @@ module _ (laws : Laws) (going : Goes) (sending : IsGoing going) where
     module _ (h : OutputsAt g) where
       -- where the message is accepted the output is valid only as before, and as told
       there_outputs : (there : Far) → there.mode ≡ far_mode mode
-          → accepted g o ≡ Some (there, message) → OutputsAt there
+          → accepted_message g o ≡ Some (there, message) → OutputsAt there
       there_outputs there at e =
           accepted_as (λ q. IfSome q (λ x. x.0.mode ≡ far_mode mode → OutputsAt x.0)) g o tt
           (λ awake m f at. h) (λ awake c q m f at. (
@@ -251,11 +252,11 @@ module _ (laws : Laws) (going : Goes) (sending : IsGoing going) where
           by_mode other is awake c q at none =
               sym (sending.starting (λ op. let z : other ≡ Operate = sym is ∙ op in absurd (cc)))
 
-      worked_now : (there : Far) → accepted g o ≡ Some (there, message)
+      worked_now : (there : Far) → accepted_message g o ≡ Some (there, message)
           → there.mode ≡ far_mode mode → there.awake ≡ true
-          → OutputsAt (worked there o message)
-          × ((worked there o message).valid ≡ told_by command told)
-          × IfSome (output_of (worked there o message)) (λ x. sent ≡ Some x)
+          → OutputsAt (far_after_message there o message)
+          × ((far_after_message there o message).valid ≡ is_output_told command told)
+          × IfSome (output_of (far_after_message there o message)) (λ x. sent ≡ Some x)
       worked_now there e at awake =
           let before = there_outputs there at e in
           let k = output_worked mode there.mode there.valid told (command_in message) there.out
@@ -267,7 +268,7 @@ module _ (laws : Laws) (going : Goes) (sending : IsGoing going) where
 
       pub outputs_sent : OutputsSent sent g o
       outputs_sent there m e =
-          rw e at (heard_by (λ q. IfSome q (λ x. IfSome (output_of (worked x.0 o x.1))
+          rw e at (heard_by (λ q. IfSome q (λ x. IfSome (output_of (far_after_message x.0 o x.1))
           (λ image. sent ≡ Some image))) tt (λ t k at awake. (worked_now t k at awake).2))
 
       outputs_hear : OutputsAt (hear g o).far
@@ -276,8 +277,8 @@ module _ (laws : Laws) (going : Goes) (sending : IsGoing going) where
 
       -- with a reply the output is as told then
       pub replied_told : (reply : List ℕ) → (hear g o).reply ≡ Some reply
-          → (hear g o).far.valid ≡ told_by command told
-      replied_told reply e = replied_by (λ f. f.valid ≡ told_by command told) reply e
+          → (hear g o).far.valid ≡ is_output_told command told
+      replied_told reply e = replied_by (λ f. f.valid ≡ is_output_told command told) reply e
           (λ t k at awake. (worked_now t k at awake).1)
 
   pub outputs_after : (passage : Passage) (g : Far) → g.page ≡ page
@@ -303,7 +304,7 @@ module _ (laws : Laws) (going : Goes) (sending : IsGoing going) where
     opens_still : OpensAs g.isdu
     opens_still = ((open_again g.isdu request h before).0, λ once answer. before)
 
-    opens_heard : (q : Option (Far × MasterMsg)) → accepted g o ≡ q
+    opens_heard : (q : Option (Far × MasterMsg)) → accepted_message g o ≡ q
         → OpensAs (heard_as g o q).far.isdu
     opens_heard None k = opens_still
     opens_heard (Some (there, m)) k =
@@ -312,5 +313,5 @@ module _ (laws : Laws) (going : Goes) (sending : IsGoing going) where
 
     pub opens_after : (passage : Passage) → OpensAs (far_after passage g o).isdu
     opens_after OutLost = opens_still
-    opens_after BackLost = opens_heard (accepted g o) refl
-    opens_after Clean = opens_heard (accepted g o) refl
+    opens_after BackLost = opens_heard (accepted_message g o) refl
+    opens_after Clean = opens_heard (accepted_message g o) refl

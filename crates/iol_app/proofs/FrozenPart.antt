@@ -10,10 +10,10 @@ use Rattle.iol_event.specs.Memory.{Events}
 use Rattle.iol_link.specs.Honest.{Passage, OutLost, far_after}
 use Rattle.iol_far.specs.Codec.{layout_in}
 use Rattle.iol_far.specs.Isdu.{IsduState}
-use Rattle.iol_far.specs.Far.{Far, moved, hear, heard_as, worked, events_after}
+use Rattle.iol_far.specs.Far.{Far, far_in_mode, hear, heard_as, far_after_message, events_after}
 use Rattle.iol_far.specs.Local.{LocalStep, locals}
 use Rattle.iol_far.specs.Laws.{confirms as octets_confirm}
-use Rattle.iol_steps.specs.Step.{Step, Image}
+use Rattle.iol_steps.specs.Step.{PortStep, ImageOctets}
 use Rattle.iol_steps.specs.FrozenEvents.{frozen_through, frozen_after, MayFrozen, MayFrozenAll}
 use Rattle.iol_app.proofs.Parts.{runs-append, own_runs}
 use Rattle.iol_steps.specs.Bridge.{Hidden, again_steps, own_steps, told_after, told_through, event_steps, output_steps, confirms_by, worked_steps, heard_steps_as, heard_steps, told_worked, told_heard_as, told_heard, passed_steps, told_passed, exchange_steps, told_exchanged, wake_steps, told_wake}
@@ -23,12 +23,12 @@ use Rattle.iol_app.proofs.FirstOctet.{confirms_of}
 use Rattle.iol_app.proofs.OwnSession.{woken_if}
 
 -- these steps are allowed in the part of the frozen events, and leave this list, told or not
-abbrev pub FrozenRuns : List Event → Bool → List Step → List Event → Bool → Type 0
+abbrev pub FrozenRuns : List Event → Bool → List PortStep → List Event → Bool → Type 0
 FrozenRuns f told steps f' told' = MayFrozenAll steps (frozen_of f told)
     × (frozen_through steps (frozen_of f told) ≡ frozen_of f' told')
 
 -- they leave the memory of this far end
-abbrev Leaves : Far → Bool → List Step → Far → Bool → Type 0
+abbrev Leaves : Far → Bool → List PortStep → Far → Bool → Type 0
 Leaves far t steps far' t' = FrozenRuns far.events.frozen t steps far'.events.frozen t'
 
 -- Own steps
@@ -46,13 +46,13 @@ event_frozen : (m : Events) (confirms : Bool) (t : Bool) → (confirms ≡ true 
     (told_worked m confirms t)
 event_frozen m confirms t told = grind (arith, common_steps)
 
-output_frozen : (f : List Event) (t : Bool) (output : Option Image)
+output_frozen : (f : List Event) (t : Bool) (output : Option ImageOctets)
     → FrozenRuns f t (output_steps output) f t
 output_frozen f t output = grind (arith, common_steps)
 
 worked_frozen : (there : Far) (o : List ℕ) (m : MasterMsg) (t : Bool)
     → (confirms_by m.mc ≡ true → t ≡ true) → Leaves there t (worked_steps there o m)
-    (worked there o m) (told_worked there.events (confirms_by m.mc) t)
+    (far_after_message there o m) (told_worked there.events (confirms_by m.mc) t)
 worked_frozen there o m t told = runs-append MayFrozen frozen_after _ _ _
     (event_frozen there.events (confirms_by m.mc) t told) (output_frozen _ _ _)
 
@@ -67,7 +67,7 @@ heard_frozen far o t told =
     far o (tt, refl)
     (λ awake m spells. worked_frozen far o m t
     (λ c. told awake (sym (confirms_of (layout_in far.page far.mode) o m spells) ∙ c)))
-    (λ awake command w m spells. worked_frozen (moved far command.into) o m t
+    (λ awake command w m spells. worked_frozen (far_in_mode far command.into) o m t
     (λ c. told awake (sym (confirms_of (layout_in far.page command.into) o m spells) ∙ c)))
 
 passed_frozen : (passage : Passage) (far : Far) (o : List ℕ) (t : Bool) → ConfirmsTold o far t
@@ -95,6 +95,6 @@ wake_frozen far steps wakes t = runs-append MayFrozen frozen_after _ _ _
 
 -- a request that is handed over again is no event's business
 pub again_frozen : (request : Option Request) (state : IsduState) (h : Hidden)
-    (f f' : List Event) (told told' : Bool) (ys : List Step) → FrozenRuns f told ys f' told'
+    (f f' : List Event) (told told' : Bool) (ys : List PortStep) → FrozenRuns f told ys f' told'
     → FrozenRuns f told (again_steps request state h ++ ys) f' told'
 again_frozen request state h f f' told told' ys k = grind (arith, common_steps)

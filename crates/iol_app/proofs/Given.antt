@@ -6,7 +6,7 @@ use Rattle.iol_link.specs.Honest.{Passage, OutLost, far_after}
 use Rattle.iol_far.specs.declared.carried.Carried.{Carried}
 use Rattle.iol_far.specs.Far.{Far}
 use Rattle.iol_far.specs.Local.{LocalStep, local, locals}
-use Rattle.iol_far.specs.Level.{Progress, Link, IsLevel}
+use Rattle.iol_far.specs.Level.{Progress, FarLink, IsLevel}
 use Rattle.iol_far.specs.declared.kind.Kind.{Kind}
 use Rattle.iol_mode.specs.declared.configuration.Devices.{Devices}
 use Rattle.iol_mode.specs.Kinds.{SeesPulses}
@@ -68,7 +68,7 @@ module _ (laws : Laws) where
   kind_after passage far o = grind (arith, common_steps)
 
   module _ (page : List ℕ) (kind : Kind) (size : ℕ) (has : 1 ≤ size) (base : List Carried)
-      (link : Link) (p : Progress) (o : List ℕ) where
+      (link : FarLink) (p : Progress) (o : List ℕ) where
     abbrev stays : LevelStays page kind size base link p o
     stays = (laws.level size has).stays page kind base link p o
 

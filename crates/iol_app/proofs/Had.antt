@@ -9,8 +9,8 @@ use Rattle.iol_octets.specs.declared.control.Channel.TheVariants.{Diagnosis}
 use Rattle.iol_isdu.specs.declared.values.Request.{Request}
 use Rattle.iol_event.specs.declared.event.Event.{Event}
 use Rattle.iol_event.specs.Memory.{is_empty, event_octet}
-use Rattle.iol_event.specs.Reading.{next_address, taken as taken_octet}
-use Rattle.iol_far.specs.declared.mode.Mode.TheVariants.{Operate as FarOperate}
+use Rattle.iol_event.specs.Reading.{next_address, reader_step}
+use Rattle.iol_far.specs.declared.mode.DeviceMode.TheVariants.{Operate as FarOperate}
 use Rattle.iol_far.specs.declared.carried.Carried.{Carried}
 use Rattle.iol_far.specs.Codec.{layout_in}
 use Rattle.iol_far.specs.declared.kind.HandsOver.{HandsOver}
@@ -18,17 +18,17 @@ use Rattle.iol_far.specs.Isdu.{IsduState, Handed, isdu_data, fits}
 use Rattle.iol_far.specs.Far.{Far, hear, data_of, reply_to, output_of}
 use Rattle.iol_far.specs.Local.{locals, input_size}
 use Rattle.iol_far.specs.declared.kind.Recalls.{Recalls}
-use Rattle.iol_far.specs.Level.{Progress, Quiet, Clear, Written, Stands as FarStands, Move, Begin, Leave, IsOutOnce, after, base_after, turned, IsIdle, IsSettled, IsBefore}
+use Rattle.iol_far.specs.Level.{Progress, Quiet, Clear, Written, Stands as FarStands, Move, Begin, Leave, IsOutOnce, after, base_after, turned_link, IsIdle, IsSettled, IsLevelBefore}
 use Rattle.iol_far.specs.Laws.{IsRegular, ReplySays, confirms as octets_confirm}
-use Rattle.iol_segment.specs.TextLaws.{joined}
+use Rattle.iol_segment.specs.TextLaws.{segments_up_to}
 use Rattle.iol_link.specs.Honest.{Clean}
 use Rattle.iol_mode.specs.Stands.{StateStands, operate_link, IsAccepted}
-use Rattle.iol_mode.specs.States.{NextMode, InOperate, StateFits, state_of}
+use Rattle.iol_mode.specs.States.{NextMode, InOperate, StateFits, next_state}
 use Rattle.iol_steps.specs.declared.said.Said.{Said}
-use Rattle.iol_steps.specs.Step.{Step, repeats_at, is_clash_free, ShowImage, Exchanged, Moment}
-use Rattle.iol_steps.specs.Kinds.{Brought, Had, brought_steps, quiet_said}
-use Rattle.iol_steps.specs.Station.{Reading, Due, is_due, wants_octet, images_of, frozen_of, AnswerFits, ProgressFits, EventsFit}
-use Rattle.iol_steps.specs.Exchange.{reading_kept, told_by}
+use Rattle.iol_steps.specs.Step.{PortStep, repeats_at, is_clash_free, ShowImage, Exchanged, Moment}
+use Rattle.iol_steps.specs.Kinds.{ExchangeResult, Had, brought_steps, quiet_said}
+use Rattle.iol_steps.specs.Station.{ReadingState, Due, wants_confirm, wants_octet, images_of, frozen_of, AnswerFits, ProgressFits, EventsFit}
+use Rattle.iol_steps.specs.Exchange.{reading_kept, is_output_told}
 use Rattle.iol_app.proofs.Given.{sized_locals}
 use Rattle.iol_app.proofs.EventReading.{ReaderLaws, memory_locals, memory_hear, kept_fits, kept_due, ends_hold}
 use Rattle.iol_app.specs.Ends.{BusySeen, output_for}
@@ -39,19 +39,19 @@ use Rattle.iol_app.proofs.ImagesPart.{ImagesRuns}
 use Rattle.iol_app.proofs.OpenLevel.{stands_open}
 use Rattle.iol_app.proofs.Clash.{Before, no_busy, no_confirm, no_clash}
 use Rattle.iol_app.proofs.Moves.{data_had, data_after, answer_after, idle_base, begins_idle, whole_begins}
-use Rattle.iol_app.specs.declared.event_work.Reading as app
-use Rattle.iol_app.specs.declared.event_work.Reading.TheVariants.{Resting}
+use Rattle.iol_app.specs.declared.event_work.ReadingProgress as app
+use Rattle.iol_app.specs.declared.event_work.ReadingProgress.TheVariants.{Resting}
 use Rattle.iol_app.specs.declared.request.Current.{Current}
-use Rattle.iol_app.specs.declared.session.Exchange.{Exchange}
-use Rattle.iol_app.specs.EventReading.{is_refused, reader_of, read_on, list_read}
-use Rattle.iol_app.specs.Messages.{Head, head_of, read_of}
-use Rattle.iol_app.specs.Requests.{request_in, current_after}
+use Rattle.iol_app.specs.declared.session.Purpose.{Purpose}
+use Rattle.iol_app.specs.EventReading.{is_refused, reader_of, reading_after_exchange, list_read}
+use Rattle.iol_app.specs.Messages.{Head, head_of, read_head}
+use Rattle.iol_app.specs.Requests.{request_under_way, current_after}
 use Rattle.iol_app.specs.Moves.{progress_of, confirms_events}
 use Rattle.iol_mode.specs.declared.configuration.Devices.{Devices}
-use Rattle.iol_app.specs.State.{IsSession, absorbed, clear_after, image_in}
-use Rattle.iol_app.specs.StationState.{StateFits as Joined}
-use Rattle.iol_app.specs.declared.output.Output.{Output}
-use Rattle.iol_app.specs.Core.{Stands, ReceiveGives, reading_at, moment_of, seen_in, shown_in, settled_core}
+use Rattle.iol_app.specs.State.{IsSession, session_after_exchange, clear_after, image_in}
+use Rattle.iol_app.specs.StationState.{SessionFits}
+use Rattle.iol_app.specs.declared.output.OutputState.{OutputState}
+use Rattle.iol_app.specs.Core.{BothEndsStand, ReceiveGives, reading_at, moment_of, seen_in, shown_in, settled_core}
 use Rattle.iol_app.proofs.ReadingOn.{Took, reads_next}
 use Rattle.iol_app.proofs.SmallFacts.{begins_request, confirms_is, same_output, input_is, input_hear, input_locals, image_octets}
 use Rattle.iol_app.proofs.Exchanging.{Says, Passes, RequestWords, Turn, words, request_words, before_ends, gives, at, some_od, late', tied', confirms, told'}
@@ -59,7 +59,7 @@ use Rattle.iol_app.proofs.CaseFacts.{more_grown}
 use Rattle.iol_app.proofs.Shown.{shown_as}
 
 pub progress_fits : (devices : Devices) (clear : Bool) (current : Option Current)
-    → ProgressFits (progress_of devices clear current) (request_in current)
+    → ProgressFits (progress_of devices clear current) (request_under_way current)
 progress_fits devices clear current = grind (arith, common_steps)
 
 -- after IDLE and ABORT the device holds nothing
@@ -76,7 +76,7 @@ whole_handed devices hands_over size r s counted c whole stands =
     grind (arith, nat_tests, common_steps, more_grown)
 
 -- a reading that is under way goes on
-kept_at : (reading : app.Reading) (flag event : Bool) (due : Event × List Event)
+kept_at : (reading : app.ReadingProgress) (flag event : Bool) (due : Event × List Event)
     → is_refused reading ≡ false → reading_kept (reading_at reading flag due) event
     ≡ reading_at reading event due
 kept_at other flag event due h = grind (arith, common_steps)
@@ -91,14 +91,14 @@ pub record Good : Type 0 where
   pub r : Reply
   pub said : Said
 
-module _ (good : Good) (e : Exchange) (current : Option Current) where
+module _ (good : Good) (e : Purpose) (current : Option Current) where
   open good use {turn, far', n', r}
   open turn use {layouts, w, t, g, far, n, steps}
   open (words turn Clean) use {o, passed as there, trust, devices}
   open (request_words turn Clean e current) use {c, what, repeats, progress, vain}
 
   pub record Replied : Type 0 where
-    pub stands : Stands c g far n
+    pub stands : BothEndsStand c g far n
     pub passes : Passes turn Clean e current
     pub silent : n' ≡ 0
     pub octets : List ℕ
@@ -108,13 +108,13 @@ module _ (good : Good) (e : Exchange) (current : Option Current) where
     pub says : ReplySays g.page g.kind trust vain layouts.run.od g.request.base
         stands.request.link progress o w.message what (hear (locals far steps) o)
     pub once : repeats ≡ false → IsOutOnce g.kind.hands_over layouts.run.od what (suc vain)
-    pub told_as : there.valid ≡ told_by (output_for e) t.output.told
+    pub told_as : there.valid ≡ is_output_told (output_for e) t.output.told
     pub out_is : there.out ≡ w.message.out.items
     pub accepted : IsAccepted layouts g.page stands.request.link w.message
     pub valid : IsSession c.session
     pub sized : length r.input.items ≡ layouts.run.pd_in
 
-module _ {good : Good} {e : Exchange} {current : Option Current} (a : Replied good e current) where
+module _ {good : Good} {e : Purpose} {current : Option Current} (a : Replied good e current) where
   open good use {turn, readers, far', n', regular, r, said, r.{od.{items as od}}}
   open turn use {laws, layouts, w, t, g, far, n, steps}
   open (words turn Clean) use {o, passed as there, told, R, devices, trust, doubts}
@@ -132,7 +132,7 @@ module _ {good : Good} {e : Exchange} {current : Option Current} (a : Replied go
   abbrev pub clear : Bool
   clear = clear_after e t.clear
 
-  next_link : turned g.page up.link o w.message ≡ operate_link
+  next_link : turned_link g.page up.link o w.message ≡ operate_link
   next_link = grind (arith, common_steps)
 
   pub od_is : od ≡ data_had layouts.run.od w.message there
@@ -140,7 +140,7 @@ module _ {good : Good} {e : Exchange} {current : Option Current} (a : Replied go
 
   -- both ends are level behind it
   abbrev pub LevelBy : List Carried → Progress → Type 0
-  LevelBy base p = IsBefore g.page g.kind layouts.run.od base operate_link p there
+  LevelBy base p = IsLevelBefore g.page g.kind layouts.run.od base operate_link p there
 
   -- the record that a request begins with from now on
   abbrev pub base_now : List Carried
@@ -189,7 +189,7 @@ module _ {good : Good} {e : Exchange} {current : Option Current} (a : Replied go
       (a.says.grown (a.once once))
 
   -- the steps of the exchange stand before those of what it brought
-  pub before_brought : (ys : List Step) → no_busy ys ≡ true → no_confirm ys ≡ true
+  pub before_brought : (ys : List PortStep) → no_busy ys ≡ true → no_confirm ys ≡ true
       → IsTrue (is_clash_free ys) → Before xs (back ++ ys)
   before_brought = before_ends turn Clean e current stands
 
@@ -198,9 +198,9 @@ module _ {good : Good} {e : Exchange} {current : Option Current} (a : Replied go
   event_is : r.event ≡ not (is_empty there.events.frozen)
   event_is = ap (λ (q : Reply). q.event) a.reply_is
 
-  pub told_now : told ≡ is_due R
+  pub told_now : told ≡ wants_confirm R
   told_now = (told' turn Clean e current stands).1
-      ∙ ap (λ (b : Bool). b && is_due R) a.says.before.awake
+      ∙ ap (λ (b : Bool). b && wants_confirm R) a.says.before.awake
 
   confirms_by : octets_confirm o ≡ confirms_events e
   confirms_by = confirms turn Clean e current stands
@@ -209,19 +209,20 @@ module _ {good : Good} {e : Exchange} {current : Option Current} (a : Replied go
   fit_now = rw confirms_by at
       ((told' turn Clean e current stands).0 a.says.before.awake)
 
-  abbrev reading_then : Event × List Event → Reading
-  reading_then due = reading_at (read_on e od t.events.reading) r.event due
+  abbrev reading_then : Event × List Event → ReadingState
+  reading_then due = reading_at (reading_after_exchange e od t.events.reading) r.event due
 
   -- what it makes of the reading
   pub record Reads : Type 0 where
     pub due : Event × List Event
     pub fit : EventsFit (reading_then due) false there.events
-    pub form : is_refused (read_on e od t.events.reading) ≡ false
+    pub form : is_refused (reading_after_exchange e od t.events.reading) ≡ false
     pub same : list_read e od t.events.reading ≡ None
         → frozen_of there.events.frozen told
-        ≡ frozen_of there.events.frozen (is_due (reading_then due))
+        ≡ frozen_of there.events.frozen (wants_confirm (reading_then due))
 
-  pub keeps : confirms_events e ≡ false → read_on e od t.events.reading ≡ t.events.reading → Reads
+  pub keeps : confirms_events e ≡ false
+      → reading_after_exchange e od t.events.reading ≡ t.events.reading → Reads
   keeps other kept =
       let held = ends_hold (locals far steps) o a.octets (confirms_by ∙ other) a.replies in
       let is : reading_kept R r.event ≡ reading_then g.events.due =
@@ -231,7 +232,7 @@ module _ {good : Good} {e : Exchange} {current : Option Current} (a : Replied go
         fit = rw is at (kept_fits R r.event there.events event_is held (rw other at fit_now));
         form = ap is_refused kept ∙ stands.shown.no_form;
         same = λ k. ap (frozen_of there.events.frozen)
-            (told_now ∙ sym (kept_due R r.event) ∙ ap is_due is);
+            (told_now ∙ sym (kept_due R r.event) ∙ ap wants_confirm is);
       }
 
   -- a confirm leaves nothing frozen
@@ -239,14 +240,15 @@ module _ {good : Good} {e : Exchange} {current : Option Current} (a : Replied go
   cleared is = by_reading R (up.out.confirm (confirms_is e is)) (rw is at
       (told_locals laws.events R (confirms_events e) steps far g.events.told stands.events).0)
     where
-      by_reading : (x : Reading) → is_due x ≡ true
+      by_reading : (x : ReadingState) → wants_confirm x ≡ true
           → ((locals far steps).awake ≡ true → EventsFit x true (locals far steps).events)
           → there.events.frozen ≡ []
       by_reading (Due first rest) d fit = ((laws.events first rest).clears (locals far steps) o
           a.octets (confirms_by ∙ is) fit a.replies).0
       by_reading other d fit = cc
 
-  pub rests : confirms_events e ≡ true → read_on e od t.events.reading ≡ Resting → Reads
+  pub rests : confirms_events e ≡ true → reading_after_exchange e od t.events.reading ≡ Resting
+      → Reads
   rests is rest =
       let none = cleared is in
       record {
@@ -258,8 +260,8 @@ module _ {good : Good} {e : Exchange} {current : Option Current} (a : Replied go
 
   -- an octet of the list
   pub took : (head_of w.message.mc
-      ≡ read_of Diagnosis (next_address (reader_of t.events.reading))) → wants_octet R ≡ true
-      → Took (taken_octet (reader_of t.events.reading) (slice_index od 0)) r.event there.events
+      ≡ read_head Diagnosis (next_address (reader_of t.events.reading))) → wants_octet R ≡ true
+      → Took (reader_step (reader_of t.events.reading) (slice_index od 0)) r.event there.events
   took head wants =
       rw octet (reads_next readers r.event t.events.reading t.events.flag g.events.due
       (confirms_events e) there.events
@@ -286,43 +288,43 @@ module _ {good : Good} {e : Exchange} {current : Option Current} (a : Replied go
       (rw input_hear octets_in) (ap (λ (q : Reply). q.input.items) a.reply_is)
       (ap (λ (q : Reply). q.invalid) a.reply_is))
 
-  ordered_now : output_of there ≡ (if told_by (output_for e) t.output.told
+  ordered_now : output_of there ≡ (if is_output_told (output_for e) t.output.told
       && nat_lt 0 (length w.message.out.items) then Some w.message.out.items else None)
   ordered_now = grind (arith, common_steps)
 
   -- a kind of message and reply, with all that it brings
   pub record Comes (next : Option Current) : Type 0 where
     pub reads : Reads
-    pub kind : Brought
+    pub kind : ExchangeResult
     pub says : Says kind request said
     pub busy : ℕ
     pub session : SessionRuns m (seen_in c g) h there.carried (brought_steps kind request)
-        (record (seen_in c g) { request = request_in next; busy = busy }) h there.carried
+        (record (seen_in c g) { request = request_under_way next; busy = busy }) h there.carried
     pub frozen : FrozenRuns there.events.frozen told (brought_steps kind request)
-        there.events.frozen (is_due (reading_then reads.due))
+        there.events.frozen (wants_confirm (reading_then reads.due))
     pub images : ImagesRuns m (images_of (shown_in t g.sent) there) (brought_steps kind request)
         (images_of (record (shown_in t g.sent) { image = there.input }) there)
     pub apart : Before xs (back ++ brought_steps kind request)
     pub calm : IsTrue g.fresh → no_clash (brought_steps kind request)
     pub base : List Carried
     pub level : LevelBy base (progress_of devices clear next)
-    pub answer : AnswerFits base (request_in next) h there.carried
+    pub answer : AnswerFits base (request_under_way next) h there.carried
     pub busy_is : BusySeen doubts t.limit next busy g.request.asked
     pub sure : IfSome next (λ c. c.again ≡ false)
-    pub known : IsSome (request_in next) → IsSome request
+    pub known : IsSome (request_under_way next) → IsSome request
 
   abbrev outcome : NextMode
   outcome = InOperate (record { out = None; layouts = layouts }) (Some r)
 
   pub had : Comes (current_after e t.limit od current)
-      → StateStands (state_of outcome) n' far' → StateFits (state_of outcome)
-      → Joined (state_of outcome) (absorbed e r c.session)
+      → StateStands (next_state outcome) n' far' → StateFits (next_state outcome)
+      → SessionFits (next_state outcome) (session_after_exchange e r c.session)
       → ReceiveGives c g far n said (settled_core outcome c.session) far' n'
   had b link fits joined =
       let next = current_after e t.limit od current in
       gives turn Clean e current stands passes {call = Exchanged true}
       {of_request = record { hidden = h; busy = b.busy; asked = g.request.asked; base = b.base }}
-      {of_events = record { told = is_due (reading_then b.reads.due); due = b.reads.due }}
+      {of_events = record { told = wants_confirm (reading_then b.reads.due); due = b.reads.due }}
       {kind = b.kind} a.far_is (record {
         terms = (refl, refl);
         session = b.session;
@@ -341,7 +343,7 @@ module _ {good : Good} {e : Exchange} {current : Option Current} (a : Replied go
           late = late' turn Clean e current stands;
           opens = stands_open g.kind.hands_over layouts.run.od b.base
               (progress_of devices clear next) there.counted there.carried there.isdu
-              (request_in next) h b.level.stands (progress_fits devices clear next) b.answer;
+              (request_under_way next) h b.level.stands (progress_fits devices clear next) b.answer;
           link = operate_link;
           linked = inr refl;
           level = b.level;
@@ -353,7 +355,7 @@ module _ {good : Good} {e : Exchange} {current : Option Current} (a : Replied go
         events = ((λ k. b.reads.fit), rw a.says.before.awake refl);
         output = (
           passes.outputs.0,
-          (λ k l. a.told_as ∙ ap (λ (q : Output). q.told) (sym (same_output e t.output))),
+          (λ k l. a.told_as ∙ ap (λ (q : OutputState). q.told) (sym (same_output e t.output))),
           passes.outputs.2,
         );
         sent = rw (same_output e t.output) stands.sent;
@@ -378,7 +380,7 @@ module _ {good : Good} {e : Exchange} {current : Option Current} (a : Replied go
           rw (begins_request e current q is, same, handed) (inl (refl, refl))
 
   -- a request goes on, or none is under way
-  pub goes_on : (reads : Reads) (next : Option Current) → request_in next ≡ request
+  pub goes_on : (reads : Reads) (next : Option Current) → request_under_way next ≡ request
       → (what ≡ Leave → IsIdle progress) → Reaches next
       → BusySeen doubts t.limit next g.request.busy g.request.asked
       → IfSome next (λ c. c.again ≡ false)

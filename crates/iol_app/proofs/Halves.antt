@@ -9,10 +9,10 @@ use Rattle.iol_steps.specs.FrozenEvents.{frozen_through}
 use Rattle.iol_steps.specs.Images.{Images, images_after, images_through}
 use Rattle.iol_steps.specs.Turn.{ImageIsLast}
 use Rattle.iol_app.specs.StationState.{mode_in}
-use Rattle.iol_app.specs.Core.{Core, Ghost, SendGives, CallGives, moment_of, images_in}
+use Rattle.iol_app.specs.Core.{CoreState, Ghost, SendGives, CallGives, moment_of, images_in}
 use Rattle.iol_app.proofs.Clash.{make_apart}
 
-pub turn_of : {c mid next : Core} {g after : Ghost} {far far' : Far} {n n' : ℕ} {said : Said}
+pub turn_of : {c mid next : CoreState} {g after : Ghost} {far far' : Far} {n n' : ℕ} {said : Said}
     → SendGives c mid g after far n → (r : CallGives mid after far n said next far' n')
     → no_make r.steps ≡ true → CallGives c g far n said next far' n'
 turn_of {c} {mid} {next} {g} {after} {far} {far'} {n} s r unmade =

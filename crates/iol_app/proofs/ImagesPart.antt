@@ -8,35 +8,37 @@ use Rattle.iol_isdu.specs.declared.values.Request.{Request}
 use Rattle.iol_isdu.specs.declared.values.Answer.{Answer}
 use Rattle.iol_link.specs.Honest.{Passage, OutLost, far_after}
 use Rattle.iol_far.specs.Isdu.{IsduState, fits}
-use Rattle.iol_far.specs.Far.{Far, accepted, moved, hear, heard_as, worked, output_of}
+use Rattle.iol_far.specs.Far.{Far, accepted_message, far_in_mode, hear, heard_as, far_after_message, output_of}
 use Rattle.iol_far.specs.Local.{LocalStep, local, locals, carried_by}
-use Rattle.iol_steps.specs.Step.{Step, Image, Moment}
+use Rattle.iol_steps.specs.Step.{PortStep, ImageOctets, Moment}
 use Rattle.iol_steps.specs.Images.{Images, images_through, images_after, MayImages, MayImagesAll}
 use Rattle.iol_app.proofs.Parts.{runs-append, own_runs}
 use Rattle.iol_steps.specs.Bridge.{Hidden, again_steps, carry_steps, own_step, own_steps, worked_steps, heard_steps_as, heard_steps, passed_steps, exchange_steps, wake_steps}
-use Rattle.iol_steps.specs.Station.{Shown, images_of}
+use Rattle.iol_steps.specs.Station.{ShownProcessData, images_of}
 use Rattle.iol_app.proofs.Accepted.{by_accepted}
 use Rattle.iol_app.proofs.OwnSession.{woken_if}
 
 -- these steps are allowed in the part of the images, and leave these
-abbrev pub ImagesRuns : Moment → Images → List Step → Images → Type 0
+abbrev pub ImagesRuns : Moment → Images → List PortStep → Images → Type 0
 ImagesRuns m i steps i' = MayImagesAll m steps i × (images_through m steps i ≡ i')
 
 -- they leave what this far end has
-abbrev Leaves : Moment → Shown → Far → List Step → Far → Type 0
+abbrev Leaves : Moment → ShownProcessData → Far → List PortStep → Far → Type 0
 Leaves m s far steps far' = ImagesRuns m (images_of s far) steps (images_of s far')
 
 -- Own steps
 
-carry_images : (m : Moment) (request : Option Request) (s : Shown) (far : Far) (a : Answer)
+carry_images : (m : Moment) (request : Option Request) (s : ShownProcessData) (far : Far)
+    (a : Answer)
     (state : IsduState) → Leaves m s far (carry_steps request state far a) (carried_by state far a)
 carry_images m request s far a state = grind (arith, common_steps)
 
-own_step_runs : (m : Moment) (request : Option Request) (s : Shown) (far : Far) (step : LocalStep)
+own_step_runs : (m : Moment) (request : Option Request) (s : ShownProcessData) (far : Far)
+    (step : LocalStep)
     → Leaves m s far (own_step request far step) (local far step)
 own_step_runs m request s far step = grind (arith, common_steps, carry_images)
 
-own_images : (m : Moment) (request : Option Request) (s : Shown) (steps : List LocalStep)
+own_images : (m : Moment) (request : Option Request) (s : ShownProcessData) (steps : List LocalStep)
     (far : Far) → Leaves m s far (own_steps request far steps) (locals far steps)
 own_images m request s steps far =
     own_runs (MayImages m) (images_after m) {X = Unit {0}} request (λ f x. images_of s f)
@@ -46,39 +48,41 @@ own_images m request s steps far =
 -- What is heard
 
 -- the output that the far end has once it worked the message is the image that the master sent
-abbrev pub OutputIsSent : Option Image → Far → List ℕ → MasterMsg → Type 0
-OutputIsSent sent there o msg = IfSome (output_of (worked there o msg)) (λ x. sent ≡ Some x)
+abbrev pub OutputIsSent : Option ImageOctets → Far → List ℕ → MasterMsg → Type 0
+OutputIsSent sent there o msg = IfSome (output_of (far_after_message there o msg))
+    (λ x. sent ≡ Some x)
 
-worked_images : (m : Moment) (s : Shown) (there : Far) (o : List ℕ) (msg : MasterMsg)
+worked_images : (m : Moment) (s : ShownProcessData) (there : Far) (o : List ℕ) (msg : MasterMsg)
     (before : Images) → before.input ≡ there.input → OutputIsSent s.sent there o msg →
     before ≡ record (images_of s there) { output = before.output }
-    → ImagesRuns m before (worked_steps there o msg) (images_of s (worked there o msg))
+    → ImagesRuns m before (worked_steps there o msg) (images_of s (far_after_message there o msg))
 worked_images m s there o msg before input_is fits is = grind (arith, common_steps)
 
 -- whatever the far end accepts there, its output is then the image that the master sent
-abbrev SentIn : Option Image → List ℕ → Option (Far × MasterMsg) → Type 0
+abbrev SentIn : Option ImageOctets → List ℕ → Option (Far × MasterMsg) → Type 0
 SentIn sent o q = (there : Far) (m : MasterMsg) → q ≡ Some (there, m) → OutputIsSent sent there o m
 
-abbrev pub OutputsSent : Option Image → Far → List ℕ → Type 0
-OutputsSent sent far o = SentIn sent o (accepted far o)
+abbrev pub OutputsSent : Option ImageOctets → Far → List ℕ → Type 0
+OutputsSent sent far o = SentIn sent o (accepted_message far o)
 
-heard_images : (m : Moment) (s : Shown) (far : Far) (o : List ℕ) → OutputsSent s.sent far o
+heard_images : (m : Moment) (s : ShownProcessData) (far : Far) (o : List ℕ)
+    → OutputsSent s.sent far o
     → Leaves m s far (heard_steps far o) (hear far o).far
 heard_images m s far o = by_accepted
     (λ q. SentIn s.sent o q → Leaves m s far (heard_steps_as q o) (heard_as far o q).far)
     far o (λ f. (tt, refl))
     (λ awake msg spells f. worked_images m s far o msg (images_of s far) refl (f far msg refl) refl)
-    (λ awake command w msg spells f. worked_images m s (moved far command.into) o msg
-    (images_of s far) refl (f (moved far command.into) msg refl) refl)
+    (λ awake command w msg spells f. worked_images m s (far_in_mode far command.into) o msg
+    (images_of s far) refl (f (far_in_mode far command.into) msg refl) refl)
 
-passed_images : (m : Moment) (s : Shown) (passage : Passage) (far : Far) (o : List ℕ)
+passed_images : (m : Moment) (s : ShownProcessData) (passage : Passage) (far : Far) (o : List ℕ)
     → OutputsSent s.sent far o
     → Leaves m s far (passed_steps passage far o) (far_after passage far o)
 passed_images m s OutLost far o fits = (tt, refl)
 passed_images m s other far o fits = heard_images m s far o fits
 
 -- the far end's part of an exchange
-pub exchange_images : (m : Moment) (request : Option Request) (s : Shown) (far : Far)
+pub exchange_images : (m : Moment) (request : Option Request) (s : ShownProcessData) (far : Far)
     (steps : List LocalStep) (passage : Passage) (o : List ℕ)
     → OutputsSent s.sent (locals far steps) o
     → Leaves m s far (exchange_steps request far steps passage o)
@@ -88,13 +92,14 @@ exchange_images m request s far steps passage o fits =
     (passed_images m s passage (locals far steps) o fits)
 
 -- the far end's part of a wake
-pub wake_images : (m : Moment) (s : Shown) (far : Far) (steps : List LocalStep) (wakes : Bool)
+pub wake_images : (m : Moment) (s : ShownProcessData) (far : Far) (steps : List LocalStep)
+    (wakes : Bool)
     → Leaves m s far (wake_steps far steps wakes) (woken_if wakes (locals far steps))
 wake_images m s far steps wakes = runs-append (MayImages m) (images_after m) _ _ _
     (own_images m None s steps far) (grind (arith, common_steps))
 
 -- nor an image's
 pub again_images : (m : Moment) (request : Option Request) (state : IsduState) (h : Hidden)
-    (i i' : Images) (ys : List Step) → ImagesRuns m i ys i'
+    (i i' : Images) (ys : List PortStep) → ImagesRuns m i ys i'
     → ImagesRuns m i (again_steps request state h ++ ys) i'
 again_images m request state h i i' ys k = grind (arith, common_steps)

@@ -3,21 +3,21 @@ use Rattle.std.proofs.lemmas.Grind.{common_steps}
 use Rattle.std.proofs.Common.{◌≡◌, ℕ, zero, suc, ◌*◌, ◌%◌, ◌<◌, Bool, true, false, ◌&&◌, if◌then◌else◌, List, ◌++◌, length, refl, sym, arith, ◌+◌, Option, Some, None, Result, Ok, Err}
 use Rattle.std.proofs.lemmas.List.{length-append}
 use Rattle.iol_isdu.specs.declared.fault.IsduFault.{IsduFault}
-use Rattle.iol_segment.specs.Join.{Open, stage, Stage, Joining, Taken, staged, taken}
-use Rattle.iol_segment.specs.TextLaws.{HoldsLength, TextLaws, joined as joined_octets}
+use Rattle.iol_segment.specs.Join.{Open, stage, Stage, Joining, JoinStep, stage_step, join_step}
+use Rattle.iol_segment.specs.TextLaws.{HoldsLength, TextLaws, segments_up_to}
 use Rattle.std.proofs.Math.Numerals.{add-one}
 use Rattle.iol_octets.specs.declared.flow_control.Flow.TheVariants.{Count}
 use Rattle.iol_isdu.specs.declared.values.Request.{Request}
 use Rattle.iol_app.specs.declared.request.Current.{Current}
-use Rattle.iol_app.specs.declared.request.Progress.{Progress}
-use Rattle.iol_app.specs.declared.request.Progress.TheVariants.{Refused}
+use Rattle.iol_app.specs.declared.request.RequestProgress.{RequestProgress}
+use Rattle.iol_app.specs.declared.request.RequestProgress.TheVariants.{Refused}
 use Rattle.iol_isdu.specs.declared.values.Cause.{Cause}
 use Rattle.iol_segment.specs.declared.took.Took.{Took}
 use Rattle.iol_segment.specs.declared.took.Took.TheVariants.{Repeat, More, Whole}
 use Rattle.iol_segment.specs.declared.took.JoinFault.{JoinFault}
 use Rattle.iol_segment.specs.Cut.{Cutting}
 use Rattle.iol_segment.specs.JoinLaws.{count_at}
-use Rattle.iol_app.specs.Requests.{ReplyEffect, GoesOn, HasText, finished, joined, asked, received, refused, forgotten_by, IsJoining, IsCurrent}
+use Rattle.iol_app.specs.Requests.{ReplyEffect, GoesOn, HasText, effect_of_text, effect_of_segment, effect_of_start_read, effect_of_count_read, current_after_refusal, forgotten_by, IsJoining, IsCurrent}
 
 -- octets before them aren't whole either
 open_before : (xs ys : List ℕ) → stage (xs ++ ys) ≡ Open → stage xs ≡ Open
@@ -27,24 +27,25 @@ total_low : (text : List ℕ) → HoldsLength text → 0 < length text
 total_low text e = grind (arith, common_steps)
 
 not_last : (size : ℕ) → TextLaws size → (text : List ℕ) → HoldsLength text → (i : ℕ)
-    → i * size < length text → stage (joined_octets size text i) ≡ Open → suc i * size < length text
+    → i * size < length text → stage (segments_up_to size text i) ≡ Open
+    → suc i * size < length text
 not_last size laws text holds i low e = grind (arith, common_steps)
 
 -- the octets of a text's first segments that aren't whole are followed by another
 pub more_follow : (size : ℕ) → TextLaws size → (text : List ℕ) → HoldsLength text → (i : ℕ)
-    → stage (joined_octets size text i) ≡ Open → suc i * size < length text
+    → stage (segments_up_to size text i) ≡ Open → suc i * size < length text
 more_follow size laws text holds zero e =
     let low = total_low text holds in
     let first : 0 * size < length text = omega (arith, low) in
     not_last size laws text holds 0 first e
 more_follow size laws text holds (suc i) e =
     not_last size laws text holds (suc i)
-    (more_follow size laws text holds i (open_before (joined_octets size text i) _ e)) e
+    (more_follow size laws text holds i (open_before (segments_up_to size text i) _ e)) e
 
 -- a joiner takes the next segment, whatever its octets
 pub taken_next : (size had : ℕ) (j : Joining) (od : List ℕ) → IsJoining size had j
-    → taken j (Count ((had + 1) % 16)) od
-    ≡ staged (Some (suc had % 16)) (j.text ++ od) (stage (j.text ++ od))
+    → join_step j (Count ((had + 1) % 16)) od
+    ≡ stage_step (Some (suc had % 16)) (j.text ++ od) (stage (j.text ++ od))
 taken_next size had j od h = grind (arith, common_steps)
 
 -- what becomes of a request goes on as one, of the same cut
@@ -56,33 +57,34 @@ StaysCurrent cutter (HasText text) = Unit {0}
 module _ (current : Current) (h : IsCurrent current) where
   open current use {cutter}
 
-  pub refused_stays : StaysCurrent cutter (GoesOn (refused current))
+  pub refused_stays : StaysCurrent cutter (GoesOn (current_after_refusal current))
   refused_stays = grind (arith, common_steps)
 
   finished_stays : (text : List ℕ) (fault : Option IsduFault)
-      → StaysCurrent cutter (finished text fault current)
+      → StaysCurrent cutter (effect_of_text text fault current)
   finished_stays text fault = grind (arith, common_steps)
 
   -- a segment of this number was taken
   pub joined_stays : (had : ℕ) (octets : List ℕ) (at : Stage) → stage octets ≡ at
       → length octets ≡ suc had * cutter.size
-      → let t : Taken = staged (count_at had) octets at in
-      StaysCurrent cutter (joined had t.took t.joining current)
+      → let t : JoinStep = stage_step (count_at had) octets at in
+      StaysCurrent cutter (effect_of_segment had t.took t.joining current)
   joined_stays had octets at e size = grind (arith, common_steps, finished_stays, refused_stays)
 
   -- the reply to a COUNT read, with the next segment
   pub received_stays : (again : Bool) (j : Joining) (had : ℕ) (od : List ℕ)
       → IsJoining cutter.size had j → length od ≡ cutter.size
-      → StaysCurrent cutter (received again j (had + 1) od current)
+      → StaysCurrent cutter (effect_of_count_read again j (had + 1) od current)
   received_stays again j had od joining size =
       elim (again && forgotten_by t.took od) as
-      (λ b. StaysCurrent cutter (if b then GoesOn (refused current)
-      else joined (had + 1) t.took t.joining current)) [ true ↦ refused_stays | false ↦ next ]
+      (λ b. StaysCurrent cutter (if b then GoesOn (current_after_refusal current)
+      else effect_of_segment (had + 1) t.took t.joining current))
+      [ true ↦ refused_stays | false ↦ next ]
     where
-      t : Taken
-      t = taken j (Count ((had + 1) % 16)) od
+      t : JoinStep
+      t = join_step j (Count ((had + 1) % 16)) od
 
-      next : StaysCurrent cutter (joined (had + 1) t.took t.joining current)
+      next : StaysCurrent cutter (effect_of_segment (had + 1) t.took t.joining current)
       next =
           let all = length-append j.text od in
           let before : length j.text ≡ suc had * cutter.size = joining.size_of in
@@ -91,24 +93,26 @@ module _ (current : Current) (h : IsCurrent current) where
           (joined_stays (suc had) (j.text ++ od) (stage (j.text ++ od)) refl long)
 
 -- what becomes of a request is the same, whatever it was about before
-finished_at : (current : Current) (p : Progress) (text : List ℕ) (fault : Option IsduFault)
-    → finished text fault (record current { progress = p }) ≡ finished text fault current
+finished_at : (current : Current) (p : RequestProgress) (text : List ℕ) (fault : Option IsduFault)
+    → effect_of_text text fault (record current { progress = p })
+    ≡ effect_of_text text fault current
 finished_at current p text None = refl
 finished_at current p text (Some fault) = refl
 
-pub joined_at : (current : Current) (p : Progress) (had : ℕ) (took : Result Took JoinFault)
-    (joining : Joining) → joined had took joining (record current { progress = p })
-    ≡ joined had took joining current
+pub joined_at : (current : Current) (p : RequestProgress) (had : ℕ) (took : Result Took JoinFault)
+    (joining : Joining) → effect_of_segment had took joining (record current { progress = p })
+    ≡ effect_of_segment had took joining current
 joined_at current p had (Err fault) joining = refl
 joined_at current p had (Ok Whole) joining = finished_at current p joining.text _
 joined_at current p had (Ok More) joining = refl
 joined_at current p had (Ok Repeat) joining = refl
 
-pub joined_then : (cutter : Cutting Request) (again : Bool) (abort : Option Cause) (p : Progress)
+pub joined_then : (cutter : Cutting Request) (again : Bool) (abort : Option Cause)
+    (p : RequestProgress)
     (had : ℕ) (took : Result Took JoinFault) (joining : Joining)
-    → joined had took joining
+    → effect_of_segment had took joining
     (record { cutter = cutter; progress = p; again = again; abort = abort })
-    ≡ joined had took joining
+    ≡ effect_of_segment had took joining
     (record { cutter = cutter; progress = Refused; again = again; abort = abort })
 joined_then cutter again abort p had took joining = sym (joined_at
     (record { cutter = cutter; progress = p; again = again; abort = abort }) Refused had took

@@ -9,11 +9,11 @@ use Rattle.iol_mseq.specs.Texts.{master_text}
 use Rattle.iol_mseq.specs.Replies.{reply_in}
 use Rattle.iol_mseq.specs.declared.master.MasterMsg.{MasterMsg}
 use Rattle.iol_mseq.specs.declared.reply.Reply.{Reply}
-use Rattle.iol_far.specs.declared.mode.Mode.TheVariants.{Startup as FarStartup, Operate as FarOperate}
-use Rattle.iol_far.specs.Codec.{message_in, octets_of}
-use Rattle.iol_far.specs.Far.{Far, layout_of, accepted, heard_as, worked, reply_to, output_of}
+use Rattle.iol_far.specs.declared.mode.DeviceMode.TheVariants.{Startup as FarStartup, Operate as FarOperate}
+use Rattle.iol_far.specs.Codec.{message_in, reply_octets}
+use Rattle.iol_far.specs.Far.{Far, layout_of, accepted_message, heard_as, far_after_message, reply_to, output_of}
 use Rattle.iol_far.specs.Local.{locals}
-use Rattle.iol_far.specs.Level.{Link}
+use Rattle.iol_far.specs.Level.{FarLink}
 use Rattle.iol_far.specs.Linked.{TextsAreHeard, IsAt}
 use Rattle.iol_far.specs.Laws.{IsSized, confirms as octets_confirm}
 use Rattle.iol_far.specs.Orderly.{IsOrderly, IsToPage, OrderlyLaws}
@@ -23,18 +23,18 @@ use Rattle.iol_link.specs.Honest.{Passage, OutLost, IsUnread, HonestExchange, fa
 use Rattle.iol_mode.specs.declared.configuration.Devices.{Devices}
 use Rattle.iol_mode.specs.declared.configuration.Devices.TheVariants.{Any}
 use Rattle.iol_mode.specs.declared.states.Startup.{Startup}
-use Rattle.iol_mode.specs.declared.states.Step.{Step as PageStep}
-use Rattle.iol_mode.specs.declared.states.Step.TheVariants.{Reset as Leaves, First, Read}
+use Rattle.iol_mode.specs.declared.states.StartupStep.{StartupStep}
+use Rattle.iol_mode.specs.declared.states.StartupStep.TheVariants.{Reset as Leaves, First, Read}
 use Rattle.iol_mode.specs.declared.states.State.TheVariants.{Startup as AtStartup}
 use Rattle.iol_mode.specs.declared.why.Why.TheVariants.{Lost}
 use Rattle.iol_mode.specs.Next.{read_by}
 use Rattle.iol_mode.specs.Stands.{startup_link, StartupStands, StateStands}
-use Rattle.iol_mode.specs.States.{NextMode, InStartup, NextModeFits, StartupFits, StateFits, state_of, is_behind, begun, step_after, startup_by, startup_turned}
+use Rattle.iol_mode.specs.States.{NextMode, InStartup, NextModeFits, StartupFits, StateFits, next_state, is_behind, startup_at, step_after, startup_by, startup_turned}
 use Rattle.iol_mode.specs.Turns.{IsRisen}
-use Rattle.iol_mode.specs.Exchanges.{text_out, judged}
+use Rattle.iol_mode.specs.Exchanges.{text_out, mode_after_reply}
 use Rattle.iol_steps.specs.declared.mode.Mode.TheVariants.{Startup as ModeStartup, Operate as ModeOperate}
 use Rattle.iol_steps.specs.declared.said.Said.TheVariants.{Idle}
-use Rattle.iol_steps.specs.Step.{Step, Reset, Exchanged, silence_by}
+use Rattle.iol_steps.specs.Step.{PortStep, Reset, Exchanged, silence_by}
 use Rattle.iol_steps.specs.Session.{MayReset}
 use Rattle.iol_steps.specs.Bridge.{Hidden}
 use Rattle.iol_app.proofs.Given.{Laws, sized_locals}
@@ -45,9 +45,9 @@ use Rattle.iol_app.proofs.FirstOctet.{confirms_of}
 use Rattle.iol_app.proofs.StartMessages.{step_channel, page_confirms}
 use Rattle.iol_app.proofs.SmallFacts.{third_time}
 use Rattle.arrayvec.specs.ArrayVec.{ArrayVec}
-use Rattle.iol_app.specs.Requests.{request_in}
+use Rattle.iol_app.specs.Requests.{request_under_way}
 use Rattle.iol_app.specs.State.{SessionState}
-use Rattle.iol_app.specs.Core.{Core, Ghost, Stands, CallGives, settled_core}
+use Rattle.iol_app.specs.Core.{CoreState, Ghost, BothEndsStand, CallGives, settled_core}
 
 startup_valid : IsLayout startup_shape
 startup_valid = record { kind = refl; od = refl; pd_in = omega arith; pd_out = omega arith }
@@ -64,9 +64,9 @@ is_valid_not v h = grind (arith, common_steps)
 module _ (laws : Laws) (leaves : OrderlyLaws) (heard : TextsAreHeard) (s : Startup)
     (t : SessionState) (g : Ghost) (far far' : Far) (n n' : ℕ) (came : Option (List ℕ))
     (b : is_behind s.step ≡ false)
-    (stands : Stands (record { state = AtStartup s; session = t }) g far n)
+    (stands : BothEndsStand (record { state = AtStartup s; session = t }) g far n)
     (x : HonestExchange far n (text_out (AtStartup s)) came far' n') where
-  abbrev c : Core
+  abbrev c : CoreState
   c = record { state = AtStartup s; session = t }
 
   abbrev message : MasterMsg
@@ -100,8 +100,8 @@ module _ (laws : Laws) (leaves : OrderlyLaws) (heard : TextsAreHeard) (s : Start
   abbrev passed : Far
   passed = far_after x.passage there o
 
-  nothing : request_in t.current ≡ None
-  nothing = ap request_in stands.joined.0.0
+  nothing : request_under_way t.current ≡ None
+  nothing = ap request_under_way stands.joined.0.0
 
   abbrev effect : Effect c g far passed
   effect = untold_effect c g far laws nothing stands.request.1 x.steps x.passage o unconfirmed
@@ -117,21 +117,21 @@ module _ (laws : Laws) (leaves : OrderlyLaws) (heard : TextsAreHeard) (s : Start
   unread (Some answer) h = h startup_shape message startup_valid to_page.heard
 
   -- what the far end answers there is a good reply
-  answers : (q : Option (Far × MasterMsg)) → accepted there o ≡ q → (reply : List ℕ)
+  answers : (q : Option (Far × MasterMsg)) → accepted_message there o ≡ q → (reply : List ℕ)
       → (heard_as there o q).reply ≡ Some reply
       → good_reply startup_shape message (Some reply) ≡ None → ⊥
   answers None e reply is bad = absurd (cc)
   answers (Some (at, m)) e reply is bad =
       let alike = leaves.alike there o message to_page orderly at m e in
-      let new : Far = worked at o m in
+      let new : Far = far_after_message at o m in
       let answer : Reply = reply_to new (layout_of new) m in
       let reads = laws.reads new m (subst IsSized
       (ap (λ (q : Option (Far × MasterMsg)). (heard_as there o q).far) e)
       (laws.sized.hears there o (sized_locals laws x.steps far x.regular.sized))) in
-      let same : reply ≡ octets_of answer = cc in
+      let same : reply ≡ reply_octets answer = cc in
       let here : reply_in startup_shape message.mc.read reply ≡ Some answer = rw same
-      (ap (λ (l : Shape). reply_in l message.mc.read (octets_of answer)) (sym alike.layout)
-      ∙ ap (λ (q : MasterMsg). reply_in (layout_of new) q.mc.read (octets_of answer))
+      (ap (λ (l : Shape). reply_in l message.mc.read (reply_octets answer)) (sym alike.layout)
+      ∙ ap (λ (q : MasterMsg). reply_in (layout_of new) q.mc.read (reply_octets answer))
       (sym alike.message_is) ∙ reads) in
       let k : None ≡ Some answer = sym bad ∙ here in cc
 
@@ -150,7 +150,7 @@ module _ (laws : Laws) (leaves : OrderlyLaws) (heard : TextsAreHeard) (s : Start
   no_image = stands.shown.image below
 
   -- it stays in STARTUP
-  stays_up : {answered : Bool} {ys : List Step} {next : Startup} {hidden : Hidden}
+  stays_up : {answered : Bool} {ys : List PortStep} {next : Startup} {hidden : Hidden}
       → Ends c g far passed effect n n' stands below (Exchanged answered) ys
       (record { state = AtStartup next; session = t }) hidden false
       → n' ≡ silence_by (Exchanged answered) n
@@ -193,11 +193,11 @@ module _ (laws : Laws) (leaves : OrderlyLaws) (heard : TextsAreHeard) (s : Start
 
   -- the page's first octet is read: the device holds nothing of before
   reads : n' ≡ 0 → {octets : ArrayVec ℕ} → IsAt passed.page startup_link passed
-      → StateStands (state_of (begun (Read octets))) n' passed
-      → StateFits (state_of (begun (Read octets))) → Gives (begun (Read octets))
+      → StateStands (next_state (startup_at (Read octets))) n' passed
+      → StateFits (next_state (startup_at (Read octets))) → Gives (startup_at (Read octets))
   reads silence at link fits =
       let orderly = orderly_passed x.passage in
-      let mode : passed.mode ≡ FarStartup = ap (λ (l : Link). l.mode) at.link_is in
+      let mode : passed.mode ≡ FarStartup = ap (λ (l : FarLink). l.mode) at.link_is in
       let off : passed.valid ≡ false =
       is_valid_not passed.valid (λ v. sym mode ∙ orderly.valid v) in
       let none : output_of passed ≡ None = grind (arith, common_steps, off) in
@@ -224,7 +224,7 @@ module _ (laws : Laws) (leaves : OrderlyLaws) (heard : TextsAreHeard) (s : Start
             λ _. record {
               untold = stands.output.0;
               off = λ a. off;
-              waits = rw (ap (λ (l : Link). l.waits) at.link_is) tt;
+              waits = rw (ap (λ (l : FarLink). l.waits) at.link_is) tt;
             },
           );
           quiet = tt;
@@ -247,7 +247,7 @@ module _ (laws : Laws) (leaves : OrderlyLaws) (heard : TextsAreHeard) (s : Start
   by_tries false two silence risen fits =
       goes false silence b (rw x.far_is at risen.both.stands) fits
 
-  by_step : (step : PageStep) → is_behind step ≡ false → (r : Reply) → n' ≡ 0
+  by_step : (step : StartupStep) → is_behind step ≡ false → (r : Reply) → n' ≡ 0
       → IsRisen (is_behind step) (step_after t.configuration step r) n' far far'
       → NextModeFits (step_after t.configuration step r) → Gives (step_after t.configuration step r)
   by_step Leaves before r silence risen fits =
@@ -262,7 +262,8 @@ module _ (laws : Laws) (leaves : OrderlyLaws) (heard : TextsAreHeard) (s : Start
   by_reply None bad = by_tries (s.sent.tries == 2) refl (missed bad)
   by_reply (Some r) good = by_step s.step b r (had r good)
 
-  pub leaving_rises : let outcome : NextMode = judged t.configuration (AtStartup s) came in
+  pub leaving_rises : let outcome : NextMode =
+      mode_after_reply t.configuration (AtStartup s) came in
       IsRisen (is_behind s.step) outcome n' far far' → NextModeFits outcome
       → CallGives c g far n Idle (settled_core outcome t) far' n'
   leaving_rises risen fits =

@@ -18,21 +18,21 @@ use Rattle.iol_segment.specs.Cut.{last_given}
 use Rattle.iol_far.specs.declared.carried.Carried.{Carried}
 use Rattle.iol_far.specs.declared.kind.Kind.{Kind}
 use Rattle.iol_far.specs.declared.kind.HandsOver.{HandsOver}
-use Rattle.iol_far.specs.declared.mode.Mode.TheVariants.{Operate as FarOperate}
+use Rattle.iol_far.specs.declared.mode.DeviceMode.TheVariants.{Operate as FarOperate}
 use Rattle.iol_far.specs.Codec.{layout_in, flow_of}
 use Rattle.iol_far.specs.Far.{Far}
-use Rattle.iol_far.specs.Level.{Progress, Clear, Perhaps, Ask, Link, taken, hands_whole, IsMove, IsLevel, IsOutOnce}
+use Rattle.iol_far.specs.Level.{Progress, Clear, Perhaps, Ask, FarLink, accepting_link, hands_whole, IsMove, IsLevel, IsOutOnce}
 use Rattle.iol_far.specs.Linked.{TextsAreHeard}
 use Rattle.iol_link.specs.Attempts.{Sending}
 use Rattle.iol_mode.specs.declared.configuration.Devices.{Devices}
 use Rattle.iol_mode.specs.declared.configuration.Devices.TheVariants.{Any}
 use Rattle.iol_mode.specs.Stands.{operate_link}
-use Rattle.iol_steps.specs.Station.{Reading}
+use Rattle.iol_steps.specs.Station.{ReadingState}
 use Rattle.iol_app.specs.declared.request.Current.{Current}
-use Rattle.iol_app.specs.declared.request.Progress.{Progress as Cursor}
-use Rattle.iol_app.specs.declared.request.Progress.TheVariants.{Sending as Cut}
-use Rattle.iol_app.specs.declared.session.Exchange.{Exchange}
-use Rattle.iol_app.specs.declared.session.Exchange.TheVariants.{ReadEvent, ConfirmEvents, Request as NextMessage}
+use Rattle.iol_app.specs.declared.request.RequestProgress.{RequestProgress}
+use Rattle.iol_app.specs.declared.request.RequestProgress.TheVariants.{Sending as Cut}
+use Rattle.iol_app.specs.declared.session.Purpose.{Purpose}
+use Rattle.iol_app.specs.declared.session.Purpose.TheVariants.{ReadEvent, ConfirmEvents, Request as NextMessage}
 use Rattle.iol_app.specs.Messages.{question}
 use Rattle.iol_app.specs.Requests.{text_of, is_over, IsCurrent}
 use Rattle.iol_app.specs.Moves.{progress_of, move_for}
@@ -42,7 +42,7 @@ use Rattle.iol_app.specs.Core.{Ghost, Work, vain_by, AgainBy, OutStands}
 use Rattle.iol_app.proofs.Given.{Laws, level_more}
 
 -- The request, where the message goes out again as it was
-record SentAgain (d : Devices) (e : Exchange) (current : Option Current) : Type 0 where
+record SentAgain (d : Devices) (e : Purpose) (current : Option Current) : Type 0 where
   pub progress : (clear : Bool) → progress_of d clear (missed_by d (Some e) current)
       ≡ progress_of d clear current
   pub move : move_for e (missed_by d (Some e) current) ≡ move_for e current
@@ -53,12 +53,12 @@ record SentAgain (d : Devices) (e : Exchange) (current : Option Current) : Type 
   pub goes_on : IfSome current (λ c. is_over c.progress ≡ false)
       → IfSome (missed_by d (Some e) current) (λ c. is_over c.progress ≡ false)
 
-sent_as_was : (d : Devices) (e : Exchange) (current : Option Current)
+sent_as_was : (d : Devices) (e : Purpose) (current : Option Current)
     → doubts_by d (Some e) current ≡ false → SentAgain d e current
 sent_as_was d e current sure = grind (arith, common_steps)
 
 -- busy replies were counted as before
-pub busy_missed : (d : Devices) (doubts : Bool) (limit : ℕ) (e : Exchange)
+pub busy_missed : (d : Devices) (doubts : Bool) (limit : ℕ) (e : Purpose)
     (current : Option Current) (busy : ℕ) (asked : Bool)
     → BusySeen doubts limit current busy asked
     → BusySeen doubts limit (missed_by d (Some e) current) busy asked
@@ -69,7 +69,7 @@ first_given : (size : ℕ) (text : List ℕ) (given : ℕ) (piece : ArrayVec ℕ
     → last_given size text given ≡ Some (Start, piece) → given ≡ 1
 first_given size text given piece e = grind (arith, nat_tests, common_steps)
 
-none_handed : (kind : Kind) (size : ℕ) (e : Exchange) (current : Option Current)
+none_handed : (kind : Kind) (size : ℕ) (e : Purpose) (current : Option Current)
     → IfSome current IsCurrent → IfSome current (λ c. c.cutter.size ≡ size)
     → doubts_by Any (Some e) current ≡ false
     → hands_whole kind.hands_over size (move_for e current) ≡ false
@@ -86,7 +86,7 @@ question_moves size r out = tt
 asks_whole : (h : HandsOver) (size : ℕ) → hands_whole h size Ask ≡ true → ⊥
 asks_whole h size e = grind (arith, common_steps)
 
-clear_link : (layouts : Layouts) (link : Link) → OperateLink layouts Clear link
+clear_link : (layouts : Layouts) (link : FarLink) → OperateLink layouts Clear link
     → link ≡ operate_link
 clear_link layouts link linked = grind (arith, common_steps)
 
@@ -94,8 +94,9 @@ short_text : (given size : ℕ) (text : List ℕ) → given ≡ 1
     → not (nat_lt (given * size) (length text)) ≡ true → length text ≤ size
 short_text given size text one whole = grind (arith, nat_tests, common_steps)
 
-module _ (laws : Laws) (heard : TextsAreHeard) (layouts : Layouts) (link : Link) (w : Sending)
-    (R : Reading) (t : SessionState) (g : Ghost) (there : layout_in g.page FarOperate ≡ layouts.run)
+module _ (laws : Laws) (heard : TextsAreHeard) (layouts : Layouts) (link : FarLink) (w : Sending)
+    (R : ReadingState) (t : SessionState) (g : Ghost)
+    (there : layout_in g.page FarOperate ≡ layouts.run)
     (some : 1 ≤ layouts.run.od)
     (parts : HasMasterParts layouts.run (question t.output.carried.items))
     (carries : IfSome g.sent (λ image. t.output.carried.items ≡ image)) (far : Far) where
@@ -109,7 +110,7 @@ module _ (laws : Laws) (heard : TextsAreHeard) (layouts : Layouts) (link : Link)
   abbrev carried : List ℕ
   carried = t.output.carried.items
 
-  abbrev work : Devices → Exchange → Option Current → Work
+  abbrev work : Devices → Purpose → Option Current → Work
   work d e current = record {
     devices = d;
     clear = clear;
@@ -122,7 +123,7 @@ module _ (laws : Laws) (heard : TextsAreHeard) (layouts : Layouts) (link : Link)
   LevelAt p m vain = IsLevel page kind run.od base link p (master_text run m) vain far
 
   -- both ends stand with this message out
-  pub record Stays (d : Devices) (e : Exchange) (current : Option Current)
+  pub record Stays (d : Devices) (e : Purpose) (current : Option Current)
       (m : MasterMsg) : Type 0 where
     pub level : LevelAt (progress_of d clear current) m (vain_by d e current (w.tries + 1))
     pub out : OutStands layouts (record { message = m; tries = w.tries + 1 }) e
@@ -130,7 +131,7 @@ module _ (laws : Laws) (heard : TextsAreHeard) (layouts : Layouts) (link : Link)
     pub linked : OperateLink layouts (progress_of d clear current) link
 
   -- so they do where a message stood out that brought no good reply, in doubt or not
-  abbrev Leaves : Bool → MasterMsg → Devices → Exchange → Option Current → Type 0
+  abbrev Leaves : Bool → MasterMsg → Devices → Purpose → Option Current → Type 0
   Leaves doubted m d e current = IfSome current IsCurrent
       → IfSome current (λ c. c.cutter.size ≡ run.od) → doubts_by d (Some e) current ≡ doubted
       → OutStands layouts w e (work d e current) R page kind link sent
@@ -138,7 +139,7 @@ module _ (laws : Laws) (heard : TextsAreHeard) (layouts : Layouts) (link : Link)
       → LevelAt (progress_of d clear current) w.message (suc (vain_by d e current w.tries))
       → Stays d e (missed_by d (Some e) current) m
 
-  sent_again : (d : Devices) (e : Exchange) (current : Option Current)
+  sent_again : (d : Devices) (e : Purpose) (current : Option Current)
       → Leaves false w.message d e current
   sent_again d e current valid same sure out linked level =
       let is = sent_as_was d e current sure in
@@ -157,7 +158,7 @@ module _ (laws : Laws) (heard : TextsAreHeard) (layouts : Layouts) (link : Link)
       }
 
   -- the one segment of a request was out: it is asked for
-  by_cursor : (c : Current) (p : Cursor)
+  by_cursor : (c : Current) (p : RequestProgress)
       → Leaves true (question carried) Any NextMessage (Some (record c { progress = p }))
   by_cursor c (Cut Start piece) valid same whole out linked level =
       let asked : MasterMsg = question carried in
@@ -167,11 +168,11 @@ module _ (laws : Laws) (heard : TextsAreHeard) (layouts : Layouts) (link : Link)
       let link_is : link ≡ operate_link = clear_link layouts link (rw one at linked) in
       let short : length (request_text r) ≤ run.od =
       rw same at (short_text c.cutter.given c.cutter.size (request_text r) one whole) in
-      let layout : layout_in page (taken link (master_text run asked)).mode ≡ run =
+      let layout : layout_in page (accepting_link link (master_text run asked)).mode ≡ run =
       rw link_is there in
       rw whole (record {
         level = (laws.level run.od some).wonders page kind base link (master_text run w.message)
-            w.message r (rw one at out.goes) short (ap (λ (l : Link). l.waits) link_is) _
+            w.message r (rw one at out.goes) short (ap (λ (l : FarLink). l.waits) link_is) _
             (rw one at (out.once refl)) far (rw one at level) (master_text run asked);
         out = record {
           mode = rw link_is refl;
@@ -185,8 +186,8 @@ module _ (laws : Laws) (heard : TextsAreHeard) (layouts : Layouts) (link : Link)
           once = λ any hands. absurd (asks_whole kind.hands_over run.od hands);
           again = λ k. absurd (false≢true k);
           goes_on = λ k. refl;
-          confirm = λ k. absurd (let z : Path Exchange NextMessage ConfirmEvents = k in cc);
-          reads = λ k. absurd (let z : Path Exchange NextMessage ReadEvent = k in cc);
+          confirm = λ k. absurd (let z : Path Purpose NextMessage ConfirmEvents = k in cc);
+          reads = λ k. absurd (let z : Path Purpose NextMessage ReadEvent = k in cc);
           carries = carries;
           tells = λ k. absurd (let z : Path (Option Bool) None (Some true) = k in cc);
         };
@@ -195,13 +196,13 @@ module _ (laws : Laws) (heard : TextsAreHeard) (layouts : Layouts) (link : Link)
   by_cursor c (Cut other piece) valid same whole out linked level = absurd (false≢true whole)
   by_cursor c other valid same whole out linked level = absurd (false≢true whole)
 
-  asked_for : (d : Devices) (e : Exchange) (current : Option Current)
+  asked_for : (d : Devices) (e : Purpose) (current : Option Current)
       → Leaves true (question carried) d e current
   asked_for Any NextMessage (Some c) valid same doubted out linked level =
       by_cursor c c.progress valid same doubted out linked level
   asked_for d e current valid same doubted out linked level = absurd (false≢true doubted)
 
-  pub stays : (doubted : Bool) (d : Devices) (e : Exchange) (current : Option Current)
+  pub stays : (doubted : Bool) (d : Devices) (e : Purpose) (current : Option Current)
       → Leaves doubted (if doubted then question carried else w.message) d e current
   stays true d e current = asked_for d e current
   stays false d e current = sent_again d e current

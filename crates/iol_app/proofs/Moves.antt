@@ -5,12 +5,12 @@ use Rattle.std.specs.Prelude.{Option, if◌then◌else◌, IsTrue, Some}
 use Rattle.iol_mseq.specs.declared.master.MasterMsg.{MasterMsg}
 use Rattle.iol_isdu.specs.declared.values.Request.{Request}
 use Rattle.iol_isdu.specs.declared.values.Answer.{Answer}
-use Rattle.iol_segment.specs.TextLaws.{joined}
+use Rattle.iol_segment.specs.TextLaws.{segments_up_to}
 use Rattle.iol_far.specs.declared.carried.Carried.{Carried}
 use Rattle.iol_far.specs.declared.kind.Recalls.{Recalls}
-use Rattle.iol_far.specs.Isdu.{fits, answer_text, isdu_data, IsduState, Answered}
+use Rattle.iol_far.specs.Isdu.{fits, answer_text_to, isdu_data, IsduState, Answered}
 use Rattle.iol_far.specs.Far.{Far, data_of}
-use Rattle.iol_far.specs.Level.{Progress, Had as IsHad, Move, Begin, Ask, Next, Leave, Link, after, IsSent, base_after, IsIdle, IsGrown, Perhaps, Written, Busy as IsBusy, Unsure, Stands as FarStands, asked, wondered, may_be_none}
+use Rattle.iol_far.specs.Level.{Progress, Had as IsHad, Move, Begin, Ask, Next, Leave, FarLink, after, IsSent, base_after, IsIdle, IsGrown, Perhaps, Written, Busy as IsBusy, Unsure, Stands as FarStands, progress_after_ask, progress_after_doubt, may_be_none}
 use Rattle.iol_far.specs.declared.kind.HandsOver.{HandsOver}
 use Rattle.iol_mode.specs.declared.configuration.Devices.{Devices}
 use Rattle.iol_steps.specs.Step.{repeats_at}
@@ -29,7 +29,7 @@ same_after : (trust : Recalls) (vain : ℕ) (p : Progress) (what : Move) (x y : 
     → (ReadsAnswer what → x ≡ y) → after trust vain p what x ≡ after trust vain p what y
 same_after trust vain p what x y same = grind (arith, common_steps)
 
-module _ {page : List ℕ} {size : ℕ} {link : Link} {p : Progress} {o : List ℕ} {m : MasterMsg}
+module _ {page : List ℕ} {size : ℕ} {link : FarLink} {p : Progress} {o : List ℕ} {m : MasterMsg}
     {what : Move} (sent : IsSent page size link p o m what) where
   -- and they bring what the device's ISDU sends
   pub answers_data : (far : Far) → ReadsAnswer what → data_had size m far ≡ isdu_data size far.isdu
@@ -49,10 +49,10 @@ module _ {page : List ℕ} {size : ℕ} {link : Link} {p : Progress} {o : List �
   asks_none e idle = grind (arith, common_steps, sent.move)
 
 -- a COUNT read wants a segment that each answer has whose text begins with the octets so far
-pub next_wants : {page : List ℕ} {size : ℕ} {link : Link} {r : Request} {i : ℕ} {t o : List ℕ}
+pub next_wants : {page : List ℕ} {size : ℕ} {link : FarLink} {r : Request} {i : ℕ} {t o : List ℕ}
     {m : MasterMsg} → IsSent page size link (IsHad r i t) o m Next → (a : Answer)
-    → IsTrue (fits r a) → t ≡ joined size (answer_text r a) i
-    → suc i * size < length (answer_text r a)
+    → IsTrue (fits r a) → t ≡ segments_up_to size (answer_text_to r a) i
+    → suc i * size < length (answer_text_to r a)
 next_wants sent a fitting same = grind (arith, common_steps, sent.move)
 
 -- where none is under way the record has grown by nothing
@@ -82,33 +82,35 @@ answer_after what base carried request h leaves begins answer = grind (arith, co
 -- where these octets are the last segment had of an answer, it has octets of its text
 abbrev HasText : ℕ → List ℕ → Progress → Type 0
 HasText size data_in (IsHad r i octets) = (a : Answer) → IsTrue (fits r a)
-    → octets ≡ joined size (answer_text r a) i → data_in ≡ segment size (answer_text r a) i
-    → i * size < length (answer_text r a)
+    → octets ≡ segments_up_to size (answer_text_to r a) i
+    → data_in ≡ segment size (answer_text_to r a) i
+    → i * size < length (answer_text_to r a)
 HasText size data_in p = Unit {0}
 
 -- a START read brings the first segment
-first_text : (size : ℕ) (q : Request) (a : Answer) → 0 * size < length (answer_text q a)
+first_text : (size : ℕ) (q : Request) (a : Answer) → 0 * size < length (answer_text_to q a)
 first_text size q a = grind (arith, common_steps)
 
 asked_text : (trust : Recalls) (size : ℕ) (q : Request) (data_in : List ℕ)
-    → HasText size data_in (asked trust q data_in)
+    → HasText size data_in (progress_after_ask trust q data_in)
 asked_text trust size q data_in = grind (arith, common_steps, first_text)
 
 -- and so does one that is a question
 wondered_text : (vain size : ℕ) (q : Request) (data_in : List ℕ)
-    → HasText size data_in (wondered vain q data_in)
+    → HasText size data_in (progress_after_doubt vain q data_in)
 wondered_text vain size q data_in = grind (arith, common_steps, first_text)
 
 -- a COUNT read brings the next one
 next_text : (size : ℕ) (q : Request) (i : ℕ) (t data_in : List ℕ)
-    → ((a : Answer) → IsTrue (fits q a) → t ≡ joined size (answer_text q a) i
-    → suc i * size < length (answer_text q a))
+    → ((a : Answer) → IsTrue (fits q a) → t ≡ segments_up_to size (answer_text_to q a) i
+    → suc i * size < length (answer_text_to q a))
     → HasText size data_in (IsHad q (suc i) (t ++ data_in))
 next_text size q i t data_in wants a fitting whole part = wants a fitting
-    (append_cancel_right t (joined size (answer_text q a) i)
-    (segment size (answer_text q a) (suc i)) (rw part at whole))
+    (append_cancel_right t (segments_up_to size (answer_text_to q a) i)
+    (segment size (answer_text_to q a) (suc i)) (rw part at whole))
 
-has_text : {page : List ℕ} {size : ℕ} {link : Link} {o : List ℕ} {m : MasterMsg} (trust : Recalls)
+has_text : {page : List ℕ} {size : ℕ} {link : FarLink} {o : List ℕ} {m : MasterMsg}
+    (trust : Recalls)
     (vain : ℕ) (data_in : List ℕ) (what : Move) (p : Progress) → ReadsAnswer what
     → IsSent page size link p o m what → HasText size data_in (after trust vain p what data_in)
 has_text {size} trust vain data_in Ask (Perhaps q) k sent = wondered_text vain size q data_in
@@ -123,18 +125,18 @@ has_text trust vain data_in Next p k sent = absurd sent.move
 has_text trust vain data_in what p k sent = absurd k
 
 -- they are the segments of an answer to the request, the last of which has octets of its text
-module _ {page : List ℕ} {size : ℕ} {link : Link} {p : Progress} {o : List ℕ} {m : MasterMsg}
+module _ {page : List ℕ} {size : ℕ} {link : FarLink} {p : Progress} {o : List ℕ} {m : MasterMsg}
     {what : Move} (sent : IsSent page size link p o m what) where
   pub had_text : (trust : Recalls) (vain : ℕ) (hands_over : HandsOver) (base : List Carried)
       (r : Request) (i : ℕ) (octets : List ℕ) (s : IsduState) (counted : Option ℕ)
       (c : List Carried) → FarStands hands_over size base (IsHad r i octets) s counted c
       → ReadsAnswer what → after trust vain p what (isdu_data size s) ≡ IsHad r i octets
-      → (a : Answer) × IsTrue (fits r a) × (octets ≡ joined size (answer_text r a) i)
-      × (i * size < length (answer_text r a))
+      → (a : Answer) × IsTrue (fits r a) × (octets ≡ segments_up_to size (answer_text_to r a) i)
+      × (i * size < length (answer_text_to r a))
   had_text trust vain hands_over base r i octets (Answered q a (Some j)) counted c h k is =
       let fitting = rw h.0 at h.1 in
       let data_in = isdu_data size (Answered q a (Some j)) in
-      let last : data_in ≡ segment size (answer_text r a) i = rw (h.2, h.0) refl in
+      let last : data_in ≡ segment size (answer_text_to r a) i = rw (h.2, h.0) refl in
       let has = rw is at (has_text trust vain data_in what p k sent) in
       (a, fitting, h.3, has a fitting h.3 last)
   had_text trust vain hands_over base r i octets state counted c h k is = absurd h

@@ -17,18 +17,18 @@ use Rattle.iol_segment.specs.Cut.{Cutting, pair, segment, flow_at, last_given}
 use Rattle.iol_segment.specs.Join.{stage}
 use Rattle.iol_segment.specs.TextLaws.{TextLaws}
 use Rattle.iol_far.specs.Codec.{flow_of}
-use Rattle.iol_far.specs.Isdu.{answer_text}
+use Rattle.iol_far.specs.Isdu.{answer_text_to}
 use Rattle.iol_far.specs.SegmentLaws.{AnswersFit}
 use Rattle.iol_far.specs.declared.kind.Recalls.{Recalls}
-use Rattle.iol_far.specs.Level.{Progress, Move, Begin, Ask, IsMove, IsIdle, Busy, asked as level_asked, after}
+use Rattle.iol_far.specs.Level.{Progress, Move, Begin, Ask, IsMove, IsIdle, Busy, progress_after_ask, after}
 use Rattle.iol_mode.specs.declared.configuration.Devices.{Devices}
 use Rattle.iol_app.specs.declared.request.Current.{Current}
-use Rattle.iol_app.specs.declared.request.Progress.{Progress as Cursor}
-use Rattle.iol_app.specs.declared.request.Progress.TheVariants.{Sending, Doubting, Asking, Receiving, Refused}
-use Rattle.iol_app.specs.declared.session.Exchange.TheVariants.{Request as NextMessage}
-use Rattle.iol_app.specs.Requests.{text_of, sending, IsAllGiven, IsJoining, IsCurrent, sent_on, one_more, IsUnsent}
+use Rattle.iol_app.specs.declared.request.RequestProgress.{RequestProgress}
+use Rattle.iol_app.specs.declared.request.RequestProgress.TheVariants.{Sending, Doubting, Asking, Receiving, Refused}
+use Rattle.iol_app.specs.declared.session.Purpose.TheVariants.{Request as NextMessage}
+use Rattle.iol_app.specs.Requests.{text_of, segment_progress, IsAllGiven, IsJoining, IsCurrent, current_after_segment, one_more_busy, IsUnsent}
 use Rattle.iol_app.specs.Messages.{Head, progress_head, progress_data, request_head, request_data}
-use Rattle.iol_app.specs.Moves.{unsent, before_last, asked_for, progress_of, progress_at, segment_move, move_at, request_move, MessagesAreMoves}
+use Rattle.iol_app.specs.Moves.{progress_at_begin, before_last, asked_for, progress_of, progress_at, segment_move, move_at, request_move, MessagesAreMoves}
 use Rattle.iol_app.specs.Ends.{BusyAt}
 use Rattle.iol_app.proofs.Joining.{more_follow}
 use Rattle.iol_app.proofs.Cutting.{is_pair}
@@ -47,7 +47,7 @@ flow_at_next i = let other : (suc i == 0) ≡ false = grind (arith, nat_tests) i
 
 begin_moves : (devices : Devices) (size : ℕ) (request : Request) (octets : List ℕ)
     → IsRequest request → octets ≡ segment size (request_text request) 0
-    → IsMove size (Begin request) (unsent devices) Isdu false Start octets
+    → IsMove size (Begin request) (progress_at_begin devices) Isdu false Start octets
 begin_moves devices size request octets h e = grind (arith, common_steps)
 
 segment_moves : (devices : Devices) (size : ℕ) (request : Request) (flow : Flow)
@@ -78,7 +78,7 @@ module _ (fit : AnswersFit) (laws : (size : ℕ) → 1 ≤ size → TextLaws siz
   module _ (devices : Devices) (current : Current) (h : IsCurrent current) where
     open current use {cutter, cutter.{size, source}}
 
-    progress_moves : (p : Cursor) → current.progress ≡ p → Moves size (move_at cutter p)
+    progress_moves : (p : RequestProgress) → current.progress ≡ p → Moves size (move_at cutter p)
         (progress_at devices cutter p) (progress_head p) (progress_data p)
     unfolding flow_of
     progress_moves (Sending flow piece) e =
@@ -90,7 +90,7 @@ module _ (fit : AnswersFit) (laws : (size : ℕ) → 1 ≤ size → TextLaws siz
         let text = laws size h.some in
         rw (add-one had, flow_of_count (suc had)) (
           refl,
-          λ answer fitting same. more_follow size text (answer_text source answer)
+          λ answer fitting same. more_follow size text (answer_text_to source answer)
               (text.answers (is_read source) answer (fit source answer fitting)) had
               (ap stage (sym same) ∙ joins.open_text),
         )
@@ -113,7 +113,8 @@ module _ (fit : AnswersFit) (laws : (size : ℕ) → 1 ≤ size → TextLaws siz
 
 -- busy replies are counted from here
 pub sent_busy : (doubts : Bool) (cutter : Cutting Request) (b : Bool) (busy : ℕ) → busy ≡ 0
-    → BusyAt doubts (sending (if b then Some (pair cutter.size (text_of cutter) cutter.given) else
+    → BusyAt doubts (segment_progress
+    (if b then Some (pair cutter.size (text_of cutter) cutter.given) else
     None)) busy
 sent_busy doubts cutter b busy e = grind (arith, common_steps)
 
@@ -121,7 +122,7 @@ pub sent_follows : (trust : Recalls) (vain : ℕ) (devices : Devices) (clear : B
     (current : Current) (flow : Flow) (piece : ArrayVec ℕ) (od : List ℕ)
     → let cutter : Cutting Request = current.cutter in
     last_given cutter.size (text_of cutter) cutter.given ≡ Some (flow, piece)
-    → progress_of devices clear (Some (sent_on current))
+    → progress_of devices clear (Some (current_after_segment current))
     ≡ after trust vain (before_last devices cutter.source cutter.given)
     (segment_move cutter.source cutter.given) od
 sent_follows trust vain devices clear current flow piece od h = grind (arith, common_steps)
@@ -129,12 +130,13 @@ sent_follows trust vain devices clear current flow piece od h = grind (arith, co
 -- The reply to a START read
 
 pub busy_follows : (devices : Devices) (cutter : Cutting Request) (busy : ℕ)
-    → asked_for devices cutter (one_more busy) ≡ Busy cutter.source
+    → asked_for devices cutter (one_more_busy busy) ≡ Busy cutter.source
 busy_follows devices cutter busy = grind (arith, common_steps)
 
 pub asked_after : (trust : Recalls) (vain : ℕ) (devices : Devices) (cutter : Cutting Request)
     (busy : ℕ) (od : List ℕ) → IsAllGiven cutter.size (text_of cutter) cutter.given
-    → after trust vain (asked_for devices cutter busy) Ask od ≡ level_asked trust cutter.source od
+    → after trust vain (asked_for devices cutter busy) Ask od
+    ≡ progress_after_ask trust cutter.source od
 asked_after trust vain devices cutter busy od h = grind (arith, common_steps)
 
 -- The reply to any other message

@@ -5,14 +5,14 @@ use Rattle.std.specs.Prelude.{Option, Some, None}
 use Rattle.iol_mseq.specs.declared.master.MasterMsg.{MasterMsg}
 use Rattle.iol_isdu.specs.declared.values.Request.{Request}
 use Rattle.iol_far.specs.declared.carried.Carried.{Carried}
-use Rattle.iol_far.specs.Isdu.{IsduState, Handed, fits, received, isdu_data}
-use Rattle.iol_far.specs.Far.{Far, Heard, hear, heard_as}
+use Rattle.iol_far.specs.Isdu.{IsduState, Handed, fits, isdu_with_octets, isdu_data}
+use Rattle.iol_far.specs.Far.{Far, HearResult, hear, heard_as}
 use Rattle.iol_far.specs.Local.{LocalStep, local, locals}
 use Rattle.iol_link.specs.Honest.{Passage, OutLost, far_after}
 use Rattle.iol_far.specs.declared.kind.Kind.{Kind}
 use Rattle.iol_far.specs.declared.kind.HandsOver.{HandsOver}
 use Rattle.iol_far.specs.declared.kind.Recalls.{Recalls}
-use Rattle.iol_far.specs.Level.{Progress, IsWritten, Stands as FarStands, Move, Begin, Leave, after, base_after, Link, IsIdle, IsGrown, IsOutOnce}
+use Rattle.iol_far.specs.Level.{Progress, IsWritten, Stands as FarStands, Move, Begin, Leave, after, base_after, FarLink, IsIdle, IsGrown, IsOutOnce}
 use Rattle.iol_far.specs.Laws.{ReplySays}
 use Rattle.iol_steps.specs.Bridge.{Hidden, open_request, IsOpen, hidden_after, hidden_through, hidden_again, again_steps}
 use Rattle.iol_steps.specs.Station.{AnswerFits, ProgressFits}
@@ -49,7 +49,8 @@ pub carried_after : (passage : Passage) (far : Far) (o : List ℕ)
 carried_after OutLost far o = refl
 carried_after other far o = hear_carried far o
 
-unhanded : (text : List ℕ) (last : Option ℕ) (q : Request) → Handed q ≡ received text last → ⊥
+unhanded : (text : List ℕ) (last : Option ℕ) (q : Request)
+    → Handed q ≡ isdu_with_octets text last → ⊥
 unhanded text last q e = grind (arith, common_steps)
 
 written_handed : (hands_over : HandsOver) (size : ℕ) (base : List Carried) (r : Request) (i : ℕ)
@@ -102,8 +103,8 @@ base_kept what base c p other idle grown e = grind (arith, common_steps, idle_ba
 
 -- the far end once it heard a message that it replies to
 pub replied_opens : {page : List ℕ} {kind : Kind} {trust : Recalls} {vain size : ℕ}
-    {base : List Carried} {link : Link} {p : Progress} {o : List ℕ} {m : MasterMsg} {what : Move}
-    {heard : Heard} → ReplySays page kind trust vain size base link p o m what heard
+    {base : List Carried} {link : FarLink} {p : Progress} {o : List ℕ} {m : MasterMsg} {what : Move}
+    {heard : HearResult} → ReplySays page kind trust vain size base link p o m what heard
     → (request : Option Request) (h : Hidden) → ProgressFits p request
     → ((q : Request) → what ≡ Begin q → (request ≡ Some q) × IsIdle p)
     → IsOpen heard.far.isdu request (hidden_again request heard.far.isdu h)

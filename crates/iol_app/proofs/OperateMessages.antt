@@ -6,10 +6,10 @@ use Rattle.iol_octets.specs.declared.control.Channel.TheVariants.{Page}
 use Rattle.iol_mseq.specs.Shape.{Shape}
 use Rattle.iol_mseq.specs.declared.master.MasterMsg.{MasterMsg}
 use Rattle.iol_far.specs.Far.{command_in}
-use Rattle.iol_app.specs.declared.event_work.Reading.{Reading}
+use Rattle.iol_app.specs.declared.event_work.ReadingProgress.{ReadingProgress}
 use Rattle.iol_app.specs.declared.request.Current.{Current}
-use Rattle.iol_app.specs.declared.session.Exchange.{Exchange}
-use Rattle.iol_app.specs.declared.session.Exchange.TheVariants.{TellOutput, DropOutput}
+use Rattle.iol_app.specs.declared.session.Purpose.{Purpose}
+use Rattle.iol_app.specs.declared.session.Purpose.TheVariants.{TellOutput, DropOutput}
 use Rattle.iol_app.specs.Messages.{head_for, head_of, data_for}
 use Rattle.iol_app.specs.Moves.{confirms_events}
 use Rattle.iol_mseq.specs.Texts.{master_text}
@@ -18,19 +18,19 @@ use Rattle.iol_page.specs.declared.master_command.MasterCommand.TheVariants.{Pro
 use Rattle.iol_mseq.specs.Parts.{first_of_zeros}
 use Rattle.iol_mode.specs.Messages.{command_message}
 use Rattle.iol_steps.specs.declared.mode.Mode.TheVariants.{Operate}
-use Rattle.iol_steps.specs.Station.{confirms, output_by}
+use Rattle.iol_steps.specs.Station.{is_confirm_message, output_by}
 use Rattle.iol_app.specs.Ends.{output_for}
 
 -- a confirm, a read of events
 
-pub exchange_confirms : (exchange : Exchange) (reading : Reading) (current : Option Current)
+pub exchange_confirms : (exchange : Purpose) (reading : ReadingProgress) (current : Option Current)
     (message : MasterMsg) → head_of message.mc ≡ head_for exchange reading current
-    → confirms message ≡ confirms_events exchange
+    → is_confirm_message message ≡ confirms_events exchange
 exchange_confirms exchange going current message e = grind (arith, common_steps)
 
 -- an output command
 
-pub exchange_command : (exchange : Exchange) (reading : Reading) (current : Option Current)
+pub exchange_command : (exchange : Purpose) (reading : ReadingProgress) (current : Option Current)
     (size : ℕ) (message : MasterMsg) → head_of message.mc ≡ head_for exchange reading current
     → message.od.items ≡ data_for exchange size current
     → output_by Operate (command_in message) ≡ output_for exchange
@@ -65,7 +65,7 @@ tell_differs run pre message size low od e =
 
 -- only output commands are of the page
 
-pub page_command : (exchange : Exchange) (reading : Reading) (current : Option Current)
+pub page_command : (exchange : Purpose) (reading : ReadingProgress) (current : Option Current)
     → (head_for exchange reading current).channel ≡ Page
     → (exchange ≡ TellOutput) ⊎ (exchange ≡ DropOutput)
 page_command exchange going current e = grind (arith, common_steps)

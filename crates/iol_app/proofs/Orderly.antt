@@ -22,7 +22,7 @@ unfolding control_of
 test_confirms = refl
 
 test_is : master_text startup_shape (page_read 2) ≡ test_read
-unfolding control_of checksum.checksum_of checksum.compressed
+unfolding control_of checksum.checksum_of checksum.six_bits_of
 test_is = refl
 
 -- the read of the page's first octet has the parts of STARTUP

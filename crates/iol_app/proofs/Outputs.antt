@@ -5,11 +5,11 @@ use Rattle.std.proofs.Common.{arith, Bool, List}
 use Rattle.std.specs.Prelude.{Option}
 use Rattle.iol_far.specs.Far.{Far}
 use Rattle.iol_far.specs.Local.{LocalStep, locals}
-use Rattle.iol_steps.specs.Step.{Image}
+use Rattle.iol_steps.specs.Step.{ImageOctets}
 use Rattle.iol_app.proofs.Given.{by_locals}
 use Rattle.iol_app.specs.Ends.{OutputTold}
 
-module _ (sent : Option Image) (known : Type 0) (told : Bool) where
+module _ (sent : Option ImageOctets) (known : Type 0) (told : Bool) where
   abbrev Outputs : Far → Type 0
   Outputs far = OutputTold sent known told far
 

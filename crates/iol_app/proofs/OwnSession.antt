@@ -8,18 +8,19 @@ use Rattle.iol_isdu.specs.declared.values.Request.{Request}
 use Rattle.iol_link.specs.Honest.{Passage, OutLost, far_after}
 use Rattle.iol_far.specs.declared.carried.Carried.{Carried}
 use Rattle.iol_far.specs.Isdu.{IsduState, Handed}
-use Rattle.iol_far.specs.Far.{Far, moved, hear, heard_as}
-use Rattle.iol_far.specs.Local.{LocalStep, local, locals, woken}
-use Rattle.iol_steps.specs.Step.{Step, Moment, may_repeat}
+use Rattle.iol_far.specs.Far.{Far, far_in_mode, hear, heard_as}
+use Rattle.iol_far.specs.Local.{LocalStep, local, locals, far_after_wake}
+use Rattle.iol_steps.specs.Step.{PortStep, Moment, may_repeat}
 use Rattle.iol_steps.specs.Session.{session_through, session_after, MaySession, MaySessionAll}
 use Rattle.iol_app.proofs.Parts.{runs-append, own_runs}
 use Rattle.iol_steps.specs.Bridge.{Hidden, IsOpen, again_steps, hidden_again, own_steps, hidden_after, hidden_through, worked_steps, heard_steps_as, heard_steps, passed_steps, exchange_steps, wake_steps}
-use Rattle.iol_steps.specs.Kinds.{Seen}
+use Rattle.iol_steps.specs.Kinds.{MasterFields}
 use Rattle.iol_steps.specs.Station.{session_of}
 use Rattle.iol_app.proofs.Accepted.{by_accepted}
 
 -- these steps are allowed in the session's part, and leave these choices and this record
-abbrev pub SessionRuns : Moment → Seen → Hidden → List Carried → List Step → Seen → Hidden
+abbrev pub SessionRuns : Moment → MasterFields → Hidden → List Carried → List PortStep
+    → MasterFields → Hidden
     → List Carried → Type 0
 SessionRuns m seen h carried steps seen' h' carried' =
     MaySessionAll m steps (session_of seen h carried)
@@ -40,10 +41,10 @@ own_open request h (step ∷ steps) far opens =
 
 -- a wake that takes effect, or doesn't
 abbrev pub woken_if : Bool → Far → Far
-woken_if wakes far = if wakes then woken far else far
+woken_if wakes far = if wakes then far_after_wake far else far
 
 -- what holds of a far end once it was woken or as it was
-pub woken_as : (P : Far → Type 0) (wakes : Bool) (far : Far) → P (woken far) → P far
+pub woken_as : (P : Far → Type 0) (wakes : Bool) (far : Far) → P (far_after_wake far) → P far
     → P (woken_if wakes far)
 woken_as P true far h k = h
 woken_as P false far h k = k
@@ -54,8 +55,8 @@ MayAgain repeats (Some request) (Handed held) h = IsSome h.answer → IsTrue (re
 MayAgain repeats request state h = ⊤
 
 -- What the session shows stays
-module _ (m : Moment) (seen : Seen) where
-  abbrev Leaves : Hidden → Far → List Step → Hidden → Far → Type 0
+module _ (m : Moment) (seen : MasterFields) where
+  abbrev Leaves : Hidden → Far → List PortStep → Hidden → Far → Type 0
   Leaves h far steps h' far' = SessionRuns m seen h far.carried steps seen h' far'.carried
 
   -- all own steps of a call
@@ -78,7 +79,7 @@ module _ (m : Moment) (seen : Seen) where
   heard_session h far o = by_accepted
       (λ q. Leaves h far (heard_steps_as q o) h (heard_as far o q).far)
       far o (tt, refl) (λ awake msg spells. worked_session h far o msg)
-      (λ awake command w msg spells. worked_session h (moved far command.into) o msg)
+      (λ awake command w msg spells. worked_session h (far_in_mode far command.into) o msg)
 
   passed_session : (h : Hidden) (passage : Passage) (far : Far) (o : List ℕ)
       → Leaves h far (passed_steps passage far o) h (far_after passage far o)

@@ -4,24 +4,24 @@ use Rattle.std.specs.Prelude.{Option, ⊤}
 use Rattle.iol_isdu.specs.declared.values.Request.{Request}
 use Rattle.iol_far.specs.Far.{Far}
 use Rattle.iol_far.specs.Local.{LocalStep, local, locals}
-use Rattle.iol_steps.specs.Step.{Step}
+use Rattle.iol_steps.specs.Step.{PortStep}
 use Rattle.iol_steps.specs.Bridge.{own_step, own_steps}
 
-module _ {S : Type 0} (May : Step → S → Type 0) (after : Step → S → S) where
-  abbrev pub through : List Step → S → S
+module _ {S : Type 0} (May : PortStep → S → Type 0) (after : PortStep → S → S) where
+  abbrev pub through : List PortStep → S → S
   through [] s = s
   through (step ∷ steps) s = through steps (after step s)
 
-  abbrev pub MayAll : List Step → S → Type 0
+  abbrev pub MayAll : List PortStep → S → Type 0
   MayAll [] s = ⊤
   MayAll (step ∷ steps) s = May step s × MayAll steps (after step s)
 
   -- these steps are allowed, and leave this
-  abbrev pub Runs : S → List Step → S → Type 0
+  abbrev pub Runs : S → List PortStep → S → Type 0
   Runs s steps s' = MayAll steps s × (through steps s ≡ s')
 
   -- one list of steps after the other
-  pub runs-append : (xs ys : List Step) (s : S) {s1 s2 : S} → Runs s xs s1 → Runs s1 ys s2
+  pub runs-append : (xs ys : List PortStep) (s : S) {s1 s2 : S} → Runs s xs s1 → Runs s1 ys s2
       → Runs s (xs ++ ys) s2
   runs-append [] ys s a b = rw a.1 b
   runs-append (x ∷ xs) ys s a b = let r = runs-append xs ys (after x s) (a.0.1, a.1) b in

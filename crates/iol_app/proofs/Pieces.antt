@@ -15,28 +15,28 @@ use Rattle.iol_mode.specs.declared.configuration.Devices.{Devices}
 use Rattle.iol_mode.specs.declared.states.Operate.{Operate}
 use Rattle.iol_mode.specs.declared.states.State.{State}
 use Rattle.iol_mode.specs.declared.states.State.TheVariants.{Down as AtDown, Operate as AtOperate}
-use Rattle.iol_mode.specs.Messages.{command_message, unsent}
+use Rattle.iol_mode.specs.Messages.{command_message, new_sending}
 use Rattle.iol_mode.specs.Next.{EnteredFits}
-use Rattle.iol_mode.specs.States.{NextMode, NextModeFits, StateFits, IsDown, state_of, waked, operate_by, counted}
-use Rattle.iol_mode.specs.Exchanges.{IsSending, AcceptedBy, StandsOn, WakeStands, judged, text_out}
+use Rattle.iol_mode.specs.States.{NextMode, NextModeFits, StateFits, IsDown, next_state, mode_after_wake, operate_by, sending_after_try}
+use Rattle.iol_mode.specs.Exchanges.{IsSending, AcceptedBy, StandsOn, WakeStands, mode_after_reply, text_out}
 use Rattle.iol_mode.specs.Stands.{StateStands}
 use Rattle.iol_steps.specs.declared.mode.Mode.TheVariants.{Operate as ModeOperate}
 use Rattle.iol_steps.specs.declared.said.Said.{Said}
 use Rattle.iol_steps.specs.declared.said.Said.TheVariants.{Idle}
-use Rattle.iol_steps.specs.Step.{Step, Moment, no_make}
+use Rattle.iol_steps.specs.Step.{PortStep, Moment, no_make}
 use Rattle.iol_steps.specs.Images.{Images, MayImagesAll, images_after}
 use Rattle.iol_app.specs.declared.event_work.EventRoom.{EventRoom}
-use Rattle.iol_app.specs.declared.session.Exchange.{Exchange}
-use Rattle.iol_app.specs.declared.brought.Brought.{Brought}
+use Rattle.iol_app.specs.declared.session.Purpose.{Purpose}
+use Rattle.iol_app.specs.declared.brought.WireResult.{WireResult}
 use Rattle.iol_app.specs.Due.{due_of}
-use Rattle.iol_app.specs.Outputs.{carried_by}
-use Rattle.iol_app.specs.State.{SessionState, IsSession, IsOutBy, IsMessageFor, sending}
-use Rattle.iol_app.specs.StationState.{StateFits as Joined, IsStill, NextFits, IsSettledSaid, mode_in}
+use Rattle.iol_app.specs.Outputs.{output_to_carry}
+use Rattle.iol_app.specs.State.{SessionState, IsSession, IsOutBy, IsMessageFor, session_sending}
+use Rattle.iol_app.specs.StationState.{SessionFits, IsStill, NextFits, IsSettledSaid, mode_in}
 use Rattle.iol_app.specs.StationLaws.{StationLaws}
-use Rattle.iol_app.specs.Core.{Core, Ghost, Stands, CallGives, IsAttempted, ordered, moment_of, images_in, after_exchange, settled_core, after_wake, core_out, free_core}
+use Rattle.iol_app.specs.Core.{CoreState, Ghost, BothEndsStand, CallGives, IsAttempted, ordered_output, moment_of, images_in, after_exchange, settled_core, after_wake, core_out, free_core}
 use Rattle.iol_app.proofs.Orderly.{first_parts}
 use Rattle.iol_app.proofs.Doubts.{core_of, after_fits}
-use Rattle.iol_app.specs.Pieces.{IsSent, ReadsOn, IsSettledBy, IsTakenUp, SendSteps, Received, WakeSteps, ReceiveSteps}
+use Rattle.iol_app.specs.Pieces.{SendsMessage, ReadsOn, IsSettledBy, IsTakenUp, SendSteps, TakeUpGives, WakeSteps, ReceiveSteps}
 use Rattle.iol_app.proofs.Turns.{startup_next, preoperate_next, operate_next}
 use Rattle.iol_app.proofs.Settling.{settled_fits}
 
@@ -44,7 +44,7 @@ reset_parts : HasMasterParts startup_shape (command_message startup_shape Device
 unfolding control_of
 reset_parts = record { out = refl; od = refl }
 
-waked_fits : (devices : Devices) (answered : Bool) → NextModeFits (waked devices answered)
+waked_fits : (devices : Devices) (answered : Bool) → NextModeFits (mode_after_wake devices answered)
 waked_fits devices answered = grind (arith, common_steps, first_parts, reset_parts)
 
 -- in a start-up nothing is said
@@ -53,64 +53,65 @@ pub still_said : (outcome : NextMode) (s : SessionState) (said : Said) → IsSti
 still_said outcome s said still h = grind (arith, common_steps)
 
 -- a message that is out is the session's, and none is out where the session has none
-pub some_exchange : (e : Option Exchange) (s : SessionState) (m : MasterMsg)
-    → IsOutBy e s (Some m) → (x : Exchange) × (e ≡ Some x)
+pub some_exchange : (e : Option Purpose) (s : SessionState) (m : MasterMsg)
+    → IsOutBy e s (Some m) → (x : Purpose) × (e ≡ Some x)
 some_exchange None s m h = absurd h
 some_exchange (Some x) s m h = (x, refl)
 
-pub no_exchange : (e : Option Exchange) (s : SessionState) → IsOutBy e s None → e ≡ None
+pub no_exchange : (e : Option Purpose) (s : SessionState) → IsOutBy e s None → e ≡ None
 no_exchange e s h = grind (arith, common_steps)
 
 -- after a turn a message that is out was sent
 operate_tried : (w : Sending) (layouts : Layouts) (reply : Option Reply) (s : SessionState)
     → IsAttempted (after_exchange
-    (operate_by (counted w reply) layouts (attempt_of w.tries reply)) s).state
+    (operate_by (sending_after_try w reply) layouts (attempt_of w.tries reply)) s).state
 operate_tried w layouts reply s = grind (arith, common_steps)
 
 -- nor does a turn of a start-up leave one that would go out again in OPERATE
 risen_settled : (outcome : NextMode) (s : SessionState) (n : ℕ) (far : Far)
     → EnteredFits outcome n far
-    → (after_exchange outcome s ≡ settled_core outcome s) × IsAttempted (state_of outcome)
+    → (after_exchange outcome s ≡ settled_core outcome s) × IsAttempted (next_state outcome)
 risen_settled outcome s n far h = grind (arith, common_steps)
 
 waked_tried : (devices : Devices) (answered : Bool)
-    → IsAttempted (state_of (waked devices answered))
+    → IsAttempted (next_state (mode_after_wake devices answered))
 waked_tried devices answered = grind (arith, common_steps)
 
 pub wanted_at : (state : State) (t : SessionState) (n : ℕ) (far : Far) → IsAttempted state
-    → StateStands state n far → n ≡ 0 → ordered state t ≡ t.output.wanted
+    → StateStands state n far → n ≡ 0 → ordered_output state t ≡ t.output.wanted
 wanted_at state t n far tried stands none = grind (arith, common_steps)
 
 -- what went out before goes out again
-pub same_sends : (old : Core) → SendSteps old old
+pub same_sends : (old : CoreState) → SendSteps old old
 unfolding SendSteps
 same_sends old = λ g far n stands.
     let asks = λ (tried : IsAttempted old.state) (calm : n ≡ 0).
     wanted_at old.state old.session n far tried stands.link calm in
     inl (assumption asks)
 
-pub sent_reads : (room : EventRoom) (old new : Core) → IsSent room old new → ReadsOn room old new
+pub sent_reads : (room : EventRoom) (old new : CoreState) → SendsMessage room old new
+    → ReadsOn room old new
 sent_reads room old new sent = grind (arith, common_steps)
 
 -- what is made of what comes back may be taken up
 out_next : (out : Option Sending) (layouts : Layouts) (came : Option (List ℕ))
     (s : SessionState) → let state : Operate = record { out = out; layouts = layouts } in
-    IsSending (AtOperate state) → Joined (AtOperate state) s
-    → NextFits (judged s.configuration (AtOperate state) came) s
+    IsSending (AtOperate state) → SessionFits (AtOperate state) s
+    → NextFits (mode_after_reply s.configuration (AtOperate state) came) s
 out_next out layouts came s sends fits = grind (arith, common_steps, operate_next)
 
 pub judged_next : (state : State) (came : Option (List ℕ)) (s : SessionState) → IsSending state
-    → Joined state s → NextFits (judged s.configuration state came) s
+    → SessionFits state s → NextFits (mode_after_reply s.configuration state came) s
 judged_next state came s sends fits =
     grind (arith, common_steps, startup_next, preoperate_next, out_next)
 
 -- outside OPERATE no message is made
-unmade : (m : Moment) (steps : List Step) (i : Images) → (m.began ≡ ModeOperate → ⊥)
+unmade : (m : Moment) (steps : List PortStep) (i : Images) → (m.began ≡ ModeOperate → ⊥)
     → MayImagesAll m steps i → no_make steps ≡ true
 unmade m [] i down may = refl
 unmade m (x ∷ steps) i down may = grind (arith, common_steps, unmade m steps (images_after m x i))
 
-unmade_by : {c next : Core} {g : Ghost} {far far' : Far} {n n' : ℕ} {said : Said}
+unmade_by : {c next : CoreState} {g : Ghost} {far far' : Far} {n n' : ℕ} {said : Said}
     → (mode_in c.state ≡ ModeOperate → ⊥) → (r : CallGives c g far n said next far' n')
     → no_make r.steps ≡ true
 unmade_by {c} {g = g} {far = far} {n = n} down r =
@@ -120,26 +121,27 @@ unmade_by {c} {g = g} {far = far} {n = n} down r =
 not_up : (state : State) → IsDown state → mode_in state ≡ ModeOperate → ⊥
 not_up state down up = grind (arith, common_steps)
 
-module _ (laws : StationLaws) (came : Option (List ℕ)) (said : Said) (brought : Brought) (g : Ghost)
+module _ (laws : StationLaws) (came : Option (List ℕ)) (said : Said) (brought : WireResult)
+    (g : Ghost)
     (far far' : Far) (n n' : ℕ) where
   -- what it comes to
   abbrev outcome : State → SessionState → NextMode
-  outcome state s = judged s.configuration state came
+  outcome state s = mode_after_reply s.configuration state came
 
   abbrev Came : State → SessionState → Type 0
   Came state s =
-      Received (core_of state s) g far n said (after_exchange (outcome state s) s) far' n'
+      TakeUpGives (core_of state s) g far n said (after_exchange (outcome state s) s) far' n'
 
   abbrev Gives : State → SessionState → Type 0
-  Gives state s = Stands (core_of state s) g far n
+  Gives state s = BothEndsStand (core_of state s) g far n
       → HonestExchange far n (text_out state) came far' n'
       → IsSettledBy (core_of state s) came said brought
-      → StandsOn (state_of (outcome state s)) (after_exchange (outcome state s) s).state
+      → StandsOn (next_state (outcome state s)) (after_exchange (outcome state s) s).state
       → Came state s
 
   -- in OPERATE, where the message is for this
   operate_gives : (out : Option Sending) (layouts : Layouts) (t : SessionState)
-      (e : Option Exchange) → IsSending (AtOperate (record { out = out; layouts = layouts }))
+      (e : Option Purpose) → IsSending (AtOperate (record { out = out; layouts = layouts }))
       → Gives (AtOperate (record { out = out; layouts = layouts })) (record t { exchange = e })
   operate_gives None layouts t e sends stands x j on =
       absurd (let e : false ≡ true = sends in cc)
@@ -148,9 +150,10 @@ module _ (laws : StationLaws) (came : Option (List ℕ)) (said : Said) (brought 
       let s : SessionState = record t { exchange = Some e } in
       let reply : Option Reply = good_reply layouts.run w.message came in
       let met = j.gives far far' n n' stands.link x in
-      let fitting = after_fits (counted w reply) layouts (attempt_of w.tries reply) s j.valid
+      let fitting = after_fits (sending_after_try w reply) layouts (attempt_of w.tries reply) s
+      j.valid
       stands.joined.told.0 j.fits (settled_fits
-      (operate_by (counted w reply) layouts (attempt_of w.tries reply)) s j.fits
+      (operate_by (sending_after_try w reply) layouts (attempt_of w.tries reply)) s j.fits
       (out_next (Some w) layouts came s refl stands.joined)) in
       let got = laws.receives.gives layouts w t e g far far' n n' came said stands j.valid x j.few
       met.0 met.1 on fitting.0 fitting.1 j.said_is in
@@ -175,8 +178,9 @@ module _ (laws : StationLaws) (came : Option (List ℕ)) (said : Said) (brought 
       rw (settled.0, still_said o s said stands.joined.0 j.said_is)
       (record { given = given; unmade = unmade_by down given; attempted = settled.1 })
 
-pub receive_steps : StationLaws → {old : Core} {came : Option (List ℕ)} {said : Said}
-    {brought : Brought} {new : Core} → IsSending old.state → IsTakenUp old came said brought new
+pub receive_steps : StationLaws → {old : CoreState} {came : Option (List ℕ)} {said : Said}
+    {brought : WireResult} {new : CoreState} → IsSending old.state
+    → IsTakenUp old came said brought new
     → ReceiveSteps old came said new
 unfolding ReceiveSteps
 receive_steps laws {old} {came} {said} {brought} sends t = λ g far far' n n' stands x. rw t.is
@@ -186,29 +190,30 @@ receive_steps laws {old} {came} {said} {brought} sends t = λ g far far' n n' st
 -- In OPERATE a new message goes out
 module _ (laws : StationLaws) (layouts : Layouts) (t : SessionState) (room : EventRoom)
     (m : MasterMsg) (valid : IsSession t) where
-  abbrev due : Exchange
+  abbrev due : Purpose
   due = due_of t room
 
-  abbrev free : SessionState → Core
+  abbrev free : SessionState → CoreState
   free s = record { state = AtOperate (record { out = None; layouts = layouts }); session = s }
 
-  abbrev next : Core
-  next = core_out layouts (unsent m) (sending due t) due t.current
+  abbrev next : CoreState
+  next = core_out layouts (new_sending m) (session_sending due t) due t.current
 
-  pub new_sends : t.exchange ≡ None → IsMessageFor due (sending due t) m
-      → m.out.items ≡ carried_by t.output → StateFits next.state
+  pub new_sends : t.exchange ≡ None → IsMessageFor due (session_sending due t) m
+      → m.out.items ≡ output_to_carry t.output → StateFits next.state
       → ((far : Far) → AcceptedBy next.state far) → StandsOn (free t).state next.state
       → SendSteps (free t) next
   unfolding SendSteps
   new_sends none is carries fits accepted on = λ g far n stands.
       let same : free t ≡ free_core layouts t =
-      ap (λ (x : Option Exchange). free (record t { exchange = x })) none in
+      ap (λ (x : Option Purpose). free (record t { exchange = x })) none in
       inr (rw same (laws.sends.gives layouts t room m g far n (rw same at stands) valid is carries
       (on far n stands.link) fits (λ link operating. accepted far stands.link.told link operating)))
 
 -- A wake
 
-pub wake_steps : StationLaws → (old : Core) (answered : Bool) (new : Core) → IsDown old.state
+pub wake_steps : StationLaws → (old : CoreState) (answered : Bool) (new : CoreState)
+    → IsDown old.state
     → WakeStands old.session.configuration.devices answered
     → new ≡ after_wake answered old.session → WakeSteps old answered new
 unfolding WakeSteps

@@ -5,26 +5,26 @@ use Rattle.std.proofs.lemmas.Grind.{common_steps}
 use native.Mathlib.Decide.{dec_lt}
 use Rattle.iol_event.specs.declared.event.Event.{Event}
 use Rattle.iol_event.specs.Memory.{Events, IsEventMemory, event_octet}
-use Rattle.iol_event.specs.Reading.{Taken, taken, next_address, reading, IsEventList}
+use Rattle.iol_event.specs.Reading.{ReaderStep, reader_step, next_address, reading, IsEventList}
 use Rattle.iol_event.specs.Laws.{taken_from}
 use Rattle.iol_far.specs.Laws.{IsFrozen}
-use Rattle.iol_steps.specs.Station.{is_due, wants_octet, EventsFit}
+use Rattle.iol_steps.specs.Station.{wants_confirm, wants_octet, EventsFit}
 use Rattle.iol_app.proofs.EventReading.{ReaderLaws}
-use Rattle.iol_app.specs.declared.event_work.Reading.{Reading}
-use Rattle.iol_app.specs.declared.event_work.Reading.TheVariants.{Resting, UnderWay}
+use Rattle.iol_app.specs.declared.event_work.ReadingProgress.{ReadingProgress}
+use Rattle.iol_app.specs.declared.event_work.ReadingProgress.TheVariants.{Resting, UnderWay}
 use Rattle.iol_app.specs.EventReading.{is_refused, reader_of, reading_by, list_by}
 use Rattle.iol_app.specs.Core.{reading_at}
 
 -- the reading that an octet brings, and the list where it is whole
-pub record Took (t : Taken) (event : Bool) (m : Events) : Type 0 where
+pub record Took (t : ReaderStep) (event : Bool) (m : Events) : Type 0 where
   pub due : Event × List Event
   pub fit : EventsFit (reading_at (reading_by t.answer t.reader) event due) false m
   pub form : is_refused (reading_by t.answer t.reader) ≡ false
   pub more : list_by t.answer ≡ None
-      → is_due (reading_at (reading_by t.answer t.reader) event due) ≡ false
+      → wants_confirm (reading_at (reading_by t.answer t.reader) event due) ≡ false
   pub whole : (l : List Event) → list_by t.answer ≡ Some l
       → (l ≡ due.0 ∷ due.1) × (m.frozen ≡ due.0 ∷ due.1)
-      × (is_due (reading_at (reading_by t.answer t.reader) event due) ≡ true)
+      × (wants_confirm (reading_at (reading_by t.answer t.reader) event due) ≡ true)
 
 module _ (laws : ReaderLaws) (event : Bool) where
   read_on : (e : Event) (es : List Event) (i : ℕ) (m : Events) → IsEventList (e ∷ es)
@@ -54,16 +54,17 @@ module _ (laws : ReaderLaws) (event : Bool) where
   frozen_list e es m valid frozen = grind (arith, common_steps)
 
   -- the octet that the reading wants
-  pub reads_next : (r : Reading) (flag : Bool) (due : Event × List Event) (c : Bool)
+  pub reads_next : (r : ReadingProgress) (flag : Bool) (due : Event × List Event) (c : Bool)
       (m : Events) → IsEventMemory m → EventsFit (reading_at r flag due) c m
       → wants_octet (reading_at r flag due) ≡ true
-      → Took (taken (reader_of r) (event_octet m.frozen (next_address (reader_of r)))) event m
+      → Took (reader_step (reader_of r) (event_octet m.frozen (next_address (reader_of r)))) event m
   reads_next Resting true due c m valid fit wants =
-      subst (λ (l : List Event). Took (taken [] (event_octet l (next_address []))) event m)
+      subst (λ (l : List Event). Took (reader_step [] (event_octet l (next_address []))) event m)
       (sym fit.2.0) (read_on fit.0 fit.1 0 m (frozen_list fit.0 fit.1 m valid fit.2)
       (omega arith) fit.2)
   reads_next (UnderWay octets) flag due c m valid fit wants =
-      subst (λ (l : List Event). Took (taken octets (event_octet l (next_address octets))) event
+      subst (λ (l : List Event). Took (reader_step octets (event_octet l (next_address octets)))
+      event
       m) (sym fit.2.0) (rw fit.3.2
       (read_on fit.0 fit.1 fit.3.0 m (frozen_list fit.0 fit.1 m valid fit.2) fit.3.1 fit.2))
   reads_next other flag due c m valid fit wants = cc

@@ -5,7 +5,7 @@ use Rattle.std.proofs.lemmas.Grind.{common_steps}
 use Rattle.std.specs.Prelude.{Option, Some, None, IsSome, if◌then◌else◌}
 use Rattle.iol_isdu.specs.declared.values.Request.{Request}
 use Rattle.iol_far.specs.declared.kind.HandsOver.{HandsOver}
-use Rattle.iol_far.specs.declared.mode.Mode.TheVariants.{Operate as FarOperate}
+use Rattle.iol_far.specs.declared.mode.DeviceMode.TheVariants.{Operate as FarOperate}
 use Rattle.iol_far.specs.Codec.{layout_in}
 use Rattle.iol_far.specs.Isdu.{IsduState}
 use Rattle.iol_mseq.specs.Texts.{master_text}
@@ -16,17 +16,17 @@ use Rattle.iol_event.specs.Laws.{MemoryStaysValid, WaitsForAll, GivesFrozen}
 use Rattle.iol_far.specs.Far.{Far, command_in}
 use Rattle.iol_far.specs.Local.{locals}
 use Rattle.iol_far.specs.Linked.{TextsAreHeard}
-use Rattle.iol_far.specs.Level.{Link, Move, Begin, IsOutOnce, IsLevel}
+use Rattle.iol_far.specs.Level.{FarLink, Move, Begin, IsOutOnce, IsLevel}
 use Rattle.iol_mode.specs.declared.configuration.Devices.{Devices}
 use Rattle.iol_mode.specs.declared.configuration.Devices.TheVariants.{Any}
-use Rattle.iol_mode.specs.Kinds.{trusted}
+use Rattle.iol_mode.specs.Kinds.{trusted_recalls}
 use Rattle.iol_mode.specs.Exchanges.{StandsOn}
 use Rattle.iol_far.specs.Laws.{RepliesAreRead, InputStaysSized, MuchStays, LevelLaws, EventLaws, ModesHaveLayouts}
 use Rattle.iol_link.specs.Attempts.{Sending, good_reply, attempt_of}
 use Rattle.iol_link.specs.Honest.{Passage, Clean, HonestExchange}
 use Rattle.iol_link.specs.declared.handler.Attempt.TheVariants.{Again, Lost as WasLost}
 use Rattle.iol_mode.specs.Stands.{IsOperating, IsAccepted}
-use Rattle.iol_mode.specs.States.{NextMode, StateFits, state_of, operate_by, counted}
+use Rattle.iol_mode.specs.States.{NextMode, StateFits, next_state, operate_by, sending_after_try}
 use Rattle.iol_mode.specs.Turns.{IsMet}
 use Rattle.iol_steps.specs.declared.mode.Mode.TheVariants.{Operate as ModeOperate}
 use Rattle.iol_steps.specs.declared.said.Said.{Said}
@@ -41,13 +41,13 @@ use Rattle.iol_app.proofs.Moves.{whole_begins}
 use Rattle.iol_app.proofs.OpenLevel.{open_again}
 use Rattle.iol_app.specs.Ends.{OutputTold, output_for}
 use Rattle.iol_app.proofs.Outputs.{outputs_locals}
-use Rattle.iol_app.specs.declared.session.Exchange.{Exchange}
+use Rattle.iol_app.specs.declared.session.Purpose.{Purpose}
 use Rattle.iol_app.specs.Moves.{AnswersAreTakenUp}
 use Rattle.iol_app.specs.State.{SessionState, IsSession}
-use Rattle.iol_app.specs.StationState.{StateFits as Joined, IsSettledSaid}
+use Rattle.iol_app.specs.StationState.{SessionFits, IsSettledSaid}
 use Rattle.iol_app.proofs.OperateMessages.{exchange_command}
 use Rattle.iol_app.proofs.Turns.{good_parts}
-use Rattle.iol_app.specs.Core.{Core, Ghost, Stands, ReceiveGives, Receives, core_out, after_exchange}
+use Rattle.iol_app.specs.Core.{CoreState, Ghost, BothEndsStand, ReceiveGives, Receives, core_out, after_exchange}
 use Rattle.iol_app.proofs.SmallFacts.{operating, third_time, begins_request}
 use Rattle.iol_app.proofs.Stations.{trusts}
 use Rattle.iol_app.proofs.FarSide.{Goes, IsGoing, silent, replied, says_of, outputs_sent, outputs_after, opens_after, replied_told, replied_out}
@@ -68,25 +68,25 @@ may_again repeats state request h may = grind (arith, common_steps)
 
 module _ (names : TextNamesAnswer) (taken : AnswersAreTakenUp) (laws : Laws)
     (heard : TextsAreHeard) (readers : ReaderLaws) (layouts : Layouts) (w : Sending)
-    (t : SessionState) (e : Exchange) (g : Ghost) (far far' : Far) (n n' : ℕ)
+    (t : SessionState) (e : Purpose) (g : Ghost) (far far' : Far) (n n' : ℕ)
     (came : Option (List ℕ)) (said : Said) where
-  abbrev c : Core
+  abbrev c : CoreState
   c = core_out layouts w t e t.current
 
   abbrev after_by : Option Reply → NextMode
-  after_by reply = operate_by (counted w reply) layouts (attempt_of w.tries reply)
+  after_by reply = operate_by (sending_after_try w reply) layouts (attempt_of w.tries reply)
 
   -- the link's own part of what is left, and the session's
   record Left (outcome : NextMode) : Type 0 where
-    pub on : StandsOn (state_of outcome) (after_exchange outcome c.session).state
+    pub on : StandsOn (next_state outcome) (after_exchange outcome c.session).state
     pub fits : StateFits (after_exchange outcome c.session).state
-    pub joined : Joined (after_exchange outcome c.session).state
+    pub joined : SessionFits (after_exchange outcome c.session).state
         (after_exchange outcome c.session).session
 
-  module _ (stands : Stands c g far n) (valid : IsSession c.session)
+  module _ (stands : BothEndsStand c g far n) (valid : IsSession c.session)
       (x : HonestExchange far n (master_text layouts.run w.message) came far' n')
       (few : w.tries < 3)
-      (accepts : (link : Link) → IsOperating layouts link
+      (accepts : (link : FarLink) → IsOperating layouts link
       → IsAccepted layouts far.page link w.message) where
     abbrev turn : Turn
     turn = record {
@@ -121,7 +121,7 @@ module _ (names : TextNamesAnswer) (taken : AnswersAreTakenUp) (laws : Laws)
       message = w.message;
       o = o;
       what = what;
-      trust = trusted devices g.kind.recalls;
+      trust = trusted_recalls devices g.kind.recalls;
       vain = vain;
       mode = ModeOperate;
       sent = g.sent;

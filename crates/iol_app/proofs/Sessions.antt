@@ -14,7 +14,7 @@ use Rattle.iol_isdu.specs.declared.values.Cause.{Cause}
 use Rattle.iol_isdu.specs.Texts.{request_front}
 use Rattle.iol_mseq.specs.Parts.{first_of_zeros}
 use Rattle.iol_segment.specs.Cut.{Cutting}
-use Rattle.iol_segment.specs.Join.{Joining, taken}
+use Rattle.iol_segment.specs.Join.{Joining, join_step}
 use Rattle.arrayvec.specs.ArrayVec.{ArrayVec}
 use Rattle.iol_octets.specs.Control.{control_of}
 use Rattle.iol_octets.specs.declared.flow_control.Flow.{Flow}
@@ -23,17 +23,17 @@ use Rattle.iol_segment.specs.declared.took.Took.{Took}
 use Rattle.iol_isdu.specs.Answers.{is_read}
 use Rattle.iol_isdu.specs.declared.fault.IsduFault.{IsduFault}
 use Rattle.iol_segment.specs.declared.took.JoinFault.{JoinFault}
-use Rattle.iol_app.specs.declared.output.Output.{Output}
-use Rattle.iol_app.specs.declared.event_work.Reading.{Reading}
+use Rattle.iol_app.specs.declared.output.OutputState.{OutputState}
+use Rattle.iol_app.specs.declared.event_work.ReadingProgress.{ReadingProgress}
 use Rattle.iol_app.specs.declared.request.Current.{Current}
-use Rattle.iol_app.specs.declared.request.Progress.{Progress}
-use Rattle.iol_app.specs.declared.request.Progress.TheVariants.{Sending, Doubting, Asking, Receiving, Refused}
-use Rattle.iol_app.specs.declared.session.Exchange.{Exchange}
-use Rattle.iol_app.specs.declared.session.Exchange.TheVariants.{Abort, Request as NextMessage}
+use Rattle.iol_app.specs.declared.request.RequestProgress.{RequestProgress}
+use Rattle.iol_app.specs.declared.request.RequestProgress.TheVariants.{Sending, Doubting, Asking, Receiving, Refused}
+use Rattle.iol_app.specs.declared.session.Purpose.{Purpose}
+use Rattle.iol_app.specs.declared.session.Purpose.TheVariants.{Abort, Request as NextMessage}
 use Rattle.iol_steps.specs.declared.said.Said.{Said}
-use Rattle.iol_app.specs.Outputs.{carried_by, IsOutput}
-use Rattle.iol_app.specs.Requests.{text_of, ReplyEffect, GoesOn, asked, doubted, sent_anew, finished, joined, forgotten_by, refused, sending, is_doubting, replied_at, replied, going, current_after, request_in, request_after, IsEffectSaid, IsSaid, Suits, ProgressFits, IsAllGiven, IsCurrent, IsSure}
-use Rattle.iol_app.specs.State.{SessionState, IsSession, od_size, output_length, absorbed}
+use Rattle.iol_app.specs.Outputs.{output_to_carry, IsOutput}
+use Rattle.iol_app.specs.Requests.{text_of, ReplyEffect, GoesOn, effect_of_start_read, effect_of_question, sent_anew, effect_of_text, effect_of_segment, forgotten_by, current_after_refusal, segment_progress, is_doubting, replied_at, effect_of_reply, current_of_effect, current_after, request_under_way, request_after, IsEffectSaid, IsSaid, Suits, CutAndJoinFit, IsAllGiven, IsCurrent, IsSure}
+use Rattle.iol_app.specs.State.{SessionState, IsSession, od_size, told_output_length, session_after_exchange}
 use Rattle.iol_app.specs.Messages.{Head, ask_of, question, head_of, head_for, data_for, progress_head, progress_data}
 use Rattle.iol_app.proofs.Cutting.{length-segment, is_pair, given_goes_on, sent_on_fits}
 use Rattle.iol_app.proofs.Joining.{StaysCurrent, refused_stays, joined_stays, received_stays}
@@ -49,57 +49,57 @@ either P true x y h k = h
 either P false x y h k = k
 
 -- the one segment of a request is all of it
-one_given : (cutter : Cutting Request) → ProgressFits cutter None Doubting
+one_given : (cutter : Cutting Request) → CutAndJoinFit cutter None Doubting
     → IsAllGiven cutter.size (text_of cutter) 1
 one_given cutter h = grind (arith, common_steps, nat_tests, text_some)
 
 -- and goes out anew
 anew_stays : (current : Current) → IsCurrent current
-    → ProgressFits current.cutter current.abort Doubting
+    → CutAndJoinFit current.cutter current.abort Doubting
     → StaysCurrent current.cutter (GoesOn (sent_anew current))
 anew_stays current h whole = grind (arith, common_steps)
 
 -- the reply to a START read
 asked_stays : (current : Current) (busy limit : ℕ) (od : List ℕ) → IsCurrent current
-    → ProgressFits current.cutter current.abort (Asking busy) → length od ≡ current.cutter.size
-    → StaysCurrent current.cutter (asked busy limit od current)
+    → CutAndJoinFit current.cutter current.abort (Asking busy) → length od ≡ current.cutter.size
+    → StaysCurrent current.cutter (effect_of_start_read busy limit od current)
 asked_stays current busy limit od h all size =
     grind (arith, common_steps, refused_stays, joined_stays)
 
 -- on-request data of the reply to a message of the request that was a read
-abbrev pub IsAnswered : ℕ → Progress → List ℕ → Type 0
+abbrev pub IsAnswered : ℕ → RequestProgress → List ℕ → Type 0
 IsAnswered size p od = (progress_head p).read ≡ true → length od ≡ size
 
 -- the reply to the question whether the device has the one segment
 doubted_stays : (current : Current) (again : Bool) (limit : ℕ) (od : List ℕ) → IsCurrent current
-    → ProgressFits current.cutter current.abort Doubting → length od ≡ current.cutter.size
-    → StaysCurrent current.cutter (doubted again limit od current)
+    → CutAndJoinFit current.cutter current.abort Doubting → length od ≡ current.cutter.size
+    → StaysCurrent current.cutter (effect_of_question again limit od current)
 doubted_stays current again limit od h whole size =
-    let all : ProgressFits current.cutter current.abort (Asking 0) =
+    let all : CutAndJoinFit current.cutter current.abort (Asking 0) =
     rw whole.0 (one_given current.cutter whole) in
     either (StaysCurrent current.cutter) ((slice_index od 0 == 0) && not again) _ _
     (anew_stays current h whole) (asked_stays current 0 limit od h all size)
 
 -- no good reply leaves anything in doubt
 abbrev IsGoingSure : ReplyEffect → Type 0
-IsGoingSure outcome = IfSome (going outcome) IsSure
+IsGoingSure outcome = IfSome (current_of_effect outcome) IsSure
 
 finished_sure : (current : Current) (text : List ℕ) (fault : Option IsduFault)
-    → current.again ≡ false → IsGoingSure (finished text fault current)
+    → current.again ≡ false → IsGoingSure (effect_of_text text fault current)
 finished_sure current text fault sure = grind (arith, common_steps)
 
 joined_sure : (current : Current) (had : ℕ) (took : Result Took JoinFault) (joining : Joining)
-    → current.again ≡ false → IsGoingSure (joined had took joining current)
+    → current.again ≡ false → IsGoingSure (effect_of_segment had took joining current)
 joined_sure current had took joining sure = grind (arith, common_steps, finished_sure)
 
-sending_sure : (piece : Option (Flow × ArrayVec ℕ)) → is_doubting (sending piece) ≡ false
+sending_sure : (piece : Option (Flow × ArrayVec ℕ)) → is_doubting (segment_progress piece) ≡ false
 sending_sure piece = grind (arith, common_steps)
 
 asked_sure : (current : Current) (busy limit : ℕ) (od : List ℕ)
-    → current.again ≡ false → IsGoingSure (asked busy limit od current)
+    → current.again ≡ false → IsGoingSure (effect_of_start_read busy limit od current)
 asked_sure current busy limit od sure = grind (arith, common_steps, joined_sure)
 
-replied_sure : (p : Progress) (again : Bool) (limit : ℕ) (od : List ℕ) (current : Current)
+replied_sure : (p : RequestProgress) (again : Bool) (limit : ℕ) (od : List ℕ) (current : Current)
     → current.again ≡ false → current.progress ≡ p
     → IsGoingSure (replied_at p again limit od current)
 replied_sure (Sending flow segment) again limit od current sure is = (sure, sending_sure _)
@@ -108,12 +108,13 @@ replied_sure Doubting again limit od current sure is =
     (asked_sure current 0 limit od sure)
 replied_sure (Asking busy) again limit od current sure is = asked_sure current busy limit od sure
 replied_sure (Receiving joining had) again limit od current sure is =
-    let t = taken joining (Count ((had + 1) % 16)) od in
-    either IsGoingSure (again && forgotten_by t.took od) (GoesOn (refused current)) _ (sure, refl)
+    let t = join_step joining (Count ((had + 1) % 16)) od in
+    either IsGoingSure (again && forgotten_by t.took od)
+    (GoesOn (current_after_refusal current)) _ (sure, refl)
     (joined_sure current (had + 1) t.took t.joining sure)
 replied_sure Refused again limit od current sure is = (sure, ap is_doubting is)
 
-replied_stays : (current : Current) (p : Progress) (again : Bool) (limit : ℕ) (od : List ℕ)
+replied_stays : (current : Current) (p : RequestProgress) (again : Bool) (limit : ℕ) (od : List ℕ)
     → IsCurrent current → current.progress ≡ p → IsAnswered current.cutter.size p od
     → StaysCurrent current.cutter (replied_at p again limit od current)
 replied_stays current p again limit od h e size =
@@ -134,21 +135,22 @@ abbrev pub StaysGoing : ℕ → Option Current → Type 0
 StaysGoing size current = IfSome current IsCurrent × IfSome current (λ c. c.cutter.size ≡ size)
 
 going_stays : (cutter : Cutting Request) (outcome : ReplyEffect) → StaysCurrent cutter outcome
-    → StaysGoing cutter.size (going outcome)
+    → StaysGoing cutter.size (current_of_effect outcome)
 going_stays cutter outcome h = grind (arith, common_steps)
 
 going_request : (cutter : Cutting Request) (read : Bool) (outcome : ReplyEffect) (said : Said)
     → StaysCurrent cutter outcome → IsEffectSaid read outcome said
-    → request_in (going outcome) ≡ request_after (Some cutter.source) said
+    → request_under_way (current_of_effect outcome) ≡ request_after (Some cutter.source) said
 going_request cutter read outcome said stays h = grind (arith, common_steps)
 
-module _ (layout : Option Shape) (reading : Reading) (limit : ℕ) (od : List ℕ) where
-  abbrev Fits : Exchange → Option Current → Type 0
+module _ (layout : Option Shape) (reading : ReadingProgress) (limit : ℕ) (od : List ℕ) where
+  abbrev Fits : Purpose → Option Current → Type 0
   Fits exchange current = IfSome layout
       (λ l. length od ≡ answered_od l (head_for exchange reading current).read)
 
   stays : (current : Current) → IsCurrent current → current.cutter.size ≡ od_size layout
-      → Fits NextMessage (Some current) → StaysCurrent current.cutter (replied limit od current)
+      → Fits NextMessage (Some current)
+      → StaysCurrent current.cutter (effect_of_reply limit od current)
   stays current h size fits =
       let answered : IsAnswered current.cutter.size current.progress od =
       grind (arith, common_steps) in
@@ -156,38 +158,39 @@ module _ (layout : Option Shape) (reading : Reading) (limit : ℕ) (od : List �
       (record { request = h.request; some = h.some; most = h.most; progress = h.progress }) refl
       answered
 
-  pub current_stays : (exchange : Exchange) (current : Option Current)
+  pub current_stays : (exchange : Purpose) (current : Option Current)
       → IfSome current IsCurrent → IfSome current (λ c. c.cutter.size ≡ od_size layout)
       → Fits exchange current
       → StaysGoing (od_size layout) (current_after exchange limit od current)
   current_stays exchange None h size fits = (tt, tt)
   current_stays Abort (Some current) h size fits = (tt, tt)
   current_stays NextMessage (Some current) h size fits =
-      subst (λ (n : ℕ). StaysGoing n (going (replied limit od current))) size
-      (going_stays current.cutter (replied limit od current) (stays current h size fits))
+      subst (λ (n : ℕ). StaysGoing n (current_of_effect (effect_of_reply limit od current))) size
+      (going_stays current.cutter (effect_of_reply limit od current) (stays current h size fits))
   current_stays any (Some current) h size fits = (h, size)
 
-  pub current_request : (exchange : Exchange) (current : Option Current) (said : Said)
+  pub current_request : (exchange : Purpose) (current : Option Current) (said : Said)
       → IfSome current IsCurrent → IfSome current (λ c. c.cutter.size ≡ od_size layout)
       → Fits exchange current
       → Suits exchange current → IsSaid exchange limit od current said
-      → request_in (current_after exchange limit od current)
-      ≡ request_after (request_in current) said
+      → request_under_way (current_after exchange limit od current)
+      ≡ request_after (request_under_way current) said
   current_request exchange None said h size fits suits said_is =
       ap (request_after None) (sym said_is)
   current_request Abort (Some current) said h size fits suits said_is =
       grind (arith, common_steps)
   current_request NextMessage (Some current) said h size fits suits said_is =
-      going_request current.cutter (is_read current.cutter.source) (replied limit od current) said
+      going_request current.cutter (is_read current.cutter.source)
+      (effect_of_reply limit od current) said
       (stays current h size fits) said_is
   current_request any (Some current) said h size fits suits said_is =
       ap (request_after (Some current.cutter.source)) (sym said_is)
 
 -- a session that takes up a good reply
-pub absorbed_stays : (s : SessionState) (exchange : Exchange) (reply : Reply) → IsSession s
+pub absorbed_stays : (s : SessionState) (exchange : Purpose) (reply : Reply) → IsSession s
     → IfSome s.layout (λ layout. length reply.od.items
     ≡ answered_od layout (head_for exchange s.events.reading s.current).read)
-    → IsSession (absorbed exchange reply s)
+    → IsSession (session_after_exchange exchange reply s)
 absorbed_stays s exchange reply h fits =
     let going = current_stays s.layout s.events.reading s.limit reply.od.items exchange
     s.current h.current h.size fits in
@@ -214,23 +217,23 @@ length-first_of_zeros size octet some = grind (arith, common_steps)
 abbrev IsData : ℕ → Bool → List ℕ → Type 0
 IsData size read od = length od ≡ (if read then 0 else size)
 
-progress_data_length : (current : Current) (p : Progress) → current.progress ≡ p
+progress_data_length : (current : Current) (p : RequestProgress) → current.progress ≡ p
     → IsCurrent current → IsData current.cutter.size (progress_head p).read (progress_data p)
 progress_data_length current p e h = grind (arith, common_steps, is_pair, length-segment)
 
-data_length : (exchange : Exchange) (size : ℕ) (reading : Reading) (current : Option Current)
+data_length : (exchange : Purpose) (size : ℕ) (reading : ReadingProgress) (current : Option Current)
     → 1 ≤ size → IfSome current IsCurrent → IfSome current (λ c. c.cutter.size ≡ size)
     → IsData size (head_for exchange reading current).read (data_for exchange size current)
 data_length exchange size other current some h same =
     grind (arith, common_steps, length-first_of_zeros, progress_data_length)
 
-pub parts_fit : (layout : Shape) (output : Output) (reading : Reading)
-    (current : Option Current) (exchange : Exchange) (message : MasterMsg) {size : Option Shape}
-    → size ≡ Some layout → IfSome size IsLayout → IsOutput (output_length size) output
+pub parts_fit : (layout : Shape) (output : OutputState) (reading : ReadingProgress)
+    (current : Option Current) (exchange : Purpose) (message : MasterMsg) {size : Option Shape}
+    → size ≡ Some layout → IfSome size IsLayout → IsOutput (told_output_length size) output
     → IfSome current IsCurrent → IfSome current (λ c. c.cutter.size ≡ od_size size)
     → head_of message.mc ≡ head_for exchange reading current
     → message.od.items ≡ data_for exchange layout.od current
-    → message.out.items ≡ carried_by output → IfSome size (λ l. HasMasterParts l message)
+    → message.out.items ≡ output_to_carry output → IfSome size (λ l. HasMasterParts l message)
 parts_fit layout output going current exchange message told valid sized fits same head od out =
     let some = rw told at valid in
     let carried = rw told at sized in
@@ -249,8 +252,8 @@ unfolding control_of
 question_head out = refl
 
 -- has the parts of the layout too
-pub question_parts : (size : Option Shape) (output : Output)
-    → IsOutput (output_length size) output
+pub question_parts : (size : Option Shape) (output : OutputState)
+    → IsOutput (told_output_length size) output
     → IfSome size (λ layout. HasMasterParts layout (question output.carried.items))
 question_parts None output h = tt
 question_parts (Some layout) output h = record {

@@ -4,17 +4,17 @@ use Rattle.std.proofs.lemmas.Grind.{common_steps}
 use Rattle.std.specs.Prelude.{Option, None, IfSome}
 use Rattle.iol_mseq.specs.Shape.{Shape}
 use Rattle.iol_steps.specs.declared.mode.Mode.TheVariants.{Operate as ModeOperate}
-use Rattle.iol_steps.specs.Step.{Image}
+use Rattle.iol_steps.specs.Step.{ImageOctets}
 use Rattle.iol_app.specs.EventReading.{is_refused}
 use Rattle.iol_app.specs.State.{SessionState}
 use Rattle.iol_app.specs.StationState.{mode_in}
-use Rattle.iol_app.specs.Core.{Core, ShownStands}
+use Rattle.iol_app.specs.Core.{CoreState, ShownStands}
 
 -- the output wanted, the layout, and whether the device has ISDU
-abbrev pub known_in : SessionState → Option Image × Option Shape × Option Bool
+abbrev pub known_in : SessionState → Option ImageOctets × Option Shape × Option Bool
 known_in s = (s.output.wanted, s.layout, s.isdu)
 
-pub shown_as : {c next : Core} {page : List ℕ} → ShownStands c page
+pub shown_as : {c next : CoreState} {page : List ℕ} → ShownStands c page
     → (mode_in next.state ≢ ModeOperate → next.session.image ≡ None)
     → known_in next.session ≡ known_in c.session
     → IfSome next.session.present (λ t. t.page ≡ page)

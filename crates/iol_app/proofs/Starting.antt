@@ -13,36 +13,36 @@ use Rattle.iol_page.specs.Identity.{identity_of, is_expected}
 use Rattle.iol_page.specs.declared.page.Layouts.{Layouts}
 use Rattle.iol_page.specs.declared.master_command.MasterCommand.{MasterCommand}
 use Rattle.iol_event.specs.Memory.{is_empty}
-use Rattle.iol_far.specs.declared.mode.Mode.TheVariants.{Preoperate as FarPreoperate, Operate as FarOperate}
+use Rattle.iol_far.specs.declared.mode.DeviceMode.TheVariants.{Preoperate as FarPreoperate, Operate as FarOperate}
 use Rattle.iol_far.specs.Codec.{layout_in}
 use Rattle.iol_far.specs.Far.{Far, WaitingCommand, hear, command_in}
 use Rattle.iol_far.specs.Linked.{TextsAreHeard}
 use Rattle.iol_far.specs.Local.{locals}
 use Rattle.iol_far.specs.declared.kind.Recalls.TheVariants.{UntilSent}
-use Rattle.iol_far.specs.Level.{Quiet, Other, Link, IsIdle, IsLevel, taken}
+use Rattle.iol_far.specs.Level.{Quiet, Other, FarLink, IsIdle, IsLevel, accepting_link}
 use Rattle.iol_far.specs.Laws.{confirms as octets_confirm, RepliesAreRead, InputStaysSized, MuchStays, LevelLaws, EventLaws, ModesHaveLayouts}
 use Rattle.iol_link.specs.Attempts.{good_reply}
 use Rattle.iol_link.specs.Honest.{HonestExchange, far_after}
 use Rattle.iol_mode.specs.declared.states.Startup.{Startup}
 use Rattle.iol_mode.specs.declared.states.Preoperate.{Preoperate}
-use Rattle.iol_mode.specs.declared.states.Told.{Told}
+use Rattle.iol_mode.specs.declared.states.PageFacts.{PageFacts}
 use Rattle.iol_mode.specs.declared.states.State.{State}
 use Rattle.iol_mode.specs.declared.states.State.TheVariants.{Startup as AtStartup, Preoperate as AtPreoperate, Operate as AtOperate}
 use Rattle.iol_mode.specs.declared.why.Why.{Why}
 use Rattle.iol_mode.specs.Next.{IsEntered, read_by}
-use Rattle.iol_mode.specs.declared.states.Step.{Step as PageStep}
+use Rattle.iol_mode.specs.declared.states.StartupStep.{StartupStep}
 use Rattle.iol_mode.specs.Stands.{startup_link, preoperate_link, entering_link, StepLevel, StateStands, StepStands}
-use Rattle.iol_mode.specs.States.{NextMode, InDown, NextModeFits, StateFits, state_of, is_behind, is_reset, StepFits, is_starting, begun, step_behind, step_after, told_of, page_taken, taken_where, checked, startup_by, startup_turned, preoperate_by, preoperate_after, preoperate_turned}
+use Rattle.iol_mode.specs.States.{NextMode, InDown, NextModeFits, StateFits, next_state, is_behind, is_reset, StepFits, is_starting, startup_at, step_behind, step_after, told_of, page_taken, taken_where, mode_after_check, startup_by, startup_turned, preoperate_by, preoperate_after, preoperate_turned}
 use Rattle.iol_mode.specs.Turns.{IsRisen}
 use Rattle.iol_steps.specs.declared.mode.Mode.{Mode}
 use Rattle.iol_steps.specs.declared.mode.Mode.TheVariants.{Down as ModeDown, Startup as ModeStartup, Operate as ModeOperate}
 use Rattle.iol_steps.specs.declared.said.Said.TheVariants.{Idle}
-use Rattle.iol_steps.specs.Step.{Step, resets, TellLength, Move as MoveTo, Exchanged, silence_by, output_length, page_fault, fault_in}
+use Rattle.iol_steps.specs.Step.{PortStep, resets, TellLength, Move as MoveTo, Exchanged, silence_by, output_length, page_refusal, fault_in}
 use Rattle.iol_steps.specs.Bridge.{Hidden, IsOpen, hidden_through}
-use Rattle.iol_steps.specs.Kinds.{Seen}
+use Rattle.iol_steps.specs.Kinds.{MasterFields}
 use Rattle.iol_steps.specs.Session.{MayMove, HoldsNothing}
 use Rattle.iol_steps.specs.Images.{Images}
-use Rattle.iol_steps.specs.Station.{Shown, far_mode, output_by, images_of, session_of, is_due}
+use Rattle.iol_steps.specs.Station.{ShownProcessData, far_mode, output_by, images_of, session_of, wants_confirm}
 use Rattle.iol_steps.specs.Exchange.{reading_flagged}
 use Rattle.iol_app.proofs.Given.{Laws, page_locals, page_after as page_passed, kind_after, level_locals, all_laws}
 use Rattle.iol_app.proofs.OwnSession.{own_open}
@@ -53,13 +53,13 @@ use Rattle.iol_app.proofs.EventReading.{kept_fits, ends_hold}
 use Rattle.iol_app.proofs.Effects.{Effect, Ends, Left, untold_effect, gives as call_gives, falls as call_falls}
 use Rattle.iol_app.proofs.Shown.{shown_as}
 use Rattle.iol_app.proofs.FirstOctet.{confirms_of}
-use Rattle.iol_app.specs.declared.event_work.Reading.TheVariants.{Resting}
-use Rattle.iol_app.specs.State.{SessionState, IsSession, told, entered}
-use Rattle.iol_app.specs.StationState.{StateFits as Joined, settled_session, mode_in, why_in, IsTold as IsToldBy, told_in}
+use Rattle.iol_app.specs.declared.event_work.ReadingProgress.TheVariants.{Resting}
+use Rattle.iol_app.specs.State.{SessionState, IsSession, session_with_page, session_with_flag}
+use Rattle.iol_app.specs.StationState.{SessionFits, settled_session, mode_in, why_in, HasToldPage, told_in}
 use Rattle.iol_app.proofs.StartMessages.{step_channel, sends_channel, preoperate_mode, page_confirms}
 use Rattle.iol_app.proofs.Telling.{startup_layout, told_layout, told_told, told_shown, told_stays}
 use Rattle.iol_app.specs.Moves.{progress_of}
-use Rattle.iol_app.specs.Core.{Core, Ghost, Stands, CallGives, OutputOff, ShownStands, moment_of, seen_in, shown_in, settled_core, Rises}
+use Rattle.iol_app.specs.Core.{CoreState, Ghost, BothEndsStand, CallGives, OutputOff, ShownStands, moment_of, seen_in, shown_in, settled_core, Rises}
 use Rattle.iol_app.proofs.FarSide.{Goes, IsGoing, Level, OutputsAt, outputs_sent, outputs_after, opens_after, silent, replied, IsReplied}
 use Rattle.std.proofs.lemmas.Bool.Decides.{nat_tests}
 use Rattle.iol_mode.specs.declared.configuration.Configuration.{Configuration}
@@ -68,10 +68,10 @@ use Rattle.iol_page.specs.declared.fault.PageFault.TheVariants.{Revision, BadPdL
 use Rattle.iol_event.specs.declared.event.Event.{Event}
 use Rattle.iol_far.specs.Orderly.{OrderlyLaws}
 use Rattle.iol_link.specs.declared.handler.Attempt.TheVariants.{Again, Lost as WasLost}
-use Rattle.iol_mode.specs.declared.states.Step.TheVariants.{Read, Ident, Leave, Cycle, Enter}
+use Rattle.iol_mode.specs.declared.states.StartupStep.TheVariants.{Read, Ident, Leave, Cycle, Enter}
 use Rattle.iol_mode.specs.declared.why.Why.TheVariants.{WrongDevice}
 use Rattle.iol_mode.specs.Why.{why_of}
-use Rattle.iol_mode.specs.Exchanges.{text_out, judged}
+use Rattle.iol_mode.specs.Exchanges.{text_out, mode_after_reply}
 use Rattle.iol_app.proofs.SmallFacts.{third_time}
 use Rattle.iol_app.proofs.Stations.{resting_quiet}
 use Rattle.iol_app.proofs.Leaving.{leaving_rises}
@@ -103,10 +103,10 @@ is_still : (t : SessionState) → t.current ≡ None → t.exchange ≡ None →
     → t.events.reading ≡ Resting → t.output.told ≡ false → t ≡ still t
 is_still t a b c d e = grind (arith, common_steps)
 
-abbrev at_rest : State → SessionState → Core
+abbrev at_rest : State → SessionState → CoreState
 at_rest state session = record { state = state; session = still session }
 
-none_due : (b awake : Bool) → false ≡ (awake && is_due (reading_flagged b))
+none_due : (b awake : Bool) → false ≡ (awake && wants_confirm (reading_flagged b))
 none_due b awake = grind (arith, common_steps)
 
 waits_idle : (waits : Option WaitingCommand) → IfSome waits (λ command. IsIdle Quiet)
@@ -120,7 +120,7 @@ reset_at : (start : Start) → is_reset (state_at start) ≡ true
 reset_at start = grind (arith, common_steps)
 
 -- both ends are level then
-level_behind : (step : PageStep) (o : List ℕ) (tries : ℕ) (far : Far) → is_behind step ≡ true
+level_behind : (step : StartupStep) (o : List ℕ) (tries : ℕ) (far : Far) → is_behind step ≡ true
     → StepLevel step o tries far
     → IsLevel far.page far.kind startup_shape.od far.carried startup_link Quiet o tries far
 level_behind step o tries far e h = grind (arith, common_steps)
@@ -139,10 +139,10 @@ record Message (start : Start) (far : Far) : Type 0 where
   shape : Shape
   message : MasterMsg
   tries : ℕ
-  link : Link
+  link : FarLink
   page : message.mc.channel ≡ Page
   parts : HasMasterParts shape message
-  mode : (taken link (master_text shape message)).mode ≡ far_mode (mode_at start)
+  mode : (accepting_link link (master_text shape message)).mode ≡ far_mode (mode_at start)
   layout : layout_in far.page (far_mode (mode_at start)) ≡ shape
   level : IsLevel far.page far.kind shape.od far.carried link Quiet
       (master_text shape message) tries far
@@ -182,7 +182,7 @@ record Rests (t : SessionState) (g : Ghost) (far : Far) : Type 0 where
   output : OutputOff t.output.told far
 
 rests_of : (start : Start) (t : SessionState) (g : Ghost) (far : Far) (n : ℕ)
-    → Stands (record { state = state_at start; session = t }) g far n → Rests t g far
+    → BothEndsStand (record { state = state_at start; session = t }) g far n → Rests t g far
 rests_of start t g far n h = grind (arith, common_steps)
 
 -- one exchange of it
@@ -190,7 +190,7 @@ record Exchange (start : Start) (session : SessionState) (g : Ghost) (far far' :
     (n n' : ℕ) (came : Option (List ℕ)) : Type 0 where
   laws : Laws
   heard : TextsAreHeard
-  stands : Stands (at_rest (state_at start) session) g far n
+  stands : BothEndsStand (at_rest (state_at start) session) g far n
   k : Message start far
   x : HonestExchange far n (master_text k.shape k.message) came far' n'
 
@@ -198,7 +198,7 @@ module _ {start : Start} {session : SessionState} {g : Ghost} {far far' : Far} {
     {came : Option (List ℕ)} (it : Exchange start session g far far' n n' came) where
   open it use {laws, heard, stands, k, x}
 
-  abbrev c : Core
+  abbrev c : CoreState
   c = at_rest (state_at start) session
 
   abbrev o : List ℕ
@@ -218,7 +218,7 @@ module _ {start : Start} {session : SessionState} {g : Ghost} {far far' : Far} {
 
   -- the far end's part
 
-  at_mode : layout_in far.page (taken k.link o).mode ≡ k.shape
+  at_mode : layout_in far.page (accepting_link k.link o).mode ≡ k.shape
   at_mode = rw k.mode k.layout
 
   abbrev going : Goes
@@ -296,7 +296,7 @@ module _ {start : Start} {session : SessionState} {g : Ghost} {far far' : Far} {
       (λ e. grind (arith, common_steps)) (hear_carried there o ∙ tied.1)
 
   unconfirmed : octets_confirm o ≡ false
-  unconfirmed = sym (confirms_of (layout_in far.page (taken k.link o).mode) o k.message
+  unconfirmed = sym (confirms_of (layout_in far.page (accepting_link k.link o).mode) o k.message
       goes.sent_at.spells) ∙ page_confirms k.message k.page
 
   abbrev effect : Effect c g far passed
@@ -305,7 +305,7 @@ module _ {start : Start} {session : SessionState} {g : Ghost} {far far' : Far} {
 
   -- What an outcome has to bring
 
-  abbrev Brings : Bool → Core → List Step → Type 0
+  abbrev Brings : Bool → CoreState → List PortStep → Type 0
   Brings answered next ys = Ends c g far passed effect n n' stands (below start)
       (Exchanged answered) ys next h false
 
@@ -315,15 +315,15 @@ module _ {start : Start} {session : SessionState} {g : Ghost} {far far' : Far} {
 
   abbrev Rising : NextMode → Type 0
   Rising outcome = IsRisen true outcome n' far far' → NextModeFits outcome
-      → Joined (state_of outcome) (settled_session outcome (still session))
+      → SessionFits (next_state outcome) (settled_session outcome (still session))
       → CallGives c g far n Idle (settled_core outcome (still session)) far' n'
 
   no_book : (is : Bool) → [] ≡ resets (is_reset c.state) is ++ []
   no_book is = rw (reset_at start) refl
 
-  by : {outcome : NextMode} {u : SessionState} {ys : List Step} (answered : Bool)
+  by : {outcome : NextMode} {u : SessionState} {ys : List PortStep} (answered : Bool)
       → n' ≡ silence_by (Exchanged answered) n → settled_session outcome (still session) ≡ u
-      → Brings answered (record { state = state_of outcome; session = u }) ys → Rising outcome
+      → Brings answered (record { state = next_state outcome; session = u }) ys → Rising outcome
   by answered silence same b risen fits joined = rw (same, x.far_is)
       (call_gives c g far passed effect n n' stands (below start) (Exchanged answered) _ _ h false
       b (grind (arith, common_steps)) silence fits (rw x.far_is at risen.both.stands)
@@ -341,7 +341,10 @@ module _ {start : Start} {session : SessionState} {g : Ghost} {far far' : Far} {
   kept (InPre s) = assumption (tied, opens, rests.clear, refl, off)
 
   shown' : (state : State) (event : Bool)
-      → ShownStands (record { state = state; session = entered event (still session) }) g.page
+      → ShownStands (record {
+        state = state;
+        session = session_with_flag event (still session);
+      }) g.page
   shown' state event = shown_as stands.shown (λ e. refl) refl stands.shown.present refl
 
   -- a start-up goes on in its mode
@@ -349,7 +352,7 @@ module _ {start : Start} {session : SessionState} {g : Ghost} {far far' : Far} {
       → seen_in (at_rest (state_at next) session) g ≡ seen_in c g
       → Brings answered (at_rest (state_at next) session) []
   stays answered next same =
-      let shows = ap (λ (e : Seen). session_of e h passed.carried) (sym same) in
+      let shows = ap (λ (e : MasterFields). session_of e h passed.carried) (sym same) in
       assumption (
         refl,
         shows,
@@ -362,8 +365,8 @@ module _ {start : Start} {session : SessionState} {g : Ghost} {far far' : Far} {
   -- its mode alone moves; what is told of events may change
   moves : (event : Bool) (state : State) → MayMove (moment_of c g n (Exchanged true))
       (mode_at start) (mode_in state) (why_in state) × HoldsNothing (mode_in state) h.late
-      → LeftIn state (entered event (still session))
-      → Brings true (record { state = state; session = entered event (still session) })
+      → LeftIn state (session_with_flag event (still session))
+      → Brings true (record { state = state; session = session_with_flag event (still session) })
       (MoveTo (mode_in state) (why_in state) ∷ [])
   moves event state may left =
       assumption (refl, may, no_book (is_reset state), left, stands.sent, shown' state event)
@@ -376,17 +379,20 @@ module _ {start : Start} {session : SessionState} {g : Ghost} {far far' : Far} {
       (call_falls c g far passed effect n n' stands (below start) (Exchanged answered) why refl may)
 
   -- the page is whole, that of the device that is expected, and is told
-  tells : (s : Startup) (behind : is_behind s.step ≡ true) (read : Told)
+  tells : (s : Startup) (behind : is_behind s.step ≡ true) (read : PageFacts)
       → mode_at start ≡ ModeStartup
       → seen_in (at_rest (AtStartup s) session) g ≡ seen_in c g
       → layouts_of g.page ≡ Ok read.layouts → read.layouts.isdu ≡ knows_isdu g.page
       → read.page ≡ g.page → is_expected session.configuration.expected g.page ≡ true
       → IsSession (still session)
-      → Brings true (record { state = AtStartup s; session = told read (still session) })
+      → Brings true (record {
+        state = AtStartup s;
+        session = session_with_page read (still session);
+      })
       (TellLength ∷ [])
   tells s behind read first same asked isdu page right valid =
       let q = kept (InStart s behind) in
-      let shown : Shown = shown_in (still session) g.sent in
+      let shown : ShownProcessData = shown_in (still session) g.sent in
       let size : output_length g.page ≡ read.layouts.run.pd_out =
       ap (λ (l : Shape). l.pd_out) (told_layout g.page FarOperate read.layouts asked) in
       let seen : ShownSeen (still session) shown = assumption (stands.sent, refl) in
@@ -396,7 +402,7 @@ module _ {start : Start} {session : SessionState} {g : Ghost} {far far' : Far} {
       record {
         limit = refl;
         configuration = refl;
-        session = ((tt, tt), ap (λ (e : Seen). session_of e h passed.carried) (sym same));
+        session = ((tt, tt), ap (λ (e : MasterFields). session_of e h passed.carried) (sym same));
         frozen = ((tt, tt), refl);
         images = (
           ((first, right), tt),
@@ -446,7 +452,7 @@ module _ {start : Start} {session : SessionState} {g : Ghost} {far far' : Far} {
       → IsEntered (record { out = None; layouts = layouts }) n' far' r
       → Brings true (record {
         state = AtOperate (record { out = None; layouts = layouts });
-        session = entered r.event (still session);
+        session = session_with_flag r.event (still session);
       }) (MoveTo ModeOperate None ∷ [])
   enters {layouts} {r} good may entered_is =
       let none : progress_of session.configuration.devices session.clear None ≡ Quiet =
@@ -498,7 +504,7 @@ module _ (known : Known) (session : SessionState) (valid : IsSession (still sess
   Exchanging start = Exchange start session g far far' n n' came
 
   abbrev exchange_of : (start : Start)
-      → (stands : Stands (at_rest (state_at start) session) g far n)
+      → (stands : BothEndsStand (at_rest (state_at start) session) g far n)
       → let k = message_of start n far stands.fits stands.link in
       HonestExchange far n (master_text k.shape k.message) came far' n' → Exchanging start
   exchange_of start stands x = record {
@@ -510,7 +516,7 @@ module _ (known : Known) (session : SessionState) (valid : IsSession (still sess
   }
 
   -- PREOPERATE
-  module _ (s : Preoperate) (stands : Stands (at_rest (AtPreoperate s) session) g far n)
+  module _ (s : Preoperate) (stands : BothEndsStand (at_rest (AtPreoperate s) session) g far n)
       (x : HonestExchange far n (text_out (AtPreoperate s)) came far' n') where
     abbrev pre : Exchanging (InPre s)
     pre = exchange_of (InPre s) stands x
@@ -537,7 +543,7 @@ module _ (known : Known) (session : SessionState) (valid : IsSession (still sess
 
   -- STARTUP
   module _ (s : Startup) (b : is_behind s.step ≡ true)
-      (stands : Stands (at_rest (AtStartup s) session) g far n)
+      (stands : BothEndsStand (at_rest (AtStartup s) session) g far n)
       (x : HonestExchange far n (text_out (AtStartup s)) came far' n') where
     abbrev start : Exchanging (InStart s b)
     start = exchange_of (InStart s b) stands x
@@ -556,26 +562,27 @@ module _ (known : Known) (session : SessionState) (valid : IsSession (still sess
         (stays start false (InStart _ b) refl)
 
     module _ (r : Reply) (good : Good start r) where
-      goes_on : (step : PageStep) → is_behind step ≡ true
-          → told_in (read_by step) (still session) ≡ still session → Rising start (begun step)
+      goes_on : (step : StartupStep) → is_behind step ≡ true
+          → told_in (read_by step) (still session) ≡ still session → Rising start (startup_at step)
       goes_on step behind same =
           by start true good.silence_is same (stays start true (InStart _ behind) refl)
 
-      may_fault : (fault : PageFault) → page_fault g.page ≡ Some (why_of fault)
+      may_fault : (fault : PageFault) → page_refusal g.page ≡ Some (why_of fault)
           → MayMove (moment_of (at_rest (AtStartup s) session) g n (Exchanged true)) ModeStartup
           ModeDown (Some (why_of fault))
       may_fault (Revision octet) e = e
       may_fault BadPdLength e = e
       may_fault UnsupportedCode e = e
 
-      behind_session : (page : Told) (p : Option Shape)
-          → told_in (read_by (step_behind page p)) (still session) ≡ told page (still session)
+      behind_session : (page : PageFacts) (p : Option Shape)
+          → told_in (read_by (step_behind page p)) (still session)
+          ≡ session_with_page page (still session)
       behind_session page p = grind (arith, common_steps)
 
-      behind_page : (page : Told) (p : Option Shape) → is_behind (step_behind page p) ≡ true
+      behind_page : (page : PageFacts) (p : Option Shape) → is_behind (step_behind page p) ≡ true
       behind_page page p = grind (arith, common_steps)
 
-      behind_told : (page : Told) (p : Option Shape) → StepStands (step_behind page p) far'
+      behind_told : (page : PageFacts) (p : Option Shape) → StepStands (step_behind page p) far'
           → (layouts_of far'.page ≡ Ok page.layouts) × (page.page ≡ far'.page)
       behind_told page p q = grind (arith, common_steps)
 
@@ -587,7 +594,7 @@ module _ (known : Known) (session : SessionState) (valid : IsSession (still sess
           rw (page_new start) at (risen.fault fault refl) in
           down start true good.silence_is (may_fault fault (ap fault_in asked)) risen
       by_taken (Ok layouts) octets known risen =
-          let read : Told = told_of asks_now layouts octets in
+          let read : PageFacts = told_of asks_now layouts octets in
           let behind = rw (page_new start) at
           (behind_told read layouts.pre risen.both.stands.step) in
           let right : is_expected asks_now.expected g.page ≡ true =
@@ -612,13 +619,14 @@ module _ (known : Known) (session : SessionState) (valid : IsSession (still sess
       by_known false octets known = by_wrong octets known
 
       by_octets : (b : Bool) (octets : List ℕ)
-          → Rising start (if b then checked asks_now (layouts_of octets) octets else begun
+          → Rising start (if b then mode_after_check asks_now (layouts_of octets) octets else
+          startup_at
           (Read (record { items = octets })))
       by_octets true octets = by_known (is_expected asks_now.expected octets) octets refl
       by_octets false octets = goes_on (Read (record { items = octets })) refl refl
 
-      by_step : (step : PageStep) → is_behind step ≡ true → StepFits step → StepStands step far
-          → IsToldBy (read_by step) (still session) → Rising start (step_after asks_now step r)
+      by_step : (step : StartupStep) → is_behind step ≡ true → StepFits step → StepStands step far
+          → HasToldPage (read_by step) (still session) → Rising start (step_after asks_now step r)
       by_step (Read read) behind proper at before risen =
           by_octets (length (read.items ++ slice_index r.od.items 0 ∷ []) == 10)
           (read.items ++ slice_index r.od.items 0 ∷ []) risen
@@ -650,11 +658,11 @@ module _ (known : Known) (session : SessionState) (valid : IsSession (still sess
 module _ (known : Known) (t : SessionState) (valid : IsSession t) (g : Ghost) (far far' : Far)
     (n n' : ℕ) (came : Option (List ℕ)) where
   abbrev RisesBy : State → Type 0
-  RisesBy state = let o : NextMode = judged t.configuration state came in
-      Stands (record { state = state; session = t }) g far n
+  RisesBy state = let o : NextMode = mode_after_reply t.configuration state came in
+      BothEndsStand (record { state = state; session = t }) g far n
       → HonestExchange far n (text_out state) came far' n'
       → IsRisen (is_reset state) o n' far far' → NextModeFits o
-      → Joined (state_of o) (settled_session o t)
+      → SessionFits (next_state o) (settled_session o t)
       → CallGives (record { state = state; session = t }) g far n Idle (settled_core o t) far' n'
 
   by_startup : (s : Startup) (behind : Bool) → is_behind s.step ≡ behind

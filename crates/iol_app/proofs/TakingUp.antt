@@ -14,33 +14,33 @@ use Rattle.iol_isdu.specs.Answers.{BeginsWithAnswer, IsAnswerText, answer_fault,
 use Rattle.iol_isdu.specs.Texts.{FitsAnswer}
 use Rattle.iol_isdu.specs.Laws.{OneAnswerText}
 use Rattle.iol_segment.specs.Cut.{Cutting}
-use Rattle.iol_segment.specs.Join.{Open, Complete, stage, stage_by, staged}
+use Rattle.iol_segment.specs.Join.{Open, Complete, stage, stage_by, stage_step}
 use Rattle.iol_segment.specs.JoinLaws.{count_at}
-use Rattle.iol_segment.specs.TextLaws.{TextLaws, HoldsLength, joined as joined_octets}
-use Rattle.iol_far.specs.Isdu.{answer_text, fits}
+use Rattle.iol_segment.specs.TextLaws.{TextLaws, HoldsLength, segments_up_to}
+use Rattle.iol_far.specs.Isdu.{answer_text_to, fits}
 use Rattle.iol_far.specs.SegmentLaws.{AnswersFit}
 use Rattle.iol_app.specs.declared.request.Current.{Current}
-use Rattle.iol_app.specs.declared.request.Progress.{Progress as Cursor}
-use Rattle.iol_app.specs.declared.request.Progress.TheVariants.{Doubting, Asking, Receiving}
-use Rattle.iol_app.specs.Requests.{joined, replied, IsCurrent}
-use Rattle.iol_app.specs.Moves.{next_segment, octets_had, IsReading, is_forgotten, IsTakenUp, AnswersAreTakenUp}
+use Rattle.iol_app.specs.declared.request.RequestProgress.{RequestProgress}
+use Rattle.iol_app.specs.declared.request.RequestProgress.TheVariants.{Doubting, Asking, Receiving}
+use Rattle.iol_app.specs.Requests.{effect_of_segment, effect_of_reply, IsCurrent}
+use Rattle.iol_app.specs.Moves.{next_segment, octets_had, IsReading, is_forgotten, TakesUpSegment, AnswersAreTakenUp}
 use Rattle.iol_app.proofs.Joining.{taken_next}
 
 -- an answer that fits the request of a cut
 record Fitting (cutter : Cutting Request) (answer : Answer) : Type 0 where
   pub laws : TextLaws cutter.size
   pub valid : FitsAnswer (is_read cutter.source) answer
-  pub spells : IsAnswerText (is_read cutter.source) answer (answer_text cutter.source answer)
-  pub begins : BeginsWithAnswer (is_read cutter.source) (answer_text cutter.source answer) answer
-  pub accepted : answer_fault (is_read cutter.source) (answer_text cutter.source answer) ≡ None
-  pub holds : HoldsLength (answer_text cutter.source answer)
+  pub spells : IsAnswerText (is_read cutter.source) answer (answer_text_to cutter.source answer)
+  pub begins : BeginsWithAnswer (is_read cutter.source) (answer_text_to cutter.source answer) answer
+  pub accepted : answer_fault (is_read cutter.source) (answer_text_to cutter.source answer) ≡ None
+  pub holds : HoldsLength (answer_text_to cutter.source answer)
 
 fitting : AnswersFit → ((size : ℕ) → 1 ≤ size → TextLaws size) → OneAnswerText
     → (cutter : Cutting Request) (answer : Answer) → 1 ≤ cutter.size
     → IsTrue (fits cutter.source answer) → Fitting cutter answer
 fitting fit_answers laws one cutter answer some h =
     let read = is_read cutter.source in
-    let text = answer_text cutter.source answer in
+    let text = answer_text_to cutter.source answer in
     let fit : FitsAnswer read answer = fit_answers cutter.source answer h in
     let holds : HoldsLength text = (laws cutter.size some).answers read answer fit in
     let spells : IsAnswerText read answer text = (one read answer fit text).1 refl in
@@ -56,20 +56,20 @@ whole_front total octets text e = grind (arith, nat_tests, common_steps)
 
 -- the segment of this number was joined
 joined_up : (current : Current) (answer : Answer) (had : ℕ) → Fitting current.cutter answer
-    → had * current.cutter.size < length (answer_text current.cutter.source answer)
-    → (octets : List ℕ) → octets ≡ joined_octets current.cutter.size
-    (answer_text current.cutter.source answer) had
-    → IsTakenUp current answer had octets
-    (joined had (staged (count_at had) octets (stage octets)).took
-    (staged (count_at had) octets (stage octets)).joining
+    → had * current.cutter.size < length (answer_text_to current.cutter.source answer)
+    → (octets : List ℕ) → octets ≡ segments_up_to current.cutter.size
+    (answer_text_to current.cutter.source answer) had
+    → TakesUpSegment current answer had octets
+    (effect_of_segment had (stage_step (count_at had) octets (stage octets)).took
+    (stage_step (count_at had) octets (stage octets)).joining
     (record current { again = false }))
 joined_up current answer had h low octets same =
     let size = current.cutter.size in
-    let text = answer_text current.cutter.source answer in
+    let text = answer_text_to current.cutter.source answer in
     ⊎_elim
     (λ (more : suc had * size < length text).
     rw (ap stage same ∙ h.laws.grows text had h.holds more)
-    ((staged (count_at had) octets Open).joining, refl, refl))
+    ((stage_step (count_at had) octets Open).joining, refl, refl))
     (λ (all : length text ≤ suc had * size).
     let whole : stage octets ≡ Complete text =
     ap stage same ∙ h.laws.ends text had h.holds (low, all) in
@@ -82,21 +82,22 @@ joined_up current answer had h low octets same =
 
 -- the first segment of an answer is no word of the device's own
 module _ (cutter : Cutting Request) (od : List ℕ) (answer : Answer) (h : Fitting cutter answer)
-    (is : od ≡ joined_octets cutter.size (answer_text cutter.source answer) 0) where
+    (is : od ≡ segments_up_to cutter.size (answer_text_to cutter.source answer) 0) where
   not_busy : (slice_index od 0 == 1) ≡ false
   not_busy = rw is (h.laws.busy (is_read cutter.source) answer h.valid)
 
   not_none : (slice_index od 0 == 0) ≡ false
   not_none = rw is (h.laws.silent (is_read cutter.source) answer h.valid)
 
-taken_up : (t : Current) (p : Cursor) (limit : ℕ) (od : List ℕ) (answer : Answer)
+taken_up : (t : Current) (p : RequestProgress) (limit : ℕ) (od : List ℕ) (answer : Answer)
     → let current : Current = record t { progress = p } in
     IsCurrent current → is_forgotten p current.again od ≡ false → IsReading p
     → Fitting current.cutter answer
-    → octets_had p od ≡ joined_octets current.cutter.size
-    (answer_text current.cutter.source answer) (next_segment p)
-    → next_segment p * current.cutter.size < length (answer_text current.cutter.source answer)
-    → IsTakenUp current answer (next_segment p) (octets_had p od) (replied limit od current)
+    → octets_had p od ≡ segments_up_to current.cutter.size
+    (answer_text_to current.cutter.source answer) (next_segment p)
+    → next_segment p * current.cutter.size < length (answer_text_to current.cutter.source answer)
+    → TakesUpSegment current answer (next_segment p) (octets_had p od)
+    (effect_of_reply limit od current)
 taken_up t Doubting limit od answer c kept reading h is low =
     rw (not_none t.cutter od answer h is, not_busy t.cutter od answer h is)
     (joined_up (record t { progress = Doubting }) answer 0 h low od is)

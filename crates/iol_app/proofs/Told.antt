@@ -10,7 +10,7 @@ use Rattle.iol_far.specs.Far.{Far, hear, heard_as}
 use Rattle.iol_far.specs.Local.{LocalStep, local, locals}
 use Rattle.iol_far.specs.Laws.{EventLaws, confirms as octets_confirm}
 use Rattle.iol_steps.specs.Bridge.{told_after, told_through, told_worked, told_heard_as, told_heard, told_exchanged}
-use Rattle.iol_steps.specs.Station.{Reading, Resting, Flagged, Under, Due, is_due, EventsFit}
+use Rattle.iol_steps.specs.Station.{ReadingState, Resting, Flagged, Under, Due, wants_confirm, EventsFit}
 use Rattle.iol_app.specs.Ends.{EventsTold}
 use Rattle.iol_app.proofs.Accepted.{by_accepted}
 use Rattle.iol_app.proofs.FirstOctet.{confirms_of}
@@ -20,17 +20,17 @@ pub heard_awake : (far : Far) (o : List ℕ) → (hear far o).far.awake ≡ far.
 heard_awake far o = by_accepted (λ q. (heard_as far o q).far.awake ≡ far.awake) far o refl
     (λ w m e. refl) (λ w command k m e. refl)
 
-worked_told : (reading : Reading) (c : Bool) (m : Events) (awake t : Bool)
-    → (awake ≡ true → EventsFit reading c m) → awake ≡ true → t ≡ (awake && is_due reading)
+worked_told : (reading : ReadingState) (c : Bool) (m : Events) (awake t : Bool)
+    → (awake ≡ true → EventsFit reading c m) → awake ≡ true → t ≡ (awake && wants_confirm reading)
     → told_worked m c t ≡ t
 worked_told now c m awake t fits up told = grind (arith, common_steps)
 
 module _ (laws : (first : Event) (rest : List Event) → EventLaws first rest) where
-  told_step : (reading : Reading) (c : Bool) (far : Far) (step : LocalStep) (t : Bool)
+  told_step : (reading : ReadingState) (c : Bool) (far : Far) (step : LocalStep) (t : Bool)
       → EventsTold reading c far t → EventsTold reading c (local far step) (told_after far step t)
   told_step now c far step t h = grind (arith, common_steps)
 
-  pub told_locals : (reading : Reading) (c : Bool) (steps : List LocalStep) (far : Far)
+  pub told_locals : (reading : ReadingState) (c : Bool) (steps : List LocalStep) (far : Far)
       (t : Bool) → EventsTold reading c far t
       → EventsTold reading c (locals far steps) (told_through far steps t)
   told_locals r c [] far t h = h
@@ -38,8 +38,9 @@ module _ (laws : (first : Event) (rest : List Event) → EventLaws first rest) w
       told_locals r c steps (local far step) (told_after far step t) (told_step r c far step t h)
 
   -- hearing the message that is out
-  fit_hear : (reading : Reading) (c : Bool) (far : Far) (o : List ℕ) → octets_confirm o ≡ c
-      → (c ≡ true → is_due reading ≡ true) → (far.awake ≡ true → EventsFit reading c far.events)
+  fit_hear : (reading : ReadingState) (c : Bool) (far : Far) (o : List ℕ) → octets_confirm o ≡ c
+      → (c ≡ true → wants_confirm reading ≡ true)
+      → (far.awake ≡ true → EventsFit reading c far.events)
       → far.awake ≡ true → EventsFit reading c (hear far o).far.events
   fit_hear Resting c far o is due h w = tt
   fit_hear Flagged false far o is due h w = let k = h w in
@@ -52,13 +53,13 @@ module _ (laws : (first : Event) (rest : List Event) → EventLaws first rest) w
       (laws x xs).confirming_hears far o is h (heard_awake far o ∙ w)
   fit_hear other true far o is due h w = cc (due refl)
 
-  module _ (o : List ℕ) (reading : Reading)
-      (due : octets_confirm o ≡ true → is_due reading ≡ true) where
+  module _ (o : List ℕ) (reading : ReadingState)
+      (due : octets_confirm o ≡ true → wants_confirm reading ≡ true) where
     pub told_hear : (far : Far) (t : Bool) → EventsTold reading (octets_confirm o) far t
         → EventsTold reading (octets_confirm o) (hear far o).far (told_heard far o t)
     told_hear far t h = (
       (λ w. fit_hear reading (octets_confirm o) far o refl due h.0 (sym (heard_awake far o) ∙ w)),
-      by_accepted (λ q. told_heard_as q t ≡ ((heard_as far o q).far.awake && is_due reading))
+      by_accepted (λ q. told_heard_as q t ≡ ((heard_as far o q).far.awake && wants_confirm reading))
           far o h.1
           (λ w m spells. rw (confirms_of (layout_in far.page far.mode) o m spells)
           (worked_told reading (octets_confirm o) far.events far.awake t h.0 w h.1 ∙ h.1))
@@ -78,4 +79,4 @@ module _ (laws : (first : Event) (rest : List Event) → EventLaws first rest) w
     -- a confirm that is accepted finds its list told
     pub confirms_told : (far : Far) (t : Bool) → EventsTold reading (octets_confirm o) far t
         → ConfirmsTold o far t
-    confirms_told far t h w c = h.1 ∙ ap (λ (b : Bool). b && is_due reading) w ∙ due c
+    confirms_told far t h w c = h.1 ∙ ap (λ (b : Bool). b && wants_confirm reading) w ∙ due c

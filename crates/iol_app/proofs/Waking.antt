@@ -4,7 +4,7 @@ use Rattle.std.proofs.lemmas.Grind.{common_steps}
 use Rattle.std.specs.Prelude.{None}
 use Rattle.iol_event.specs.declared.event.Event.{Event}
 use Rattle.iol_far.specs.Far.{Far, hear}
-use Rattle.iol_far.specs.Local.{locals, woken}
+use Rattle.iol_far.specs.Local.{locals, far_after_wake}
 use Rattle.iol_far.specs.Laws.{RepliesAreRead, InputStaysSized, MuchStays, LevelLaws, EventLaws, ModesHaveLayouts}
 use Rattle.iol_far.specs.Linked.{TextsAreHeard}
 use Rattle.iol_far.specs.Orderly.{IsToPage, OrderlyLaws}
@@ -17,7 +17,7 @@ use Rattle.iol_mode.specs.declared.states.State.TheVariants.{Down as AtDown}
 use Rattle.iol_mode.specs.declared.why.Why.TheVariants.{NoWake}
 use Rattle.iol_mode.specs.Messages.{page_read}
 use Rattle.iol_steps.specs.Session.{MayReset}
-use Rattle.iol_mode.specs.States.{StateFits, IsDown, state_of, waked}
+use Rattle.iol_mode.specs.States.{StateFits, IsDown, next_state, mode_after_wake}
 use Rattle.iol_mode.specs.Stands.{StateStands}
 use Rattle.iol_steps.specs.declared.mode.Mode.TheVariants.{Down as ModeDown, Operate as ModeOperate}
 use Rattle.iol_steps.specs.declared.said.Said.TheVariants.{Idle}
@@ -27,28 +27,28 @@ use Rattle.iol_app.proofs.OwnSession.{woken_if}
 use Rattle.iol_app.proofs.Orderly.{orderly_locals, alike_sent, test_confirms, test_to_page}
 use Rattle.iol_app.proofs.Effects.{Effect, seen_effect, passed_effect, opens_passed, untold_of, gives, loses}
 use Rattle.iol_app.proofs.Shown.{shown_as}
-use Rattle.iol_app.specs.Requests.{request_in}
+use Rattle.iol_app.specs.Requests.{request_under_way}
 use Rattle.iol_app.specs.State.{SessionState}
 use Rattle.iol_app.specs.StationState.{settled_session, waked_session}
-use Rattle.iol_app.specs.Core.{Core, Ghost, Stands, CallGives, Wakes, after_wake}
+use Rattle.iol_app.specs.Core.{CoreState, Ghost, BothEndsStand, CallGives, WakesDevice, after_wake}
 
 -- the core after a wake of a port for these devices
-abbrev woken_by : Devices → Bool → SessionState → Core
+abbrev woken_by : Devices → Bool → SessionState → CoreState
 woken_by devices answered t = record {
-  state = state_of (waked devices answered);
-  session = settled_session (waked devices answered) (waked_session answered t);
+  state = next_state (mode_after_wake devices answered);
+  session = settled_session (mode_after_wake devices answered) (waked_session answered t);
 }
 
 may_reset : (devices : Devices) → devices ≡ Own → MayReset devices ModeDown (Woke true)
 may_reset devices e = grind (arith, common_steps)
 
 module _ (s : Down) (t : SessionState) (g : Ghost) (far : Far) (silence : ℕ)
-    (stands : Stands (record { state = AtDown s; session = t }) g far silence) where
-  abbrev c : Core
+    (stands : BothEndsStand (record { state = AtDown s; session = t }) g far silence) where
+  abbrev c : CoreState
   c = record { state = AtDown s; session = t }
 
-  free : request_in t.current ≡ None
-  free = ap request_in stands.joined.0
+  free : request_under_way t.current ≡ None
+  free = ap request_under_way stands.joined.0
 
   below : ModeDown ≢ ModeOperate
   below e = absurd (cc)
@@ -57,8 +57,9 @@ module _ (s : Down) (t : SessionState) (g : Ghost) (far : Far) (silence : ℕ)
   no_image = stands.shown.image below
 
   abbrev Gives : Devices → Bool → Far → Type 0
-  Gives devices answered far' = StateStands (state_of (waked devices answered)) silence far'
-      → StateFits (state_of (waked devices answered))
+  Gives devices answered far' = StateStands (next_state (mode_after_wake devices answered))
+      silence far'
+      → StateFits (next_state (mode_after_wake devices answered))
       → CallGives c g far silence Idle (woken_by devices answered t) far' silence
 
   -- a port for any device knows nothing of it yet
@@ -86,17 +87,17 @@ module _ (s : Down) (t : SessionState) (g : Ghost) (far : Far) (silence : ℕ)
       }) tt refl fits link (stands.joined, tt)
 
   -- our own device was reset
-  resets : (there : Far) → Effect c g far (woken there) → t.configuration.devices ≡ Own
-      → Gives Own true (woken there)
+  resets : (there : Far) → Effect c g far (far_after_wake there) → t.configuration.devices ≡ Own
+      → Gives Own true (far_after_wake there)
   resets there effect own link fits =
-      gives c g far (woken there) effect silence silence stands below (Woke true)
+      gives c g far (far_after_wake there) effect silence silence stands below (Woke true)
       (Reset ∷ []) (woken_by Own true t) (record effect.hidden { late = None }) false (record {
         limit = refl;
         configuration = refl;
         plain = (refl, refl, refl, refl);
         book = refl;
         session = ((may_reset t.configuration.devices own, tt), rw free refl);
-        frozen = ((tt, tt), untold_of (woken there).events.frozen effect.told);
+        frozen = ((tt, tt), untold_of (far_after_wake there).events.frozen effect.told);
         images = ((tt, tt), refl);
         image = no_image;
         left = record {
@@ -115,9 +116,9 @@ module _ (s : Down) (t : SessionState) (g : Ghost) (far : Far) (silence : ℕ)
       loses c g far far' effect silence silence stands below (Woke false) NoWake free refl tt refl
 
   -- a rate is answered
-  answers : (there : Far) → Effect c g far (woken there) → (devices : Devices)
-      → t.configuration.devices ≡ devices → Gives devices true (woken there)
-  answers there effect Any any = starts (woken there) effect any
+  answers : (there : Far) → Effect c g far (far_after_wake there) → (devices : Devices)
+      → t.configuration.devices ≡ devices → Gives devices true (far_after_wake there)
+  answers there effect Any any = starts (far_after_wake there) effect any
   answers there effect Own own = resets there effect own
 
   -- a wake that it doesn't see
@@ -134,7 +135,7 @@ module _ (s : Down) (t : SessionState) (g : Ghost) (far : Far) (silence : ℕ)
         → Gives t.configuration.devices answered far'
     by_seen far' true w =
         let there : Far = locals far w.steps in
-        let is : far' ≡ woken there = w.far_is
+        let is : far' ≡ far_after_wake there = w.far_is
         ∙ ap (λ (b : Bool). woken_if b there) (w.answered_is refl) in
         rw is (answers there (seen_effect c g far laws free stands.request w.steps true) _ refl)
     by_seen far' false w = rw w.far_is (fails (woken_if w.wakes (locals far w.steps))
@@ -154,10 +155,10 @@ module _ (s : Down) (t : SessionState) (g : Ghost) (far : Far) (silence : ℕ)
 
 wakes_at : Laws → OrderlyLaws → TextsAreHeard → (state : State) (t : SessionState) (g : Ghost)
     (far far' : Far) (n : ℕ) (answered : Bool)
-    → Stands (record { state = state; session = t }) g far n → IsDown state
+    → BothEndsStand (record { state = state; session = t }) g far n → IsDown state
     → HonestWake far answered far'
-    → StateStands (state_of (waked t.configuration.devices answered)) n far'
-    → StateFits (state_of (waked t.configuration.devices answered))
+    → StateStands (next_state (mode_after_wake t.configuration.devices answered)) n far'
+    → StateFits (next_state (mode_after_wake t.configuration.devices answered))
     → CallGives (record { state = state; session = t }) g far n Idle (after_wake answered t) far' n
 wakes_at laws leaves heard (AtDown s) t g far far' n answered stands down (inl w) =
     by_seen s t g far n stands laws leaves heard far' answered w
@@ -167,7 +168,7 @@ wakes_at laws leaves heard other t g far far' n answered stands down w = absurd 
 
 pub wakes : ((size : ℕ) → 1 ≤ size → LevelLaws size) → MuchStays → RepliesAreRead
     → InputStaysSized → ((first : Event) (rest : List Event) → EventLaws first rest)
-    → ModesHaveLayouts → OrderlyLaws → TextsAreHeard → Wakes
+    → ModesHaveLayouts → OrderlyLaws → TextsAreHeard → WakesDevice
 wakes level much reads sized events layouts leaves heard = record {
   gives = λ c.
       wakes_at (all_laws level much reads sized events layouts) leaves heard c.state c.session;

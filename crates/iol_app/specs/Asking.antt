@@ -15,12 +15,12 @@ use Rattle.iol_app.specs.declared.asked.Asked.{Asked}
 use Rattle.iol_app.specs.declared.asked.Outgoing.{Outgoing}
 use Rattle.iol_app.specs.declared.asked.Asked.TheVariants.{Wake, Exchange}
 use Rattle.iol_app.specs.declared.event_work.EventRoom.{EventRoom}
-use Rattle.iol_app.specs.declared.session.Exchange as purpose
+use Rattle.iol_app.specs.declared.session.Purpose as purpose
 use Rattle.iol_mode.specs.declared.states.State.{State}
 use Rattle.iol_mode.specs.declared.states.State.TheVariants.{Down as AtDown, Startup as AtStartup, Preoperate as AtPreoperate, Operate as AtOperate}
-use Rattle.iol_app.specs.Outputs.{carried_by}
+use Rattle.iol_app.specs.Outputs.{output_to_carry}
 use Rattle.iol_app.specs.Messages.{Head, head_of, head_for, data_for}
-use Rattle.iol_app.specs.State.{SessionState, od_size, begun_in}
+use Rattle.iol_app.specs.State.{SessionState, od_size, session_after_begin}
 use Rattle.iol_app.specs.Due.{due_of, is_ready}
 use Rattle.iol_app.specs.StationState.{StationState, operates}
 
@@ -32,9 +32,9 @@ text_by layout head out od =
     ∷ (64 * type_bits layout.kind) ∷ out ++ od)
 
 -- those of a new message for this
-abbrev pub text_for : Shape → purpose.Exchange → SessionState → List ℕ
+abbrev pub text_for : Shape → purpose.Purpose → SessionState → List ℕ
 text_for layout exchange s =
-    text_by layout (head_for exchange s.events.reading s.current) (carried_by s.output)
+    text_by layout (head_for exchange s.events.reading s.current) (output_to_carry s.output)
     (data_for exchange (od_size s.layout) s.current)
 
 -- and of one for what is due
@@ -44,26 +44,26 @@ text_due layout s room = text_for layout (due_of s room) s
 -- a new message for what is due
 pub record IsDue (s : SessionState) (room : EventRoom) (message : MasterMsg) : Type 0 where
   pub head : head_of message.mc ≡ head_for (due_of s room) s.events.reading s.current
-  pub out : message.out.items ≡ carried_by s.output
+  pub out : message.out.items ≡ output_to_carry s.output
   pub od : message.od.items ≡ data_for (due_of s room) (od_size s.layout) s.current
 
 -- the message out, again, else a new one for what is due
-abbrev pub text_of : Shape → Option MasterMsg → SessionState → EventRoom → List ℕ
-text_of layout None s room = text_due layout s room
-text_of layout (Some message) s room = master_text layout message
+abbrev pub text_to_send : Shape → Option MasterMsg → SessionState → EventRoom → List ℕ
+text_to_send layout None s room = text_due layout s room
+text_to_send layout (Some message) s room = master_text layout message
 
 -- where no message is out and nothing is due, the next request is begun, unless the
 -- device has no ISDU
 abbrev pub begin_where : Bool → Option Request → SessionState → SessionState
 begin_where ready None s = s
-begin_where ready (Some request) s = if ready then begun_in request s else s
+begin_where ready (Some request) s = if ready then session_after_begin request s else s
 
 -- no start-up has told that the device has no ISDU
 abbrev pub takes_requests : SessionState → Bool
 takes_requests s = unwrap_or s.isdu true
 
-abbrev pub beginning : Option Request → SessionState → EventRoom → SessionState
-beginning next s room = begin_where (is_ready s room && takes_requests s) next s
+abbrev pub session_with_next : Option Request → SessionState → EventRoom → SessionState
+session_with_next next s room = begin_where (is_ready s room && takes_requests s) next s
 
 -- in OPERATE
 abbrev pub beginning_in : Option Request → State → SessionState → EventRoom → SessionState
@@ -76,8 +76,8 @@ reply_size layout octets =
     (if nat_le 128 (slice_index octets 0) then layout.od else 0) + layout.pd_in + 1
 
 -- these octets go out in this layout
-abbrev pub outgoing : Shape → List ℕ → Outgoing
-outgoing layout octets = record {
+abbrev pub outgoing_of : Shape → List ℕ → Outgoing
+outgoing_of layout octets = record {
   octets = record { items = octets };
   layout = layout;
   reply = reply_size layout octets;
@@ -86,16 +86,17 @@ outgoing layout octets = record {
 abbrev pub asked_in : State → SessionState → EventRoom → Asked
 asked_in (AtDown state) s room = Wake
 asked_in (AtStartup state) s room =
-    Exchange (outgoing startup_shape (master_text startup_shape state.sent.message))
+    Exchange (outgoing_of startup_shape (master_text startup_shape state.sent.message))
 asked_in (AtPreoperate state) s room =
-    Exchange (outgoing state.pre (master_text state.pre state.sent.message))
+    Exchange (outgoing_of state.pre (master_text state.pre state.sent.message))
 asked_in (AtOperate state) s room =
     Exchange
-    (outgoing state.layouts.run (text_of state.layouts.run (message_out state.out) s room))
+    (outgoing_of state.layouts.run (text_to_send state.layouts.run (message_out state.out) s room))
 
 module _ {W : Type 0} where
-  abbrev pub prepared : Option Request → StationState W → EventRoom → StationState W
-  prepared next s room = record s { session = beginning_in next s.link.state s.session room }
+  abbrev pub station_with_request : Option Request → StationState W → EventRoom → StationState W
+  station_with_request next s room =
+      record s { session = beginning_in next s.link.state s.session room }
 
   -- the call that the next turn makes, where there is room for events or not
   abbrev pub asked_of : StationState W → EventRoom → Asked

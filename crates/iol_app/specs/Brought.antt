@@ -12,43 +12,43 @@ use Rattle.iol_mode.specs.Exchanges.{text_out, layout_out, tries_in}
 use Rattle.iol_app.specs.declared.asked.Asked.{Asked}
 use Rattle.iol_app.specs.declared.asked.Asked.TheVariants.{Wake, Exchange}
 use Rattle.iol_app.specs.declared.asked.Outgoing.{Outgoing}
-use Rattle.iol_app.specs.declared.brought.Brought.{Brought}
-use Rattle.iol_app.specs.declared.brought.Brought.TheVariants.{NoDevice, Woken, Exchanged}
-use Rattle.iol_app.specs.declared.brought.Verdict.{Verdict}
-use Rattle.iol_app.specs.declared.brought.Verdict.TheVariants.{Good, NoReply, WrongLength, WrongChecksum}
-use Rattle.iol_app.specs.Asking.{outgoing}
+use Rattle.iol_app.specs.declared.brought.WireResult.{WireResult}
+use Rattle.iol_app.specs.declared.brought.WireResult.TheVariants.{NoDevice, Woken, Exchanged}
+use Rattle.iol_app.specs.declared.brought.ReplyVerdict.{ReplyVerdict}
+use Rattle.iol_app.specs.declared.brought.ReplyVerdict.TheVariants.{Good, NoReply, WrongLength, WrongChecksum}
+use Rattle.iol_app.specs.Asking.{outgoing_of}
 
 -- what came back to a message, by the first part of being well-formed that fails
-abbrev pub verdict_on : Outgoing → Option (List ℕ) → Verdict
+abbrev pub verdict_on : Outgoing → Option (List ℕ) → ReplyVerdict
 verdict_on out None = NoReply
 verdict_on out (Some octets) =
     if not (length octets == out.reply) then WrongLength else
     if not (is_checked octets) then WrongChecksum else Good
 
 -- the same, where that is known of it which made the attempt end so
-abbrev pub verdict_by : Attempt → ℕ → Option (List ℕ) → Verdict
+abbrev pub verdict_by : Attempt → ℕ → Option (List ℕ) → ReplyVerdict
 verdict_by (Got reply) size came = Good
 verdict_by missed size None = NoReply
 verdict_by missed size (Some octets) =
     if length octets == size then WrongChecksum else WrongLength
 
 -- what a wake brought
-abbrev pub woken_by : Bool → Brought
+abbrev pub woken_by : Bool → WireResult
 woken_by answered = if answered then Woken else NoDevice
 
 -- what an exchange of the message that is out brought
-abbrev pub brought_in : State → Option (List ℕ) → Brought
+abbrev pub brought_in : State → Option (List ℕ) → WireResult
 brought_in state came =
-    Exchanged (tries_in state) (verdict_on (outgoing (layout_out state) (text_out state)) came)
+    Exchanged (tries_in state) (verdict_on (outgoing_of (layout_out state) (text_out state)) came)
 
 -- an exchange of these octets is the one asked for, and brought this, where so many attempts at
 -- its message were made before and this came back
-abbrev pub IsReplied : Asked → List ℕ → ℕ → Option (List ℕ) → Brought → Type 0
-IsReplied Wake octets tries came brought = ⊥
-IsReplied (Exchange out) octets tries came brought =
+abbrev pub ExchangeBrings : Asked → List ℕ → ℕ → Option (List ℕ) → WireResult → Type 0
+ExchangeBrings Wake octets tries came brought = ⊥
+ExchangeBrings (Exchange out) octets tries came brought =
     (out.octets.items ≡ octets) × (brought ≡ Exchanged tries (verdict_on out came))
 
-module _ {W : Type 0} (facts : WireFacts W) (asked : Asked) (tries : ℕ) (brought : Brought) where
+module _ {W : Type 0} (facts : WireFacts W) (asked : Asked) (tries : ℕ) (brought : WireResult) where
   open facts use {wake_gives, exchange_gives}
 
   abbrev pub BroughtWakes : W → Option Rate → W → Type 0
@@ -57,7 +57,8 @@ module _ {W : Type 0} (facts : WireFacts W) (asked : Asked) (tries : ℕ) (broug
 
   abbrev pub BroughtGives : W → List ℕ → Option (ArrayVec ℕ) → W → Type 0
   BroughtGives old octets answer new =
-      IsReplied asked octets tries (octets_in answer) brought × exchange_gives old octets answer new
+      ExchangeBrings asked octets tries (octets_in answer) brought
+      × exchange_gives old octets answer new
 
   -- the wire, whose one call is the one asked for, and brought this
   abbrev pub brought_facts : WireFacts W

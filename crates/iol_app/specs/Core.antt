@@ -8,10 +8,10 @@ use Rattle.iol_page.specs.Page.{knows_isdu}
 use Rattle.iol_event.specs.declared.event.Event.{Event}
 use Rattle.iol_image.specs.Image.{IsImage}
 use Rattle.iol_far.specs.declared.carried.Carried.{Carried}
-use Rattle.iol_far.specs.declared.mode.Mode.TheVariants.{Operate as FarOperate}
+use Rattle.iol_far.specs.declared.mode.DeviceMode.TheVariants.{Operate as FarOperate}
 use Rattle.iol_far.specs.declared.kind.Kind.{Kind}
 use Rattle.iol_far.specs.declared.kind.HandsOver.{HandsOver}
-use Rattle.iol_far.specs.Level.{Link, Progress, IsBefore, IsLevel, IsSent, IsIdle, IsOutOnce, taken}
+use Rattle.iol_far.specs.Level.{FarLink, Progress, IsLevelBefore, IsLevel, IsSent, IsIdle, IsOutOnce, accepting_link}
 use Rattle.iol_link.specs.Attempts.{Sending, most_attempts}
 use Rattle.iol_link.specs.Honest.{HonestWake, HonestExchange}
 use Rattle.iol_mode.specs.declared.configuration.Devices.{Devices}
@@ -20,48 +20,48 @@ use Rattle.iol_mode.specs.declared.states.State.TheVariants.{Down as AtDown, Sta
 use Rattle.iol_mode.specs.declared.states.Operate.{Operate}
 use Rattle.iol_mode.specs.declared.configuration.Devices.TheVariants.{Any}
 use Rattle.iol_mode.specs.Kinds.{SeesPulses}
-use Rattle.iol_mode.specs.States.{NextMode, NextModeFits, StateFits, IsDown, state_of, is_behind, is_reset, is_starting, waked}
-use Rattle.iol_mode.specs.Exchanges.{StandsOn, text_out, judged}
+use Rattle.iol_mode.specs.States.{NextMode, NextModeFits, StateFits, IsDown, next_state, is_behind, is_reset, is_starting, mode_after_wake}
+use Rattle.iol_mode.specs.Exchanges.{StandsOn, text_out, mode_after_reply}
 use Rattle.iol_mode.specs.Turns.{IsRisen, IsMet}
 use Rattle.iol_mode.specs.Stands.{StateStands, IsOperating, IsAccepted}
 use Rattle.iol_steps.specs.declared.mode.Mode.TheVariants.{Operate as ModeOperate}
 use Rattle.iol_steps.specs.declared.said.Said.{Said}
 use Rattle.iol_steps.specs.declared.said.Said.TheVariants.{Idle}
-use Rattle.iol_steps.specs.Step.{Step, repeats_at, doubts_at, Make, Take, WireCall, Moment, Image, silence_by, CallFits, is_clash_free, no_make, is_for_book, is_report, book_said, reports_said, resets, output_length}
+use Rattle.iol_steps.specs.Step.{PortStep, repeats_at, doubts_at, Make, Take, WireCall, Moment, ImageOctets, silence_by, CallFits, is_clash_free, no_make, is_for_book, is_report, book_said, reports_said, resets, output_length}
 use Rattle.iol_steps.specs.Session.{Session, MaySession, MaySessionAll, session_after, session_through}
 use Rattle.iol_steps.specs.FrozenEvents.{Frozen, MayFrozenAll, frozen_through}
 use Rattle.iol_steps.specs.Images.{Images, MayImages, MayImagesAll, images_after, images_through, image_or}
 use Rattle.iol_steps.specs.Bridge.{Hidden, IsOpen}
-use Rattle.iol_steps.specs.Kinds.{Seen}
-use Rattle.iol_steps.specs.Station.{Shown, session_of, frozen_of, images_of, AnswerFits, WaitsElsewhere, Reading, is_due, wants_octet}
+use Rattle.iol_steps.specs.Kinds.{MasterFields}
+use Rattle.iol_steps.specs.Station.{ShownProcessData, session_of, frozen_of, images_of, AnswerFits, WaitsElsewhere, ReadingState, wants_confirm, wants_octet}
 use Rattle.iol_steps.specs.Station as steps
-use Rattle.iol_steps.specs.Exchange.{reading_flagged, told_by, hidden_lost}
+use Rattle.iol_steps.specs.Exchange.{reading_flagged, is_output_told, hidden_lost}
 use Rattle.iol_steps.specs.Turn.{ImageIsLast, OutputIsWanted, is_calm}
 use Rattle.std.specs.List.{list_all}
 use Rattle.iol_app.specs.declared.event_work.EventRoom.{EventRoom}
-use Rattle.iol_app.specs.declared.event_work.Reading as app
-use Rattle.iol_app.specs.declared.event_work.Reading.TheVariants.{Resting, UnderWay, ConfirmDue, Refused}
-use Rattle.iol_app.specs.declared.event_work.Events.{Events}
+use Rattle.iol_app.specs.declared.event_work.ReadingProgress as app
+use Rattle.iol_app.specs.declared.event_work.ReadingProgress.TheVariants.{Resting, UnderWay, ConfirmDue, Refused}
+use Rattle.iol_app.specs.declared.event_work.EventWork.{EventWork}
 use Rattle.iol_app.specs.declared.request.Current.{Current}
-use Rattle.iol_app.specs.Requests.{request_in, is_over}
+use Rattle.iol_app.specs.Requests.{request_under_way, is_over}
 use Rattle.iol_isdu.specs.declared.values.Request.{Request}
 use Rattle.iol_app.specs.EventReading.{is_refused}
 use Rattle.iol_app.specs.Moves.{progress_of, move_for, confirms_events}
 use Rattle.iol_app.specs.Ends.{OutputTold, EventsTold, OperateLink, BusySeen, SentSeen, output_for}
-use Rattle.iol_app.specs.State.{IsSession, IsMessageFor, sending, SessionState, opened, wanting, left}
+use Rattle.iol_app.specs.State.{IsSession, IsMessageFor, session_sending, SessionState, new_session, session_wanting, session_after_leaving}
 use Rattle.iol_app.specs.Due.{due_of}
-use Rattle.iol_app.specs.Outputs.{carried_by}
-use Rattle.iol_app.specs.StationState.{IsSettledSaid, IsPresent, StateFits as Joined, waked_session, settled_session, missed_state, missed_session, mode_in, why_in}
-use Rattle.iol_app.specs.declared.session.Exchange.{Exchange}
-use Rattle.iol_app.specs.declared.session.Exchange.TheVariants.{ReadEvent, ConfirmEvents, Request as NextMessage}
+use Rattle.iol_app.specs.Outputs.{output_to_carry}
+use Rattle.iol_app.specs.StationState.{IsSettledSaid, IsPresent, SessionFits, waked_session, settled_session, missed_state, missed_session, mode_in, why_in}
+use Rattle.iol_app.specs.declared.session.Purpose.{Purpose}
+use Rattle.iol_app.specs.declared.session.Purpose.TheVariants.{ReadEvent, ConfirmEvents, Request as NextMessage}
 use Rattle.iol_page.specs.declared.page.Layouts.{Layouts}
 use Rattle.iol_mseq.specs.declared.master.MasterMsg.{MasterMsg}
 use Rattle.iol_far.specs.Far.{Far}
-use Rattle.iol_mode.specs.Messages.{unsent}
-use Rattle.iol_far.specs.Isdu.{handed}
+use Rattle.iol_mode.specs.Messages.{new_sending}
+use Rattle.iol_far.specs.Isdu.{handed_request}
 
 -- the mode, and the session over it: what the code stores
-pub record Core : Type 0 where
+pub record CoreState : Type 0 where
   pub state : State
   pub session : SessionState
 
@@ -84,22 +84,22 @@ pub record Ghost : Type 0 where
   pub request : OfRequest
   pub events : OfEvents
   -- the last output wanted that a message carried
-  pub sent : Option Image
+  pub sent : Option ImageOctets
   -- the request was begun since the last call of the wire
   pub fresh : Bool
 
 -- The abstract port that it shows
 
-abbrev pub seen_in : Core → Ghost → Seen
+abbrev pub seen_in : CoreState → Ghost → MasterFields
 seen_in c g = record {
-  request = request_in c.session.current;
+  request = request_under_way c.session.current;
   busy = g.request.busy;
   asked = g.request.asked;
   mode = mode_in c.state;
   why = why_in c.state;
 }
 
-abbrev pub shown_in : SessionState → Option Image → Shown
+abbrev pub shown_in : SessionState → Option ImageOctets → ShownProcessData
 shown_in s sent = record {
   image = s.image;
   wanted = s.output.wanted;
@@ -109,13 +109,13 @@ shown_in s sent = record {
   page = option_map (λ t. t.page) s.present;
 }
 
-abbrev pub session_in : Core → Ghost → Far → Session
+abbrev pub session_in : CoreState → Ghost → Far → Session
 session_in c g far = session_of (seen_in c g) g.request.hidden far.carried
 
 abbrev pub frozen_in : Ghost → Far → Option Frozen
 frozen_in g far = frozen_of far.events.frozen g.events.told
 
-abbrev pub images_in : Core → Ghost → Far → Images
+abbrev pub images_in : CoreState → Ghost → Far → Images
 images_in c g far = images_of (shown_in c.session g.sent) far
 
 -- How both ends stand, by component
@@ -126,7 +126,7 @@ pub record Work : Type 0 where
   pub clear : Bool
   pub limit : ℕ
   pub current : Option Current
-  pub exchange : Option Exchange
+  pub exchange : Option Purpose
 
 abbrev pub work_of : SessionState → Work
 work_of s = record {
@@ -143,7 +143,7 @@ progress_in w = progress_of w.devices w.clear w.current
 -- In OPERATE, with the message that is out
 
 -- how often that was sent in vain, of so many attempts: a question only once it went out again
-abbrev pub vain_by : Devices → Exchange → Option Current → ℕ → ℕ
+abbrev pub vain_by : Devices → Purpose → Option Current → ℕ → ℕ
 vain_by Any NextMessage (Some current) tries = if current.again then tries else 0
 vain_by devices exchange current tries = tries
 
@@ -152,13 +152,13 @@ vain_in w tries = unwrap_or (option_map (λ exchange. vain_by w.devices exchange
     w.exchange) tries
 
 -- that it went out again is noted of a request at a port for any device
-abbrev pub AgainBy : Devices → Exchange → ℕ → Current → Type 0
+abbrev pub AgainBy : Devices → Purpose → ℕ → Current → Type 0
 AgainBy Any NextMessage tries current = current.again ≡ true → 1 ≤ tries
 AgainBy devices exchange tries current = current.again ≡ false
 
-abbrev pub LevelOut : Ghost → Shape → Link → Work → Option Sending → Far → Type 0
+abbrev pub LevelOut : Ghost → Shape → FarLink → Work → Option Sending → Far → Type 0
 LevelOut g run link w None far =
-    IsBefore g.page g.kind run.od g.request.base link (progress_in w) far
+    IsLevelBefore g.page g.kind run.od g.request.base link (progress_in w) far
 LevelOut g run link w (Some sent) far =
     IsLevel g.page g.kind run.od g.request.base link (progress_in w)
     (master_text run sent.message) (vain_in w sent.tries) far
@@ -169,20 +169,21 @@ repeats_in hands_over size w = unwrap_or
     (option_map (λ exchange. repeats_at w.devices hands_over size (move_for exchange w.current))
     w.exchange) false
 
-abbrev pub command_out : Option Exchange → Option Bool
+abbrev pub command_out : Option Purpose → Option Bool
 command_out None = None
 command_out (Some exchange) = output_for exchange
 
-abbrev pub confirm_out : Option Exchange → Bool
+abbrev pub confirm_out : Option Purpose → Bool
 confirm_out None = false
 confirm_out (Some exchange) = confirms_events exchange
 
 -- what the message out has to do with the rest: the far end takes it in OPERATE's layout, for the
 -- move that the request's progress asks for; the reading wants it; it carries the image sent
-pub record OutStands (layouts : Layouts) (out : Sending) (exchange : Exchange) (w : Work)
-    (reading : Reading) (page : List ℕ) (kind : Kind) (link : Link) (sent : Option Image) : Type
+pub record OutStands (layouts : Layouts) (out : Sending) (exchange : Purpose) (w : Work)
+    (reading : ReadingState) (page : List ℕ) (kind : Kind) (link : FarLink)
+    (sent : Option ImageOctets) : Type
     0 where
-  pub mode : (taken link (master_text layouts.run out.message)).mode ≡ FarOperate
+  pub mode : (accepting_link link (master_text layouts.run out.message)).mode ≡ FarOperate
   pub goes :
       IsSent page layouts.run.od link (progress_in w)
       (master_text layouts.run out.message) out.message (move_for exchange w.current)
@@ -193,13 +194,13 @@ pub record OutStands (layouts : Layouts) (out : Sending) (exchange : Exchange) (
   -- nothing goes out for a request that is over but for its abort
   pub goes_on : exchange ≡ NextMessage → IfSome w.current
       (λ current. is_over current.progress ≡ false)
-  pub confirm : exchange ≡ ConfirmEvents → is_due reading ≡ true
+  pub confirm : exchange ≡ ConfirmEvents → wants_confirm reading ≡ true
   pub reads : exchange ≡ ReadEvent → wants_octet reading ≡ true
   pub carries : IfSome sent (λ image. out.message.out.items ≡ image)
   pub tells : output_for exchange ≡ Some true → IsSome sent
 
-abbrev pub OutBy : Layouts → Option Sending → Option Exchange → Work → Reading → List ℕ → Kind
-    → Link → Option Image → Type 0
+abbrev pub OutBy : Layouts → Option Sending → Option Purpose → Work → ReadingState → List ℕ → Kind
+    → FarLink → Option ImageOctets → Type 0
 OutBy layouts (Some out) (Some exchange) w events page kind link sent =
     OutStands layouts out exchange w events page kind link sent
 OutBy layouts None None w events page kind link sent =
@@ -207,39 +208,39 @@ OutBy layouts None None w events page kind link sent =
 OutBy layouts out exchange w events page kind link sent = ⊥
 
 -- the request under way, or that none is
-pub record OperateRequest (s : Operate) (w : Work) (reading : Reading) (g : Ghost)
+pub record OperateRequest (s : Operate) (w : Work) (reading : ReadingState) (g : Ghost)
     (far : Far) : Type 0 where
   -- nothing is left over of an earlier request; what the device is handed is this one
   pub late : g.request.hidden.late ≡ None
-  pub opens : IsOpen far.isdu (request_in w.current) g.request.hidden
+  pub opens : IsOpen far.isdu (request_under_way w.current) g.request.hidden
   -- both ends are level, as far as the request has come, with the message that is out
-  pub link : Link
+  pub link : FarLink
   pub linked : OperateLink s.layouts (progress_in w) link
   pub level : LevelOut g s.layouts.run link w s.out far
   pub out : OutBy s.layouts s.out w.exchange w reading g.page g.kind link g.sent
   -- the record has grown by the device's answer, once it has one; it may have by more where the
   -- device is handed the request with each hearing
   pub answer : repeats_in g.kind.hands_over s.layouts.run.od w ≡ false
-      → AnswerFits g.request.base (request_in w.current) g.request.hidden far.carried
+      → AnswerFits g.request.base (request_under_way w.current) g.request.hidden far.carried
   -- the busy replies are counted, and an abort waits for what it may
   pub busy : BusySeen (doubts_at w.devices g.kind.recalls) w.limit w.current g.request.busy
       g.request.asked
   -- a request is under way only where the device has ISDU
-  pub known : IsSome (request_in w.current) → IsTrue (knows_isdu g.page)
+  pub known : IsSome (request_under_way w.current) → IsTrue (knows_isdu g.page)
 
 -- the reading of events, with the list whose confirm is due
-abbrev pub reading_at : app.Reading → Bool → Event × List Event → Reading
+abbrev pub reading_at : app.ReadingProgress → Bool → Event × List Event → ReadingState
 reading_at Resting flag due = reading_flagged flag
 reading_at (UnderWay octets) flag due = steps.Under octets
 reading_at ConfirmDue flag due = steps.Due due.0 due.1
 reading_at Refused flag due = steps.Resting
 
-abbrev pub reading_in : Events → OfEvents → Reading
+abbrev pub reading_in : EventWork → OfEvents → ReadingState
 reading_in events g = reading_at events.reading events.flag g.due
 
 -- the link's own part says that nothing is under way in a start-up, whatever the device holds.
 -- Until it was reset it may carry out an earlier request, at a port for any device
-abbrev pub RequestStands : State → Work → Events → Ghost → Far → Type 0
+abbrev pub RequestStands : State → Work → EventWork → Ghost → Far → Type 0
 RequestStands (AtDown s) w events g far = IsOpen far.isdu None g.request.hidden
 RequestStands (AtStartup s) w events g far =
     (IsTrue (is_behind s.step) → g.request.hidden.late ≡ None)
@@ -251,7 +252,7 @@ RequestStands (AtOperate s) w events g far =
     OperateRequest s w (reading_in events g.events) g far
 
 -- in OPERATE the device's events fit the reading; in a start-up none is read, nor told
-abbrev pub EventsStand : State → Option Exchange → Events → OfEvents → Far → Type 0
+abbrev pub EventsStand : State → Option Purpose → EventWork → OfEvents → Far → Type 0
 EventsStand (AtDown s) exchange events g far = ⊤
 EventsStand (AtStartup s) exchange events g far = (events.reading ≡ Resting) × (g.told ≡ false)
 EventsStand (AtPreoperate s) exchange events g far = (events.reading ≡ Resting) × (g.told ≡ false)
@@ -265,7 +266,7 @@ pub record OutputOff (told : Bool) (far : Far) : Type 0 where
   pub waits : WaitsElsewhere far
 
 -- in OPERATE it is as told, unless a command is out
-abbrev pub OutputStands : State → Option Exchange → Bool → Option Image → Far → Type 0
+abbrev pub OutputStands : State → Option Purpose → Bool → Option ImageOctets → Far → Type 0
 OutputStands (AtDown s) exchange told sent far = ⊤
 OutputStands (AtStartup s) exchange told sent far = (told ≡ false)
     × (IsTrue (is_behind s.step) → OutputOff told far)
@@ -281,7 +282,7 @@ CalmBy (Some out) silence = ⊤
 -- of a request begun since the last call of the wire no segment had a good reply, and none is
 -- handed
 abbrev pub FreshAt : State → Work → Far → Type 0
-FreshAt (AtOperate s) w far = IsIdle (progress_in w) × (handed far.isdu ≡ None)
+FreshAt (AtOperate s) w far = IsIdle (progress_in w) × (handed_request far.isdu ≡ None)
 FreshAt s w far = ⊥
 
 abbrev pub CalmAt : State → ℕ → Type 0
@@ -289,7 +290,7 @@ CalmAt (AtOperate s) silence = CalmBy s.out silence
 CalmAt s silence = ⊤
 
 -- of what is shown, whatever the far end does
-pub record ShownStands (c : Core) (page : List ℕ) : Type 0 where
+pub record ShownStands (c : CoreState) (page : List ℕ) : Type 0 where
   pub image : mode_in c.state ≢ ModeOperate → c.session.image ≡ None
   pub wanted : IfSome c.session.output.wanted IsImage
   pub lengths :
@@ -300,14 +301,14 @@ pub record ShownStands (c : Core) (page : List ℕ) : Type 0 where
   pub no_form : is_refused c.session.events.reading ≡ false
 
 -- both ends stand together
-pub record Stands (c : Core) (g : Ghost) (far : Far) (silence : ℕ) : Type 0 where
+pub record BothEndsStand (c : CoreState) (g : Ghost) (far : Far) (silence : ℕ) : Type 0 where
   pub page : far.page ≡ g.page
   pub kind : far.kind ≡ g.kind
   pub sees : SeesPulses c.session.configuration.devices far
   -- the link's part is the lower crate's, word for word
   pub fits : StateFits c.state
   pub link : StateStands c.state silence far
-  pub joined : Joined c.state c.session
+  pub joined : SessionFits c.state c.session
   pub calm : CalmAt c.state silence
   pub fresh : IsTrue g.fresh → FreshAt c.state (work_of c.session) far
   -- the image sent is the one carried last
@@ -318,31 +319,31 @@ pub record Stands (c : Core) (g : Ghost) (far : Far) (silence : ℕ) : Type 0 wh
   pub shown : ShownStands c g.page
 
 -- Where a turn is one piece, a message that is out between two turns was sent at least once
-abbrev pub IsTried : Option Sending → Type 0
-IsTried None = ⊤
-IsTried (Some out) = 1 ≤ out.tries
+abbrev pub IsOutAttempted : Option Sending → Type 0
+IsOutAttempted None = ⊤
+IsOutAttempted (Some out) = 1 ≤ out.tries
 
 abbrev pub IsAttempted : State → Type 0
-IsAttempted (AtOperate s) = IsTried s.out
+IsAttempted (AtOperate s) = IsOutAttempted s.out
 IsAttempted s = ⊤
 
 -- What one call of the wire gives
 
 -- the output that the message out asks for; with none out, the one that is wanted
-abbrev pub ordered_by : Bool → List ℕ → Option Image
+abbrev pub ordered_by : Bool → List ℕ → Option ImageOctets
 ordered_by told items = if told && nat_lt 0 (length items) then Some items else None
 
-abbrev pub ordered_at : Option Sending → SessionState → Option Image
+abbrev pub ordered_at : Option Sending → SessionState → Option ImageOctets
 ordered_at None t = t.output.wanted
 ordered_at (Some out) t =
-    ordered_by (told_by (command_out t.exchange) t.output.told) out.message.out.items
+    ordered_by (is_output_told (command_out t.exchange) t.output.told) out.message.out.items
 
-abbrev pub ordered : State → SessionState → Option Image
-ordered (AtOperate s) t = ordered_at s.out t
-ordered s t = t.output.wanted
+abbrev pub ordered_output : State → SessionState → Option ImageOctets
+ordered_output (AtOperate s) t = ordered_at s.out t
+ordered_output s t = t.output.wanted
 
 -- what the steps of the call are judged by
-abbrev pub moment_of : Core → Ghost → ℕ → WireCall → Moment
+abbrev pub moment_of : CoreState → Ghost → ℕ → WireCall → Moment
 moment_of c g silence call = record {
   terms = record {
     devices = c.session.configuration.devices;
@@ -357,16 +358,17 @@ moment_of c g silence call = record {
 }
 
 -- they stay
-abbrev pub TermsStay : Core → Core → Ghost → Ghost → Type 0
+abbrev pub TermsStay : CoreState → CoreState → Ghost → Ghost → Type 0
 TermsStay c next g after = (next.session.limit ≡ c.session.limit) × (after.page ≡ g.page)
     × (next.session.configuration ≡ c.session.configuration) × (after.kind ≡ g.kind)
 
 -- one call of the wire, and one list of steps, each allowed where it is taken, whose effects on the
 -- three parts of the abstract port are what happened; and both ends stand together afterwards
-pub record CallGives (c : Core) (g : Ghost) (far : Far) (silence : ℕ) (said : Said) (next : Core)
+pub record CallGives (c : CoreState) (g : Ghost) (far : Far) (silence : ℕ) (said : Said)
+    (next : CoreState)
     (far_new : Far) (silence_new : ℕ) : Type 0 where
   pub call : WireCall
-  pub steps : List Step
+  pub steps : List PortStep
   pub after : Ghost
   pub fits : CallFits (mode_in c.state) call
   pub silent : silence_new ≡ silence_by call silence
@@ -389,53 +391,56 @@ pub record CallGives (c : Core) (g : Ghost) (far : Far) (silence : ℕ) (said : 
       (images_in next after far_new)
   pub output_is_wanted :
       OutputIsWanted (moment_of c g silence call)
-      (record (images_in c g far) { wanted = ordered c.state c.session })
+      (record (images_in c g far) { wanted = ordered_output c.state c.session })
       (images_in next after far_new)
-  pub stands : Stands next after far_new silence_new
+  pub stands : BothEndsStand next after far_new silence_new
 
 -- a wake: the code's own functions say what becomes of the data
-abbrev pub after_wake : Bool → SessionState → Core
+abbrev pub after_wake : Bool → SessionState → CoreState
 after_wake answered s = record {
-  state = state_of (waked s.configuration.devices answered);
-  session = settled_session (waked s.configuration.devices answered) (waked_session answered s);
+  state = next_state (mode_after_wake s.configuration.devices answered);
+  session = settled_session (mode_after_wake s.configuration.devices answered)
+      (waked_session answered s);
 }
 
-pub record Wakes : Type 0 where
-  pub gives : (c : Core) (g : Ghost) (far far_new : Far) (silence : ℕ) (answered : Bool)
-      → Stands c g far silence → IsDown c.state → HonestWake far answered far_new
+pub record WakesDevice : Type 0 where
+  pub gives : (c : CoreState) (g : Ghost) (far far_new : Far) (silence : ℕ) (answered : Bool)
+      → BothEndsStand c g far silence → IsDown c.state → HonestWake far answered far_new
       -- the link's own law
-      → StateStands (state_of (waked c.session.configuration.devices answered)) silence far_new
-      → StateFits (state_of (waked c.session.configuration.devices answered))
+      → StateStands (next_state (mode_after_wake c.session.configuration.devices answered))
+      silence far_new
+      → StateFits (next_state (mode_after_wake c.session.configuration.devices answered))
       → CallGives c g far silence Idle (after_wake answered c.session) far_new silence
 
 -- an exchange: the link says what becomes of the mode
-abbrev pub settled_core : NextMode → SessionState → Core
-settled_core outcome t = record { state = state_of outcome; session = settled_session outcome t }
+abbrev pub settled_core : NextMode → SessionState → CoreState
+settled_core outcome t = record { state = next_state outcome; session = settled_session outcome t }
 
 -- what is left of an attempt without a good reply, where what is out goes out again
-abbrev pub after_missed : Core → Core
+abbrev pub after_missed : CoreState → CoreState
 after_missed c = record {
   state = missed_state c.state c.session;
   session = missed_session c.state c.session;
 }
 
-abbrev pub after_exchange : NextMode → SessionState → Core
+abbrev pub after_exchange : NextMode → SessionState → CoreState
 after_exchange outcome t = after_missed (settled_core outcome t)
 
 -- what comes back to the message that is out is judged by it, and by what start-ups ask
-abbrev pub came_of : Core → Option (List ℕ) → NextMode
-came_of c came = judged c.session.configuration c.state came
+abbrev pub came_of : CoreState → Option (List ℕ) → NextMode
+came_of c came = mode_after_reply c.session.configuration c.state came
 
 -- in both modes of a start-up
 pub record Rises : Type 0 where
   pub gives :
-      (c : Core) (g : Ghost) (far far_new : Far) (silence silence_new : ℕ) (came : Option (List ℕ))
-      → is_starting c.state ≡ true → Stands c g far silence → IsSession c.session
+      (c : CoreState) (g : Ghost) (far far_new : Far) (silence silence_new : ℕ)
+      (came : Option (List ℕ))
+      → is_starting c.state ≡ true → BothEndsStand c g far silence → IsSession c.session
       → HonestExchange far silence (text_out c.state) came far_new silence_new
       → let outcome : NextMode = came_of c came in
       -- the link's own laws, and the session's
       IsRisen (is_reset c.state) outcome silence_new far far_new → NextModeFits outcome
-      → Joined (state_of outcome) (settled_session outcome c.session)
+      → SessionFits (next_state outcome) (settled_session outcome c.session)
       → CallGives c g far silence Idle (settled_core outcome c.session) far_new silence_new
 
 -- in a session whose page was checked, the device is the one that was expected then
@@ -444,21 +449,21 @@ IsRightIn (AtPreoperate s) t = IsPresent s.layouts t.present
 IsRightIn (AtOperate s) t = IsPresent s.layouts t.present
 IsRightIn s t = ⊤
 
-abbrev pub IsRight : Core → Type 0
+abbrev pub IsRight : CoreState → Type 0
 IsRight c = IsRightIn c.state c.session
 
 -- The calls that are no turns
 
-abbrev pub opened_core : Devices → ℕ → Core
+abbrev pub opened_core : Devices → ℕ → CoreState
 opened_core devices limit =
-    record { state = AtDown (record { why = None }); session = opened devices limit }
+    record { state = AtDown (record { why = None }); session = new_session devices limit }
 
 abbrev pub opened_ghost : Far → Bool → Event × List Event → Ghost
 opened_ghost far told due = record {
   page = far.page;
   kind = far.kind;
   request = record {
-    hidden = record { answer = None; late = handed far.isdu };
+    hidden = record { answer = None; late = handed_request far.isdu };
     busy = 0;
     asked = false;
     base = far.carried;
@@ -468,23 +473,26 @@ opened_ghost far told due = record {
   fresh = false;
 }
 
-abbrev pub wanting_core : Option Image → Core → Core
-wanting_core image c = record c { session = wanting image c.session }
+abbrev pub wanting_core : Option ImageOctets → CoreState → CoreState
+wanting_core image c = record c { session = session_wanting image c.session }
 
-abbrev pub restarted_core : Core → Core
-restarted_core c = record { state = AtDown (record { why = None }); session = left c.session }
+abbrev pub restarted_core : CoreState → CoreState
+restarted_core c = record {
+  state = AtDown (record { why = None });
+  session = session_after_leaving c.session;
+}
 
-abbrev pub restarted_ghost : Core → Ghost → Ghost
+abbrev pub restarted_ghost : CoreState → Ghost → Ghost
 restarted_ghost c g = record g {
   request = record g.request {
-    hidden = hidden_lost (request_in c.session.current) g.request.hidden;
+    hidden = hidden_lost (request_under_way c.session.current) g.request.hidden;
   };
   fresh = false;
 }
 
 -- In OPERATE: a request is begun where none is under way, or its abort is let wait
 
-abbrev pub operate_core : Operate → SessionState → Option Current → Core
+abbrev pub operate_core : Operate → SessionState → Option Current → CoreState
 operate_core s t current = record { state = AtOperate s; session = record t { current = current } }
 
 abbrev pub begun_ghost : Ghost → Ghost
@@ -498,9 +506,10 @@ begun_ghost g = record g {
   fresh = true;
 }
 
-pub record BeginGives (c next : Core) (g : Ghost) (far : Far) (silence : ℕ) (request : Request) :
+pub record BeginGives (c next : CoreState) (g : Ghost) (far : Far) (silence : ℕ)
+    (request : Request) :
     Type 0 where
-  pub stands : Stands next (begun_ghost g) far silence
+  pub stands : BothEndsStand next (begun_ghost g) far silence
   pub may : (moment : Moment) (ticket : ℕ) → moment.terms.page ≡ g.page
       → MaySession moment (Take ticket request) (session_in c g far)
   pub is : (ticket : ℕ)
@@ -513,7 +522,7 @@ asking_ghost asks g = record g { request = record g.request { asked = asks } }
 
 -- An exchange in OPERATE
 
-abbrev pub core_out : Layouts → Sending → SessionState → Exchange → Option Current → Core
+abbrev pub core_out : Layouts → Sending → SessionState → Purpose → Option Current → CoreState
 core_out layouts out t exchange current = record {
   state = AtOperate (record { out = Some out; layouts = layouts });
   session = record t { exchange = Some exchange; current = current };
@@ -523,14 +532,14 @@ core_out layouts out t exchange current = record {
 abbrev pub made_ghost : SessionState → Ghost → Ghost
 made_ghost t g = record g { sent = image_or t.output.wanted g.sent }
 
-abbrev pub free_core : Layouts → SessionState → Core
+abbrev pub free_core : Layouts → SessionState → CoreState
 free_core layouts t = record {
   state = AtOperate (record { out = None; layouts = layouts });
   session = record t { exchange = None };
 }
 
-pub record SendGives (c next : Core) (g after : Ghost) (far : Far) (silence : ℕ) : Type 0 where
-  pub stands : Stands next after far silence
+pub record SendGives (c next : CoreState) (g after : Ghost) (far : Far) (silence : ℕ) : Type 0 where
+  pub stands : BothEndsStand next after far silence
   pub mode : mode_in next.state ≡ mode_in c.state
   pub reset : is_reset next.state ≡ is_reset c.state
   pub session : session_in c g far ≡ session_in next after far
@@ -541,44 +550,46 @@ pub record SendGives (c next : Core) (g after : Ghost) (far : Far) (silence : �
   pub images : (call : WireCall)
       → images_after (moment_of c g silence call) Make (images_in c g far)
       ≡ images_in next after far
-  pub wants : ordered c.state c.session ≡ c.session.output.wanted
-  pub asks : ordered next.state next.session ≡ c.session.output.wanted
+  pub wants : ordered_output c.state c.session ≡ c.session.output.wanted
+  pub asks : ordered_output next.state next.session ≡ c.session.output.wanted
 
 pub record Sends : Type 0 where
   pub gives :
       (layouts : Layouts) (t : SessionState) (room : EventRoom) (message : MasterMsg) (g : Ghost)
       (far : Far) (silence : ℕ)
-      → let next : Core =
-      core_out layouts (unsent message) (sending (due_of t room) t) (due_of t room) t.current in
-      Stands (free_core layouts t) g far silence → IsSession t
+      → let next : CoreState =
+      core_out layouts (new_sending message) (session_sending (due_of t room) t) (due_of t room)
+      t.current in
+      BothEndsStand (free_core layouts t) g far silence → IsSession t
       -- the message is that of what is due, and carries the output wanted
-      → IsMessageFor (due_of t room) (sending (due_of t room) t) message
-      → message.out.items ≡ carried_by t.output
+      → IsMessageFor (due_of t room) (session_sending (due_of t room) t) message
+      → message.out.items ≡ output_to_carry t.output
       -- the link's own laws
       → StateStands next.state silence far → StateFits next.state
-      → ((link : Link) → IsOperating layouts link → IsAccepted layouts far.page link message)
+      → ((link : FarLink) → IsOperating layouts link → IsAccepted layouts far.page link message)
       → SendGives (free_core layouts t) next g (made_ghost t g) far silence
 
 -- what comes back to the message that is out: as CallGives, and no message is made
-pub record ReceiveGives (c : Core) (g : Ghost) (far : Far) (silence : ℕ) (said : Said) (next : Core)
+pub record ReceiveGives (c : CoreState) (g : Ghost) (far : Far) (silence : ℕ) (said : Said)
+    (next : CoreState)
     (far_new : Far) (silence_new : ℕ) : Type 0 where
   pub given : CallGives c g far silence said next far_new silence_new
   pub unmade : no_make given.steps ≡ true
 
 pub record Receives : Type 0 where
   pub gives :
-      (layouts : Layouts) (out : Sending) (t : SessionState) (exchange : Exchange) (g : Ghost)
+      (layouts : Layouts) (out : Sending) (t : SessionState) (exchange : Purpose) (g : Ghost)
       (far far_new : Far) (silence silence_new : ℕ) (came : Option (List ℕ)) (said : Said)
-      → let c : Core = core_out layouts out t exchange t.current in
-      Stands c g far silence → IsSession c.session
+      → let c : CoreState = core_out layouts out t exchange t.current in
+      BothEndsStand c g far silence → IsSession c.session
       → HonestExchange far silence (text_out c.state) came far_new silence_new
       → out.tries < most_attempts
       → let outcome : NextMode = came_of c came in
-      let next : Core = after_exchange outcome c.session in
+      let next : CoreState = after_exchange outcome c.session in
       -- the link's own laws
       IsMet outcome silence_new far_new
-      → ((link : Link) → IsOperating layouts link → IsAccepted layouts far.page link out.message)
-      → StandsOn (state_of outcome) next.state → StateFits next.state
+      → ((link : FarLink) → IsOperating layouts link → IsAccepted layouts far.page link out.message)
+      → StandsOn (next_state outcome) next.state → StateFits next.state
       -- the session's own
-      → Joined next.state next.session → IsSettledSaid outcome c.session said
+      → SessionFits next.state next.session → IsSettledSaid outcome c.session said
       → ReceiveGives c g far silence said next far_new silence_new

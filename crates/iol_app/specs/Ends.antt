@@ -4,23 +4,23 @@ use Rattle.std.specs.Option.{option_map}
 use Rattle.iol_mseq.specs.Shape.{Shape}
 use Rattle.iol_isdu.specs.declared.values.Cause.{Cause}
 use Rattle.iol_page.specs.declared.page.Layouts.{Layouts}
-use Rattle.iol_far.specs.declared.mode.Mode.TheVariants.{Operate as FarOperate}
+use Rattle.iol_far.specs.declared.mode.DeviceMode.TheVariants.{Operate as FarOperate}
 use Rattle.iol_far.specs.Far.{Far}
-use Rattle.iol_far.specs.Level.{Progress, Quiet, Link}
+use Rattle.iol_far.specs.Level.{Progress, Quiet, FarLink}
 use Rattle.iol_mode.specs.Stands.{entering_link, operate_link}
-use Rattle.iol_steps.specs.Step.{Image}
-use Rattle.iol_steps.specs.Station.{Shown, Reading, EventsFit, WaitsElsewhere, is_due}
+use Rattle.iol_steps.specs.Step.{ImageOctets}
+use Rattle.iol_steps.specs.Station.{ShownProcessData, ReadingState, EventsFit, WaitsElsewhere, wants_confirm}
 use Rattle.iol_steps.specs.Exchange.{MayAbort}
 use Rattle.iol_app.specs.declared.request.Current.{Current}
-use Rattle.iol_app.specs.declared.request.Progress.{Progress as Cursor}
-use Rattle.iol_app.specs.declared.request.Progress.TheVariants.{Sending, Doubting, Asking, Receiving, Refused as NoText}
-use Rattle.iol_app.specs.declared.session.Exchange.{Exchange}
-use Rattle.iol_app.specs.declared.session.Exchange.TheVariants.{TellOutput, DropOutput}
+use Rattle.iol_app.specs.declared.request.RequestProgress.{RequestProgress}
+use Rattle.iol_app.specs.declared.request.RequestProgress.TheVariants.{Sending, Doubting, Asking, Receiving, Refused as NoText}
+use Rattle.iol_app.specs.declared.session.Purpose.{Purpose}
+use Rattle.iol_app.specs.declared.session.Purpose.TheVariants.{TellOutput, DropOutput}
 use Rattle.iol_app.specs.State.{SessionState}
 
 -- so many busy replies: they are counted while the answer is asked for. No text of an answer was
 -- refused, unless it may be in doubt what the device made of a request
-abbrev pub BusyAt : Bool → Cursor → ℕ → Type 0
+abbrev pub BusyAt : Bool → RequestProgress → ℕ → Type 0
 BusyAt doubts (Sending flow segment) busy = busy ≡ 0
 BusyAt doubts Doubting busy = busy ≡ 0
 BusyAt doubts (Asking counted) busy = counted ≡ min busy 65535
@@ -38,18 +38,18 @@ BusySeen doubts limit (Some current) busy asked = BusyAt doubts current.progress
 
 -- DeviceOperate waits at the device, and no segment of a request had a good reply;
 -- or no command waits
-abbrev pub OperateLink : Layouts → Progress → Link → Type 0
+abbrev pub OperateLink : Layouts → Progress → FarLink → Type 0
 OperateLink layouts progress link = ((link ≡ entering_link layouts) × (progress ≡ Quiet))
     ⊎ (link ≡ operate_link)
 
 -- The process data
 
 -- the last output that was wanted and that a message carried; before lengths were told none was
-abbrev pub SentSeen : Option Shape → List ℕ → Option Image → Type 0
+abbrev pub SentSeen : Option Shape → List ℕ → Option ImageOctets → Type 0
 SentSeen None carried sent = sent ≡ None
 SentSeen (Some layout) carried sent = IfSome sent (λ image. image ≡ carried)
 
-pub record ShownSeen (s : SessionState) (shown : Shown) : Type 0 where
+pub record ShownSeen (s : SessionState) (shown : ShownProcessData) : Type 0 where
   pub image : shown.image ≡ s.image
   pub wanted : shown.wanted ≡ s.output.wanted
   pub sent : SentSeen s.layout s.output.carried.items shown.sent
@@ -59,7 +59,7 @@ pub record ShownSeen (s : SessionState) (shown : Shown) : Type 0 where
   pub page : shown.page ≡ option_map (λ t. t.page) s.present
 
 -- the output command that a message for this is
-abbrev pub output_for : Exchange → Option Bool
+abbrev pub output_for : Purpose → Option Bool
 output_for TellOutput = Some true
 output_for DropOutput = Some false
 output_for any = None
@@ -67,18 +67,18 @@ output_for any = None
 -- The device's output: an image that is valid was sent, in OPERATE; it is as told, where that is
 -- known; and a command that waits is for another mode
 
-abbrev pub IsValid : Option Image → Far → Type 0
+abbrev pub IsValid : Option ImageOctets → Far → Type 0
 IsValid sent far = far.awake ≡ true → far.valid ≡ true → (far.mode ≡ FarOperate) × IsSome sent
 
 abbrev pub IsAsTold : Type 0 → Bool → Far → Type 0
 IsAsTold known told far = far.awake ≡ true → known → far.valid ≡ told
 
-abbrev pub OutputTold : Option Image → Type 0 → Bool → Far → Type 0
+abbrev pub OutputTold : Option ImageOctets → Type 0 → Bool → Far → Type 0
 OutputTold sent known told far = IsValid sent far × IsAsTold known told far × WaitsElsewhere far
 
 -- The device's events: they fit the reading while it is awake, and are reported, outside down,
 -- exactly while it is awake and their confirm is due
-abbrev pub EventsTold : Reading → Bool → Far → Bool → Type 0
+abbrev pub EventsTold : ReadingState → Bool → Far → Bool → Type 0
 EventsTold reading confirming far told =
     (far.awake ≡ true → EventsFit reading confirming far.events)
-    × (told ≡ (far.awake && is_due reading))
+    × (told ≡ (far.awake && wants_confirm reading))

@@ -4,32 +4,32 @@ use Rattle.std.specs.Prelude.{ℕ, Bool, true, false, List, [], Option, Some, No
 use Rattle.iol_mseq.specs.declared.reply.Reply.{Reply}
 use Rattle.iol_event.specs.declared.event.Event.{Event}
 use Rattle.iol_event.specs.declared.faults.EventForm.{EventForm}
-use Rattle.iol_event.specs.Reading.{taken}
+use Rattle.iol_event.specs.Reading.{reader_step}
 use Rattle.iol_steps.specs.declared.said.Said.{Said}
 use Rattle.iol_steps.specs.declared.said.Said.TheVariants.{Reported}
-use Rattle.iol_app.specs.declared.event_work.Events.{Events}
-use Rattle.iol_app.specs.declared.event_work.Reading.{Reading}
-use Rattle.iol_app.specs.declared.event_work.Reading.TheVariants.{Resting, UnderWay, ConfirmDue, Refused}
-use Rattle.iol_app.specs.declared.session.Exchange.{Exchange}
-use Rattle.iol_app.specs.declared.session.Exchange.TheVariants.{ReadEvent, ConfirmEvents}
+use Rattle.iol_app.specs.declared.event_work.EventWork.{EventWork}
+use Rattle.iol_app.specs.declared.event_work.ReadingProgress.{ReadingProgress}
+use Rattle.iol_app.specs.declared.event_work.ReadingProgress.TheVariants.{Resting, UnderWay, ConfirmDue, Refused}
+use Rattle.iol_app.specs.declared.session.Purpose.{Purpose}
+use Rattle.iol_app.specs.declared.session.Purpose.TheVariants.{ReadEvent, ConfirmEvents}
 
 -- as a start-up begins
-abbrev pub no_events : Events
-no_events = record { flag = false; reading = Resting }
+abbrev pub new_event_work : EventWork
+new_event_work = record { flag = false; reading = Resting }
 
 -- the octets that the reading has
-abbrev pub reader_of : Reading → List ℕ
+abbrev pub reader_of : ReadingProgress → List ℕ
 reader_of (UnderWay reader) = reader
 reader_of other = []
 
 -- a StatusCode was refused since the last start-up
-abbrev pub is_refused : Reading → Bool
+abbrev pub is_refused : ReadingProgress → Bool
 is_refused Refused = true
 is_refused other = false
 
 -- goes on, ends with a list that is to be confirmed, or is refused
 -- EVT-7
-abbrev pub reading_by : Result (Option (List Event)) EventForm → List ℕ → Reading
+abbrev pub reading_by : Result (Option (List Event)) EventForm → List ℕ → ReadingProgress
 reading_by (Ok None) reader = UnderWay reader
 reading_by (Ok (Some list)) reader = ConfirmDue
 reading_by (Err form) reader = Refused
@@ -39,22 +39,23 @@ list_by (Ok list) = list
 list_by (Err form) = None
 
 -- the reading after one more octet, and the list that is whole with it
-abbrev pub reading_after : Reading → ℕ → Reading
-reading_after reading octet =
-    reading_by (taken (reader_of reading) octet).answer (taken (reader_of reading) octet).reader
+abbrev pub reading_after_octet : ReadingProgress → ℕ → ReadingProgress
+reading_after_octet reading octet =
+    reading_by (reader_step (reader_of reading) octet).answer
+    (reader_step (reader_of reading) octet).reader
 
-abbrev pub list_after : Reading → ℕ → Option (List Event)
-list_after reading octet = list_by (taken (reader_of reading) octet).answer
+abbrev pub list_after : ReadingProgress → ℕ → Option (List Event)
+list_after reading octet = list_by (reader_step (reader_of reading) octet).answer
 
 -- the reading after the good reply to a message that was sent for this, with these on-request data
-abbrev pub read_on : Exchange → List ℕ → Reading → Reading
-read_on ReadEvent od reading = reading_after reading (slice_index od 0)
-read_on ConfirmEvents od _ = Resting
-read_on any od so_far = so_far
+abbrev pub reading_after_exchange : Purpose → List ℕ → ReadingProgress → ReadingProgress
+reading_after_exchange ReadEvent od reading = reading_after_octet reading (slice_index od 0)
+reading_after_exchange ConfirmEvents od _ = Resting
+reading_after_exchange any od so_far = so_far
 
 -- and the list that became whole
 -- EVT-8
-abbrev pub list_read : Exchange → List ℕ → Reading → Option (List Event)
+abbrev pub list_read : Purpose → List ℕ → ReadingProgress → Option (List Event)
 list_read ReadEvent od reading = list_after reading (slice_index od 0)
 list_read any od _ = None
 
@@ -64,6 +65,10 @@ told_list None said = said
 told_list (Some list) said = Reported list
 
 -- the event work after that reply
-abbrev pub events_after : Exchange → Reply → Events → Events
-events_after exchange reply events =
-    record { flag = reply.event; reading = read_on exchange reply.od.items events.reading }
+abbrev pub event_work_after : Purpose → Reply → EventWork → EventWork
+event_work_after exchange reply events =
+    record {
+      flag = reply.event;
+      reading =
+          reading_after_exchange exchange reply.od.items events.reading;
+    }

@@ -13,12 +13,12 @@ use Rattle.iol_page.specs.declared.master_command.MasterCommand.TheVariants.{Pro
 use Rattle.iol_event.specs.Reading.{next_address}
 use Rattle.iol_mseq.specs.Parts.{first_of_zeros}
 use Rattle.iol_mseq.specs.declared.master.MasterMsg.{MasterMsg}
-use Rattle.iol_app.specs.declared.event_work.Reading.{Reading}
+use Rattle.iol_app.specs.declared.event_work.ReadingProgress.{ReadingProgress}
 use Rattle.iol_app.specs.declared.request.Current.{Current}
-use Rattle.iol_app.specs.declared.request.Progress.{Progress}
-use Rattle.iol_app.specs.declared.request.Progress.TheVariants.{Sending, Doubting, Asking, Receiving, Refused}
-use Rattle.iol_app.specs.declared.session.Exchange.{Exchange}
-use Rattle.iol_app.specs.declared.session.Exchange.TheVariants.{TellOutput, DropOutput, Abort, ReadEvent, ConfirmEvents, Request, Idle}
+use Rattle.iol_app.specs.declared.request.RequestProgress.{RequestProgress}
+use Rattle.iol_app.specs.declared.request.RequestProgress.TheVariants.{Sending, Doubting, Asking, Receiving, Refused}
+use Rattle.iol_app.specs.declared.session.Purpose.{Purpose}
+use Rattle.iol_app.specs.declared.session.Purpose.TheVariants.{TellOutput, DropOutput, Abort, ReadEvent, ConfirmEvents, Request, Idle}
 use Rattle.iol_app.specs.EventReading.{reader_of}
 
 -- nothing is said yet
@@ -35,25 +35,25 @@ pub record Head : Type 0 where
 abbrev pub head_of : Mc → Head
 head_of mc = record { read = mc.read; channel = mc.channel; address = mc.address }
 
-abbrev pub read_of : Channel → ℕ → Head
-read_of channel address = record { read = true; channel = channel; address = address }
+abbrev pub read_head : Channel → ℕ → Head
+read_head channel address = record { read = true; channel = channel; address = address }
 
 abbrev pub write_of : Channel → ℕ → Head
 write_of channel address = record { read = false; channel = channel; address = address }
 
 -- a read on the ISDU channel
 abbrev pub ask_of : Flow → Head
-ask_of flow = read_of Isdu (flow_address flow)
+ask_of flow = read_head Isdu (flow_address flow)
 
 -- the request's next message: the segment, START until the answer begins, then COUNT
-abbrev pub progress_head : Progress → Head
+abbrev pub progress_head : RequestProgress → Head
 progress_head (Sending flow segment) = write_of Isdu (flow_address flow)
 progress_head Doubting = ask_of Start
 progress_head (Asking busy) = ask_of Start
 progress_head (Receiving joining had) = ask_of (Count (segment_number (had + 1)))
 progress_head Refused = ask_of Idle1
 
-abbrev pub progress_data : Progress → List ℕ
+abbrev pub progress_data : RequestProgress → List ℕ
 progress_data (Sending flow segment) = segment.items
 progress_data any = []
 
@@ -66,17 +66,17 @@ request_data None = []
 request_data (Some current) = progress_data current.progress
 
 -- a new message for this
-abbrev pub head_for : Exchange → Reading → Option Current → Head
+abbrev pub head_for : Purpose → ReadingProgress → Option Current → Head
 head_for TellOutput _ current = write_of Page 0
 head_for DropOutput _ current = write_of Page 0
 head_for Abort _ current = ask_of AbortFlow
-head_for ReadEvent reading current = read_of Diagnosis (next_address (reader_of reading))
+head_for ReadEvent reading current = read_head Diagnosis (next_address (reader_of reading))
 head_for ConfirmEvents _ current = write_of Diagnosis 0
 head_for Request _ current = request_head current
 head_for Idle _ current = ask_of Idle1
 
 -- and its on-request data, of this size in a write
-abbrev pub data_for : Exchange → ℕ → Option Current → List ℕ
+abbrev pub data_for : Purpose → ℕ → Option Current → List ℕ
 data_for TellOutput size current = first_of_zeros size (command_octet ProcessDataOutputOperate)
 data_for DropOutput size current = first_of_zeros size (command_octet DeviceOperate)
 data_for ConfirmEvents size current = first_of_zeros size 0

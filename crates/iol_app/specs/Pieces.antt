@@ -13,25 +13,25 @@ use Rattle.iol_link.specs.WireFacts.{WireFacts, Passes}
 use Rattle.iol_mode.specs.declared.states.State.{State}
 use Rattle.iol_mode.specs.declared.states.State.TheVariants.{Operate as AtOperate}
 use Rattle.iol_mode.specs.Exchanges.{IsSending, AreFew, ExchangeGives, StandsOn, text_out, layout_out}
-use Rattle.iol_mode.specs.Messages.{unsent}
-use Rattle.iol_mode.specs.States.{IsDown, NextModeFits, state_of}
+use Rattle.iol_mode.specs.Messages.{new_sending}
+use Rattle.iol_mode.specs.States.{IsDown, NextModeFits, next_state}
 use Rattle.iol_steps.specs.Step.{no_make}
 use Rattle.iol_steps.specs.declared.said.Said.{Said}
 use Rattle.iol_steps.specs.declared.said.Said.TheVariants.{Idle}
 use Rattle.iol_app.specs.declared.asked.Asked.{Asked}
 use Rattle.iol_app.specs.declared.asked.Asked.TheVariants.{Wake, Exchange}
-use Rattle.iol_app.specs.declared.brought.Brought.{Brought}
+use Rattle.iol_app.specs.declared.brought.WireResult.{WireResult}
 use Rattle.iol_app.specs.declared.event_work.EventRoom.{EventRoom}
 use Rattle.iol_app.specs.declared.event_work.EventRoom.TheVariants.{Left}
-use Rattle.iol_app.specs.Asking.{outgoing}
+use Rattle.iol_app.specs.Asking.{outgoing_of}
 use Rattle.iol_app.specs.Brought.{brought_in}
 use Rattle.iol_app.specs.Due.{due_of}
-use Rattle.iol_app.specs.Outputs.{carried_by}
-use Rattle.iol_app.specs.Reports.{is_reading}
-use Rattle.iol_app.specs.Requests.{request_in, request_after}
-use Rattle.iol_app.specs.State.{SessionState, IsSession, sending, IsMessageFor}
-use Rattle.iol_app.specs.StationState.{StateFits as Joined, IsSettledSaid, settled_session}
-use Rattle.iol_app.specs.Core.{Core, Ghost, Stands, IsAttempted, CallGives, SendGives, after_exchange, came_of, core_out, made_ghost, ordered}
+use Rattle.iol_app.specs.Outputs.{output_to_carry}
+use Rattle.iol_app.specs.Reports.{has_begun_reading}
+use Rattle.iol_app.specs.Requests.{request_under_way, request_after}
+use Rattle.iol_app.specs.State.{SessionState, IsSession, session_sending, IsMessageFor}
+use Rattle.iol_app.specs.StationState.{SessionFits, IsSettledSaid, settled_session}
+use Rattle.iol_app.specs.Core.{CoreState, Ghost, BothEndsStand, IsAttempted, CallGives, SendGives, after_exchange, came_of, core_out, made_ghost, ordered_output}
 
 -- What is out
 
@@ -39,75 +39,78 @@ use Rattle.iol_app.specs.Core.{Core, Ghost, Stands, IsAttempted, CallGives, Send
 abbrev pub IsAskedOut : Asked → State → Type 0
 IsAskedOut Wake state = IsDown state
 IsAskedOut (Exchange out) state =
-    IsSending state × (out ≡ outgoing (layout_out state) (text_out state))
+    IsSending state × (out ≡ outgoing_of (layout_out state) (text_out state))
     × IsTrue (has_checksum 1 out.octets.items)
 
 -- whether a message is out, and it is the one asked for
-abbrev pub IsOut : Bool → Asked → State → Type 0
-IsOut true asked state =
-    IsSending state × (asked ≡ Exchange (outgoing (layout_out state) (text_out state)))
-IsOut false asked state = IsDown state × (asked ≡ Wake)
+abbrev pub IsOutAsAsked : Bool → Asked → State → Type 0
+IsOutAsAsked true asked state =
+    IsSending state × (asked ≡ Exchange (outgoing_of (layout_out state) (text_out state)))
+IsOutAsAsked false asked state = IsDown state × (asked ≡ Wake)
 
 -- a new message for what is due is out from now on
-pub record NewOut (layouts : Layouts) (t : SessionState) (room : EventRoom) (new : Core) : Type
+pub record NewOut (layouts : Layouts) (t : SessionState) (room : EventRoom) (new : CoreState) : Type
     0 where
   pub message : MasterMsg
-  pub is : new ≡ core_out layouts (unsent message) (sending (due_of t room) t) (due_of t room)
+  pub is : new ≡ core_out layouts (new_sending message) (session_sending (due_of t room) t)
+      (due_of t room)
       t.current
-  pub due : IsMessageFor (due_of t room) (sending (due_of t room) t) message
+  pub due : IsMessageFor (due_of t room) (session_sending (due_of t room) t) message
   pub parts : HasMasterParts layouts.run message
-  pub carries : message.out.items ≡ carried_by t.output
+  pub carries : message.out.items ≡ output_to_carry t.output
 
-abbrev pub OutAfter : Option Sending → Layouts → SessionState → EventRoom → Core → Core → Type 0
+abbrev pub OutAfter : Option Sending → Layouts → SessionState → EventRoom → CoreState
+    → CoreState → Type 0
 OutAfter None layouts t room old new = NewOut layouts t room new
 OutAfter (Some out) layouts t room old new = new ≡ old
 
-abbrev pub SentBy : State → EventRoom → Core → Core → Type 0
+abbrev pub SentBy : State → EventRoom → CoreState → CoreState → Type 0
 SentBy (AtOperate s) room old new = OutAfter s.out s.layouts old.session room old new
 SentBy s room old new = new ≡ old
 
 -- In OPERATE, where no message is out, a new one is; else nothing changes: what goes out
 -- a second time is what went out
 -- PORT-8
-abbrev pub IsSent : EventRoom → Core → Core → Type 0
-IsSent room old new = SentBy old.state room old new
+abbrev pub SendsMessage : EventRoom → CoreState → CoreState → Type 0
+SendsMessage room old new = SentBy old.state room old new
 
 -- a reading of events is begun only where there is room
-abbrev pub ReadsOn : EventRoom → Core → Core → Type 0
+abbrev pub ReadsOn : EventRoom → CoreState → CoreState → Type 0
 ReadsOn room old new =
-    is_reading new.session ≡ true → (is_reading old.session ≡ true) ⊎ (room ≡ Left)
+    has_begun_reading new.session ≡ true → (has_begun_reading old.session ≡ true) ⊎ (room ≡ Left)
 
 -- What came back is judged by the message that is out
-pub record IsSettledBy (old : Core) (came : Option (List ℕ)) (said : Said) (brought : Brought) :
+pub record IsSettledBy (old : CoreState) (came : Option (List ℕ)) (said : Said)
+    (brought : WireResult) :
     Type 0 where
   -- it was sent less than three times
   pub few : AreFew old.state
   -- the session, by itself, and to the mode
   pub valid : IsSession old.session
-  pub joined : Joined old.state old.session
+  pub joined : SessionFits old.state old.session
   -- the mode that it comes to, by itself, and over an honest wire to the far end
   pub fits : NextModeFits (came_of old came)
   pub gives : ExchangeGives old.state came (came_of old came)
   -- what is said of it
   pub said_is : IsSettledSaid (came_of old came) old.session said
   -- an answer and a cut end the request under way
-  pub request : request_in (settled_session (came_of old came) old.session).current
-      ≡ request_after (request_in old.session.current) said
+  pub request : request_under_way (settled_session (came_of old came) old.session).current
+      ≡ request_after (request_under_way old.session.current) said
   -- what the exchange brought
   pub brought_is : brought ≡ brought_in old.state came
 
 -- and is taken up
-pub record IsTakenUp (old : Core) (came : Option (List ℕ)) (said : Said) (brought : Brought)
-    (new : Core) : Type 0 where
+pub record IsTakenUp (old : CoreState) (came : Option (List ℕ)) (said : Said) (brought : WireResult)
+    (new : CoreState) : Type 0 where
   pub settled : IsSettledBy old came said brought
   -- a message without a good reply goes out again, or a question in its place
   pub is : new ≡ after_exchange (came_of old came) old.session
   -- and the mode stands to each far end as that which was settled
-  pub on : StandsOn (state_of (came_of old came)) new.state
+  pub on : StandsOn (next_state (came_of old came)) new.state
 
 -- The message that is out went out over the wire, and what came back was taken up
-pub record IsPassed {W : Type 0} (facts : WireFacts W) (wire wire_new : W) (old : Core)
-    (said : Said) (brought : Brought) (new : Core) : Type 0 where
+pub record IsPassed {W : Type 0} (facts : WireFacts W) (wire wire_new : W) (old : CoreState)
+    (said : Said) (brought : WireResult) (new : CoreState) : Type 0 where
   pub came : Option (ArrayVec ℕ)
   pub called : facts.exchange_gives wire (text_out old.state) came wire_new
   pub passes : Passes facts wire (text_out old.state) came wire_new
@@ -118,21 +121,21 @@ pub record IsPassed {W : Type 0} (facts : WireFacts W) (wire wire_new : W) (old 
 
 -- what went out before goes out again: it asks for what is wanted, where it was sent and the
 -- far end isn't silent
-pub record SendsAgain (old new : Core) (silence : ℕ) : Type 0 where
+pub record SendsAgain (old new : CoreState) (silence : ℕ) : Type 0 where
   pub same : new ≡ old
   pub asks : IsAttempted old.state → silence ≡ 0
-      → ordered old.state old.session ≡ old.session.output.wanted
+      → ordered_output old.state old.session ≡ old.session.output.wanted
 
 -- both ends stand on, and no step but Make is taken
-unfoldable pub SendSteps : Core → Core → Type 0
+unfoldable pub SendSteps : CoreState → CoreState → Type 0
 SendSteps old new =
-    (g : Ghost) (far : Far) (silence : ℕ) → Stands old g far silence
+    (g : Ghost) (far : Far) (silence : ℕ) → BothEndsStand old g far silence
     → SendsAgain old new silence ⊎ SendGives old new g (made_ghost old.session g) far silence
 
 -- all that a sending makes of the core
-pub record PutsOut (room : EventRoom) (old new : Core) : Type 0 where
+pub record PutsOut (room : EventRoom) (old new : CoreState) : Type 0 where
   -- a message for what is due is out, where none was
-  pub sent : IsSent room old new
+  pub sent : SendsMessage room old new
   -- a reading of events is begun only where there is room
   pub reads : ReadsOn room old new
   -- the mode stands to each far end as before
@@ -141,21 +144,22 @@ pub record PutsOut (room : EventRoom) (old new : Core) : Type 0 where
   pub steps : SendSteps old new
 
 -- what comes back is taken up: no message is made, and one that is out afterwards was sent
-pub record Received (old : Core) (g : Ghost) (far : Far) (silence : ℕ) (said : Said) (new : Core)
+pub record TakeUpGives (old : CoreState) (g : Ghost) (far : Far) (silence : ℕ) (said : Said)
+    (new : CoreState)
     (far_new : Far) (silence_new : ℕ) : Type 0 where
   pub given : CallGives old g far silence said new far_new silence_new
   pub unmade : no_make given.steps ≡ true
   pub attempted : IsAttempted new.state
 
 -- this came of a wake
-unfoldable pub WakeSteps : Core → Bool → Core → Type 0
+unfoldable pub WakeSteps : CoreState → Bool → CoreState → Type 0
 WakeSteps old answered new =
-    (g : Ghost) (far far_new : Far) (silence : ℕ) → Stands old g far silence
-    → HonestWake far answered far_new → Received old g far silence Idle new far_new silence
+    (g : Ghost) (far far_new : Far) (silence : ℕ) → BothEndsStand old g far silence
+    → HonestWake far answered far_new → TakeUpGives old g far silence Idle new far_new silence
 
 -- this came back to the message that is out
-unfoldable pub ReceiveSteps : Core → Option (List ℕ) → Said → Core → Type 0
+unfoldable pub ReceiveSteps : CoreState → Option (List ℕ) → Said → CoreState → Type 0
 ReceiveSteps old came said new =
-    (g : Ghost) (far far_new : Far) (silence silence_new : ℕ) → Stands old g far silence
+    (g : Ghost) (far far_new : Far) (silence silence_new : ℕ) → BothEndsStand old g far silence
     → HonestExchange far silence (text_out old.state) came far_new silence_new
-    → Received old g far silence said new far_new silence_new
+    → TakeUpGives old g far silence said new far_new silence_new

@@ -4,19 +4,19 @@ use Rattle.iol_steps.specs.declared.said.Said.{Said}
 use Rattle.iol_steps.specs.declared.said.Said.TheVariants.{Reported}
 use Rattle.iol_app.specs.declared.event_work.EventRoom.{EventRoom}
 use Rattle.iol_app.specs.declared.event_work.EventRoom.TheVariants.{Left}
-use Rattle.iol_app.specs.declared.session.Exchange.{Exchange}
-use Rattle.iol_app.specs.declared.session.Exchange.TheVariants.{ReadEvent}
+use Rattle.iol_app.specs.declared.session.Purpose.{Purpose}
+use Rattle.iol_app.specs.declared.session.Purpose.TheVariants.{ReadEvent}
 use Rattle.iol_app.specs.Due.{is_under_way}
 use Rattle.iol_app.specs.State.{SessionState}
-use Rattle.iol_app.specs.Requests.{request_in, request_after, EndsRequest}
+use Rattle.iol_app.specs.Requests.{request_under_way, request_after, EndsRequest}
 
-abbrev pub is_read_out : Option Exchange → Bool
+abbrev pub is_read_out : Option Purpose → Bool
 is_read_out (Some ReadEvent) = true
 is_read_out other = false
 
 -- a reading of events was begun: its first read is out, or it has octets
-abbrev pub is_reading : SessionState → Bool
-is_reading s = is_read_out s.exchange || is_under_way s.events.reading
+abbrev pub has_begun_reading : SessionState → Bool
+has_begun_reading s = is_read_out s.exchange || is_under_way s.events.reading
 
 -- a report ends a reading that was begun before; and one begins only where there is room
 abbrev pub ReadingAfter : EventRoom → Bool → Said → Bool → Type 0
@@ -27,8 +27,8 @@ ReadingAfter room before said after = after ≡ true → (before ≡ true) ⊎ (
 pub record SaidFits (room : EventRoom) (old : SessionState) (said : Said) (new : SessionState) :
     Type 0 where
   -- an answer and a cut end the request under way
-  pub request : request_in new.current ≡ request_after (request_in old.current) said
+  pub request : request_under_way new.current ≡ request_after (request_under_way old.current) said
   -- both are said only of one
-  pub ends : EndsRequest said (request_in old.current)
+  pub ends : EndsRequest said (request_under_way old.current)
   -- a report ends a reading that was begun, and `room` says whether one may begin
-  pub reading : ReadingAfter room (is_reading old) said (is_reading new)
+  pub reading : ReadingAfter room (has_begun_reading old) said (has_begun_reading new)

@@ -14,7 +14,7 @@ use iol_mseq::{Layout, Message};
 
 /// What came back to a message.
 #[derive(Clone, Copy, Debug, PartialEq, Eq)]
-pub enum Verdict {
+pub enum ReplyVerdict {
     /// A good reply.
     Good,
     /// Nothing, in the time of a reply.
@@ -27,24 +27,24 @@ pub enum Verdict {
 
 /// What the one call of the wire in a turn brought.
 #[derive(Clone, Copy, Debug, PartialEq, Eq)]
-pub enum Brought {
+pub enum WireResult {
     /// No device answered the wake-up request.
     NoDevice,
     /// A device answered it, and a start-up begins.
     Woken,
     /// An exchange: how many attempts in a row at its message brought no good reply before, 0 to
     /// 2, and what came back.
-    Exchanged(u8, Verdict),
+    Exchanged(u8, ReplyVerdict),
 }
 
-impl Brought {
+impl WireResult {
     /// What a wake brought.
-    pub fn of_wake(rate: Option<Rate>) -> Brought
+    pub fn of_wake(rate: Option<Rate>) -> WireResult
         ensures { result ≡ woken_by (is_some rate) }
     {
         match rate {
-            Some(_) => Brought::Woken,
-            None => Brought::NoDevice,
+            Some(_) => WireResult::Woken,
+            None => WireResult::NoDevice,
         }
     }
 }
@@ -105,24 +105,24 @@ impl Out {
     }
 
     /// What an exchange of it brought, whose attempt ended so.
-    pub(crate) fn brought(self, attempt: &AttemptView<'_>, came: &Option<Message>) -> Brought
-        ensures { result ≡ Brought.Exchanged self.tries
+    pub(crate) fn brought(self, attempt: &AttemptView<'_>, came: &Option<Message>) -> WireResult
+        ensures { result ≡ WireResult.Exchanged self.tries
             (verdict_by (attempt_in attempt.now) self.reply (octets_in came.now)) }
     {
-        Brought::Exchanged(self.tries, self.verdict(attempt, came))
+        WireResult::Exchanged(self.tries, self.verdict(attempt, came))
     }
 
     /// What came back.
-    fn verdict(self, attempt: &AttemptView<'_>, came: &Option<Message>) -> Verdict
+    fn verdict(self, attempt: &AttemptView<'_>, came: &Option<Message>) -> ReplyVerdict
         ensures { result ≡ verdict_by (attempt_in attempt.now) self.reply (octets_in came.now) }
     {
         if let AttemptView::Got(_) = attempt {
-            return Verdict::Good;
+            return ReplyVerdict::Good;
         }
         match came {
-            None => Verdict::NoReply,
-            Some(octets) if octets.len() == self.reply as usize => Verdict::WrongChecksum,
-            Some(_) => Verdict::WrongLength,
+            None => ReplyVerdict::NoReply,
+            Some(octets) if octets.len() == self.reply as usize => ReplyVerdict::WrongChecksum,
+            Some(_) => ReplyVerdict::WrongLength,
         }
     }
 }

@@ -8,23 +8,23 @@ ghost use Rattle.iol_link.specs.WireFacts.{Wakes};
 ghost use Rattle.iol_mode.specs.States.{IsDown, is_reset, outcome_with};
 ghost use Rattle.iol_mode.specs.Exchanges.{IsSending, StandsOn, WakeStands, text_out};
 ghost use Rattle.iol_app.specs.EventReading.{is_refused};
-ghost use Rattle.iol_app.specs.State.{aborted_in, begun_in, wanting, expecting, pacing, output_refusal};
-ghost use Rattle.iol_app.specs.Requests.{request_in, request_after};
+ghost use Rattle.iol_app.specs.State.{aborted_in, session_after_begin, session_wanting, session_expecting, session_with_cycle, output_refusal};
+ghost use Rattle.iol_app.specs.Requests.{request_under_way, request_after};
 ghost use Rattle.iol_app.specs.Due.{is_ready};
 ghost use Rattle.iol_app.specs.Reports.{SaidFits};
-ghost use Rattle.iol_app.specs.StationState.{mode_in, why_in, page_in, operates, settled_session, NextFits, IsSettledSaid, StateFits as Joined};
-ghost use Rattle.iol_app.specs.Asking.{asked_in, beginning_in, outgoing};
+ghost use Rattle.iol_app.specs.StationState.{mode_in, why_in, page_in, operates, settled_session, NextFits, IsSettledSaid, SessionFits};
+ghost use Rattle.iol_app.specs.Asking.{asked_in, beginning_in, outgoing_of};
 ghost use Rattle.iol_app.specs.Core.{after_missed, settled_core, after_wake, came_of, opened_core, restarted_core, wanting_core, IsRight};
-ghost use Rattle.iol_app.specs.Pieces.{IsAskedOut, IsOut, IsSettledBy, IsTakenUp, IsPassed, PutsOut, WakeSteps, ReceiveSteps};
+ghost use Rattle.iol_app.specs.Pieces.{IsAskedOut, IsOutAsAsked, IsSettledBy, IsTakenUp, IsPassed, PutsOut, WakeSteps, ReceiveSteps};
 ghost use Rattle.iol_app.specs.Seen.{station_of, NewSteps, BeginSteps, DenySteps, AbortSteps, CancelSteps, WantSteps, RestartSteps, LinkStands, IsWholeTurn};
 
 use crate::asked::{Asked, Outgoing};
-use crate::brought::{Brought, Out};
+use crate::brought::{Out, WireResult};
 use crate::event_work::EventRoom;
 use crate::laws::station_laws;
 use crate::message::blank;
 use crate::output::OutputFault;
-use crate::session::Session;
+use crate::session::PortSession;
 use iol_far::page_and_room_stay;
 use iol_image::Image;
 use iol_isdu::{Cause, Request};
@@ -57,19 +57,19 @@ pub struct Status {
 #[derive(Drop)]
 pub struct Core {
     state: State,
-    session: Session,
+    session: PortSession,
 }
 
 impl Model for Core {
     ghost use Rattle.iol_mode.specs.States.{StateFits};
-    ghost use Rattle.iol_app.specs.StationState.{StateFits as Joined};
-    ghost use Rattle.iol_app.specs.Core.{Core};
+    ghost use Rattle.iol_app.specs.StationState.{SessionFits};
+    ghost use Rattle.iol_app.specs.Core.{CoreState};
 
-    ghost Value = { Core };
+    ghost Value = { CoreState };
 
     ghost view = { λ c. record { state = c.state; session = c.session } };
 
-    ghost invariant = { λ c. StateFits c.state × Joined c.state c.session };
+    ghost invariant = { λ c. StateFits c.state × SessionFits c.state c.session };
 }
 
 impl Core {
@@ -81,7 +81,7 @@ impl Core {
     {
         Core {
             state: State::Down(Down { why: None }),
-            session: Session::new(busy, devices),
+            session: PortSession::new(busy, devices),
         }
     }
 
@@ -171,7 +171,8 @@ impl Core {
         requires operate { mode_in self.old.state ≡ Mode.Operate }
         requires free { self.old.session.current ≡ None }
         requires isdu { self.old.session.isdu ≢ Some false }
-        ensures core { self.new ≡ record self.old { session = begun_in request self.old.session } }
+        ensures core { self.new
+            ≡ record self.old { session = session_after_begin request self.old.session } }
         ensures steps { BeginSteps request self.old self.new }
     {
         self.session.begin(request);
@@ -219,7 +220,7 @@ impl Core {
     /// Expects this device, or any, from the next page on that a start-up has read whole.
     pub fn expect(&mut self, identity: Option<Identity>)
         ensures core { self.new
-            ≡ record self.old { session = expecting identity self.old.session } }
+            ≡ record self.old { session = session_expecting identity self.old.session } }
         ensures steps { WantSteps self.old self.new }
     {
         self.session.expect(identity);
@@ -228,7 +229,8 @@ impl Core {
     /// Has the next start-ups write this cycle time to the device, where it is at least the
     /// device's MinCycleTime; else, and for none, MinCycleTime.
     pub fn set_cycle(&mut self, cycle: Option<CycleTime>)
-        ensures core { self.new ≡ record self.old { session = pacing cycle self.old.session } }
+        ensures core { self.new
+            ≡ record self.old { session = session_with_cycle cycle self.old.session } }
         ensures steps { WantSteps self.old self.new }
     {
         self.session.pace(cycle);
@@ -290,7 +292,7 @@ impl Core {
     /// is to be sent.
     fn put_next(&mut self, room: EventRoom) -> bool
         ensures puts { PutsOut room self.old self.new }
-        ensures out { IsOut result (asked_in self.old.state self.old.session room)
+        ensures out { IsOutAsAsked result (asked_in self.old.state self.old.session room)
             self.new.state }
     {
         self.put_due(room);
@@ -328,7 +330,7 @@ impl Core {
     fn take_wake(&mut self, rate: Option<Rate>)
         requires { IsDown self.old.state }
         ensures core { self.new ≡ after_wake (is_some rate) self.old.session }
-        ensures still { Joined self.old.state self.old.session }
+        ensures still { SessionFits self.old.state self.old.session }
         ensures stands { WakeStands self.old.session.configuration.devices (is_some rate) }
     {
         let devices = self.session.configuration().devices;
@@ -348,7 +350,7 @@ impl Core {
     /// It says `Reported`, `Answered` or `Cut` where that happened, else `Busy` where a request
     /// is under way afterwards, else `Idle`, whatever `said` held. It answers what the exchange
     /// brought.
-    pub fn receive(&mut self, came: &Option<Message>, said: &mut Said) -> Brought
+    pub fn receive(&mut self, came: &Option<Message>, said: &mut Said) -> WireResult
         requires { IsSending self.old.state }
         ensures taken { IsTakenUp self.old (octets_in came.now) said.new result self.new }
         ensures told { SaidFits EventRoom.Full self.old.session said.new self.new.session }
@@ -358,7 +360,7 @@ impl Core {
         self.take(came, said)
     }
 
-    fn take(&mut self, came: &Option<Message>, said: &mut Said) -> Brought
+    fn take(&mut self, came: &Option<Message>, said: &mut Said) -> WireResult
         requires { IsSending self.old.state }
         ensures { IsTakenUp self.old (octets_in came.now) said.new result self.new }
     {
@@ -368,7 +370,7 @@ impl Core {
     }
 
     /// The same, but that a message that has to go out again stays as it is.
-    fn settle(&mut self, came: &Option<Message>, said: &mut Said) -> Brought
+    fn settle(&mut self, came: &Option<Message>, said: &mut Said) -> WireResult
         requires { IsSending self.old.state }
         ensures core { self.new
             ≡ settled_core (came_of self.old (octets_in came.now)) self.old.session }
@@ -408,7 +410,7 @@ impl Core {
     /// is taken.
     ///
     /// Rules LINK-1, PD-7.
-    pub fn turn<W: Wire>(&mut self, wire: &mut W, room: EventRoom, said: &mut Said) -> Brought
+    pub fn turn<W: Wire>(&mut self, wire: &mut W, room: EventRoom, said: &mut Said) -> WireResult
         requires { LinkStands W.facts wire.old self.old }
         ensures turn { IsWholeTurn W.facts room (station_of wire.old self.old) said.new result
             (station_of wire.new self.new) }
@@ -424,12 +426,12 @@ impl Core {
             let rate = wire.wake();
             self.take_wake(rate);
             *said = Said::Idle;
-            Brought::of_wake(rate)
+            WireResult::of_wake(rate)
         }
     }
 
     /// The message that is out goes out over this wire, and what comes back is taken.
-    fn exchange<W: Wire>(&mut self, wire: &mut W, said: &mut Said) -> Brought
+    fn exchange<W: Wire>(&mut self, wire: &mut W, said: &mut Said) -> WireResult
         requires { IsSending self.old.state }
         ensures { IsPassed W.facts wire.old wire.new self.old said.new result self.new }
     {
@@ -442,20 +444,20 @@ impl Core {
 
 /// These octets go out, in this layout.
 fn goes_out(layout: Layout, octets: Message) -> Asked
-    ensures { result ≡ Asked.Exchange (outgoing layout octets.items) }
+    ensures { result ≡ Asked.Exchange (outgoing_of layout octets.items) }
 {
     Asked::Exchange(Outgoing::new(layout, octets))
 }
 
 /// Takes up the mode after an exchange, in OPERATE with the good reply that it brought.
-fn settled(state: &State, attempt: &AttemptView<'_>, session: &mut Session, said: &mut Said)
+fn settled(state: &State, attempt: &AttemptView<'_>, session: &mut PortSession, said: &mut Said)
     requires { NextFits (outcome_with (attempt_in attempt.now) state.now) session.old }
     ensures session { session.new
         ≡ settled_session (outcome_with (attempt_in attempt.now) state.now) session.old }
     ensures said { IsSettledSaid (outcome_with (attempt_in attempt.now) state.now) session.old
         said.new }
-    ensures request { request_in session.new.current
-        ≡ request_after (request_in session.old.current) said.new }
+    ensures request { request_under_way session.new.current
+        ≡ request_after (request_under_way session.old.current) said.new }
 {
     match state {
         State::Down(_) => session.lose(said),

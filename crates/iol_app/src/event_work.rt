@@ -1,9 +1,9 @@
 //! The reading of events: octet by octet, then the confirm (IEC 61131-9, 7.3.8).
 ghost use Rattle.std.specs.Prelude.{◌≡◌, ◌≤◌, is_some};
 ghost use Rattle.iol_event.specs.Reading.{next_address};
-ghost use Rattle.iol_app.specs.EventReading.{no_events, reader_of, events_after, list_read, told_list, reading_after, list_after};
+ghost use Rattle.iol_app.specs.EventReading.{new_event_work, reader_of, event_work_after, list_read, told_list, reading_after_octet, list_after};
 
-use crate::session::Exchange;
+use crate::session::Purpose;
 use iol_event::EventReader;
 use iol_mseq::{ReplyView, first};
 use iol_steps::Said;
@@ -20,7 +20,7 @@ pub enum EventRoom {
 
 /// How far the reading of events has come.
 #[derive(Drop)]
-pub(crate) enum Reading {
+pub(crate) enum ReadingProgress {
     /// None is under way.
     Resting,
     /// The StatusCode is read, and octets of the places that it marks.
@@ -33,20 +33,20 @@ pub(crate) enum Reading {
 
 /// The event work of a port.
 #[derive(Drop)]
-pub(crate) struct Events {
+pub(crate) struct EventWork {
     /// The Event flag of the last good reply.
     pub(crate) flag: bool,
-    pub(crate) reading: Reading,
+    pub(crate) reading: ReadingProgress,
 }
 
-impl Events {
+impl EventWork {
     /// As a start-up begins.
-    pub(crate) fn new() -> Events
-        ensures { result ≡ no_events }
+    pub(crate) fn new() -> EventWork
+        ensures { result ≡ new_event_work }
     {
-        Events {
+        EventWork {
             flag: false,
-            reading: Reading::Resting,
+            reading: ReadingProgress::Resting,
         }
     }
 
@@ -56,7 +56,7 @@ impl Events {
         ensures small { result ≤ 31 }
     {
         match &self.reading {
-            Reading::UnderWay(reader) => reader.address(),
+            ReadingProgress::UnderWay(reader) => reader.address(),
             _ => 0,
         }
     }
@@ -67,21 +67,21 @@ impl Events {
     /// Rule EVT-8.
     pub(crate) fn absorb(
         &mut self,
-        exchange: Exchange,
+        exchange: Purpose,
         reply: &ReplyView<'_>,
         said: &mut Said,
     ) -> bool
         ensures tells { result
             ≡ is_some (list_read exchange reply.now.od.items self.old.reading) }
-        ensures events { self.new ≡ events_after exchange reply.now self.old }
+        ensures events { self.new ≡ event_work_after exchange reply.now self.old }
         ensures list { said.new
             ≡ told_list (list_read exchange reply.now.od.items self.old.reading) said.old }
     {
         self.flag = reply.event();
         match exchange {
-            Exchange::ReadEvent => self.take(first(reply.od()), said),
-            Exchange::ConfirmEvents => {
-                self.reading = Reading::Resting;
+            Purpose::ReadEvent => self.take(first(reply.od()), said),
+            Purpose::ConfirmEvents => {
+                self.reading = ReadingProgress::Resting;
                 false
             }
             _ => false,
@@ -96,21 +96,21 @@ impl Events {
     fn take(&mut self, octet: u8, said: &mut Said) -> bool
         ensures tells { result ≡ is_some (list_after self.old.reading octet) }
         ensures events { self.new
-            ≡ record self.old { reading = reading_after self.old.reading octet } }
+            ≡ record self.old { reading = reading_after_octet self.old.reading octet } }
         ensures list { said.new ≡ told_list (list_after self.old.reading octet) said.old }
     {
-        let mut reader = match replace(&mut self.reading, Reading::Resting) {
-            Reading::UnderWay(reader) => reader,
+        let mut reader = match replace(&mut self.reading, ReadingProgress::Resting) {
+            ReadingProgress::UnderWay(reader) => reader,
             _ => EventReader::new(),
         };
         match reader.take(octet) {
-            Ok(None) => self.reading = Reading::UnderWay(reader),
+            Ok(None) => self.reading = ReadingProgress::UnderWay(reader),
             Ok(Some(list)) => {
-                self.reading = Reading::ConfirmDue;
+                self.reading = ReadingProgress::ConfirmDue;
                 *said = Said::Reported(list);
                 return true;
             }
-            Err(_) => self.reading = Reading::Refused,
+            Err(_) => self.reading = ReadingProgress::Refused,
         }
         false
     }

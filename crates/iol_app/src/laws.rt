@@ -2,7 +2,7 @@
 ghost use Rattle.iol_app.specs.Moves.{MessagesAreMoves, AnswersAreTakenUp};
 ghost use Rattle.iol_app.specs.StationLaws.{StationLaws};
 ghost use Rattle.iol_steps.specs.Exchange.{TextNamesAnswer};
-ghost use Rattle.iol_app.specs.Core.{Wakes, Rises, Receives, Sends};
+ghost use Rattle.iol_app.specs.Core.{WakesDevice, Rises, Receives, Sends};
 
 use iol_event::{memory_stays_valid, reading_gives_the_frozen_list};
 use iol_far::{
@@ -36,7 +36,7 @@ pub(crate) fn answers_are_taken_up()
 /// A wake.
 #[tactic(auto, using(crate::proofs::Waking::wakes))]
 pub(crate) fn wake_gives()
-    ensures { Wakes }
+    ensures { WakesDevice }
 {
     ends_stay_level();
     page_and_room_stay();

@@ -5,11 +5,11 @@ ghost use Rattle.iol_octets.specs.declared.control.Channel.TheVariants.{Page, Is
 ghost use Rattle.iol_mseq.specs.Parts.{first_of_zeros as octet_and_zeros};
 ghost use Rattle.iol_page.specs.Commands.{command_octet};
 ghost use Rattle.iol_app.specs.Requests.{IsCurrent};
-ghost use Rattle.iol_app.specs.Messages.{IsBlank, head_of, head_for, data_for, question, request_head, request_data, read_of, write_of};
+ghost use Rattle.iol_app.specs.Messages.{IsBlank, head_of, head_for, data_for, question, request_head, request_data, read_head, write_of};
 
-use crate::event_work::Events;
-use crate::request::{Current, Progress};
-use crate::session::Exchange;
+use crate::event_work::EventWork;
+use crate::request::{Current, RequestProgress};
+use crate::session::Purpose;
 use iol_mseq::{MasterMsg, Part, first_of_zeros};
 use iol_octets::{Channel, Flow, Mc, OdLength, segment_number};
 use iol_page::MasterCommand;
@@ -43,9 +43,9 @@ pub(crate) fn put(part: &mut Part, octets: &[u8])
 /// The control octet of a new message for this, whose on-request data, in a write of that size, go
 /// into a part that is empty.
 pub(crate) fn body_for(
-    exchange: Exchange,
+    exchange: Purpose,
     size: OdLength,
-    events: &Events,
+    events: &EventWork,
     current: &Option<Current>,
     od: &mut Part,
 ) -> Mc
@@ -55,16 +55,16 @@ pub(crate) fn body_for(
     ensures od { od.new.items ≡ data_for exchange size current.now }
 {
     match exchange {
-        Exchange::TellOutput => command(size, MasterCommand::ProcessDataOutputOperate, od),
-        Exchange::DropOutput => command(size, MasterCommand::DeviceOperate, od),
-        Exchange::Abort => ask(Flow::Abort),
-        Exchange::ReadEvent => read(Channel::Diagnosis, events.address()),
-        Exchange::ConfirmEvents => {
+        Purpose::TellOutput => command(size, MasterCommand::ProcessDataOutputOperate, od),
+        Purpose::DropOutput => command(size, MasterCommand::DeviceOperate, od),
+        Purpose::Abort => ask(Flow::Abort),
+        Purpose::ReadEvent => read(Channel::Diagnosis, events.address()),
+        Purpose::ConfirmEvents => {
             *od = first_of_zeros(size, 0);
             write(Channel::Diagnosis, 0)
         }
-        Exchange::Request => request_body(current, od),
-        Exchange::Idle => ask(Flow::Idle1),
+        Purpose::Request => request_body(current, od),
+        Purpose::Idle => ask(Flow::Idle1),
     }
 }
 
@@ -79,13 +79,13 @@ fn request_body(current: &Option<Current>, od: &mut Part) -> Mc
         return ask(Flow::Idle1);
     };
     match &current.progress {
-        Progress::Sending(flow, segment) => {
+        RequestProgress::Sending(flow, segment) => {
             put(od, segment);
             write(Channel::Isdu, flow.address())
         }
-        Progress::Doubting | Progress::Asking(_) => ask(Flow::Start),
-        Progress::Receiving(_, had) => ask(Flow::Count(segment_number(*had as usize + 1))),
-        Progress::Refused => ask(Flow::Idle1),
+        RequestProgress::Doubting | RequestProgress::Asking(_) => ask(Flow::Start),
+        RequestProgress::Receiving(_, had) => ask(Flow::Count(segment_number(*had as usize + 1))),
+        RequestProgress::Refused => ask(Flow::Idle1),
     }
 }
 
@@ -112,14 +112,14 @@ fn command(size: OdLength, command: MasterCommand, od: &mut Part) -> Mc
 /// A read on the ISDU channel.
 fn ask(flow: Flow) -> Mc
     requires { IsFlow flow }
-    ensures { head_of result ≡ read_of Isdu (flow_address flow) }
+    ensures { head_of result ≡ read_head Isdu (flow_address flow) }
 {
     read(Channel::Isdu, flow.address())
 }
 
 fn read(channel: Channel, address: u8) -> Mc
     requires { address ≤ 31 }
-    ensures { head_of result ≡ read_of channel address }
+    ensures { head_of result ≡ read_head channel address }
 {
     Mc {
         read: true,

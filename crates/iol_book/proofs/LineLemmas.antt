@@ -11,17 +11,18 @@ use Rattle.std.specs.Map.{lookup, remove_entry}
 use Rattle.std.proofs.lemmas.Grind.{common_steps}
 use Rattle.iol_book.specs.declared.entries.Ticket.{Ticket}
 use Rattle.iol_book.specs.declared.entries.Entry.{Entry}
-use Rattle.iol_book.specs.Replay.{Standing, nothing, step, replay_from, replay, same_ticket, is_among, without, others_without}
+use Rattle.iol_book.specs.Replay.{Standing, nothing, standing_after, replay_from, replay, same_ticket, is_among, without, others_without}
 use Rattle.iol_book.specs.BookModel.{others_behind}
-use Rattle.iol_book.specs.Lines.{Lines, values_at, AllPass, has_request, taken_at}
+use Rattle.iol_book.specs.Lines.{TicketLines, values_at, AllPass, has_request, taken_at}
 use Rattle.std.specs.List.{remove, position, position_or_len}
 
 replay_from-push : (s : Standing) (es : List Entry) (e : Entry)
-    → replay_from s (es ++ e ∷ []) ≡ step (replay_from s es) e
+    → replay_from s (es ++ e ∷ []) ≡ standing_after (replay_from s es) e
 replay_from-push s [] e = refl
-replay_from-push s (x ∷ es) e = replay_from-push (step s x) es e
+replay_from-push s (x ∷ es) e = replay_from-push (standing_after s x) es e
 
-pub replay-push : (es : List Entry) (e : Entry) → replay (es ++ e ∷ []) ≡ step (replay es) e
+pub replay-push : (es : List Entry) (e : Entry)
+    → replay (es ++ e ∷ []) ≡ standing_after (replay es) e
 replay-push es e = replay_from-push nothing es e
 
 -- the usual lemmas and it, for the state that a call leaves
@@ -41,25 +42,25 @@ get-more test none e (x ∷ es) (suc i) passes = get-more test none e es i passe
 
 -- lines that pass, and what they say
 pub record Says {X : Type 0} (test : Option Entry → Bool) (value : Option Entry → X)
-    (es : List Entry) (ls : Lines) (xs : List (Ticket × X)) : Type 0 where
+    (es : List Entry) (ls : TicketLines) (xs : List (Ticket × X)) : Type 0 where
   pub pass : AllPass test es ls
   pub said : values_at value es ls ≡ xs
 
 module _ {X : Type 0} {test : Option Entry → Bool} {value : Option Entry → X} where
-  says-cons : {es : List Entry} {ls : Lines} {xs : List (Ticket × X)} (l : Ticket × ℕ) {x : X}
+  says-cons : {es : List Entry} {ls : TicketLines} {xs : List (Ticket × X)} (l : Ticket × ℕ) {x : X}
       → test (slice_get es l.1) ≡ true → value (slice_get es l.1) ≡ x
       → Says test value es ls xs → Says test value es (l ∷ ls) ((l.0, x) ∷ xs)
   says-cons l passes is h = record { pass = (passes, h.pass); said = rw (is, h.said) refl }
 
   -- after one more entry the lines say what they said
-  pub says-more : (es : List Entry) (e : Entry) (ls : Lines) → test None ≡ false
+  pub says-more : (es : List Entry) (e : Entry) (ls : TicketLines) → test None ≡ false
       → AllPass test es ls → Says test value (es ++ e ∷ []) ls (values_at value es ls)
   says-more es e [] none h = record { pass = tt; said = refl }
   says-more es e (l ∷ ls) none h = let same = get-more test none e es l.1 h.0 in
       says-cons l (rw same h.0) (ap value same) (says-more es e ls none h.1)
 
   -- and one line more says that entry
-  pub says-new : (es : List Entry) (e : Entry) (ls : Lines) (t : Ticket) → test None ≡ false
+  pub says-new : (es : List Entry) (e : Entry) (ls : TicketLines) (t : Ticket) → test None ≡ false
       → test (Some e) ≡ true → AllPass test es ls
       → Says test value (es ++ e ∷ []) (ls ++ (t, length es) ∷ [])
       (values_at value es ls ++ (t, value (Some e)) ∷ [])
@@ -71,17 +72,18 @@ module _ {X : Type 0} {test : Option Entry → Bool} {value : Option Entry → X
 module _ {X : Type 0} {test : Option Entry → Bool} {value : Option Entry → X} {es : List Entry}
   where
     -- so it is of a list without one
-    pub says-drop : {ls : Lines} {xs : List (Ticket × X)} → Says test value es ls xs
+    pub says-drop : {ls : TicketLines} {xs : List (Ticket × X)} → Says test value es ls xs
         → Says test value es (drop 1 ls) (drop 1 xs)
     says-drop {ls = []} h = rw (← h.said) (record { pass = tt; said = refl })
     says-drop {ls = l ∷ ls} h = rw (← h.said) (record { pass = h.pass.1; said = refl })
 
-    pub says-behind : {us ws : Lines} {ys xs : List (Ticket × X)} → Says test value es us ys
+    pub says-behind : {us ws : TicketLines} {ys xs : List (Ticket × X)} → Says test value es us ys
         → Says test value es ws xs → Says test value es (others_behind us ws) (others_behind ys xs)
     says-behind {us = []} u h = rw (← u.said) (says-drop h)
     says-behind {us = l ∷ us} u h = rw (← u.said) h
 
-    pub says-without : {ls : Lines} {xs : List (Ticket × X)} (t : Ticket) → Says test value es ls xs
+    pub says-without : {ls : TicketLines} {xs : List (Ticket × X)} (t : Ticket)
+        → Says test value es ls xs
         → Says test value es (without t ls) (without t xs)
     says-without {ls = []} t h = rw (← h.said) (record { pass = tt; said = refl })
     says-without {ls = l ∷ ls} t h =
@@ -95,13 +97,13 @@ module _ {X : Type 0} {test : Option Entry → Bool} {value : Option Entry → X
 
 -- what the lines say of a ticket
 pub lookup-values : {X : Type 0} (value : Option Entry → X) (es : List Entry) (t : Ticket)
-    (ls : Lines) → lookup (same_ticket t) (values_at value es ls)
+    (ls : TicketLines) → lookup (same_ticket t) (values_at value es ls)
     ≡ option_map (λ i. value (slice_get es i)) (lookup (same_ticket t) ls)
 lookup-values value es t [] = refl
 lookup-values value es t (l ∷ ls) = grind (arith, common_steps, lookup-values value es t ls)
 
 pub among-values : {X : Type 0} (value : Option Entry → X) (es : List Entry) (t : Ticket)
-    (ls : Lines) → is_among t (values_at value es ls) ≡ is_among t ls
+    (ls : TicketLines) → is_among t (values_at value es ls) ≡ is_among t ls
 among-values value es t ls = grind (arith, common_steps, lookup-values value es t ls)
 
 -- what the checks of a book's calls need beside the usual lemmas
@@ -109,7 +111,7 @@ pub ruleset line_steps = (replay-push, lookup-values, among-values)
 
 -- the others without a ticket, by their lines
 pub says-others : {X : Type 0} {test : Option Entry → Bool} {value : Option Entry → X}
-    {es : List Entry} {us ws : Lines} {ys xs : List (Ticket × X)} (t : Ticket)
+    {es : List Entry} {us ws : TicketLines} {ys xs : List (Ticket × X)} (t : Ticket)
     → Says test value es us ys → Says test value es ws xs
     → Says test value es (others_without t us ws) (others_without t ys xs)
 says-others {test} {value} {es} {us} {ws} {xs} t u h = rw (← u.said, among-values value es t us)
@@ -118,14 +120,15 @@ says-others {test} {value} {es} {us} {ws} {xs} t u h = rw (← u.said, among-val
     [ true ↦ h | false ↦ says-without t h ])
 
 -- the first of two lists has a line that passes, and what it says is the first of what they say
-pub head-passes : (test : Option Entry → Bool) (es : List Entry) (us ws : Lines) (p : Ticket × ℕ)
+pub head-passes : (test : Option Entry → Bool) (es : List Entry) (us ws : TicketLines)
+    (p : Ticket × ℕ)
     → slice_get (us ++ ws) 0 ≡ Some p → AllPass test es us → AllPass test es ws
     → test (slice_get es p.1) ≡ true
 head-passes test es [] [] p head hu hw = absurd (cc)
 head-passes test es [] (w ∷ ws) p head hu hw = let e : w ≡ p = cc in rw (← e) hw.0
 head-passes test es (u ∷ us) ws p head hu hw = let e : u ≡ p = cc in rw (← e) hu.0
 
-pub head-at : {X : Type 0} (value : Option Entry → X) (es : List Entry) (us ws : Lines)
+pub head-at : {X : Type 0} (value : Option Entry → X) (es : List Entry) (us ws : TicketLines)
     {p : Ticket × ℕ} → slice_get (us ++ ws) 0 ≡ Some p
     → slice_get (values_at value es us ++ values_at value es ws) 0
     ≡ Some (p.0, value (slice_get es p.1))

@@ -1,6 +1,6 @@
 -- A book is sound after each of its calls: the invariant of `Book`. First how often a number stands
 -- among the outstanding tickets, before and after an entry: why each ticket still names one
--- request (`numbered` of `IsSound`), and which have no outcome (the clause `answer` of
+-- request (`numbered` of `IsSoundBook`), and which have no outcome (the clause `answer` of
 -- `collect_into`). Then that the step of an entry is what its call does to the standing (the clause
 -- `state` of each call), and last a lemma of each call, from what the call did to the fields.
 use Rattle.std.proofs.Common.{◌≡◌, ℕ, ◌+◌, ◌≤◌, Bool, true, false, ◌||◌, refl, cond, List, [], ◌∷◌, ◌++◌, Option, Some, None, ap, arith, is_some, nat_eq, drop, length, ◌∙◌}
@@ -14,7 +14,7 @@ use Rattle.iol_book.specs.declared.entries.Ticket.{Ticket}
 use Rattle.iol_book.specs.declared.entries.Outcome.{Outcome}
 use Rattle.iol_book.specs.declared.entries.Outcome.TheVariants.{Done, Unknown, Withdrawn, NoIsdu}
 use Rattle.iol_book.specs.declared.entries.Entry.TheVariants.{Submitted, Urgent, Taken, Answered, Collected}
-use Rattle.iol_book.specs.Replay.{Standing, step, same_ticket, waiting_after, is_among, without, others_without, without_waiting}
+use Rattle.iol_book.specs.Replay.{Standing, standing_after, same_ticket, waiting_after, is_among, without, others_without, without_waiting}
 use Rattle.iol_book.specs.BookModel.{waits, is_taken, others_behind, without_first}
 use Rattle.iol_book.specs.Numbers.{times, times_in, IsNumbered}
 use Rattle.std.specs.VecDeque.{deque_capacity}
@@ -22,8 +22,8 @@ use Rattle.std.specs.declared.collections.VecDeque.{VecDeque}
 use Rattle.std.specs.declared.vec.Vec.{Vec}
 use Rattle.iol_book.specs.declared.entries.Entry.{Entry}
 use Rattle.iol_book.specs.declared.book.Book.TheInside.{Inside}
-use Rattle.iol_book.specs.BookInside.{IsSound, HasRoom, standing_of}
-use Rattle.iol_book.specs.Lines.{Lines, AllPass, has_request, request_in, outcome_in, taken_at}
+use Rattle.iol_book.specs.BookInside.{IsSoundBook, HasRoom, standing_of}
+use Rattle.iol_book.specs.Lines.{TicketLines, AllPass, has_request, entry_request, outcome_in, taken_at}
 use Rattle.iol_book.proofs.LineLemmas.{remove-absent, replay-push, Says, says-more, says-new, says-drop, says-behind, says-without, says-others, among-values, head-passes, head-at, taken-more, request-within}
 
 abbrev pub one_if : Bool → ℕ
@@ -158,11 +158,11 @@ head-leaves (u ∷ us) ws p head = let e : u ≡ p = cc in rw (← e) (record {
 -- how often a number stands after each step
 module _ (n : ℕ) (s : Standing) where
   pub times-submitted : (t : Ticket) (r : Request)
-      → times n (step s (Submitted t r)) ≡ times n s + one_if (nat_eq n t.0)
+      → times n (standing_after s (Submitted t r)) ≡ times n s + one_if (nat_eq n t.0)
   times-submitted t r = grind (arith, common_steps, times_in-push n t r s.waiting)
 
   pub times-urgent : (t : Ticket) (r : Request)
-      → times n (step s (Urgent t r)) ≡ times n s + one_if (nat_eq n t.0)
+      → times n (standing_after s (Urgent t r)) ≡ times n s + one_if (nat_eq n t.0)
   times-urgent t r = grind (arith, common_steps, times_in-push n t r s.urgent)
 
   pub times-posted : (p : Ticket × Request) (o : Outcome) → s.taken ≡ Some p
@@ -191,35 +191,35 @@ module _ (n : ℕ) (s : Standing) where
     times_in-insert_entry n t o s.outcomes,
   )
 
-  pub times-collected : (t : Ticket) → times n (step s (Collected t)) ≤ times n s
+  pub times-collected : (t : Ticket) → times n (standing_after s (Collected t)) ≤ times n s
   times-collected t = grind (arith, common_steps, times_in-remove_entry n t s.outcomes)
 
 -- what is taken, denied and posted is what the step of the entry says
 module _ (s : Standing) (p : Ticket × Request) where
   pub taken-step : slice_get (s.urgent ++ s.waiting) 0 ≡ Some p
-      → record (without_first s) { taken = Some p } ≡ step s (Taken p.0)
+      → record (without_first s) { taken = Some p } ≡ standing_after s (Taken p.0)
   taken-step head = let leaves = head-leaves s.urgent s.waiting p head in
       rw (leaves.urgent, leaves.waiting, ← leaves.request) refl
 
   pub denied-step : s.taken ≡ None → slice_get (s.urgent ++ s.waiting) 0 ≡ Some p
       → record (without_first s) {
         outcomes = insert_entry same_ticket s.outcomes p.0 NoIsdu;
-      } ≡ step s (Answered p.0 NoIsdu)
+      } ≡ standing_after s (Answered p.0 NoIsdu)
   denied-step none head = let leaves = head-leaves s.urgent s.waiting p head in
       rw (leaves.urgent, leaves.waiting, none) refl
 
   pub posted-step : {last : ℕ} (o : Outcome) → s.taken ≡ Some p → IsNumbered last s
       → record s { taken = None; outcomes = insert_entry same_ticket s.outcomes p.0 o }
-      ≡ step s (Answered p.0 o)
+      ≡ standing_after s (Answered p.0 o)
   posted-step o e h = rw (taken-waits h p o e) refl
 
 -- where none waits nothing leaves its queue
-pub sound-same_queues : {A : Type 0} {fields : Inside A} → IsSound fields
+pub sound-same_queues : {A : Type 0} {fields : Inside A} → IsSoundBook fields
     → (urgent waiting : VecDeque (Ticket × ℕ) A) → urgent.items ≡ fields.urgent.items
     → waiting.items ≡ fields.waiting.items
     → deque_capacity urgent ≡ deque_capacity fields.urgent
     → deque_capacity waiting ≡ deque_capacity fields.waiting
-    → IsSound (record fields { urgent = urgent; waiting = waiting })
+    → IsSoundBook (record fields { urgent = urgent; waiting = waiting })
 sound-same_queues sound urgent waiting us ws urgent_room waiting_room = record {
   lines = rw (us, ws) sound.lines;
   replayed = rw (us, ws) sound.replayed;
@@ -236,23 +236,23 @@ sound-same_queues sound urgent waiting us ws urgent_room waiting_room = record {
 
 -- it is sound where it has room, which each call shows by itself
 abbrev IsSoundWithRoom : {A : Type 0} → Inside A → Type 0
-IsSoundWithRoom fields = HasRoom fields → IsSound fields
+IsSoundWithRoom fields = HasRoom fields → IsSoundBook fields
 
 -- the lines of a book are in this journal, and say this standing
 record Tells {A : Type 0} (entries : List Entry) (fields : Inside A) (next : Standing)
     : Type 0 where
-  pub urgent : Says has_request request_in entries fields.urgent.items next.urgent
-  pub waiting : Says has_request request_in entries fields.waiting.items next.waiting
+  pub urgent : Says has_request entry_request entries fields.urgent.items next.urgent
+  pub waiting : Says has_request entry_request entries fields.waiting.items next.waiting
   pub taken : AllPass is_some entries (option_to_list fields.taken)
       × (taken_at entries fields.taken ≡ next.taken)
   pub outcomes : Says is_some outcome_in entries fields.outcomes.items next.outcomes
 
-module _ {A : Type 0} {old : Inside A} (sound : IsSound old) where
+module _ {A : Type 0} {old : Inside A} (sound : IsSoundBook old) where
   module _ {entries : List Entry} (e : Entry) (n : entries ≡ old.journal.items ++ e ∷ []) where
     -- a book whose lines say what one more entry leaves is sound
     sound-entered : (new : Inside A) (next : Standing) → new.journal.items ≡ entries
-        → next ≡ step (standing_of old) e → IsNumbered new.last next → HasRoom new
-        → Tells new.journal.items new next → IsSound new
+        → next ≡ standing_after (standing_of old) e → IsNumbered new.last next → HasRoom new
+        → Tells new.journal.items new next → IsSoundBook new
     sound-entered new next same steps numbered room tells = record {
       lines = record {
         urgent_requests = tells.urgent.pass;
@@ -261,7 +261,7 @@ module _ {A : Type 0} {old : Inside A} (sound : IsSound old) where
         outcomes_within = tells.outcomes.pass;
       };
       replayed = stands ∙ steps ∙ rw (same, n, replay-push old.journal.items e)
-          (ap (λ s. step s e) sound.replayed);
+          (ap (λ s. standing_after s e) sound.replayed);
       numbered = rw stands numbered;
       room = room;
     }
@@ -279,7 +279,7 @@ module _ {A : Type 0} {old : Inside A} (sound : IsSound old) where
     })
 
     -- one more outcome, of a ticket that has none
-    outcomes-new : {os : Lines} (t : Ticket)
+    outcomes-new : {os : TicketLines} (t : Ticket)
         → os ≡ old.outcomes.items ++ (t, length old.journal.items) ∷ []
         → lookup (same_ticket t) (standing_of old).outcomes ≡ None
         → Says is_some outcome_in entries os
@@ -368,7 +368,7 @@ module _ {A : Type 0} {old : Inside A} (sound : IsSound old) where
       })
   sound-taken journal urgent waiting {p} head none u w n room =
       let same = kept (Taken p.0) n in
-      let next = head-at request_in old.journal.items old.urgent.items old.waiting.items head in
+      let next = head-at entry_request old.journal.items old.urgent.items old.waiting.items head in
       let within : AllPass is_some old.journal.items (p ∷ []) = (
         request-within _ (head-passes has_request old.journal.items old.urgent.items
             old.waiting.items p head sound.lines.urgent_requests sound.lines.waiting_requests),
@@ -390,7 +390,7 @@ module _ {A : Type 0} {old : Inside A} (sound : IsSound old) where
       → (is_among t old.urgent.items || is_among t old.waiting.items) ≡ true
       → record (without_waiting (standing_of old) t) {
         outcomes = insert_entry same_ticket (standing_of old).outcomes t (outcome_in (Some e));
-      } ≡ step (standing_of old) e → urgent.items ≡ without t old.urgent.items
+      } ≡ standing_after (standing_of old) e → urgent.items ≡ without t old.urgent.items
       → waiting.items ≡ others_without t old.urgent.items old.waiting.items
       → outcomes.items ≡ old.outcomes.items ++ (t, length old.journal.items) ∷ []
       → IsSoundWithRoom (record old {
@@ -402,8 +402,8 @@ module _ {A : Type 0} {old : Inside A} (sound : IsSound old) where
   sound-left journal urgent waiting outcomes e t n found is u w o room =
       let same = kept e n in
       let waited : waits (standing_of old) t ≡ true = rw (
-        among-values request_in old.journal.items t old.urgent.items,
-        among-values request_in old.journal.items t old.waiting.items,
+        among-values entry_request old.journal.items t old.urgent.items,
+        among-values entry_request old.journal.items t old.waiting.items,
       ) found in
       sound-entered e n _ _ refl is (numbered-fewer (λ i.
       times-left i (standing_of old) t (outcome_in (Some e)) waited) sound.numbered) room (record {

@@ -16,8 +16,8 @@ module _ {A : Type 0} where
       fields.taken fields.outcomes.items
 
   -- the book without its memory
-  abbrev pub state_of : Inside A → BookState
-  state_of fields = record {
+  abbrev pub book_state : Inside A → BookState
+  book_state fields = record {
     journal = fields.journal.items;
     last = fields.last;
     standing = standing_of fields;
@@ -43,7 +43,7 @@ module _ {A : Type 0} where
   -- a book as callers see it
   abbrev pub book_view : Inside A → BookValue
   book_view fields = record {
-    state = state_of fields;
+    state = book_state fields;
     room = room_of fields;
     memory = memory_of fields;
   }
@@ -64,12 +64,12 @@ module _ {A : Type 0} where
     pub limit : fields.limit ≤ most_entries
 
   -- what holds of the fields of every book
-  pub record IsSound (fields : Inside A) : Type 0 where
+  pub record IsSoundBook (fields : Inside A) : Type 0 where
     -- each line that is kept is in the journal
     pub lines : AreLines fields.journal.items fields.urgent.items fields.waiting.items fields.taken
         fields.outcomes.items
     -- the journal alone says where every ticket stands
-    pub replayed : IsReplayed (state_of fields)
+    pub replayed : IsReplayed (book_state fields)
     -- each ticket names one request
     pub numbered : IsNumbered fields.last (standing_of fields)
     pub room : HasRoom fields

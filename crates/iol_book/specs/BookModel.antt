@@ -14,7 +14,7 @@ use Rattle.iol_book.specs.declared.entries.Entry.TheVariants.{Submitted, Urgent,
 use Rattle.iol_book.specs.declared.fault.BookFault.{BookFault}
 use Rattle.iol_book.specs.declared.fault.BookFault.TheVariants.{Full, JournalFull, TicketsSpent, OutOfMemory, UnknownTicket, NotYet, TakenAlready, NotInFlight}
 use Rattle.iol_book.specs.Limits.{request_entries}
-use Rattle.iol_book.specs.Replay.{Standing, nothing, step, replay, same_ticket, is_among}
+use Rattle.iol_book.specs.Replay.{Standing, nothing, standing_after, replay, same_ticket, is_among}
 
 pub record BookState : Type 0 where
   -- the entries since the book was opened or last archived
@@ -48,8 +48,8 @@ abbrev pub IsReplayed : BookState → Type 0
 IsReplayed book = book.standing ≡ replay book.journal
 
 -- an empty book
-abbrev pub opened : Limits → BookState
-opened limits =
+abbrev pub empty_book : Limits → BookState
+empty_book limits =
     record {
       journal = [];
       last = limits.given;
@@ -60,9 +60,12 @@ opened limits =
     }
 
 -- the book after one more entry
-abbrev pub entered : BookState → Entry → BookState
-entered book entry =
-    record book { journal = book.journal ++ entry ∷ []; standing = step book.standing entry }
+abbrev pub book_with_entry : BookState → Entry → BookState
+book_with_entry book entry =
+    record book {
+      journal = book.journal ++ entry ∷ [];
+      standing = standing_after book.standing entry;
+    }
 
 -- how many requests are taken: one or none
 abbrev pub taken_count : Standing → ℕ
@@ -100,14 +103,14 @@ abbrev pub next_ticket : BookState → Ticket
 next_ticket book = record { 0 = book.last + 1 }
 
 -- the book after it, where the request waits behind the others that are not urgent
-abbrev pub submitted : BookState → Request → BookState
-submitted book request =
-    record (entered book (Submitted (next_ticket book) request)) { last = book.last + 1 }
+abbrev pub book_after_submit : BookState → Request → BookState
+book_after_submit book request =
+    record (book_with_entry book (Submitted (next_ticket book) request)) { last = book.last + 1 }
 
 -- the book after the submit of an urgent one, which waits behind the other urgent ones
-abbrev pub submitted_urgent : BookState → Request → BookState
-submitted_urgent book request =
-    record (entered book (Urgent (next_ticket book) request)) { last = book.last + 1 }
+abbrev pub book_after_urgent : BookState → Request → BookState
+book_after_urgent book request =
+    record (book_with_entry book (Urgent (next_ticket book) request)) { last = book.last + 1 }
 
 -- a submit that is refused says the first of its reasons that holds, or that a growth was refused
 -- BOOK-2
@@ -135,16 +138,16 @@ without_first standing = record standing {
 }
 
 -- the book after that request is taken
-abbrev pub took : BookState → Ticket × Request → BookState
-took book taken = record book {
+abbrev pub book_after_take : BookState → Ticket × Request → BookState
+book_after_take book taken = record book {
   journal = book.journal ++ Taken taken.0 ∷ [];
   standing = record (without_first book.standing) { taken = Some taken };
 }
 
 -- the book after that request, which has this ticket, is denied
 -- REQ-3
-abbrev pub denied : BookState → Ticket → BookState
-denied book ticket = record book {
+abbrev pub book_after_denial : BookState → Ticket → BookState
+book_after_denial book ticket = record book {
   journal = book.journal ++ Answered ticket NoIsdu ∷ [];
   standing = record (without_first book.standing) {
     outcomes = insert_entry same_ticket book.standing.outcomes ticket NoIsdu;
@@ -176,8 +179,8 @@ ended_with book (Some taken) outcome = record book {
       };
 }
 
-abbrev pub posted : BookState → Outcome → BookState
-posted book outcome =
+abbrev pub book_after_post : BookState → Outcome → BookState
+book_after_post book outcome =
     record (ended_with book book.standing.taken outcome) {
       unsure = book.unsure || leaves_unsure outcome;
     }
@@ -207,9 +210,10 @@ collect_answer standing ticket = outcome_or (lookup (same_ticket ticket) standin
 
 -- the book after a collect
 -- BOOK-5
-abbrev pub collected : BookState → Ticket → BookState
-collected book ticket =
-    if is_ok (collect_answer book.standing ticket) then entered book (Collected ticket) else book
+abbrev pub book_after_collect : BookState → Ticket → BookState
+book_after_collect book ticket =
+    if is_ok (collect_answer book.standing ticket) then book_with_entry book (Collected ticket)
+    else book
 
 -- why a ticket can't be withdrawn, where it can't
 -- BOOK-6
@@ -221,9 +225,9 @@ withdraw_refusal standing ticket =
 
 -- the book after a withdraw
 -- BOOK-6
-abbrev pub withdrawn : BookState → Ticket → BookState
-withdrawn book ticket = if is_some (withdraw_refusal book.standing ticket) then book
-    else entered book (WithdrawnEntry ticket)
+abbrev pub book_after_withdrawal : BookState → Ticket → BookState
+book_after_withdrawal book ticket = if is_some (withdraw_refusal book.standing ticket) then book
+    else book_with_entry book (WithdrawnEntry ticket)
 
 -- why the request of a ticket can't be cut off, where it can't: it is not the one that is taken
 -- BOOK-7
@@ -234,8 +238,8 @@ flight_refusal standing ticket =
     else Some UnknownTicket
 
 -- the book after a wake of the device
-abbrev pub reset : BookState → BookState
-reset book = record book { unsure = false }
+abbrev pub book_after_wake : BookState → BookState
+book_after_wake book = record book { unsure = false }
 
 -- whether nothing is outstanding, and no request that was cut off may still be carried out
 -- BOOK-8
@@ -243,8 +247,8 @@ abbrev pub may_archive : BookState → Bool
 may_archive book = nat_eq (outstanding_count book.standing) 0 && not book.unsure
 
 -- the book after an archive
-abbrev pub archived : BookState → BookState
-archived book = if may_archive book then record book { journal = [] } else book
+abbrev pub book_after_archive : BookState → BookState
+book_after_archive book = if may_archive book then record book { journal = [] } else book
 
 -- the memory after an archive: that of the journal is handed out with it
 -- BOOK-12

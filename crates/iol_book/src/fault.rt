@@ -37,11 +37,11 @@ pub enum BookFault {
 }
 
 impl BookFault {
-    ghost use Rattle.iol_book.specs.Faults.{fault_number};
+    ghost use Rattle.iol_book.specs.Faults.{book_fault_number};
 
     /// Its number among the refusals.
     pub fn code(&self) -> u8
-        ensures { result ≡ fault_number self.now }
+        ensures { result ≡ book_fault_number self.now }
     {
         match self {
             BookFault::Full => 21,

@@ -17,7 +17,7 @@ use Rattle.iol_capture.specs.declared.telling.Telling.TheVariants as telling
 use Rattle.iol_capture.specs.declared.trace_line.TraceLine.{TraceLine}
 use Rattle.iol_capture.specs.declared.trace_line.TraceLine.TheVariants.{Other, Page, Wake, Sent, Came}
 use Rattle.iol_capture.specs.TraceLines.{trace_form}
-use Rattle.iol_capture.specs.Judging.{Judging, answered, called, came_to, new_judging, one_more, or_bad_form, page_told, told, wake_told}
+use Rattle.iol_capture.specs.Judging.{Judging, judging_after_exchange, judging_in_call, came_to, new_judging, plus_one, or_bad_form, page_told, judging_after_line, wake_told}
 use Rattle.iol_capture.specs.HonestCapture.{CapturesNeverBlamed, IsFromHonest, IsHonestTrace}
 use Rattle.iol_capture.proofs.ReadLemmas.{judged_from, stays_bad}
 
@@ -44,11 +44,11 @@ module _ (law : NeverBlamed) (lines : List TraceLine) (next : Judging) where
       → came_to waits old number came ≡ Ok next → Goes next lines
   comes None old number came far silence fair far_new silence_new reply honest e = absurd (cc)
   comes (Some sent) old number came far silence fair far_new silence_new reply honest e =
-      on (answered old sent came) (grind arith) far_new silence_new
+      on (judging_after_exchange old sent came) (grind arith) far_new silence_new
       (law.exchanges old.judged far silence sent came far_new silence_new reply fair) honest
 
   line_goes : (line : TraceLine) (old : Judging) → Goes old (line ∷ lines)
-      → told old line ≡ Ok next → Goes next lines
+      → judging_after_line old line ≡ Ok next → Goes next lines
   line_goes Other old h e = on old (grind arith) h.far h.silence h.fair h.honest
   line_goes (Page octets) old h e =
       cond_both (old.call == 0) (page_told old octets) old
@@ -59,10 +59,11 @@ module _ (law : NeverBlamed) (lines : List TraceLine) (next : Judging) where
       h.honest.1)
       (λ other is. on old is h.far h.silence h.fair h.honest.1) (grind arith)
   line_goes (Wake number answer) old h e =
-      on (wake_told (called old number) answer) (grind arith) h.honest.0 h.silence
+      on (wake_told (judging_in_call old number) answer) (grind arith) h.honest.0 h.silence
       (law.wakes_any old.judged h.far answer h.honest.0 h.honest.1 h.fair) h.honest.2
   line_goes (Sent number octets) old h e =
-      on (record (called old number) { sent = Some octets.items }) (grind arith) h.far h.silence
+      on (record (judging_in_call old number) { sent = Some octets.items }) (grind arith) h.far
+      h.silence
       h.fair h.honest
   line_goes (Came number came) old h e =
       comes old.sent old number (octets_in came) h.far h.silence h.fair h.honest.0 h.honest.1
@@ -78,7 +79,7 @@ module _ (law : NeverBlamed) (judging : Judging) where
 
   told_goes : (line : TraceLine) (old : Judging) (number : ℕ) (lines : List (List ℕ))
       → Later lines → Goes old (line ∷ filter_map trace_form lines)
-      → (result : Result Judging LineFault) → told old line ≡ result
+      → (result : Result Judging LineFault) → judging_after_line old line ≡ result
       → judged_from telling.Trace result number lines ≡ Ok judging → Goes judging []
   told_goes line old number lines later h (Err fault) is e = absurd (grind (arith, stays_bad))
   told_goes line old number lines later h (Ok next) is e =
@@ -86,17 +87,18 @@ module _ (law : NeverBlamed) (judging : Judging) where
 
   form_goes : (form : Option TraceLine) (old : Judging) (number : ℕ) (lines : List (List ℕ))
       → Later lines → Goes old (cons_option form (filter_map trace_form lines))
-      → judged_from telling.Trace (or_bad_form (told old) form) number lines ≡ Ok judging
+      → judged_from telling.Trace (or_bad_form (judging_after_line old) form) number lines
+      ≡ Ok judging
       → Goes judging []
   form_goes None old number lines later h e = absurd (grind (arith, stays_bad))
   form_goes (Some line) old number lines later h e =
-      told_goes line old number lines later h (told old line) refl e
+      told_goes line old number lines later h (judging_after_line old line) refl e
 
   lines_go : (lines : List (List ℕ)) → Later lines
   lines_go [] number old h e =
       let same : old ≡ judging = grind arith in subst (λ (j : Judging). Goes j []) same h
   lines_go (line ∷ lines) number old h e =
-      form_goes (trace_form line) old (one_more number) lines (lines_go lines) h e
+      form_goes (trace_form line) old (plus_one number) lines (lines_go lines) h e
 
 module _ (law : NeverBlamed) where
   capture_ends : (odd : Odd) (text : List ℕ) (judging : Judging) → IsFromHonest odd text judging

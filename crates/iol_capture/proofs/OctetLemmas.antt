@@ -5,32 +5,32 @@ use Rattle.std.specs.Prelude.{IfOk, map, option_and_then}
 use Rattle.std.specs.List.{cons_option}
 use Rattle.std.specs.Option.{option_map_or}
 use Rattle.std.specs.Result.{result_map_both}
-use Rattle.iol_judge.specs.Judged.{Judged, new_judge}
+use Rattle.iol_judge.specs.Judged.{JudgeState, new_judge}
 use Rattle.iol_judge.specs.Admitted.{told_all}
 use Rattle.iol_script.specs.Text.{lines_of}
 use Rattle.iol_splitter.specs.declared.fault.SplitFault.{SplitFault}
 use Rattle.iol_splitter.specs.declared.octet_line.OctetLine.{OctetLine}
 use Rattle.iol_splitter.specs.declared.octet_line.OctetLine.TheVariants as line
-use Rattle.iol_splitter.specs.declared.passed.Passed.{Passed}
-use Rattle.iol_splitter.specs.Fair.{OctetsNeverBlamed, judged_with, passing_of}
+use Rattle.iol_splitter.specs.declared.passed.SplitItem.{SplitItem}
+use Rattle.iol_splitter.specs.Fair.{OctetsNeverBlamed, judge_after_item, passing_of}
 use Rattle.iol_splitter.specs.Splitting.{octet_split, wake_split}
 use Rattle.iol_splitter.specs.State.{Splitting, new_splitter}
-use Rattle.iol_splitter.specs.Steps.{Step}
+use Rattle.iol_splitter.specs.Steps.{SplitStep}
 use Rattle.iol_splitter.specs.Written.{all_split, stream_of, with_told}
 use Rattle.iol_capture.specs.declared.telling.Telling.TheVariants.{Octets}
-use Rattle.iol_capture.specs.Judging.{Judging, one_more, or_bad_form}
-use Rattle.iol_capture.specs.Octets.{Hearing, new_hearing, octet_form, passed_by_octet, passed_by_request, shown, step_heard}
-use Rattle.iol_capture.specs.HonestCapture.{IsUnblamed, OctetTextsNeverBlamed, shown_by, shown_in}
+use Rattle.iol_capture.specs.Judging.{Judging, plus_one, or_bad_form}
+use Rattle.iol_capture.specs.Octets.{Hearing, new_hearing, octet_line_form, passed_by_octet, passed_by_request, hearing_after_line, step_heard}
+use Rattle.iol_capture.specs.HonestCapture.{IsUnblamed, OctetTextsNeverBlamed, stream_item_of, shown_stream}
 use Rattle.iol_capture.proofs.ReadLemmas.{judged_from, stays_bad}
 
 -- the judge is told what was split
-abbrev split_told : Judged → Result (List Passed) SplitFault → Result Judged SplitFault
+abbrev split_told : JudgeState → Result (List SplitItem) SplitFault → Result JudgeState SplitFault
 split_told judged = result_map_both (λ what. told_all judged (map passing_of what)) (λ fault. fault)
 
 -- What one step tells
 
-abbrev told_of : Judged → Option Passed → Judged
-told_of judged passed = option_map_or (judged_with judged) passed judged
+abbrev told_of : JudgeState → Option SplitItem → JudgeState
+told_of judged passed = option_map_or (judge_after_item judged) passed judged
 
 -- Lines
 
@@ -39,45 +39,47 @@ module _ (judging : Judging) where
   abbrev Later : List (List ℕ) → Type 0
   Later lines = (number : ℕ) (old : Hearing)
       → judged_from Octets (Ok old) number lines ≡ Ok judging
-      → split_told old.judging.judged (all_split old.splitting (shown_in lines))
+      → split_told old.judging.judged (all_split old.splitting (shown_stream lines))
       ≡ Ok judging.judged
 
   -- the judge is told so all that a step tells
-  step_splits : (old : Judging) (new : Option Passed → Judging)
-      → ((passed : Option Passed) → told_of old.judged passed ≡ (new passed).judged)
-      → (state : Splitting) (result : Result (Option Passed) SplitFault) (number : ℕ)
+  step_splits : (old : Judging) (new : Option SplitItem → Judging)
+      → ((passed : Option SplitItem) → told_of old.judged passed ≡ (new passed).judged)
+      → (state : Splitting) (result : Result (Option SplitItem) SplitFault) (number : ℕ)
       (lines : List (List ℕ)) → Later lines
       → judged_from Octets (step_heard new (record { state = state; told = result })) number lines
       ≡ Ok judging
-      → split_told old.judged (with_told result (all_split state (shown_in lines)))
+      → split_told old.judged (with_told result (all_split state (shown_stream lines)))
       ≡ Ok judging.judged
   step_splits old new told state result number lines later e =
       grind (arith, stays_bad)
 
   form_splits : (form : Option OctetLine) (old : Hearing) (number : ℕ) (lines : List (List ℕ))
-      → Later lines → judged_from Octets (or_bad_form (shown old) form) number lines ≡ Ok judging
+      → Later lines → judged_from Octets (or_bad_form (hearing_after_line old) form) number
+      lines ≡ Ok judging
       → split_told old.judging.judged
-      (all_split old.splitting (cons_option (option_and_then shown_by form) (shown_in lines)))
+      (all_split old.splitting (cons_option (option_and_then stream_item_of form)
+      (shown_stream lines)))
       ≡ Ok judging.judged
   form_splits None old number lines later e = absurd (grind (arith, stays_bad))
   form_splits (Some line.Other) old number lines later e = later number old e
   form_splits (Some (line.Octet time octet)) old number lines later e =
-      let step : Step = octet_split old.splitting time octet in
+      let step : SplitStep = octet_split old.splitting time octet in
       step_splits old.judging (passed_by_octet old.judging) (λ passed. grind arith)
       step.state step.told number lines later e
   form_splits (Some (line.Wake time)) old number lines later e =
-      let step : Step = wake_split old.splitting time in
+      let step : SplitStep = wake_split old.splitting time in
       step_splits old.judging (passed_by_request old.judging) (λ passed. grind arith)
       step.state step.told number lines later e
 
   lines_split : (lines : List (List ℕ)) → Later lines
   lines_split [] number old e = grind arith
   lines_split (line ∷ lines) number old e =
-      form_splits (octet_form line) old (one_more number) lines (lines_split lines) e
+      form_splits (octet_line_form line) old (plus_one number) lines (lines_split lines) e
 
 -- The law
 
-unblamed : (old end : Judged) (result : Result (List Passed) SplitFault)
+unblamed : (old end : JudgeState) (result : Result (List SplitItem) SplitFault)
     → IfOk result (λ what. IsUnblamed (told_all old (map passing_of what)))
     → split_told old result ≡ Ok end → IsUnblamed end
 unblamed old end result never is exchange reason blamed = grind arith

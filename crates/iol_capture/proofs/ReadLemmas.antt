@@ -1,5 +1,7 @@
--- A capture that is read in pieces: the line that is open, and what an `Opened` makes of one more
--- octet, of the end, and of one more piece of a reader. The calls of `Opened`, and `judge_capture`,
+-- A capture that is read in pieces: the line that is open, and what an `ReaderState` makes of one
+-- more
+-- octet, of the end, and of one more piece of a reader. The calls of `ReaderState`, and
+-- `judge_capture`,
 -- need them.
 use Rattle.std.proofs.Common.{◌≡◌, ℕ, ◌<◌, Bool, false, ◌==◌, Option, Result, Ok, Err, OnOk, List, [], ◌∷◌, ◌++◌, length, fold, refl, append-nil, append_assoc, length-append, arith}
 use Rattle.std.proofs.lemmas.Bool.{or_parts}
@@ -14,10 +16,10 @@ use Rattle.iol_capture.specs.declared.fault.CaptureFault.{CaptureFault}
 use Rattle.iol_capture.specs.declared.fault.CaptureFault.TheVariants.{Line}
 use Rattle.iol_capture.specs.declared.fault.LineFault.{LineFault}
 use Rattle.iol_capture.specs.declared.fault.LineFault.TheVariants.{BadForm}
-use Rattle.iol_capture.specs.declared.telling.Form.{Form}
+use Rattle.iol_capture.specs.declared.telling.CaptureForm.{CaptureForm}
 use Rattle.iol_capture.specs.declared.telling.Telling.{Telling}
-use Rattle.iol_capture.specs.Judging.{Judging, one_more}
-use Rattle.iol_capture.specs.Capture.{IsOpenLine, Opened, capture_judged, ended, judged_with, line_read, read_as}
+use Rattle.iol_capture.specs.Judging.{Judging, plus_one}
+use Rattle.iol_capture.specs.Capture.{IsOpenLine, ReaderState, capture_judged, judging_at_end, judging_after_rest, capture_after_line, read_as}
 
 -- The line that is open, and the lines of the text behind it
 
@@ -60,29 +62,30 @@ lines_longer (d ∷ line) c rest h e =
 abbrev pub judged_from : {J : Type 0} → (J → Telling) → Result J LineFault → ℕ
     → List (List ℕ) → Result Judging CaptureFault
 judged_from form told number lines =
-    ended (fold line_read (read_as number (result_map_both form (λ fault. fault) told)) lines)
+    judging_at_end (fold capture_after_line
+    (read_as number (result_map_both form (λ fault. fault) told)) lines)
 
 -- a bad line stays the first
 pub stays_bad : (fault : CaptureFault) (lines : List (List ℕ))
-    → fold line_read (Err fault) lines ≡ Err fault
+    → fold capture_after_line (Err fault) lines ≡ Err fault
 stays_bad fault [] = refl
 stays_bad fault (line ∷ lines) = stays_bad fault lines
 
 -- One more octet
 
 -- a line feed ends a line, by a call with this result
-pub fed : {U : Type 0} (result : Result U CaptureFault) (old new : Opened) (c : ℕ) → c ≡ 10
+pub fed : {U : Type 0} (result : Result U CaptureFault) (old new : ReaderState) (c : ℕ) → c ≡ 10
     → IsOpenLine old.line
-    → result_and result (Ok new.reading) ≡ line_read (Ok old.reading) old.line
+    → result_and result (Ok new.reading) ≡ capture_after_line (Ok old.reading) old.line
     → OnOk result (new.line ≡ []) → (rest : List ℕ)
-    → result_and result (judged_with new rest) ≡ judged_with old (c ∷ rest)
+    → result_and result (judging_after_rest new rest) ≡ judging_after_rest old (c ∷ rest)
 fed (Ok done) old new c is h read empty rest = grind (arith, lines_ended)
 fed (Err fault) old new c is h read empty rest = grind (arith, lines_ended, stays_bad)
 
 -- another one, behind 1,024: no room is left
-pub overfull : (inside old : Opened) (c number : ℕ) → inside ≡ old → IsOpenLine inside.line
-    → (c ≡ 10 → ⊥) → length inside.line ≡ 1024 → number ≡ one_more inside.reading.lines
-    → (rest : List ℕ) → judged_with old (c ∷ rest) ≡ Err (Line number BadForm)
+pub overfull : (inside old : ReaderState) (c number : ℕ) → inside ≡ old → IsOpenLine inside.line
+    → (c ≡ 10 → ⊥) → length inside.line ≡ 1024 → number ≡ plus_one inside.reading.lines
+    → (rest : List ℕ) → judging_after_rest old (c ∷ rest) ≡ Err (Line number BadForm)
 overfull inside old c number same h other full is rest =
     let no_feed : (c == 10) ≡ false = grind (arith, nat_tests) in
     let front : List ℕ = inside.line ++ c ∷ [] in
@@ -95,26 +98,28 @@ overfull inside old c number same h other full is rest =
 -- The end
 
 -- a line that isn't empty ends with the text
-pub end_line : (inside opened : Opened) (empty : Bool) → inside ≡ opened
+pub end_line : (inside opened : ReaderState) (empty : Bool) → inside ≡ opened
     → IsOpenLine opened.line → empty ≡ (length inside.line == 0) → empty ≡ false
-    → judged_with opened [] ≡ ended (line_read (Ok opened.reading) opened.line)
+    → judging_after_rest opened [] ≡ judging_at_end
+    (capture_after_line (Ok opened.reading) opened.line)
 end_line inside opened empty same h is some =
     grind (arith, nat_tests, lines_last, append-nil {A = ℕ})
 
 -- From a reader
 
 -- a reader of which these bytes were read, behind those before
-pub record IsReadOf (form : Form) (odd : Odd) (before after : Option (List ℕ))
-    (opened : Opened) : Type 0 where
+pub record IsReadOf (form : CaptureForm) (odd : Odd) (before after : Option (List ℕ))
+    (opened : ReaderState) : Type 0 where
   pub bytes : List ℕ
   pub consumes : Consumes before after bytes
-  pub judged : (rest : List ℕ) → capture_judged form odd (bytes ++ rest) ≡ judged_with opened rest
+  pub judged : (rest : List ℕ) → capture_judged form odd (bytes ++ rest)
+      ≡ judging_after_rest opened rest
 
 -- one more piece
-pub read_more : (form : Form) (odd : Odd) (before mid after : Option (List ℕ))
-    (old new : Opened) (piece : List ℕ) → IsReadOf form odd before mid old
+pub read_more : (form : CaptureForm) (odd : Odd) (before mid after : Option (List ℕ))
+    (old new : ReaderState) (piece : List ℕ) → IsReadOf form odd before mid old
     → Consumes mid after piece
-    → ((rest : List ℕ) → judged_with new rest ≡ judged_with old (piece ++ rest))
+    → ((rest : List ℕ) → judging_after_rest new rest ≡ judging_after_rest old (piece ++ rest))
     → IsReadOf form odd before after new
 read_more form odd before mid after old new piece was taken good = record {
   bytes = was.bytes ++ piece;

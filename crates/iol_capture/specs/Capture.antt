@@ -8,63 +8,66 @@ use Rattle.iol_capture.specs.declared.fault.LineFault.{LineFault}
 use Rattle.iol_capture.specs.declared.fault.LineFault.TheVariants.{ReplyMissing}
 use Rattle.iol_capture.specs.declared.fault.CaptureFault.{CaptureFault}
 use Rattle.iol_capture.specs.declared.fault.CaptureFault.TheVariants.{Line}
-use Rattle.iol_capture.specs.declared.telling.Form.{Form}
-use Rattle.iol_capture.specs.declared.telling.Form.TheVariants as form
+use Rattle.iol_capture.specs.declared.telling.CaptureForm.{CaptureForm}
+use Rattle.iol_capture.specs.declared.telling.CaptureForm.TheVariants as form
 use Rattle.iol_capture.specs.declared.telling.Telling.{Telling}
 use Rattle.iol_capture.specs.declared.telling.Telling.TheVariants.{Trace, Octets}
 use Rattle.iol_capture.specs.TraceLines.{trace_form}
-use Rattle.iol_capture.specs.Judging.{Judging, new_judging, one_more, or_bad_form, told}
-use Rattle.iol_capture.specs.Octets.{heard_whole, new_hearing, octet_form, shown}
+use Rattle.iol_capture.specs.Judging.{Judging, new_judging, plus_one, or_bad_form, judging_after_line}
+use Rattle.iol_capture.specs.Octets.{heard_whole, new_hearing, octet_line_form, hearing_after_line}
 
 -- A judge, told lines in one form or the other
 
-abbrev pub new_telling : Form → Odd → Telling
+abbrev pub new_telling : CaptureForm → Odd → Telling
 new_telling form.Trace odd = Trace (new_judging odd)
 new_telling (form.Octets rate) odd = Octets (new_hearing rate odd)
 
 -- one more line
 abbrev pub line_told : Telling → List ℕ → Result Telling LineFault
 line_told (Trace judging) line =
-    result_map_both Trace (λ fault. fault) (or_bad_form (told judging) (trace_form line))
+    result_map_both Trace (λ fault. fault)
+    (or_bad_form (judging_after_line judging) (trace_form line))
 line_told (Octets hearing) line =
-    result_map_both Octets (λ fault. fault) (or_bad_form (shown hearing) (octet_form line))
+    result_map_both Octets (λ fault. fault)
+    (or_bad_form (hearing_after_line hearing) (octet_line_form line))
 
 -- the capture has ended: no message of a trace waits for what came back
-abbrev pub whole : Telling → Result Judging LineFault
-whole (Trace judging) = if is_some judging.sent then Err ReplyMissing else Ok judging
-whole (Octets hearing) = Ok (heard_whole hearing)
+abbrev pub judging_if_whole : Telling → Result Judging LineFault
+judging_if_whole (Trace judging) = if is_some judging.sent then Err ReplyMissing else Ok judging
+judging_if_whole (Octets hearing) = Ok (heard_whole hearing)
 
 -- Lines
 
 -- a capture, as far as its lines are read: their number, and the judge
-pub record Reading : Type 0 where
+pub record ReadPart : Type 0 where
   pub lines : ℕ
   pub telling : Telling
 
 -- the line of this number was told
-abbrev pub read_as : ℕ → Result Telling LineFault → Result Reading CaptureFault
+abbrev pub read_as : ℕ → Result Telling LineFault → Result ReadPart CaptureFault
 read_as number told =
     result_map_both (λ telling. record { lines = number; telling = telling }) (Line number) told
 
 -- the capture after one more line, or the first bad line
-abbrev pub line_read : Result Reading CaptureFault → List ℕ → Result Reading CaptureFault
-line_read (Ok reading) line = read_as (one_more reading.lines) (line_told reading.telling line)
-line_read (Err fault) line = Err fault
+abbrev pub capture_after_line : Result ReadPart CaptureFault → List ℕ → Result ReadPart CaptureFault
+capture_after_line (Ok reading) line =
+    read_as (plus_one reading.lines) (line_told reading.telling line)
+capture_after_line (Err fault) line = Err fault
 
 -- A text
 
 -- the end stands for a line
-abbrev pub ended : Result Reading CaptureFault → Result Judging CaptureFault
-ended (Ok reading) = result_map_both (λ judging. judging) (Line (one_more reading.lines))
-    (whole reading.telling)
-ended (Err fault) = Err fault
+abbrev pub judging_at_end : Result ReadPart CaptureFault → Result Judging CaptureFault
+judging_at_end (Ok reading) = result_map_both (λ judging. judging) (Line (plus_one reading.lines))
+    (judging_if_whole reading.telling)
+judging_at_end (Err fault) = Err fault
 
 -- the lines that ended, and the line that is open
-pub record Opened : Type 0 where
-  pub reading : Reading
+pub record ReaderState : Type 0 where
+  pub reading : ReadPart
   pub line : List ℕ
 
-abbrev pub new_opened : Form → Odd → Opened
+abbrev pub new_opened : CaptureForm → Odd → ReaderState
 new_opened form odd =
     record { reading = record { lines = 0; telling = new_telling form odd }; line = [] }
 
@@ -73,11 +76,11 @@ abbrev pub IsOpenLine : List ℕ → Type 0
 IsOpenLine line = list_any (λ b. b == 10) line ≡ false
 
 -- what the judge makes of a capture of which this was read, once the rest is read too
-abbrev pub judged_with : Opened → List ℕ → Result Judging CaptureFault
-judged_with opened rest =
-    ended (fold line_read (Ok opened.reading) (lines_of (opened.line ++ rest)))
+abbrev pub judging_after_rest : ReaderState → List ℕ → Result Judging CaptureFault
+judging_after_rest opened rest =
+    judging_at_end (fold capture_after_line (Ok opened.reading) (lines_of (opened.line ++ rest)))
 
 -- what a judge makes of a capture in this form, by what it does with odd replies; or its first bad
 -- line
-abbrev pub capture_judged : Form → Odd → List ℕ → Result Judging CaptureFault
-capture_judged form odd text = judged_with (new_opened form odd) text
+abbrev pub capture_judged : CaptureForm → Odd → List ℕ → Result Judging CaptureFault
+capture_judged form odd text = judging_after_rest (new_opened form odd) text

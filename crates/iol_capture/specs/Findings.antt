@@ -10,14 +10,14 @@ use Rattle.iol_judge.specs.declared.verdict.Verdict.TheVariants.{Unjudged, Hones
 use Rattle.iol_judge.specs.declared.kinds.Kinds.{Kinds}
 use Rattle.iol_judge.specs.Judged.{kinds_left}
 use Rattle.iol_judge.specs.Numbers.{open_number, reason_number}
-use Rattle.iol_capture.specs.declared.judgement.Counts.{Counts}
+use Rattle.iol_capture.specs.declared.judgement.ExchangeCounts.{ExchangeCounts}
 use Rattle.iol_capture.specs.declared.judgement.OddExchange.{OddExchange}
 use Rattle.iol_capture.specs.declared.printing.Finding.{Finding}
 use Rattle.iol_capture.specs.declared.printing.Finding.TheVariants as found
-use Rattle.iol_watch.specs.declared.fault.MasterFault.{MasterFault}
-use Rattle.iol_watch.specs.declared.fault.MasterFault.TheVariants as fault
-use Rattle.iol_watch.specs.declared.verdict.Verdict.TheVariants as master
-use Rattle.iol_watch.specs.Numbers.{fault_number}
+use Rattle.iol_watch.specs.declared.fault.Blame.{Blame}
+use Rattle.iol_watch.specs.declared.fault.Blame.TheVariants as fault
+use Rattle.iol_watch.specs.declared.verdict.MasterVerdict.TheVariants as master
+use Rattle.iol_watch.specs.Numbers.{blame_number}
 use Rattle.iol_capture.specs.Judging.{Judging}
 use Rattle.iol_capture.specs.Watching.{Watching}
 
@@ -85,7 +85,7 @@ honest_text judged lost = codes "honest " ++ decimal judged ++ codes " exchanges
     ++ (codes ", " ++ decimal lost ++ codes " lost\n")
 
 -- the verdict, with the call on which it rests
-abbrev pub verdict_text : Verdict → ℕ → Counts → List ℕ
+abbrev pub verdict_text : Verdict → ℕ → ExchangeCounts → List ℕ
 verdict_text Unjudged call counts = codes "can't say: no wake-up request was answered\n"
 verdict_text Honest call counts = honest_text counts.judged counts.lost
 verdict_text (NotHonest exchange reason) call counts = codes "not honest at "
@@ -94,7 +94,7 @@ verdict_text (CantSay exchange why) call counts = codes "can't say from "
     ++ because_text call (codes " on: ") (open_number why) (open_text why)
 
 -- the name of a fault of the master, what none by the rules sends, and the rules
-abbrev pub fault_text : MasterFault → List ℕ
+abbrev pub fault_text : Blame → List ℕ
 fault_text fault.WakeDue = codes
     "WakeDue: a message where a wake-up request was due (LINK-1, LINK-3)"
 fault_text fault.NotRepeated = codes
@@ -121,15 +121,15 @@ abbrev pub unsure_text : ℕ → List ℕ → List ℕ
 unsure_text from why = codes "master can't be judged from " ++ from_text from why
 
 -- the master's first fault, in this call, where its mode is known
-abbrev pub blamed_text : MasterFault → ℕ → Option ℕ → List ℕ
+abbrev pub blamed_text : Blame → ℕ → Option ℕ → List ℕ
 blamed_text fault call None = codes "master not by the rules at "
-    ++ because_text call (codes ": ") (fault_number fault) (fault_text fault)
+    ++ because_text call (codes ": ") (blame_number fault) (fault_text fault)
 blamed_text fault call (Some from) =
     unsure_text from (codes "the read there may be behind a wake-up request that isn't shown")
 
 -- what is said of the master
-abbrev pub master_text : Watching → List ℕ
-master_text watching = elim watching.watched.verdict [
+abbrev pub master_verdict_text : Watching → List ℕ
+master_verdict_text watching = elim watching.watched.verdict [
   | master.Unjudged ↦ codes "master can't be judged: no wake-up request was made\n"
   | master.ByTheRules ↦ codes "master by the rules\n"
   | master.NotByTheRules exchange fault ↦ blamed_text fault watching.call watching.unsure
@@ -168,7 +168,7 @@ odd_texts = flat_map (λ (odd : OddExchange). because_text odd.call (codes " odd
 abbrev pub finding_text : Judging → List ℕ
 finding_text judging = odd_texts judging.odd
     ++ count_text (codes "unjudged ") judging.counts.unjudged
-    ++ master_text judging.watching
+    ++ master_verdict_text judging.watching
     ++ kinds_text (kinds_left judging.judged)
     ++ verdict_text judging.judged.verdict judging.decided judging.counts
     ++ count_text (codes "odd ") judging.judged.oddities

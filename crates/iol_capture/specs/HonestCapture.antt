@@ -9,23 +9,23 @@ use Rattle.iol_judge.specs.Admitted.{IsHonestRun, IsWake, is_answered}
 use Rattle.iol_judge.specs.declared.reason.Reason.{Reason}
 use Rattle.iol_judge.specs.declared.verdict.Odd.{Odd}
 use Rattle.iol_judge.specs.declared.verdict.Verdict.TheVariants.{NotHonest}
-use Rattle.iol_judge.specs.Judged.{Judged}
+use Rattle.iol_judge.specs.Judged.{JudgeState}
 use Rattle.iol_script.specs.Text.{lines_of}
 use Rattle.iol_splitter.specs.declared.octet_line.OctetLine.{OctetLine}
 use Rattle.iol_splitter.specs.declared.octet_line.OctetLine.TheVariants as line
 use Rattle.iol_splitter.specs.Fair.{passing_of}
 use Rattle.iol_splitter.specs.State.{new_splitter}
-use Rattle.iol_splitter.specs.Written.{AreWritten, Item, Octet, Request, Shown, items_told, stream_of}
+use Rattle.iol_splitter.specs.Written.{AreWritten, Item, Octet, Request, StreamItem, items_told, stream_of}
 use Rattle.iol_capture.specs.declared.trace_line.TraceLine.{TraceLine}
 use Rattle.iol_capture.specs.declared.trace_line.TraceLine.TheVariants.{Other, Page, Wake, Sent, Came}
-use Rattle.iol_capture.specs.declared.telling.Form.TheVariants as form
+use Rattle.iol_capture.specs.declared.telling.CaptureForm.TheVariants as form
 use Rattle.iol_capture.specs.TraceLines.{trace_form}
 use Rattle.iol_capture.specs.Judging.{Judging}
-use Rattle.iol_capture.specs.Octets.{octet_form}
+use Rattle.iol_capture.specs.Octets.{octet_line_form}
 use Rattle.iol_capture.specs.Capture.{capture_judged}
 
 -- it's never called not honest
-abbrev pub IsUnblamed : Judged → Type 0
+abbrev pub IsUnblamed : JudgeState → Type 0
 IsUnblamed judged = (exchange : ℕ) (reason : Reason) → judged.verdict ≢ NotHonest exchange reason
 
 -- A trace
@@ -63,14 +63,14 @@ pub record CapturesNeverBlamed : Type 0 where
 
 -- Octets
 
-abbrev pub shown_by : OctetLine → Option Shown
-shown_by line.Other = None
-shown_by (line.Octet time octet) = Some (Octet (record { time = time; octet = octet }))
-shown_by (line.Wake time) = Some (Request time)
+abbrev pub stream_item_of : OctetLine → Option StreamItem
+stream_item_of line.Other = None
+stream_item_of (line.Octet time octet) = Some (Octet (record { time = time; octet = octet }))
+stream_item_of (line.Wake time) = Some (Request time)
 
 -- what lines show, where each fits a form
-abbrev pub shown_in : List (List ℕ) → List Shown
-shown_in = filter_map (λ line. option_and_then shown_by (octet_form line))
+abbrev pub shown_stream : List (List ℕ) → List StreamItem
+shown_stream = filter_map (λ line. option_and_then stream_item_of (octet_line_form line))
 
 -- The judge is told a text, and this is what it makes of it: octets that are written by the rules,
 -- of what a device by the rules brings
@@ -79,7 +79,7 @@ pub record AreFromHonest (odd : Odd) (rate : Rate) (text : List ℕ)
   pub judged : capture_judged (form.Octets rate) odd text ≡ Ok judging
   pub items : List Item
   pub written : AreWritten (new_splitter rate) items
-  pub shown : shown_in (lines_of text) ≡ stream_of items
+  pub shown : shown_stream (lines_of text) ≡ stream_of items
   pub far : Far
   pub silence : ℕ
   pub honest : IsHonestRun far silence (map passing_of (items_told items))

@@ -10,12 +10,12 @@ use Rattle.iol_judge.specs.declared.verdict.Verdict.TheVariants.{Unjudged, Hones
 use Rattle.iol_judge.specs.declared.verdict.Wake.{Wake as WakeAnswer}
 use Rattle.iol_judge.specs.declared.verdict.Wake.TheVariants.{Unanswered}
 use Rattle.iol_judge.specs.Seen.{whole_page}
-use Rattle.iol_judge.specs.Judged.{Judged, new_judge, exchanged, woke}
-use Rattle.iol_splitter.specs.declared.passed.Passed.{Passed}
-use Rattle.iol_splitter.specs.declared.passed.Passed.TheVariants as passed
+use Rattle.iol_judge.specs.Judged.{JudgeState, new_judge, judge_after_exchange, judge_after_wake}
+use Rattle.iol_splitter.specs.declared.passed.SplitItem.{SplitItem}
+use Rattle.iol_splitter.specs.declared.passed.SplitItem.TheVariants as passed
 use Rattle.iol_capture.specs.declared.fault.LineFault.{LineFault}
 use Rattle.iol_capture.specs.declared.fault.LineFault.TheVariants.{BadForm, WrongNumber, ReplyMissing, MessageMissing}
-use Rattle.iol_capture.specs.declared.judgement.Counts.{Counts}
+use Rattle.iol_capture.specs.declared.judgement.ExchangeCounts.{ExchangeCounts}
 use Rattle.iol_capture.specs.declared.judgement.OddExchange.{OddExchange}
 use Rattle.iol_capture.specs.declared.judgement.TheConstants.{ODD_SHOWN}
 use Rattle.iol_capture.specs.declared.trace_line.TraceLine.{TraceLine}
@@ -24,7 +24,7 @@ use Rattle.iol_capture.specs.Watching.{Watching, exchange_watched, new_watching,
 
 pub record Judging : Type 0 where
   -- what the judge was told
-  pub judged : Judged
+  pub judged : JudgeState
   -- what the watch of the master was told of the same calls
   pub watching : Watching
   -- the number of the last call of the wire, 0 before the first
@@ -33,11 +33,11 @@ pub record Judging : Type 0 where
   pub sent : Option (List ℕ)
   -- the call on which the verdict rests: the last that began while the verdict was open
   pub decided : ℕ
-  pub counts : Counts
+  pub counts : ExchangeCounts
   -- the first exchanges in which something was odd, and passed over
   pub odd : List OddExchange
 
-abbrev pub no_counts : Counts
+abbrev pub no_counts : ExchangeCounts
 no_counts = record { unjudged = 0; judged = 0; lost = 0 }
 
 abbrev pub new_judging : Odd → Judging
@@ -54,46 +54,48 @@ new_judging odd = record {
 -- Counts
 
 -- one more, up to the largest that is shown
-abbrev pub one_more : ℕ → ℕ
-one_more count = min (count + 1) (2 ^ 64 - 1)
+abbrev pub plus_one : ℕ → ℕ
+plus_one count = min (count + 1) (2 ^ 64 - 1)
 
-abbrev pub counted_by : Verdict → Counts → Option (List ℕ) → Counts
-counted_by Unjudged counts came = record counts { unjudged = one_more counts.unjudged }
-counted_by Honest counts None =
-    record counts { judged = one_more counts.judged; lost = one_more counts.lost }
-counted_by Honest counts (Some octets) = record counts { judged = one_more counts.judged }
-counted_by verdict counts came = counts
+abbrev pub counts_after_exchange : Verdict → ExchangeCounts → Option (List ℕ) → ExchangeCounts
+counts_after_exchange Unjudged counts came = record counts { unjudged = plus_one counts.unjudged }
+counts_after_exchange Honest counts None =
+    record counts { judged = plus_one counts.judged; lost = plus_one counts.lost }
+counts_after_exchange Honest counts (Some octets) =
+    record counts { judged = plus_one counts.judged }
+counts_after_exchange verdict counts came = counts
 
 -- Calls of the wire
 
 -- whether more can change a verdict
-abbrev pub is_open : Verdict → Bool
-is_open Unjudged = true
-is_open Honest = true
-is_open (NotHonest exchange reason) = false
-is_open (CantSay exchange why) = false
+abbrev pub is_verdict_open : Verdict → Bool
+is_verdict_open Unjudged = true
+is_verdict_open Honest = true
+is_verdict_open (NotHonest exchange reason) = false
+is_verdict_open (CantSay exchange why) = false
 
 -- a call may have this number: the first any, each other the next
-abbrev pub is_next : ℕ → ℕ → Bool
-is_next call number = (call == 0) || (number == call + 1)
+abbrev pub is_call_number : ℕ → ℕ → Bool
+is_call_number call number = (call == 0) || (number == call + 1)
 
 -- the call of this number has begun
-abbrev pub called : Judging → ℕ → Judging
-called judging number = record judging {
+abbrev pub judging_in_call : Judging → ℕ → Judging
+judging_in_call judging number = record judging {
   call = number;
-  decided = if is_open judging.judged.verdict then number else judging.decided;
+  decided = if is_verdict_open judging.judged.verdict then number else judging.decided;
 }
 
 -- a call begins, where the one before has ended
-abbrev pub begun : Judging → ℕ → Result Judging LineFault
-begun judging number =
+abbrev pub judging_at_next_call : Judging → ℕ → Result Judging LineFault
+judging_at_next_call judging number =
     if is_some judging.sent then Err ReplyMissing else
-    if is_next judging.call number then Ok (called judging number) else Err WrongNumber
+    if is_call_number judging.call number then Ok (judging_in_call judging number) else Err
+    WrongNumber
 
 -- a wake-up request was made
 abbrev pub wake_told : Judging → WakeAnswer → Judging
 wake_told judging wake = record judging {
-  judged = woke judging.judged wake;
+  judged = judge_after_wake judging.judged wake;
   watching = wake_watched judging.watching wake;
 }
 
@@ -105,19 +107,20 @@ with_odd odd call (Some reason) =
     else odd
 
 -- a message and what came back are an exchange
-abbrev pub answered : Judging → List ℕ → Option (List ℕ) → Judging
-answered judging sent came = record judging {
-  judged = exchanged judging.judged sent came;
+abbrev pub judging_after_exchange : Judging → List ℕ → Option (List ℕ) → Judging
+judging_after_exchange judging sent came = record judging {
+  judged = judge_after_exchange judging.judged sent came;
   watching = exchange_watched judging.watching judging.call sent came;
   sent = None;
-  counts = counted_by judging.judged.verdict judging.counts came;
-  odd = with_odd judging.odd judging.call (exchanged judging.judged sent came).oddity;
+  counts = counts_after_exchange judging.judged.verdict judging.counts came;
+  odd = with_odd judging.odd judging.call (judge_after_exchange judging.judged sent came).oddity;
 }
 
 abbrev pub came_to : Option (List ℕ) → Judging → ℕ → Option (List ℕ) → Result Judging LineFault
 came_to None judging number came = Err MessageMissing
 came_to (Some sent) judging number came =
-    if number == judging.call then Ok (answered judging sent came) else Err WrongNumber
+    if number == judging.call then Ok (judging_after_exchange judging sent came) else Err
+    WrongNumber
 
 abbrev pub page_told : Judging → List ℕ → Judging
 page_told judging octets = record judging {
@@ -126,19 +129,20 @@ page_told judging octets = record judging {
 }
 
 -- the page counts before the first call alone: later it is what a port read
-abbrev pub paged : Judging → List ℕ → Judging
-paged judging octets = if judging.call == 0 then page_told judging octets else judging
+abbrev pub judging_with_page : Judging → List ℕ → Judging
+judging_with_page judging octets = if judging.call == 0 then page_told judging octets else judging
 
 -- the judge, told what a line says
-abbrev pub told : Judging → TraceLine → Result Judging LineFault
-told judging Other = Ok judging
-told judging (Page octets) = Ok (paged judging octets)
-told judging (Wake number answer) =
-    result_map_both (λ new. wake_told new answer) (λ fault. fault) (begun judging number)
-told judging (Sent number octets) = result_map_both
+abbrev pub judging_after_line : Judging → TraceLine → Result Judging LineFault
+judging_after_line judging Other = Ok judging
+judging_after_line judging (Page octets) = Ok (judging_with_page judging octets)
+judging_after_line judging (Wake number answer) =
+    result_map_both (λ new. wake_told new answer) (λ fault. fault)
+    (judging_at_next_call judging number)
+judging_after_line judging (Sent number octets) = result_map_both
     (λ (new : Judging). record new { sent = Some octets.items }) (λ fault. fault)
-    (begun judging number)
-told judging (Came number came) = came_to judging.sent judging number (octets_in came)
+    (judging_at_next_call judging number)
+judging_after_line judging (Came number came) = came_to judging.sent judging number (octets_in came)
 
 -- a line is told so, where it fits a form
 abbrev pub or_bad_form : {L J : Type 0} → (L → Result J LineFault) → Option L → Result J LineFault
@@ -147,18 +151,19 @@ or_bad_form tell line = option_map_or tell line (Err BadForm)
 -- What a splitter tells
 
 -- it went over the line in the call that began last
-abbrev pub passed_on : Judging → Passed → Judging
-passed_on judging (passed.Exchange exchange) = answered judging exchange.sent exchange.answer
+abbrev pub passed_on : Judging → SplitItem → Judging
+passed_on judging (passed.Exchange exchange) =
+    judging_after_exchange judging exchange.sent exchange.answer
 passed_on judging (passed.Wake answer) = wake_told judging answer
 
 -- in the next call
-abbrev pub passed_next : Judging → Passed → Judging
-passed_next judging what = passed_on (called judging (one_more judging.call)) what
+abbrev pub passed_next : Judging → SplitItem → Judging
+passed_next judging what = passed_on (judging_in_call judging (plus_one judging.call)) what
 
 -- A wake-up request that isn't shown may have been made, and not answered. The judge is told one,
 -- the watch looks at the read that may be its test read.
 abbrev pub maybe_woken : Judging → Judging
 maybe_woken judging = record judging {
-  judged = woke judging.judged Unanswered;
+  judged = judge_after_wake judging.judged Unanswered;
   watching = record judging.watching { tests = true };
 }

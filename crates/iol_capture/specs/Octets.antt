@@ -7,12 +7,12 @@ use Rattle.iol_judge.specs.declared.verdict.Wake.TheVariants.{Unanswered}
 use Rattle.iol_link.specs.declared.wire.Rate.{Rate}
 use Rattle.iol_splitter.specs.declared.octet_line.OctetLine.{OctetLine}
 use Rattle.iol_splitter.specs.declared.octet_line.OctetLine.TheVariants as line
-use Rattle.iol_splitter.specs.declared.passed.Passed.{Passed}
-use Rattle.iol_splitter.specs.declared.passed.Passed.TheVariants.{Wake}
+use Rattle.iol_splitter.specs.declared.passed.SplitItem.{SplitItem}
+use Rattle.iol_splitter.specs.declared.passed.SplitItem.TheVariants.{Wake}
 use Rattle.iol_splitter.specs.OctetLines.{line_form}
 use Rattle.iol_splitter.specs.State.{Splitting, new_splitter}
-use Rattle.iol_splitter.specs.Splitting.{ended, octet_split, wake_split}
-use Rattle.iol_splitter.specs.Steps.{Step}
+use Rattle.iol_splitter.specs.Splitting.{untold_at_end, octet_split, wake_split}
+use Rattle.iol_splitter.specs.Steps.{SplitStep}
 use Rattle.iol_capture.specs.declared.fault.LineFault.{LineFault}
 use Rattle.iol_capture.specs.declared.fault.LineFault.TheVariants.{Split}
 use Rattle.iol_capture.specs.Judging.{Judging, maybe_woken, new_judging, passed_next}
@@ -26,32 +26,32 @@ abbrev pub new_hearing : Rate → Odd → Hearing
 new_hearing rate odd = record { splitting = new_splitter rate; judging = new_judging odd }
 
 -- what a line of at most 1,024 bytes shows, where it fits a form
-abbrev pub octet_form : List ℕ → Option OctetLine
-octet_form line = if nat_le (length line) 1024 then line_form line else None
+abbrev pub octet_line_form : List ℕ → Option OctetLine
+octet_line_form line = if nat_le (length line) 1024 then line_form line else None
 
 -- what went over the line, told by a wake-up request that is shown, or by the end
-abbrev pub passed_by_request : Judging → Option Passed → Judging
+abbrev pub passed_by_request : Judging → Option SplitItem → Judging
 passed_by_request judging passed = option_map_or (passed_next judging) passed judging
 
 -- What went over the line, told by an octet. An unanswered wake-up request that isn't shown may be
 -- none: the read that may be its test read is the next call, and it has no number of its own
-abbrev pub passed_by_octet : Judging → Option Passed → Judging
+abbrev pub passed_by_octet : Judging → Option SplitItem → Judging
 passed_by_octet judging (Some (Wake Unanswered)) = maybe_woken judging
 passed_by_octet judging passed = passed_by_request judging passed
 
 -- the judge is told so what a step tells
-abbrev pub step_heard : (Option Passed → Judging) → Step → Result Hearing LineFault
+abbrev pub step_heard : (Option SplitItem → Judging) → SplitStep → Result Hearing LineFault
 step_heard judged step = result_map_both
     (λ passed. record { splitting = step.state; judging = judged passed }) Split step.told
 
 -- what a line shows
-abbrev pub shown : Hearing → OctetLine → Result Hearing LineFault
-shown hearing line.Other = Ok hearing
-shown hearing (line.Octet time octet) =
+abbrev pub hearing_after_line : Hearing → OctetLine → Result Hearing LineFault
+hearing_after_line hearing line.Other = Ok hearing
+hearing_after_line hearing (line.Octet time octet) =
     step_heard (passed_by_octet hearing.judging) (octet_split hearing.splitting time octet)
-shown hearing (line.Wake time) =
+hearing_after_line hearing (line.Wake time) =
     step_heard (passed_by_request hearing.judging) (wake_split hearing.splitting time)
 
 -- the stream has ended
 abbrev pub heard_whole : Hearing → Judging
-heard_whole hearing = passed_by_request hearing.judging (ended hearing.splitting)
+heard_whole hearing = passed_by_request hearing.judging (untold_at_end hearing.splitting)

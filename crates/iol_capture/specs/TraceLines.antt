@@ -6,7 +6,7 @@ use Rattle.std.specs.Str.{bytes_eq}
 use Rattle.arrayvec.specs.ArrayVec.{ArrayVec}
 use Rattle.iol_judge.specs.declared.verdict.Wake.{Wake as WakeAnswer}
 use Rattle.iol_judge.specs.declared.verdict.Wake.TheVariants as wake
-use Rattle.iol_script.specs.Numerals.{octets_of, number_in, within}
+use Rattle.iol_script.specs.Numerals.{octets_of_words, number_in, octets_within}
 use Rattle.iol_script.specs.Text.{text_words}
 use Rattle.iol_capture.specs.declared.trace_line.TraceLine.{TraceLine}
 use Rattle.iol_capture.specs.declared.trace_line.TraceLine.TheVariants.{Other, Page, Wake, Sent, Came}
@@ -16,7 +16,7 @@ use Rattle.iol_capture.specs.declared.trace_line.TraceLine.TheVariants.{Other, P
 -- words of two digits each, up to 128
 abbrev pub octets_form : List (List ℕ) → Option (ArrayVec ℕ)
 octets_form words = option_map (λ octets. record { items = octets })
-    (option_and_then (within 0 128) (octets_of words))
+    (option_and_then (octets_within 0 128) (octets_of_words words))
 
 -- the one word `none`
 abbrev pub are_none : List (List ℕ) → Bool
@@ -41,12 +41,12 @@ abbrev pub came_form : List (List ℕ) → Option (Option (ArrayVec ℕ))
 came_form words = if are_none words then Some None else option_map Some (octets_form words)
 
 -- the words behind the number of a call
-abbrev pub call_form : ℕ → List (List ℕ) → Option TraceLine
-call_form number (way ∷ words) =
+abbrev pub trace_call_form : ℕ → List (List ℕ) → Option TraceLine
+trace_call_form number (way ∷ words) =
     if bytes_eq way (codes "wake") then option_map (Wake number) (rate_form words) else
     if bytes_eq way (codes ">") then option_map (Sent number) (octets_form words) else
     if bytes_eq way (codes "<") then option_map (Came number) (came_form words) else None
-call_form number [] = None
+trace_call_form number [] = None
 
 -- a line that begins with a digit is of a call; each other than `page` says nothing of the line
 abbrev pub begins_with_digit : List ℕ → Bool
@@ -57,12 +57,12 @@ abbrev pub named_form : List ℕ → List (List ℕ) → Option TraceLine
 named_form name words =
     if bytes_eq name (codes "page") then page_form words else
     if begins_with_digit name
-    then option_and_then (λ number. call_form number words) (number_in 1 (2 ^ 64 - 1) name)
+    then option_and_then (λ number. trace_call_form number words) (number_in 1 (2 ^ 64 - 1) name)
     else Some Other
 
-abbrev pub words_form : List (List ℕ) → Option TraceLine
-words_form [] = Some Other
-words_form (name ∷ words) = named_form name words
+abbrev pub trace_words_form : List (List ℕ) → Option TraceLine
+trace_words_form [] = Some Other
+trace_words_form (name ∷ words) = named_form name words
 
 -- A line
 
@@ -73,4 +73,4 @@ before_colon line = option_map_or (λ place. take place line) (position (λ b. b
 -- what a line says, where it fits a form
 abbrev pub trace_form : List ℕ → Option TraceLine
 trace_form line =
-    if nat_le (length line) 1024 then words_form (text_words (before_colon line)) else None
+    if nat_le (length line) 1024 then trace_words_form (text_words (before_colon line)) else None

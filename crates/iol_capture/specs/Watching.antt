@@ -3,14 +3,14 @@ use Rattle.std.specs.Prelude.{◌≡◌, ℕ, Bool, true, false, ◌&&◌, ◌||
 use Rattle.iol_judge.specs.declared.verdict.Wake.{Wake}
 use Rattle.iol_judge.specs.declared.verdict.Wake.TheVariants.{Answered}
 use Rattle.iol_judge.specs.Seen.{whole_page}
-use Rattle.iol_splitter.specs.Lengths.{test_read}
-use Rattle.iol_watch.specs.declared.verdict.Verdict.{Verdict}
-use Rattle.iol_watch.specs.declared.verdict.Verdict.TheVariants.{NotByTheRules}
-use Rattle.iol_watch.specs.Watched.{Watched, exchanged, new_watch, paged, woke}
+use Rattle.iol_splitter.specs.Lengths.{test_read_octets}
+use Rattle.iol_watch.specs.declared.verdict.MasterVerdict.{MasterVerdict}
+use Rattle.iol_watch.specs.declared.verdict.MasterVerdict.TheVariants.{NotByTheRules}
+use Rattle.iol_watch.specs.Watched.{WatchState, watch_after_exchange, new_watch, watch_with_page, watch_after_wake}
 
 pub record Watching : Type 0 where
   -- what the watch was told, up to the master's first fault
-  pub watched : Watched
+  pub watched : WatchState
   -- the call of the exchange told last: that of the fault, where there is one
   pub call : ℕ
   -- a command into another mode was sent since the last wake-up request
@@ -25,19 +25,19 @@ abbrev pub new_watching : Watching
 new_watching =
     record { watched = new_watch; call = 0; asked = false; tests = false; unsure = None }
 
-abbrev pub is_blamed : Verdict → Bool
+abbrev pub is_blamed : MasterVerdict → Bool
 is_blamed (NotByTheRules number fault) = true
 is_blamed verdict = false
 
 -- the device has this page
 abbrev pub page_watched : Watching → List ℕ → Watching
 page_watched watching octets =
-    record watching { watched = paged watching.watched (whole_page octets) }
+    record watching { watched = watch_with_page watching.watched (whole_page octets) }
 
 -- a wake-up request was made
 abbrev pub wake_watched : Watching → Wake → Watching
 wake_watched watching answer = if is_blamed watching.watched.verdict then watching else
-    record new_watching { watched = woke watching.watched answer; call = watching.call }
+    record new_watching { watched = watch_after_wake watching.watched answer; call = watching.call }
 
 -- octets of a write of DeviceOperate or DevicePreoperate to page address 0x00 in STARTUP
 abbrev pub asks_mode : List ℕ → Bool
@@ -46,9 +46,9 @@ asks_mode (control ∷ check ∷ command ∷ rest) =
 asks_mode octets = false
 
 -- an exchange was made
-abbrev pub followed : Watching → ℕ → List ℕ → Option (List ℕ) → Watching
-followed watching call sent came = record watching {
-  watched = exchanged watching.watched sent came;
+abbrev pub watching_after_exchange : Watching → ℕ → List ℕ → Option (List ℕ) → Watching
+watching_after_exchange watching call sent came = record watching {
+  watched = watch_after_exchange watching.watched sent came;
   call = call;
   asked = watching.asked || asks_mode sent;
 }
@@ -58,9 +58,9 @@ followed watching call sent came = record watching {
 -- may which was woken; else it is noted that the mode isn't known.
 abbrev pub read_or_woken : Watching → ℕ → List ℕ → Option (List ℕ) → Watching
 read_or_woken watching call sent came =
-    let read = followed (record watching { tests = false }) call sent came in
+    let read = watching_after_exchange (record watching { tests = false }) call sent came in
     if is_blamed read.watched.verdict
-    then followed (wake_watched new_watching Answered) call sent came
+    then watching_after_exchange (wake_watched new_watching Answered) call sent came
     else record read {
       unsure = if read.asked && is_none read.unsure then Some call else read.unsure;
     }
@@ -70,10 +70,10 @@ abbrev pub exchange_watched : Watching → ℕ → List ℕ → Option (List ℕ
 exchange_watched watching call sent came =
     if is_blamed watching.watched.verdict then watching else
     if watching.tests then read_or_woken watching call sent came
-    else followed watching call sent came
+    else watching_after_exchange watching call sent came
 
 -- the law: a test read is never blamed, where a wake-up request may be before it that isn't shown
 abbrev pub UnseenWakesAreFair : Type 0
 UnseenWakesAreFair = (watching : Watching) (call : ℕ) (came : Option (List ℕ))
     → watching.tests ≡ true → is_blamed watching.watched.verdict ≡ false
-    → is_blamed (exchange_watched watching call test_read came).watched.verdict ≡ false
+    → is_blamed (exchange_watched watching call test_read_octets came).watched.verdict ≡ false

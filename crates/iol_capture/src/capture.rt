@@ -5,8 +5,8 @@ ghost use Rattle.iol_capture.specs.declared.fault.CaptureFault.TheVariants.{Read
 
 use crate::fault::CaptureFault;
 use crate::judgement::Judgement;
-use crate::opened::Opened;
-use crate::telling::Form;
+use crate::opened::CaptureReader;
+use crate::telling::CaptureForm;
 use iol_judge::Odd;
 use std::io::Read;
 
@@ -19,7 +19,7 @@ const PIECE: usize = 4096;
 /// It takes no memory, and keeps one line at a time. The first bad line ends it; of the text behind
 /// that, part may be read. No read follows one that failed.
 pub fn judge_capture<R: Read>(
-    form: Form,
+    form: CaptureForm,
     odd: Odd,
     reader: &mut R,
 ) -> Result<Judgement, CaptureFault>
@@ -28,7 +28,7 @@ pub fn judge_capture<R: Read>(
     ensures bad { IfErr result (λ fault. fault ≢ ReadFailed → IfSome (R.remaining reader.old)
         (λ text. capture_judged form odd text ≡ Err fault)) }
 {
-    let mut opened = Opened::new(form, odd);
+    let mut opened = CaptureReader::new(form, odd);
     let mut piece = [0u8; PIECE];
     for _ in 0..u64::MAX {
         let Ok(count) = reader.read(&mut piece) else {

@@ -2,24 +2,24 @@
 ghost use Rattle.std.specs.Prelude.{◌≡◌, Ok};
 ghost use Rattle.std.specs.Result.{result_and};
 ghost use Rattle.iol_capture.specs.Judging.{or_bad_form};
-ghost use Rattle.iol_capture.specs.Octets.{heard_whole, new_hearing, octet_form, passed_by_octet, passed_by_request, shown};
+ghost use Rattle.iol_capture.specs.Octets.{heard_whole, new_hearing, octet_line_form, passed_by_octet, passed_by_request, hearing_after_line};
 
 use crate::fault::LineFault;
 use crate::judgement::Judgement;
 use crate::trace_line::LONGEST;
 use iol_judge::{Odd, Wake};
 use iol_link::Rate;
-use iol_splitter::{OctetLine, Passed, Splitter};
+use iol_splitter::{OctetLine, SplitItem, Splitter};
 use std::marker::Model;
 
 /// What a judge makes of the octets of a line.
 #[derive(Drop)]
-pub(crate) struct Hearing {
+pub(crate) struct OctetJudgement {
     splitter: Splitter,
     judgement: Judgement,
 }
 
-impl Model for Hearing {
+impl Model for OctetJudgement {
     ghost use Rattle.iol_capture.specs.Octets.{Hearing};
 
     ghost Value = { Hearing };
@@ -27,12 +27,12 @@ impl Model for Hearing {
     ghost view = { λ h. record { splitting = h.splitter; judging = h.judgement } };
 }
 
-impl Hearing {
+impl OctetJudgement {
     /// Nothing was shown of a line with this rate.
-    pub fn new(rate: Rate, odd: Odd) -> Hearing
+    pub fn new(rate: Rate, odd: Odd) -> OctetJudgement
         ensures { result ≡ new_hearing rate odd }
     {
-        Hearing {
+        OctetJudgement {
             splitter: Splitter::new(rate),
             judgement: Judgement::new(odd),
         }
@@ -41,7 +41,7 @@ impl Hearing {
     /// One more line.
     pub fn tell_line(&mut self, line: &[u8]) -> Result<(), LineFault>
         ensures { result_and result (Ok self.new)
-            ≡ or_bad_form (shown self.old) (octet_form line.now) }
+            ≡ or_bad_form (hearing_after_line self.old) (octet_line_form line.now) }
     {
         match parse(line) {
             Some(line) => self.tell(line),
@@ -51,7 +51,7 @@ impl Hearing {
 
     /// What one more line shows.
     fn tell(&mut self, line: OctetLine) -> Result<(), LineFault>
-        ensures { result_and result (Ok self.new) ≡ shown self.old line }
+        ensures { result_and result (Ok self.new) ≡ hearing_after_line self.old line }
     {
         match line {
             OctetLine::Other => Ok(()),
@@ -84,7 +84,7 @@ impl Hearing {
 
 /// What a line of at most 1,024 bytes shows, where it fits a form.
 fn parse(line: &[u8]) -> Option<OctetLine>
-    ensures { result ≡ octet_form line.now }
+    ensures { result ≡ octet_line_form line.now }
 {
     if line.len() > LONGEST {
         return None;
@@ -94,18 +94,18 @@ fn parse(line: &[u8]) -> Option<OctetLine>
 
 /// What went over the line, told by an octet. An unanswered wake-up request that isn't shown may be
 /// none: the read that may be its test read is the next call, and it has no number of its own.
-fn pass_octet(judgement: &mut Judgement, passed: &Option<Passed>)
+fn pass_octet(judgement: &mut Judgement, passed: &Option<SplitItem>)
     ensures { judgement.new ≡ passed_by_octet judgement.old passed.now }
 {
     match passed {
         None => {}
-        Some(Passed::Wake(Wake::Unanswered)) => judgement.maybe_wake(),
+        Some(SplitItem::Wake(Wake::Unanswered)) => judgement.maybe_wake(),
         Some(passed) => judgement.pass_next(passed),
     }
 }
 
 /// What went over the line, told by a wake-up request that is shown, or by the end.
-fn pass_request(judgement: &mut Judgement, passed: &Option<Passed>)
+fn pass_request(judgement: &mut Judgement, passed: &Option<SplitItem>)
     ensures { judgement.new ≡ passed_by_request judgement.old passed.now }
 {
     if let Some(passed) = passed {

@@ -2,20 +2,20 @@
 ghost use Rattle.std.specs.Prelude.{◌≡◌, ◌≤◌, ◌<◌, Ok, is_some, option_copied};
 ghost use Rattle.std.specs.Result.{result_and};
 ghost use Rattle.iol_far.specs.Octets.{octets_in};
-ghost use Rattle.iol_capture.specs.Judging.{answered, begun, called, came_to, counted_by, is_next, is_open, maybe_woken, new_judging, no_counts, one_more, paged, passed_next, passed_on, told, wake_told, with_odd};
+ghost use Rattle.iol_capture.specs.Judging.{judging_after_exchange, judging_at_next_call, judging_in_call, came_to, counts_after_exchange, is_call_number, is_verdict_open, maybe_woken, new_judging, no_counts, plus_one, judging_with_page, passed_next, passed_on, judging_after_line, wake_told, with_odd};
 
 use crate::fault::LineFault;
 use crate::trace_line::TraceLine;
-use crate::watching::Watching;
+use crate::watching::CallWatch;
 use arrayvec::ArrayVec;
 use iol_judge::{Judge, Odd, Reason, Verdict, Wake};
 use iol_script::LineOctets;
-use iol_splitter::Passed;
+use iol_splitter::SplitItem;
 use std::marker::Model;
 
 /// How many exchanges there were. Each count stops at 2^64 - 1.
 #[derive(Clone, Copy, Debug, PartialEq, Eq)]
-pub(crate) struct Counts {
+pub(crate) struct ExchangeCounts {
     /// Those before the first answered wake-up request.
     pub unjudged: u64,
     /// Those that were judged.
@@ -24,12 +24,12 @@ pub(crate) struct Counts {
     pub lost: u64,
 }
 
-impl Counts {
+impl ExchangeCounts {
     /// None.
-    fn none() -> Counts
+    fn none() -> ExchangeCounts
         ensures { result ≡ no_counts }
     {
-        Counts {
+        ExchangeCounts {
             unjudged: 0,
             judged: 0,
             lost: 0,
@@ -37,8 +37,8 @@ impl Counts {
     }
 
     /// One more exchange, while the verdict was this.
-    fn with(self, verdict: Verdict, came: Option<&[u8]>) -> Counts
-        ensures { result ≡ counted_by verdict self (option_copied came.entry) }
+    fn with(self, verdict: Verdict, came: Option<&[u8]>) -> ExchangeCounts
+        ensures { result ≡ counts_after_exchange verdict self (option_copied came.entry) }
     {
         let mut counts = self;
         match verdict {
@@ -57,7 +57,7 @@ impl Counts {
 
 /// One more, up to the largest number.
 pub(crate) fn one_more(count: u64) -> u64
-    ensures { result ≡ one_more count }
+    ensures { result ≡ plus_one count }
 {
     count.saturating_add(1)
 }
@@ -89,14 +89,14 @@ pub(crate) type OddExchanges = ArrayVec<OddExchange, ODD_SHOWN>;
 pub struct Judgement {
     pub(crate) judge: Judge,
     /// The same of the master.
-    pub(crate) watching: Watching,
+    pub(crate) watching: CallWatch,
     /// The number of the last call of the wire, 0 before the first.
     call: u64,
     /// What was sent in it, until it's told what came back.
     sent: Option<LineOctets>,
     /// The call on which the verdict rests.
     pub(crate) decided: u64,
-    pub(crate) counts: Counts,
+    pub(crate) counts: ExchangeCounts,
     pub(crate) odd: OddExchanges,
 }
 
@@ -124,11 +124,11 @@ impl Judgement {
     {
         Judgement {
             judge: Judge::new(odd),
-            watching: Watching::new(),
+            watching: CallWatch::new(),
             call: 0,
             sent: None,
             decided: 0,
-            counts: Counts::none(),
+            counts: ExchangeCounts::none(),
             odd: OddExchanges::new(),
         }
     }
@@ -142,7 +142,7 @@ impl Judgement {
 
     /// What one more line says.
     pub(crate) fn tell(&mut self, line: TraceLine) -> Result<(), LineFault>
-        ensures { result_and result (Ok self.new) ≡ told self.old line }
+        ensures { result_and result (Ok self.new) ≡ judging_after_line self.old line }
     {
         match line {
             TraceLine::Other => Ok(()),
@@ -166,7 +166,7 @@ impl Judgement {
 
     /// The page counts before the first call alone: later it is what a port read.
     fn tell_page(&mut self, octets: &[u8; 10])
-        ensures { self.new ≡ paged self.old octets.now }
+        ensures { self.new ≡ judging_with_page self.old octets.now }
     {
         if self.call == 0 {
             self.judge.page(octets);
@@ -192,7 +192,7 @@ impl Judgement {
 
     /// A call of the wire begins.
     fn begin(&mut self, number: u64) -> Result<(), LineFault>
-        ensures { result_and result (Ok self.new) ≡ begun self.old number }
+        ensures { result_and result (Ok self.new) ≡ judging_at_next_call self.old number }
     {
         if self.sent.is_some() {
             return Err(LineFault::ReplyMissing);
@@ -206,7 +206,7 @@ impl Judgement {
 
     /// The call of this number has begun.
     fn call(&mut self, number: u64)
-        ensures { self.new ≡ called self.old number }
+        ensures { self.new ≡ judging_in_call self.old number }
     {
         self.call = number;
         if is_open(self.judge.verdict()) {
@@ -234,7 +234,7 @@ impl Judgement {
 
     /// A message, and what came back.
     fn exchange(&mut self, sent: &[u8], came: Option<&[u8]>)
-        ensures { self.new ≡ answered self.old sent.now (option_copied came.entry) }
+        ensures { self.new ≡ judging_after_exchange self.old sent.now (option_copied came.entry) }
     {
         self.sent = None;
         self.counts = self.counts.with(self.judge.verdict(), came);
@@ -244,7 +244,7 @@ impl Judgement {
     }
 
     /// What went over the line next.
-    pub(crate) fn pass_next(&mut self, passed: &Passed)
+    pub(crate) fn pass_next(&mut self, passed: &SplitItem)
         ensures { self.new ≡ passed_next self.old passed.now }
     {
         self.call(one_more(self.call));
@@ -252,12 +252,12 @@ impl Judgement {
     }
 
     /// What went over the line, in the call that began last.
-    fn pass(&mut self, passed: &Passed)
+    fn pass(&mut self, passed: &SplitItem)
         ensures { self.new ≡ passed_on self.old passed.now }
     {
         match passed {
-            Passed::Wake(answer) => self.wake(*answer),
-            Passed::Exchange(exchange) => self.exchange(
+            SplitItem::Wake(answer) => self.wake(*answer),
+            SplitItem::Exchange(exchange) => self.exchange(
                 exchange.sent.as_slice(),
                 exchange.answer.as_ref().map(|octets| octets.as_slice()),
             ),
@@ -277,14 +277,14 @@ fn note_odd(odd: &mut OddExchanges, call: u64, oddity: Option<Reason>)
 
 /// Whether more can change a verdict.
 fn is_open(verdict: Verdict) -> bool
-    ensures { result ≡ is_open verdict }
+    ensures { result ≡ is_verdict_open verdict }
 {
     matches!(verdict, Verdict::Unjudged | Verdict::Honest)
 }
 
 /// Whether a call may have this number: the first any, each other the next.
 fn is_next(call: u64, number: u64) -> bool
-    ensures { result ≡ is_next call number }
+    ensures { result ≡ is_call_number call number }
 {
     call == 0 || call.checked_add(1) == Some(number)
 }

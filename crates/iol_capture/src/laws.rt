@@ -26,7 +26,7 @@ pub fn honest_octets_are_never_blamed()
 
 /// Where a decoder shows no wake-up requests, no master is blamed for a read that may be the test
 /// read of one.
-#[tactic(auto, unfolding(iol_octets::specs::Checksum::has_checksum, iol_octets::specs::Checksum::checksum_of, iol_octets::specs::Checksum::compressed, iol_octets::specs::Control::control_of, iol_far::specs::Codec::message_in))]
+#[tactic(auto, unfolding(iol_octets::specs::Checksum::has_checksum, iol_octets::specs::Checksum::checksum_of, iol_octets::specs::Checksum::six_bits_of, iol_octets::specs::Control::control_of, iol_far::specs::Codec::message_in))]
 pub fn unseen_wakes_are_fair()
     ensures { UnseenWakesAreFair }
 {}

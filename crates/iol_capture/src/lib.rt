@@ -3,8 +3,8 @@
 //!
 //! A [`TraceLine`] is what one line of a trace says. Octets are split by a
 //! [`Splitter`](iol_splitter::Splitter). A [`Judgement`] is what a judge of the device makes of the
-//! lines, and a watch of the master. [`judge_capture`] reads them in either [`Form`], of a text of
-//! any length: it keeps one line at a time.
+//! lines, and a watch of the master. [`judge_capture`] reads them in either [`CaptureForm`], of a
+//! text of any length: it keeps one line at a time.
 //!
 //! Definitions begin in `specs/TraceLines`; then `Watching`, what the watch is told, and the law of
 //! the master; `Judging`, a line of a trace; `Octets`, a line of an export; `Capture`, a whole
@@ -31,5 +31,5 @@ pub use laws::{
     honest_captures_are_never_blamed, honest_octets_are_never_blamed, unseen_wakes_are_fair,
 };
 pub use printing::Finding;
-pub use telling::Form;
+pub use telling::CaptureForm;
 pub use trace_line::TraceLine;

@@ -1,11 +1,11 @@
 //! A capture that is read in pieces: the lines that ended, and the line that is open.
 ghost use Rattle.std.specs.Prelude.{◌≡◌, ◌≤◌, ◌∷◌, ◌++◌, [], ℕ, List, Ok, OnOk};
 ghost use Rattle.std.specs.Result.{result_and};
-ghost use Rattle.iol_capture.specs.Capture.{IsOpenLine, ended, judged_with, line_read, new_opened};
+ghost use Rattle.iol_capture.specs.Capture.{IsOpenLine, judging_at_end, judging_after_rest, capture_after_line, new_opened};
 
 use crate::fault::{CaptureFault, LineFault};
 use crate::judgement::{Judgement, one_more};
-use crate::telling::{Form, Telling};
+use crate::telling::{CaptureForm, Telling};
 use crate::trace_line::LONGEST;
 use arrayvec::ArrayVec;
 use iol_judge::Odd;
@@ -13,7 +13,7 @@ use std::marker::Model;
 
 /// A capture, as far as it is read.
 #[derive(Drop)]
-pub(crate) struct Opened {
+pub(crate) struct CaptureReader {
     /// How many lines ended.
     lines: u64,
     telling: Telling,
@@ -21,10 +21,10 @@ pub(crate) struct Opened {
     line: ArrayVec<u8, LONGEST>,
 }
 
-impl Model for Opened {
-    ghost use Rattle.iol_capture.specs.Capture.{IsOpenLine, Opened};
+impl Model for CaptureReader {
+    ghost use Rattle.iol_capture.specs.Capture.{IsOpenLine, ReaderState};
 
-    ghost Value = { Opened };
+    ghost Value = { ReaderState };
 
     ghost view = { λ o. record {
       reading = record { lines = o.lines; telling = o.telling };
@@ -34,12 +34,12 @@ impl Model for Opened {
     ghost invariant = { λ o. IsOpenLine o.line.items };
 }
 
-impl Opened {
+impl CaptureReader {
     /// Nothing is read.
-    pub(crate) fn new(form: Form, odd: Odd) -> Opened
+    pub(crate) fn new(form: CaptureForm, odd: Odd) -> CaptureReader
         ensures { result ≡ new_opened form odd }
     {
-        Opened {
+        CaptureReader {
             lines: 0,
             telling: Telling::new(form, odd),
             line: ArrayVec::new(),
@@ -48,8 +48,8 @@ impl Opened {
 
     /// More of the text is read.
     pub(crate) fn take(&mut self, text: &[u8]) -> Result<(), CaptureFault>
-        ensures { (rest : List ℕ) → result_and result (judged_with self.new rest)
-            ≡ judged_with self.old (text.now ++ rest) }
+        ensures { (rest : List ℕ) → result_and result (judging_after_rest self.new rest)
+            ≡ judging_after_rest self.old (text.now ++ rest) }
     {
         for octet in text {
             self.take_octet(*octet)?;
@@ -60,8 +60,8 @@ impl Opened {
     /// One more octet is read.
     #[tactic(auto, using(crate::proofs::ReadLemmas::overfull))]
     fn take_octet(&mut self, octet: u8) -> Result<(), CaptureFault>
-        ensures { (rest : List ℕ) → result_and result (judged_with self.new rest)
-            ≡ judged_with self.old (octet ∷ rest) }
+        ensures { (rest : List ℕ) → result_and result (judging_after_rest self.new rest)
+            ≡ judging_after_rest self.old (octet ∷ rest) }
     {
         if octet == b'\n' {
             return self.end_line();
@@ -76,7 +76,7 @@ impl Opened {
     /// The open line ends.
     fn end_line(&mut self) -> Result<(), CaptureFault>
         ensures line { result_and result (Ok self.new.reading)
-            ≡ line_read (Ok self.old.reading) self.old.line }
+            ≡ capture_after_line (Ok self.old.reading) self.old.line }
         ensures empty { OnOk result (self.new.line ≡ []) }
         ensures no_feed { IsOpenLine self.old.line }
     {
@@ -92,7 +92,7 @@ impl Opened {
     /// The text has ended.
     #[tactic(auto, using(crate::proofs::ReadLemmas::end_line))]
     pub(crate) fn finish(mut self) -> Result<Judgement, CaptureFault>
-        ensures { result ≡ judged_with self [] }
+        ensures { result ≡ judging_after_rest self [] }
     {
         if self.line.is_empty() {
             return self.judged();
@@ -105,7 +105,7 @@ impl Opened {
 
     /// What is judged once the last line has ended.
     fn judged(self) -> Result<Judgement, CaptureFault>
-        ensures { result ≡ ended (Ok self.reading) }
+        ensures { result ≡ judging_at_end (Ok self.reading) }
     {
         let number = one_more(self.lines);
         match self.telling.finish() {

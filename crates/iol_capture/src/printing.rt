@@ -2,12 +2,12 @@
 ghost use Rattle.std.specs.Prelude.{◌≡◌, IfOk, codes};
 ghost use Rattle.std.specs.String.{string_bytes};
 ghost use Rattle.iol_script.specs.Printing.{Prints};
-ghost use Rattle.iol_capture.specs.Findings.{are_told, because_text, blamed_text, count_text, fault_text, finding_of, finding_text, from_text, honest_text, kind_text, kinds_text, master_text, odd_texts, open_text, reason_text, unsure_text, verdict_text};
+ghost use Rattle.iol_capture.specs.Findings.{are_told, because_text, blamed_text, count_text, fault_text, finding_of, finding_text, from_text, honest_text, kind_text, kinds_text, master_verdict_text, odd_texts, open_text, reason_text, unsure_text, verdict_text};
 
-use crate::judgement::{Counts, Judgement, OddExchange};
-use crate::watching::Watching;
+use crate::judgement::{ExchangeCounts, Judgement, OddExchange};
+use crate::watching::CallWatch;
 use iol_judge::{Kinds, Open, Reason, Verdict};
-use iol_watch::{MasterFault, Verdict as MasterVerdict};
+use iol_watch::{Blame, MasterVerdict};
 use std::alloc::{AllocError, Allocator};
 
 /// Why the master's mode isn't known.
@@ -99,8 +99,11 @@ fn print_unjudged<A: Allocator>(output: &mut String<A>, count: u64) -> Result<()
 }
 
 /// What is said of the master.
-fn print_master<A: Allocator>(output: &mut String<A>, watching: &Watching) -> Result<(), AllocError>
-    ensures { Prints result output.old output.new (master_text watching.now) }
+fn print_master<A: Allocator>(
+    output: &mut String<A>,
+    watching: &CallWatch,
+) -> Result<(), AllocError>
+    ensures { Prints result output.old output.new (master_verdict_text watching.now) }
 {
     match watching.verdict() {
         MasterVerdict::Unjudged => {
@@ -116,7 +119,7 @@ fn print_master<A: Allocator>(output: &mut String<A>, watching: &Watching) -> Re
 /// The master's first fault, in this call, where its mode is known.
 fn print_blamed<A: Allocator>(
     output: &mut String<A>,
-    fault: MasterFault,
+    fault: Blame,
     call: u64,
     unsure: Option<u64>,
 ) -> Result<(), AllocError>
@@ -203,7 +206,7 @@ fn print_verdict<A: Allocator>(
     output: &mut String<A>,
     verdict: Verdict,
     call: u64,
-    counts: &Counts,
+    counts: &ExchangeCounts,
 ) -> Result<(), AllocError>
     ensures { Prints result output.old output.new (verdict_text verdict call counts.now) }
 {
@@ -321,33 +324,29 @@ fn open_text(why: Open) -> &'static str
 }
 
 /// The name of a fault of the master, what none by the rules sends, and the rules.
-fn fault_text(fault: MasterFault) -> &'static str
+fn fault_text(fault: Blame) -> &'static str
     ensures { result.now ≡ fault_text fault }
 {
     match fault {
-        MasterFault::WakeDue => {
-            "WakeDue: a message where a wake-up request was due (LINK-1, LINK-3)"
-        }
-        MasterFault::NotRepeated => {
+        Blame::WakeDue => { "WakeDue: a message where a wake-up request was due (LINK-1, LINK-3)" }
+        Blame::NotRepeated => {
             "NotRepeated: another message than the one that had no good reply (LINK-2)"
         }
-        MasterFault::NotStartUp => {
+        Blame::NotStartUp => {
             "NotStartUp: a channel, command or cycle time that the mode doesn't allow there (LINK-6, LINK-7, LINK-8, LINK-10, LINK-12)"
         }
-        MasterFault::NotWellFormed => {
+        Blame::NotWellFormed => {
             "NotWellFormed: octets that are no message in the layout of the mode (MSG-3, LINK-9)"
         }
-        MasterFault::OutputOctets => {
+        Blame::OutputOctets => {
             "OutputOctets: other process data out, though the device's output isn't valid (PD-4, PD-5, PD-6)"
         }
-        MasterFault::NotDue => {
+        Blame::NotDue => {
             "NotDue: an ISDU or event message that nothing asks for (REQ-3, REQ-4, REQ-5, REQ-7, EVT-5, EVT-6, EVT-8)"
         }
-        MasterFault::RequestText => {
+        Blame::RequestText => {
             "RequestText: segments that are the beginning of no request, or go on behind one (ISDU-1, ISDU-2, ISDU-3, SEG-1)"
         }
-        MasterFault::NotInLine => {
-            "NotInLine: a COUNT that isn't the one behind the last (SEG-2)"
-        }
+        Blame::NotInLine => { "NotInLine: a COUNT that isn't the one behind the last (SEG-2)" }
     }
 }

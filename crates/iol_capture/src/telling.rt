@@ -1,12 +1,12 @@
 //! A judge, told the lines of a capture in one form or the other.
 ghost use Rattle.std.specs.Prelude.{◌≡◌, Ok};
 ghost use Rattle.std.specs.Result.{result_and};
-ghost use Rattle.iol_capture.specs.Judging.{or_bad_form, told};
+ghost use Rattle.iol_capture.specs.Judging.{or_bad_form, judging_after_line};
 ghost use Rattle.iol_capture.specs.TraceLines.{trace_form};
-ghost use Rattle.iol_capture.specs.Capture.{line_told, new_telling, whole};
+ghost use Rattle.iol_capture.specs.Capture.{line_told, new_telling, judging_if_whole};
 
 use crate::fault::LineFault;
-use crate::hearing::Hearing;
+use crate::hearing::OctetJudgement;
 use crate::judgement::Judgement;
 use crate::trace_line::TraceLine;
 use iol_judge::Odd;
@@ -14,7 +14,7 @@ use iol_link::Rate;
 
 /// How the lines of a capture are written.
 #[derive(Clone, Copy, Debug, PartialEq, Eq)]
-pub enum Form {
+pub enum CaptureForm {
     /// What `iolink trace` prints.
     Trace,
     /// The octets of a line with this rate, each with its time, as a decoder exports them.
@@ -25,17 +25,17 @@ pub enum Form {
 #[derive(Drop)]
 pub(crate) enum Telling {
     Trace(Judgement),
-    Octets(Hearing),
+    Octets(OctetJudgement),
 }
 
 impl Telling {
     /// Nothing was told.
-    pub fn new(form: Form, odd: Odd) -> Telling
+    pub fn new(form: CaptureForm, odd: Odd) -> Telling
         ensures { result ≡ new_telling form odd }
     {
         match form {
-            Form::Trace => Telling::Trace(Judgement::new(odd)),
-            Form::Octets(rate) => Telling::Octets(Hearing::new(rate, odd)),
+            CaptureForm::Trace => Telling::Trace(Judgement::new(odd)),
+            CaptureForm::Octets(rate) => Telling::Octets(OctetJudgement::new(rate, odd)),
         }
     }
 
@@ -51,7 +51,7 @@ impl Telling {
 
     /// The capture has ended.
     pub fn finish(self) -> Result<Judgement, LineFault>
-        ensures { result ≡ whole self }
+        ensures { result ≡ judging_if_whole self }
     {
         match self {
             Telling::Trace(judgement) if judgement.waits() => Err(LineFault::ReplyMissing),
@@ -64,7 +64,7 @@ impl Telling {
 /// One more line of a trace.
 fn tell_trace(judgement: &mut Judgement, line: &[u8]) -> Result<(), LineFault>
     ensures { result_and result (Ok judgement.new)
-        ≡ or_bad_form (told judgement.old) (trace_form line.now) }
+        ≡ or_bad_form (judging_after_line judgement.old) (trace_form line.now) }
 {
     match TraceLine::parse(line) {
         Some(line) => judgement.tell(line),

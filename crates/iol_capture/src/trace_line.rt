@@ -2,7 +2,7 @@
 ghost use Rattle.std.specs.Prelude.{◌≡◌, ◌==◌};
 ghost use Rattle.std.specs.List.{position};
 ghost use Rattle.iol_script.specs.Text.{words_left};
-ghost use Rattle.iol_capture.specs.TraceLines.{before_colon, call_form, came_form, named_form, octets_form, page_form, rate_form, words_form};
+ghost use Rattle.iol_capture.specs.TraceLines.{before_colon, trace_call_form, came_form, named_form, octets_form, page_form, rate_form, trace_words_form};
 
 use iol_judge::Wake;
 use iol_script::{LineOctets, Words, decimal_number, parted_octets};
@@ -58,7 +58,7 @@ fn before_colon(line: &[u8]) -> &[u8]
 }
 
 fn parse_words(mut words: Words) -> Option<TraceLine>
-    ensures { result ≡ words_form (words_left words.entry) }
+    ensures { result ≡ trace_words_form (words_left words.entry) }
 {
     match words.next() {
         Some(name) => parse_named(name, words),
@@ -94,7 +94,7 @@ fn parse_page(words: Words) -> Option<TraceLine>
 
 /// The words behind the number of a call.
 fn parse_call(number: u64, mut words: Words) -> Option<TraceLine>
-    ensures { result ≡ call_form number (words_left words.entry) }
+    ensures { result ≡ trace_call_form number (words_left words.entry) }
 {
     match words.next()? {
         b"wake" => Some(TraceLine::Wake(number, parse_rate(words)?)),

@@ -1,9 +1,9 @@
 //! A watch of the master's side, told the calls that a judge is told.
 ghost use Rattle.std.specs.Prelude.{◌≡◌, true, option_copied};
-ghost use Rattle.iol_capture.specs.Watching.{asks_mode, exchange_watched, followed, is_blamed, new_watching, page_watched, read_or_woken, wake_watched};
+ghost use Rattle.iol_capture.specs.Watching.{asks_mode, exchange_watched, watching_after_exchange, is_blamed, new_watching, page_watched, read_or_woken, wake_watched};
 
 use iol_judge::Wake;
-use iol_watch::{Verdict, Watch};
+use iol_watch::{MasterVerdict, Watch};
 use std::marker::Model;
 
 /// The control octet of a write to page address 0x00.
@@ -15,7 +15,7 @@ const DEVICE_PREOPERATE: u8 = 0x9A;
 
 /// A watch of the master's side, and where a wake-up request may be that isn't shown.
 #[derive(Drop)]
-pub(crate) struct Watching {
+pub(crate) struct CallWatch {
     watch: Watch,
     /// The call of the exchange told last: that of the fault, where there is one.
     pub(crate) call: u64,
@@ -27,7 +27,7 @@ pub(crate) struct Watching {
     pub(crate) unsure: Option<u64>,
 }
 
-impl Model for Watching {
+impl Model for CallWatch {
     ghost use Rattle.iol_capture.specs.Watching.{Watching};
 
     ghost Value = { Watching };
@@ -41,12 +41,12 @@ impl Model for Watching {
     } };
 }
 
-impl Watching {
+impl CallWatch {
     /// Nothing was told.
-    pub fn new() -> Watching
+    pub fn new() -> CallWatch
         ensures { result ≡ new_watching }
     {
-        Watching {
+        CallWatch {
             watch: Watch::new(),
             call: 0,
             asked: false,
@@ -56,7 +56,7 @@ impl Watching {
     }
 
     /// What the watch says of the master.
-    pub fn verdict(&self) -> Verdict
+    pub fn verdict(&self) -> MasterVerdict
         ensures { result ≡ self.now.watched.verdict }
     {
         self.watch.verdict()
@@ -66,7 +66,7 @@ impl Watching {
     fn is_blamed(&self) -> bool
         ensures { result ≡ is_blamed self.now.watched.verdict }
     {
-        matches!(self.verdict(), Verdict::NotByTheRules(..))
+        matches!(self.verdict(), MasterVerdict::NotByTheRules(..))
     }
 
     /// The device has this page.
@@ -112,7 +112,8 @@ impl Watching {
 
     /// An exchange was made.
     fn follow(&mut self, call: u64, sent: &[u8], came: Option<&[u8]>)
-        ensures { self.new ≡ followed self.old call sent.now (option_copied came.entry) }
+        ensures { self.new
+            ≡ watching_after_exchange self.old call sent.now (option_copied came.entry) }
     {
         self.watch.exchange(sent, came);
         self.call = call;
@@ -126,7 +127,7 @@ impl Watching {
         self.tests = false;
         self.follow(call, sent, came);
         if self.is_blamed() {
-            *self = Watching::new();
+            *self = CallWatch::new();
             self.wake(Wake::Answered);
             self.follow(call, sent, came);
         } else if self.asked && self.unsure.is_none() {

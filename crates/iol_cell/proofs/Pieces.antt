@@ -5,7 +5,7 @@ use Rattle.std.specs.Result.{result_ok}
 use Rattle.std.proofs.Math.Seq.{take-add, take-length, take-append_seam}
 use Rattle.std.proofs.lemmas.List.{length-append, length-drop, length-take, take_min}
 use Rattle.iol_image.specs.Image.{IsImage}
-use Rattle.iol_cell.specs.Packing.{with_padding, octets_of, image_or_none, image_of}
+use Rattle.iol_cell.specs.Packing.{with_padding, packed_octets, image_or_none, image_of}
 
 joined_pieces : (first second third fourth octets : List ℕ) → length octets ≡ 32
     → first ≡ take 8 (drop 0 octets) → second ≡ take 8 (drop 8 octets)
@@ -21,8 +21,8 @@ joined_pieces first second third fourth octets full at_0 at_8 at_16 at_24 =
 length-with_padding : (octets : List ℕ) → length octets ≤ 32 → length (with_padding octets) ≡ 32
 length-with_padding octets fits = simp (length-append, length-drop) (omega arith)
 
-pub length-octets_of : (words : List ℕ) → length (octets_of words) ≡ 32
-unfolding octets_of
+pub length-octets_of : (words : List ℕ) → length (packed_octets words) ≡ 32
+unfolding packed_octets
 length-octets_of words = refl
 
 take_up_to_32 : (n : ℕ) (octets : List ℕ) → length octets ≡ 32
@@ -36,7 +36,7 @@ pub image_of-packed : (octets image whole : List ℕ) (first second third fourth
     → to_le_bytes w64 third ≡ take 8 (drop 16 whole)
     → to_le_bytes w64 fourth ≡ take 8 (drop 24 whole)
     → image_of (length octets ∷ first ∷ second ∷ third ∷ fourth ∷ []) ≡ Some image
-unfolding octets_of
+unfolding packed_octets
 image_of-packed [] image whole first second third fourth same is padded at_0 at_8 at_16 at_24 =
     absurd (omega arith)
 image_of-packed (octet ∷ rest) image whole first second third fourth same is padded at_0 at_8

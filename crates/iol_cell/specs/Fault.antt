@@ -3,5 +3,5 @@ use Rattle.iol_cell.specs.declared.fault.CellFault.{CellFault}
 use Rattle.iol_cell.specs.declared.fault.CellFault.TheVariants.{OutOfMemory}
 
 -- the number of each refusal
-abbrev pub fault_number : CellFault → ℕ
-fault_number OutOfMemory = 24
+abbrev pub cell_fault_number : CellFault → ℕ
+cell_fault_number OutOfMemory = 24

@@ -8,8 +8,8 @@ abbrev pub with_padding : List ℕ → List ℕ
 with_padding octets = octets ++ drop (length octets) (replicate 32 0)
 
 -- the 32 octets in the words behind the first
-unfoldable pub octets_of : List ℕ → List ℕ
-octets_of words =
+unfoldable pub packed_octets : List ℕ → List ℕ
+packed_octets words =
     to_le_bytes w64 (slice_index words 1)
     ++ to_le_bytes w64 (slice_index words 2)
     ++ to_le_bytes w64 (slice_index words 3)
@@ -22,4 +22,4 @@ image_or_none (suc n) octets = Some (take (suc n) octets)
 
 -- what five words stand for
 abbrev pub image_of : List ℕ → Option (List ℕ)
-image_of words = image_or_none (slice_index words 0) (octets_of words)
+image_of words = image_or_none (slice_index words 0) (packed_octets words)

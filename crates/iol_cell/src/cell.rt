@@ -5,7 +5,7 @@ ghost use Rattle.iol_cell.specs.declared.fault.CellFault.TheVariants.{OutOfMemor
 use crate::fault::CellFault;
 use crate::handle::Handle;
 use crate::packing::{image_in, words_of};
-use crate::steps::{Cell, NewSeat, Publish, Read, Sight};
+use crate::steps::{CatchUp, Cell, NewSeat, Publish, Sight};
 use crossbeam_utils::atomic::seq_cell::Pass;
 use iol_image::Image;
 use std::alloc::{AllocError, Global};
@@ -113,7 +113,7 @@ impl<A: Handle> ImageSeat<A> {
         ensures last { image_of result ≡ last_image self.new.images }
         ensures later { StartsWith self.new.images self.old.images }
     {
-        self.cell.load_as::<Read, R>(rt, &mut self.pass)
+        self.cell.load_as::<CatchUp, R>(rt, &mut self.pass)
     }
 }
 

@@ -12,11 +12,11 @@ pub enum CellFault {
 }
 
 impl CellFault {
-    ghost use Rattle.iol_cell.specs.Fault.{fault_number};
+    ghost use Rattle.iol_cell.specs.Fault.{cell_fault_number};
 
     /// Its number (profile): 24 OutOfMemory.
     pub fn code(&self) -> u8
-        ensures { result ≡ fault_number self.now }
+        ensures { result ≡ cell_fault_number self.now }
     {
         match self {
             CellFault::OutOfMemory => 24,

@@ -1,7 +1,7 @@
 //! An image as five words, and back.
 ghost use Rattle.std.specs.Prelude.{◌≡◌, ◌+◌, ◌≤◌, ◌++◌, length, drop, take, option_map};
 ghost use Rattle.std.specs.Int.{to_le_bytes, w64};
-ghost use Rattle.iol_cell.specs.Packing.{image_of, octets_of, with_padding};
+ghost use Rattle.iol_cell.specs.Packing.{image_of, packed_octets, with_padding};
 
 use arrayvec::ArrayVec;
 use iol_image::Image;
@@ -58,10 +58,10 @@ fn push_word(octets: &mut ArrayVec<u8, 32>, word: u64)
     let _fits = octets.try_extend_from_slice(&word.to_le_bytes());
 }
 
-#[tactic(auto, unfolding(crate::specs::Packing::octets_of))]
+#[tactic(auto, unfolding(crate::specs::Packing::packed_octets))]
 /// The 32 octets in the words behind the first.
 fn octets_in(words: &[u64; 5]) -> ArrayVec<u8, 32>
-    ensures { result.items ≡ octets_of words.now }
+    ensures { result.items ≡ packed_octets words.now }
 {
     let mut octets = ArrayVec::new();
     push_word(&mut octets, words[1]);

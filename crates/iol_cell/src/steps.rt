@@ -14,9 +14,9 @@ pub struct Sight {
 }
 
 /// The rule of a cell: it shows the last published image, and each user has seen the first of them.
-pub struct Published;
+pub struct CellProtocol;
 
-impl Protocol<[u64; 5], Sight> for Published {
+impl Protocol<[u64; 5], Sight> for CellProtocol {
     ghost use Rattle.iol_cell.specs.Published.{CellRule};
     ghost use Rattle.iol_cell.specs.Steps.{first_writer};
 
@@ -26,9 +26,9 @@ impl Protocol<[u64; 5], Sight> for Published {
 }
 
 /// A seat catches up with what was published.
-pub struct Read;
+pub struct CatchUp;
 
-impl Outcome<[u64; 5], Sight> for Read {
+impl Outcome<[u64; 5], Sight> for CatchUp {
     ghost use Rattle.iol_cell.specs.Steps.{Reads};
 
     ghost then = { Reads };
@@ -55,4 +55,4 @@ impl Split<Sight> for NewSeat {
 }
 
 /// Five words that are read and written as one.
-pub type Cell<A = Global> = RuledSeqCell<[u64; 5], Sight, Published, 5, A>;
+pub type Cell<A = Global> = RuledSeqCell<[u64; 5], Sight, CellProtocol, 5, A>;

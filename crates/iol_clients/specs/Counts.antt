@@ -9,28 +9,29 @@ use Rattle.iol_port.specs.declared.call.Call.TheVariants as call
 use Rattle.iol_port.specs.declared.fault.PortFault.{PortFault}
 use Rattle.iol_port.specs.EveryWire.{CollectGives}
 use Rattle.iol_port.specs.Replies.{outcome_reply}
-use Rattle.iol_port.specs.View.{Port, Does}
+use Rattle.iol_port.specs.View.{PortValue, Does}
 use Rattle.iol_master.specs.declared.accounts.Settled.{Settled}
 use Rattle.iol_master.specs.declared.accounts.Settled.TheVariants.{Part, Last}
 use Rattle.iol_master.specs.Counts.{DeskState}
 use Rattle.iol_master.specs.Master.{WasSettled}
-use Rattle.iol_clients.specs.declared.counts.Counted.{Counted}
+use Rattle.iol_clients.specs.declared.counts.RequestCounts.{RequestCounts}
 use Rattle.iol_clients.specs.declared.counts.PortCounts.{PortCounts}
 
 -- each ticket stands in one of three counts
-abbrev pub AddsUp : Counted → Type 0
+abbrev pub AddsUp : RequestCounts → Type 0
 AddsUp c = c.tickets ≡ c.done + c.unknown + c.waiting
 
 -- one ticket more, with what its collect answered; nobody withdraws and each device
 -- has ISDU, so a withdrawn or a denied one would be a mistake, and waits for ever
-abbrev pub noted : Counted → Result Outcome PortFault → Counted
-noted c (Ok (Done answer)) = record c { tickets = c.tickets + 1; done = c.done + 1 }
-noted c (Ok (Unknown cause)) = record c { tickets = c.tickets + 1; unknown = c.unknown + 1 }
-noted c other = record c { tickets = c.tickets + 1; waiting = c.waiting + 1 }
+abbrev pub counts_with_ticket : RequestCounts → Result Outcome PortFault → RequestCounts
+counts_with_ticket c (Ok (Done answer)) = record c { tickets = c.tickets + 1; done = c.done + 1 }
+counts_with_ticket c (Ok (Unknown cause)) =
+    record c { tickets = c.tickets + 1; unknown = c.unknown + 1 }
+counts_with_ticket c other = record c { tickets = c.tickets + 1; waiting = c.waiting + 1 }
 
 -- no ticket
-abbrev pub none : Counted
-none = record { tickets = 0; done = 0; unknown = 0; waiting = 0 }
+abbrev pub no_tickets : RequestCounts
+no_tickets = record { tickets = 0; done = 0; unknown = 0; waiting = 0 }
 
 -- the accepted submits of a desk, where it stands at this port
 abbrev pub accepted_at : ℕ → DeskState → ℕ
@@ -41,50 +42,51 @@ pub record ClientState : Type 0 where
   -- those that it was given there
   pub tickets : List Ticket
 
-abbrev pub seen : DeskState → List Ticket → ClientState
-seen desk tickets = record { desk = desk; tickets = tickets }
+abbrev pub client_state : DeskState → List Ticket → ClientState
+client_state desk tickets = record { desk = desk; tickets = tickets }
 
 -- a client's tickets, where its desk stands at this port
 abbrev pub tickets_at : ℕ → ClientState → List Ticket
 tickets_at port client = if client.desk.port == port then client.tickets else []
 
 -- The total, which the last desk is told
-abbrev pub told : ℕ → Settled → ℕ
-told total (Part n) = total
-told total (Last n all) = all
+abbrev pub total_after_settling : ℕ → Settled → ℕ
+total_after_settling total (Part n) = total
+total_after_settling total (Last n all) = all
 
 -- a client's desk is settled
-abbrev pub Settles : ℕ → ClientState → ℕ → Type 0
-Settles total client next =
-    (answer : Settled) × WasSettled client.desk answer × (next ≡ told total answer)
+abbrev pub SettlesClient : ℕ → ClientState → ℕ → Type 0
+SettlesClient total client next =
+    (answer : Settled) × WasSettled client.desk answer × (next ≡ total_after_settling total answer)
 
 -- and so are all, one after another
 abbrev pub AreSettled : List ClientState → ℕ → Type 0
-AreSettled clients total = FoldsTo Settles 0 clients total
+AreSettled clients total = FoldsTo SettlesClient 0 clients total
 
 module _ {W : Type 0} (facts : WireFacts W) where
   -- the port's own collect
-  pub record Collects (p : Port W) (ticket : Ticket) (answer : Result Outcome PortFault)
-      (next : Port W) : Type 0 where
+  pub record PortCollects (p : PortValue W) (ticket : Ticket) (answer : Result Outcome PortFault)
+      (next : PortValue W) : Type 0 where
     pub does : Does facts p.parts (call.Collect ticket) (outcome_reply answer) next.parts
     pub gives : CollectGives p.parts ticket answer next.parts
     pub rest : next ≡ record p { parts = next.parts }
 
   -- a ticket is collected, and counted by what that answered: the port and the counts
-  abbrev pub Notes : Port W × Counted → Ticket → Port W × Counted → Type 0
+  abbrev pub Notes : PortValue W × RequestCounts → Ticket → PortValue W × RequestCounts → Type 0
   Notes (p, counted) ticket (next, more) =
-      (answer : Result Outcome PortFault) × Collects p ticket answer next
-      × (more ≡ noted counted answer)
+      (answer : Result Outcome PortFault) × PortCollects p ticket answer next
+      × (more ≡ counts_with_ticket counted answer)
 
   -- so are a client's tickets, in their order
-  abbrev pub Collected : ℕ → Port W × Counted → ClientState → Port W × Counted → Type 0
-  Collected port before client after = FoldsTo Notes before (tickets_at port client) after
+  abbrev pub NotesClientTickets : ℕ → PortValue W × RequestCounts → ClientState
+      → PortValue W × RequestCounts → Type 0
+  NotesClientTickets port before client after = FoldsTo Notes before (tickets_at port client) after
 
   -- some port, whose lock was held, at which this was so of each client, and of nobody else, and
   -- which had counted this then
   abbrev pub WasCounted : ℕ → List ClientState → PortCounts → Type 0
-  WasCounted port clients counts = (p : Port W) × (next : Port W)
-      × FoldsTo (Collected port) (p, none) clients (next, counts.requests)
+  WasCounted port clients counts = (p : PortValue W) × (next : PortValue W)
+      × FoldsTo (NotesClientTickets port) (p, no_tickets) clients (next, counts.requests)
       × (counts.counters ≡ next.parts.counters)
 
   -- the ports from the first on were counted
@@ -94,6 +96,6 @@ module _ {W : Type 0} (facts : WireFacts W) where
       WasCounted first clients port × AreCounted (first + 1) clients ports
 
   -- Some clients, whose tickets were all counted, and whose desks were settled with this total
-  abbrev pub AreServed : List PortCounts → ℕ → Type 0
-  AreServed ports total = (clients : List ClientState)
+  abbrev pub ClientsAreServed : List PortCounts → ℕ → Type 0
+  ClientsAreServed ports total = (clients : List ClientState)
       × AreCounted 1 clients ports × AreSettled clients total

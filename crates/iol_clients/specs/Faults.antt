@@ -3,6 +3,6 @@ use Rattle.std.specs.Prelude.{ℕ}
 use Rattle.iol_clients.specs.declared.fault.ClientsFault.{ClientsFault}
 use Rattle.iol_clients.specs.declared.fault.ClientsFault.TheVariants.{OutOfMemory, NoThread}
 
-abbrev pub fault_number : ClientsFault → ℕ
-fault_number OutOfMemory = 24
-fault_number NoThread = 32
+abbrev pub clients_fault_number : ClientsFault → ℕ
+clients_fault_number OutOfMemory = 24
+clients_fault_number NoThread = 32

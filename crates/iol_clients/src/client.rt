@@ -1,7 +1,7 @@
 //! A client of one port: its desk, and the tickets that it was given.
 ghost use Rattle.std.specs.Prelude.{◌≡◌, ◌+◌, ◌*◌, ◌≤◌, vec_len};
 
-use crate::counts::Counted;
+use crate::counts::RequestCounts;
 use crate::ports::PLACE;
 use iol_book::{BookFault, Ticket};
 use iol_isdu::Request;
@@ -28,7 +28,7 @@ impl<L: Ledger> Client<L> {
     ghost use Rattle.std.specs.Result.{result_map_both};
     ghost use Rattle.iol_master.specs.Master.{Desks};
     ghost use Rattle.iol_master.specs.Master.{WasSettled};
-    ghost use Rattle.iol_clients.specs.Counts.{AddsUp, accepted_at, seen, Collected};
+    ghost use Rattle.iol_clients.specs.Counts.{AddsUp, accepted_at, client_state, NotesClientTickets};
 
     /// A client at a new desk of a port. Refused as the master refuses a desk.
     pub(crate) fn open<W: Wire, K: Ledger, R: Wait>(
@@ -87,7 +87,7 @@ impl<L: Ledger> Client<L> {
         &self,
         port: u32,
         held: &mut Held<W, K>,
-        counted: &mut Counted,
+        counted: &mut RequestCounts,
     )
         requires up { AddsUp counted.old }
         requires room { counted.old.tickets ≤ 64 * 512 }
@@ -95,8 +95,8 @@ impl<L: Ledger> Client<L> {
         ensures tickets { counted.new.tickets
             ≡ counted.old.tickets + accepted_at port self.now.desk }
         ensures few { accepted_at port self.now.desk ≤ 64 }
-        ensures collected { Collected W.facts port (held.old, counted.old)
-            (seen self.now.desk self.now.tickets.items) (held.new, counted.new) }
+        ensures collected { NotesClientTickets W.facts port (held.old, counted.old)
+            (client_state self.now.desk self.now.tickets.items) (held.new, counted.new) }
     {
         if self.desk.port() != port {
             return;

@@ -2,10 +2,10 @@
 ghost use Rattle.std.specs.Prelude.{◌≡◌, ◌≤◌, All, IfOk, length, map, vec_len};
 ghost use Rattle.std.specs.List.{sum_by};
 ghost use Rattle.iol_clients.specs.Counts.{AddsUp, accepted_at};
-ghost use Rattle.iol_clients.specs.Counts.{seen, WasCounted, AreCounted, AreSettled};
+ghost use Rattle.iol_clients.specs.Counts.{client_state, WasCounted, AreCounted, AreSettled};
 
 use crate::client::Client;
-use crate::counts::{Counted, PortCounts};
+use crate::counts::{PortCounts, RequestCounts};
 use iol_link::Wire;
 use iol_master::{Master, Settled};
 use std::alloc::{AllocError, Global};
@@ -29,12 +29,12 @@ fn count_port<W: Wire, L: Ledger, K: Ledger, R: Wait>(
     ensures tickets { result.requests.tickets
         ≡ sum_by (λ client. accepted_at port client.desk) clients.now }
     ensures counted { WasCounted W.facts port
-        (map (λ client. seen client.desk client.tickets.items) clients.now) result }
+        (map (λ client. client_state client.desk client.tickets.items) clients.now) result }
 {
     let Ok(mut held) = master.lock(rt, port) else {
         unreachable!()
     };
-    let mut requests = Counted::none();
+    let mut requests = RequestCounts::none();
     for client in clients {
         client.collect(port, &mut held, &mut requests);
     }
@@ -57,7 +57,7 @@ pub(crate) fn count_ports<W: Wire, L: Ledger, K: Ledger, R: Wait>(
     ensures count { IfOk result (λ counts. vec_len counts ≡ ports) }
     ensures up { IfOk result (λ counts. All (λ port. AddsUp port.requests) counts.items) }
     ensures counted { IfOk result (λ counts. AreCounted W.facts 1
-        (map (λ client. seen client.desk client.tickets.items) clients.now) counts.items) }
+        (map (λ client. client_state client.desk client.tickets.items) clients.now) counts.items) }
 {
     let mut counts = Vec::new(alloc);
     for port in 0..ports {
@@ -73,7 +73,7 @@ pub(crate) fn settle_all<W: Wire, L: Ledger, K: Ledger, R: Wait>(
     clients: Vec<Client<L>>,
 ) -> u64
     ensures { AreSettled
-        (map (λ client. seen client.desk client.tickets.items) clients.items) result }
+        (map (λ client. client_state client.desk client.tickets.items) clients.items) result }
 {
     let mut total = 0;
     for client in clients {

@@ -7,7 +7,7 @@ use std::alloc::Global;
 
 /// What became of the requests of one port.
 #[derive(Clone, Copy, Debug, PartialEq, Eq)]
-pub struct Counted {
+pub struct RequestCounts {
     /// The submits that a ticket answered.
     pub tickets: u64,
     /// The tickets whose request the device answered.
@@ -24,28 +24,28 @@ pub struct Counted {
 #[derive(Clone, Copy, Debug, PartialEq, Eq)]
 pub struct PortCounts {
     /// What became of its requests.
-    pub requests: Counted,
+    pub requests: RequestCounts,
     /// What it had counted since its opening, once the tickets were collected.
     pub counters: Counters,
 }
 
 /// What there is to tell of all ports.
 #[derive(Debug, PartialEq, Eq, Drop)]
-pub struct Counts {
+pub struct MasterCounts {
     /// The ports in their order, from port 1.
     pub ports: Vec<PortCounts, Global>,
     /// The accepted submits of all desks, as the last desk was told when it was settled.
     pub total: u64,
 }
 
-impl Counted {
-    ghost use Rattle.iol_clients.specs.Counts.{AddsUp, noted};
+impl RequestCounts {
+    ghost use Rattle.iol_clients.specs.Counts.{AddsUp, counts_with_ticket};
 
     /// No ticket.
-    pub(crate) fn none() -> Counted
+    pub(crate) fn none() -> RequestCounts
         ensures { result ≡ record { tickets = 0; done = 0; unknown = 0; waiting = 0 } }
     {
-        Counted {
+        RequestCounts {
             tickets: 0,
             done: 0,
             unknown: 0,
@@ -57,7 +57,7 @@ impl Counted {
     pub(crate) fn note(&mut self, answer: &Result<Outcome, PortFault>)
         requires up { AddsUp self.old }
         requires room { self.old.tickets + 1 < 2 ^ 64 }
-        ensures noted { self.new ≡ noted self.old answer.now }
+        ensures noted { self.new ≡ counts_with_ticket self.old answer.now }
         ensures up { AddsUp self.new }
     {
         self.tickets += 1;

@@ -17,11 +17,11 @@ pub enum ClientsFault {
 }
 
 impl ClientsFault {
-    ghost use Rattle.iol_clients.specs.Faults.{fault_number};
+    ghost use Rattle.iol_clients.specs.Faults.{clients_fault_number};
 
     /// Its number among the refusals.
     pub fn code(&self) -> u8
-        ensures { result ≡ fault_number self.now }
+        ensures { result ≡ clients_fault_number self.now }
     {
         match self {
             ClientsFault::OutOfMemory => 24,

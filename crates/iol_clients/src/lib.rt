@@ -15,6 +15,6 @@ mod ports;
 mod run;
 mod serve;
 
-pub use counts::{Counted, Counts, PortCounts};
+pub use counts::{MasterCounts, PortCounts, RequestCounts};
 pub use fault::ClientsFault;
 pub use serve::serve_clients;

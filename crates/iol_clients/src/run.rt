@@ -14,9 +14,9 @@ use std::thread;
 use std::thread::{JoinHandle, Scope, Threads};
 
 /// A gate that is open: each worker makes all its turns.
-struct Open;
+struct OpenGate;
 
-impl Gate for Open {
+impl Gate for OpenGate {
     fn pass(&self, _port: u32, _turn: u64) -> bool {
         true
     }
@@ -111,7 +111,7 @@ pub(crate) fn make_turns<W: Wire + Send, L: Ledger, K: Ledger + Sync, R: Threads
     ensures { IfErr result (λ e. e ≡ NoThread) }
 {
     master
-        .serve(rt, &Open, u64::from(plan.turns))
+        .serve(rt, &OpenGate, u64::from(plan.turns))
         .map_err(|_| ClientsFault::NoThread)
 }
 

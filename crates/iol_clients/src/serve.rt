@@ -1,10 +1,10 @@
 //! A plan from its ports to its counts.
 ghost use Rattle.std.specs.Prelude.{◌≡◌, All, IfOk, vec_len};
-ghost use Rattle.iol_clients.specs.Counts.{AddsUp, AreServed};
+ghost use Rattle.iol_clients.specs.Counts.{AddsUp, ClientsAreServed};
 ghost use Rattle.iol_master.specs.Ledgers.{IsBlankFor};
 
 use crate::collect::{count_ports, settle_all};
-use crate::counts::Counts;
+use crate::counts::MasterCounts;
 use crate::fault::ClientsFault;
 use crate::ports::open_ports;
 use crate::run::{make_turns, submit_all};
@@ -33,12 +33,12 @@ pub fn serve_clients<R: Threads + Wait + Sync>(
     rt: &R,
     alloc: Global,
     plan: &Plan,
-) -> Result<Counts, ClientsFault>
+) -> Result<MasterCounts, ClientsFault>
     ensures ports { IfOk result (λ counts. vec_len counts.ports ≡ plan.now.ports) }
     ensures up { IfOk result (λ counts.
         All (λ port. AddsUp port.requests) counts.ports.items) }
     ensures served { IfOk result (λ counts.
-        AreServed ⟦<Sim<Params> as Wire>⟧.facts counts.ports.items counts.total) }
+        ClientsAreServed ⟦<Sim<Params> as Wire>⟧.facts counts.ports.items counts.total) }
 {
     let ports = u64::from(plan.ports);
     with_ledgers::<Brand, Brand, R>(rt, alloc, plan, Blank::new(1025), Blank::new(ports))
@@ -51,14 +51,14 @@ fn with_ledgers<L: Ledger + Sync, K: Ledger + Sync, R: Threads + Wait + Sync>(
     plan: &Plan,
     clients: Blank,
     tickets: Blank,
-) -> Result<Counts, ClientsFault>
+) -> Result<MasterCounts, ClientsFault>
     requires clients { IsBlankFor clients L.name L.parts 1025 }
     requires tickets { IsBlankFor tickets K.name K.parts plan.now.ports }
     ensures ports { IfOk result (λ counts. vec_len counts.ports ≡ plan.now.ports) }
     ensures up { IfOk result (λ counts.
         All (λ port. AddsUp port.requests) counts.ports.items) }
     ensures served { IfOk result (λ counts.
-        AreServed ⟦<Sim<Params> as Wire>⟧.facts counts.ports.items counts.total) }
+        ClientsAreServed ⟦<Sim<Params> as Wire>⟧.facts counts.ports.items counts.total) }
 {
     let ports = open_ports(alloc, plan.ports)?;
     let opened: Result<Master<Sim<Params>, L, K>, _> = Master::open(alloc, ports, clients, tickets);
@@ -70,5 +70,5 @@ fn with_ledgers<L: Ledger + Sync, K: Ledger + Sync, R: Threads + Wait + Sync>(
     let ports = count_ports(rt, alloc, &master, plan.ports, clients.as_slice())?;
     let total = settle_all(rt, &master, clients);
     let _ = master.close();
-    Ok(Counts { ports, total })
+    Ok(MasterCounts { ports, total })
 }

@@ -3,7 +3,7 @@ use Rattle.std.proofs.Common.{◌≡◌, ℕ, ◌+◌, ◌<◌, zero, suc, List,
 use Rattle.std.specs.List.{enumerate_from}
 use Rattle.std.proofs.lemmas.List.FromFn.{length-enumerate_from, get_or-enumerate_from}
 use Rattle.iol_clients.specs.declared.counts.PortCounts.{PortCounts}
-use Rattle.iol_script.specs.declared.plan.Shown.{Shown}
+use Rattle.iol_script.specs.declared.plan.ShownCounts.{ShownCounts}
 use Rattle.iol_commands.specs.ManyPrinted.{port_text, ports_text}
 use Rattle.iol_commands.proofs.PrintedLemmas.{one_printed}
 
@@ -14,7 +14,7 @@ numbered n [] (suc i) = refl
 numbered n (x ∷ xs) (suc i) = ap (λ l. (n, x) ∷ l) (numbered (n + 1) xs i)
 
 -- one more port's lines are printed
-pub port_printed : (shown : Shown) (old out new : List ℕ) (ports : List PortCounts) (i : ℕ)
+pub port_printed : (shown : ShownCounts) (old out new : List ℕ) (ports : List PortCounts) (i : ℕ)
     (d : PortCounts)
     → out ≡ old ++ ports_text shown (take i ports) → i < length ports
     → new ≡ out ++ port_text shown (i + 1) (get_or ports i d)

@@ -4,22 +4,22 @@ use Rattle.std.proofs.Common.{◌≡◌, ℕ, false, Option, List, [], ◌∷◌
 use Rattle.std.proofs.lemmas.List.{length-replicate}
 use Rattle.std.proofs.KnownBytes.{Appends-nil, Appends-trans}
 use Rattle.std.specs.Io.KnownBytes.{Appends}
-use Rattle.iol_tap.specs.Tapped.{Tapped, wake_noted, exchange_noted, tap_facts}
+use Rattle.iol_tap.specs.Tapped.{TappedWire, wake_noted, exchange_noted, tap_facts}
 use Rattle.iol_app.specs.declared.asked.Asked.{Asked}
 use Rattle.iol_app.specs.declared.asked.Asked.TheVariants.{Wake, Exchange}
-use Rattle.iol_app.specs.StationState.{wire_of}
+use Rattle.iol_app.specs.StationState.{link_wire}
 use Rattle.iol_port.specs.declared.call.Call.{Call}
 use Rattle.iol_port.specs.declared.call.Call.TheVariants as call
 use Rattle.iol_port.specs.declared.call.Answered.{Answered}
 use Rattle.iol_port.specs.Asks.{IsWireCall}
 use Rattle.iol_port.specs.Promises.{RunsJoin}
-use Rattle.iol_port.specs.View.{Parts, Follows, Runs}
-use Rattle.iol_port.specs.EveryWire.{CallGives}
+use Rattle.iol_port.specs.View.{PortParts, IsAbstractCall, Runs}
+use Rattle.iol_port.specs.EveryWire.{PortCallGives}
 use Rattle.iol_link.specs.WireFacts.{WireFacts}
 use Rattle.iol_commands.proofs.PlayLemmas.{runs_none, runs_more}
 use Rattle.iol_commands.specs.RunPlayed.{lacks_memory}
-use Rattle.iol_commands.specs.RunPrinted.{answer_text}
-use Rattle.iol_commands.specs.TracePrinted.{layout_at, Stage, stage, tap_at, Passes, Traces, PortTraces, Flows, Place, TracesFrom, PrintsNoteOf}
+use Rattle.iol_commands.specs.RunPrinted.{printed_answer}
+use Rattle.iol_commands.specs.TracePrinted.{layout_at, TraceStage, trace_stage, tap_at, CallPasses, Traces, PortTraces, Flows, TracePlace, TracesFrom, PrintsNoteOf}
 
 -- Text that is written in pieces
 
@@ -42,10 +42,10 @@ whole_written a b c waits shown text last flows is wrote =
 
 module _ {W : Type 0} (facts : WireFacts W) where
   -- what passes in a call is what is noted of it
-  passes_of : (call : Call) (asked : Asked) (s t : Stage W) (text : List ℕ)
+  passes_of : (call : Call) (asked : Asked) (s t : TraceStage W) (text : List ℕ)
       → IsWireCall (tap_facts facts) call asked (tap_at s) (tap_at t)
       → PrintsNoteOf call s.number (layout_at s.port) (tap_at t).last t.number text
-      → Passes facts s call t text
+      → CallPasses facts s call t text
   passes_of call.Turn Wake s t text (answer, called) printed =
       let (shown, next) = rw called.1 at printed in
       (wake_noted answer, called.0, shown, next)
@@ -54,9 +54,9 @@ module _ {W : Type 0} (facts : WireFacts W) where
       let octets = sent.octets.items in
       (exchange_noted octets answer, (octets, refl, called.0), shown, next)
   passes_of other asked s t text same (none, stays) =
-      (none, ap (λ (w : Tapped W). w.wire) same, stays)
+      (none, ap (λ (w : TappedWire W). w.wire) same, stays)
 
-  traces_join : (s m t : Stage W) (calls more : List Call) (replies others : List Answered)
+  traces_join : (s m t : TraceStage W) (calls more : List Call) (replies others : List Answered)
       (text later : List ℕ) → Traces facts s calls replies m text
       → Traces facts m more others t later
       → Traces facts s (calls ++ more) (replies ++ others) t (text ++ later)
@@ -74,26 +74,27 @@ module _ {W : Type 0} (facts : WireFacts W) where
   traces_join s m t calls more replies others text later goes second = absurd goes
 
   -- one call, by what its port says of itself, of the call and of the wire
-  pub call_traced : (n m : ℕ) (p q : Parts (Tapped W)) (made : Call) (reply : Answered)
-      (asked : Asked) (passed : List ℕ) → Follows (tap_facts facts) p made reply q
-      → CallGives (tap_facts facts) p made reply q
-      → IsWireCall (tap_facts facts) made asked (wire_of p.station.link) (wire_of q.station.link)
+  pub call_traced : (n m : ℕ) (p q : PortParts (TappedWire W)) (made : Call) (reply : Answered)
+      (asked : Asked) (passed : List ℕ) → IsAbstractCall (tap_facts facts) p made reply q
+      → PortCallGives (tap_facts facts) p made reply q
+      → IsWireCall (tap_facts facts) made asked (link_wire p.station.link)
+      (link_wire q.station.link)
       → lacks_memory reply ≡ false
-      → PrintsNoteOf made n (layout_at p) (wire_of q.station.link).last m passed
-      → PortTraces facts n p (made ∷ []) m q (passed ++ answer_text made reply)
-  unfolding Follows Runs
+      → PrintsNoteOf made n (layout_at p) (link_wire q.station.link).last m passed
+      → PortTraces facts n p (made ∷ []) m q (passed ++ printed_answer made reply)
+  unfolding IsAbstractCall Runs
   call_traced n m p q made reply asked passed goes gives_it called granted printed = record {
     answers = reply ∷ [];
     traces = (
-      stage m q,
-      passed ++ answer_text made reply,
+      trace_stage m q,
+      passed ++ printed_answer made reply,
       [],
       sym (append-nil _),
       record {
         passed = passed;
         made = gives_it;
         granted = granted;
-        passes = passes_of made asked (stage n p) (stage m q) passed called printed;
+        passes = passes_of made asked (trace_stage n p) (trace_stage m q) passed called printed;
         text_is = refl;
       },
       (refl, refl),
@@ -102,7 +103,7 @@ module _ {W : Type 0} (facts : WireFacts W) where
   }
 
   -- no call is made
-  pub traces_none : (p : Place W) → TracesFrom facts p [] p
+  pub traces_none : (p : TracePlace W) → TracesFrom facts p [] p
   traces_none p = record {
     text = [];
     flows = record { written = []; appends = Appends-nil p.written; rest = append-nil p.waits };
@@ -114,7 +115,7 @@ module _ {W : Type 0} (facts : WireFacts W) where
   }
 
   -- more calls are made
-  pub traces_more : RunsJoin → (p q r : Place W) (calls more : List Call)
+  pub traces_more : RunsJoin → (p q r : TracePlace W) (calls more : List Call)
       → TracesFrom facts p calls q → TracesFrom facts q more r
       → TracesFrom facts p (calls ++ more) r
   traces_more join p q r calls more one two =

@@ -7,8 +7,8 @@ use Rattle.iol_mseq.specs.Replies.{reply_fault, SpellsReply}
 use Rattle.iol_mseq.specs.declared.fault.MseqFault.{MseqFault}
 use Rattle.iol_mseq.specs.declared.master.MasterMsg.{MasterMsg}
 use Rattle.iol_mseq.specs.declared.reply.Reply.{Reply}
-use Rattle.iol_script.specs.CheckLines.{Form, skip, layout, master, read_reply, write_reply, line_form}
-use Rattle.iol_commands.specs.Printed.{layout_text, refusal_text, message_text, reply_text}
+use Rattle.iol_script.specs.CheckLines.{CheckForm, skip, layout, master, read_reply, write_reply, check_form}
+use Rattle.iol_commands.specs.Printed.{layout_text, refusal_text, message_text, printed_reply}
 use Rattle.iol_script.specs.declared.check_line.LayoutLine.{LayoutLine}
 use Rattle.iol_script.specs.declared.check_line.LayoutLine.TheVariants.{Startup, Preoperate, Operate}
 
@@ -19,7 +19,7 @@ asked_layout (Preoperate code) = preoperate_shape code
 asked_layout (Operate code input output) = operate_shape code input output
 
 -- the layout after a line: a refused one leaves it
-abbrev pub layout_after : Shape → Form → Shape
+abbrev pub layout_after : Shape → CheckForm → Shape
 layout_after present (layout line) = result_unwrap_or (asked_layout line) present
 layout_after present _ = present
 
@@ -34,11 +34,11 @@ PrintsMessage present octets text =
 abbrev pub PrintsReply : Shape → Bool → List ℕ → List ℕ → Type 0
 PrintsReply present read octets text =
     MatchOption (reply_fault present read octets)
-    ((reply : Reply) × SpellsReply present read reply octets × (text ≡ reply_text read reply))
+    ((reply : Reply) × SpellsReply present read reply octets × (text ≡ printed_reply read reply))
     (λ fault. text ≡ refusal_text fault)
 
 -- what is printed for a line in the present layout
-abbrev pub PrintsLine : Shape → Form → List ℕ → Type 0
+abbrev pub PrintsLine : Shape → CheckForm → List ℕ → Type 0
 PrintsLine present skip text = text ≡ []
 PrintsLine present (layout line) text =
     MatchResult (asked_layout line) (λ taken. text ≡ layout_text taken)
@@ -51,6 +51,6 @@ PrintsLine present (write_reply octets) text = PrintsReply present false octets 
 abbrev pub PrintsAll : Shape → List (ℕ × List ℕ) → List ℕ → Type 0
 PrintsAll present [] text = text ≡ []
 PrintsAll present ((number, line) ∷ lines) text =
-    MatchOption (line_form line) ⊥
+    MatchOption (check_form line) ⊥
     (λ form. (first : List ℕ) × (later : List ℕ) × (text ≡ first ++ later)
     × PrintsLine present form first × PrintsAll (layout_after present form) lines later)

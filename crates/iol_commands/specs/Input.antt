@@ -28,7 +28,7 @@ Writes remaining before after prints = (text : List ℕ) × Appends before after
 
 -- what a command answers that reads its input whole, and then its lines: of these it is said when
 -- one is bad, by its number, when all are good, and what is printed for them
-pub record Answers (bad_at : List (ℕ × List ℕ) → ℕ → Type 0)
+pub record AnswersInput (bad_at : List (ℕ × List ℕ) → ℕ → Type 0)
     (are_good : List (ℕ × List ℕ) → Type 0) (prints : List (ℕ × List ℕ) → List ℕ → Type 0)
     (before after written_before written : Option (List ℕ))
     (result : Result (Unit {0}) ProgramFault) : Type 0 where

@@ -4,19 +4,19 @@ use Rattle.std.specs.List.{enumerate_from}
 use Rattle.iol_sim.specs.Params.{Stores}
 use Rattle.iol_sim.specs.Sim.{sim_facts}
 use Rattle.iol_port.specs.declared.counters.Counters.{Counters}
-use Rattle.iol_clients.specs.Counts.{AddsUp, AreServed}
-use Rattle.iol_clients.specs.declared.counts.Counted.{Counted}
+use Rattle.iol_clients.specs.Counts.{AddsUp, ClientsAreServed}
+use Rattle.iol_clients.specs.declared.counts.RequestCounts.{RequestCounts}
 use Rattle.iol_clients.specs.declared.counts.PortCounts.{PortCounts}
-use Rattle.iol_clients.specs.declared.counts.Counts.{Counts}
+use Rattle.iol_clients.specs.declared.counts.MasterCounts.{MasterCounts}
 use Rattle.iol_script.specs.Plan.{PlanNumbers, plan_of}
-use Rattle.iol_script.specs.declared.plan.Shown.{Shown}
-use Rattle.iol_script.specs.declared.plan.Shown.TheVariants as shown
+use Rattle.iol_script.specs.declared.plan.ShownCounts.{ShownCounts}
+use Rattle.iol_script.specs.declared.plan.ShownCounts.TheVariants as shown
 use Rattle.iol_commands.specs.Printed.{number_text}
 use Rattle.iol_commands.specs.CountersPrinted.{counters_text}
 
 -- the line of a port's tickets: its number, and how many tickets it gave, how many are done,
 -- unknown and waiting
-abbrev pub tickets_line : ℕ → Counted → List ℕ
+abbrev pub tickets_line : ℕ → RequestCounts → List ℕ
 tickets_line port counted =
     number_text (codes "port ") port ++ number_text (codes " tickets ") counted.tickets
     ++ number_text (codes " done ") counted.done
@@ -24,23 +24,23 @@ tickets_line port counted =
     ++ number_text (codes " waiting ") counted.waiting ++ codes "\n"
 
 -- the line of a port's counters, where they are shown: its number, and what `run` prints
-abbrev pub counters_line : Shown → ℕ → Counters → List ℕ
+abbrev pub counters_line : ShownCounts → ℕ → Counters → List ℕ
 counters_line shown.Tickets port counters = []
 counters_line shown.Counters port counters =
     number_text (codes "port ") port ++ codes " " ++ counters_text counters
 
 -- the lines of a port
-abbrev pub port_text : Shown → ℕ → PortCounts → List ℕ
+abbrev pub port_text : ShownCounts → ℕ → PortCounts → List ℕ
 port_text shown port counts =
     tickets_line port counts.requests ++ counters_line shown port counts.counters
 
 -- the lines of ports, which are numbered from 1 on
-abbrev pub ports_text : Shown → List PortCounts → List ℕ
+abbrev pub ports_text : ShownCounts → List PortCounts → List ℕ
 ports_text shown ports =
     flat_map (λ port. port_text shown port.0 port.1) (enumerate_from 1 ports)
 
 -- the lines of each port, and the total
-abbrev pub counts_text : Shown → Counts → List ℕ
+abbrev pub counts_text : ShownCounts → MasterCounts → List ℕ
 counts_text shown counts =
     ports_text shown counts.ports.items ++ number_text (codes "total ") counts.total ++ codes "\n"
 
@@ -49,9 +49,9 @@ counts_text shown counts =
 -- counters are those that it had then.
 pub record PrintsCounts (lines : List (ℕ × List ℕ)) (text : List ℕ) : Type 0 where
   pub plan : PlanNumbers
-  pub counts : Counts
+  pub counts : MasterCounts
   pub planned : plan_of lines ≡ Ok plan
   pub ports : vec_len counts.ports ≡ plan.ports
   pub up : All (λ port. AddsUp port.requests) counts.ports.items
-  pub served : AreServed (sim_facts Stores) counts.ports.items counts.total
+  pub served : ClientsAreServed (sim_facts Stores) counts.ports.items counts.total
   pub text_is : text ≡ counts_text plan.shown counts

@@ -5,8 +5,8 @@ use Rattle.iol_mseq.specs.Shape.{Shape}
 use Rattle.iol_far.specs.Octets.{octets_in}
 use Rattle.iol_link.specs.declared.wire.Rate.{Rate}
 use Rattle.iol_link.specs.declared.wire.Rate.TheVariants.{Com1, Com2, Com3}
-use Rattle.iol_tap.specs.declared.tap.Passed.{Passed}
-use Rattle.iol_tap.specs.declared.tap.Passed.TheVariants.{Wake, Exchange}
+use Rattle.iol_tap.specs.declared.tap.TapNote.{TapNote}
+use Rattle.iol_tap.specs.declared.tap.TapNote.TheVariants.{Wake, Exchange}
 use Rattle.iol_commands.specs.Checked.{PrintsMessage, PrintsReply}
 use Rattle.iol_commands.specs.Printed.{octets_text}
 
@@ -43,7 +43,7 @@ PrintsCame number layout read (Some octets) text = (said : List ℕ)
     × PrintsReply layout read octets said × (text ≡ line_front number (codes "<") octets ++ said)
 
 -- the lines of a call, its octets being messages of this layout
-abbrev pub PrintsPassed : ℕ → Shape → Passed → List ℕ → Type 0
+abbrev pub PrintsPassed : ℕ → Shape → TapNote → List ℕ → Type 0
 PrintsPassed number layout (Wake rate) text = text ≡ wake_text number rate
 PrintsPassed number layout (Exchange sent answer) text =
     (first : List ℕ) × (later : List ℕ) × (text ≡ first ++ later)

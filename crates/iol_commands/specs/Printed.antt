@@ -5,7 +5,7 @@ use Rattle.iol_octets.specs.CheckOctets.{type_bits}
 use Rattle.iol_octets.specs.declared.control.Mc.{Mc}
 use Rattle.iol_octets.specs.declared.control.Channel.{Channel}
 use Rattle.iol_octets.specs.declared.control.Channel.TheVariants.{Process, Page, Diagnosis, Isdu}
-use Rattle.iol_mseq.specs.Fault.{fault_number}
+use Rattle.iol_mseq.specs.Fault.{mseq_fault_number}
 use Rattle.iol_mseq.specs.Shape.{Shape}
 use Rattle.iol_mseq.specs.declared.fault.MseqFault.{MseqFault}
 use Rattle.iol_mseq.specs.declared.fault.MseqFault.TheVariants.{UnsupportedCode, BadLength, WrongLength, WrongType, BadChecksum}
@@ -64,7 +64,8 @@ fault_name BadChecksum = codes "BadChecksum"
 -- the line of a refusal: its number and its name
 abbrev pub refusal_text : MseqFault → List ℕ
 refusal_text fault =
-    codes "refused " ++ decimal (fault_number fault) ++ codes " " ++ fault_name fault ++ codes "\n"
+    codes "refused " ++ decimal (mseq_fault_number fault) ++ codes " " ++ fault_name fault
+    ++ codes "\n"
 
 -- the name of a channel
 abbrev pub channel_text : Channel → List ℕ
@@ -97,6 +98,6 @@ status_text reply = (if reply.event then codes " event 1" else codes " event 0")
     ++ (if reply.invalid then codes " pd invalid" else codes " pd valid")
 
 -- the line of the reply to a read or to a write
-abbrev pub reply_text : Bool → Reply → List ℕ
-reply_text read reply = answered_text read reply ++ part_text (codes " in") reply.input.items
+abbrev pub printed_reply : Bool → Reply → List ℕ
+printed_reply read reply = answered_text read reply ++ part_text (codes " in") reply.input.items
     ++ status_text reply ++ codes "\n"

@@ -9,15 +9,15 @@ use Rattle.iol_far.specs.Isdu.{own}
 use Rattle.iol_link.specs.WireFacts.{WireFacts}
 use Rattle.iol_mode.specs.Kinds.{SeesPulses}
 use Rattle.iol_sim.specs.Params.{Stores}
-use Rattle.iol_sim.specs.declared.params.Entry.{Entry}
-use Rattle.iol_sim.specs.Sim.{Simulated, sim_facts}
-use Rattle.iol_app.specs.StationState.{wire_of}
+use Rattle.iol_sim.specs.declared.params.ParameterEntry.{ParameterEntry}
+use Rattle.iol_sim.specs.Sim.{SimulatedWire, sim_facts}
+use Rattle.iol_app.specs.StationState.{link_wire}
 use Rattle.iol_port.specs.declared.call.Call.{Call}
 use Rattle.iol_port.specs.declared.call.Answered.{Answered}
 use Rattle.iol_port.specs.declared.call.Answered.TheVariants as answered
 use Rattle.iol_port.specs.declared.fault.PortFault.TheVariants as fault
-use Rattle.iol_port.specs.Run.{PortState, Run, opened}
-use Rattle.iol_port.specs.View.{Parts, Runs, IsOpened, opening_for}
+use Rattle.iol_port.specs.Run.{PortState, Run, port_at_opening}
+use Rattle.iol_port.specs.View.{PortParts, Runs, IsOpened, opening_for}
 use Rattle.iol_port.specs.EveryWire.{RunGives}
 use Rattle.iol_script.specs.Script.{ScriptValue, script_in, calls_in}
 use Rattle.iol_commands.specs.RunPrinted.{answers_text, record_text, away_text}
@@ -29,7 +29,7 @@ first_far kind misses page =
 
 -- the port of a script at first, over its new device, whose record has room for 1,000 requests
 abbrev pub first_port : ScriptValue → PortState
-first_port script = opened script.devices script.limits
+first_port script = port_at_opening script.devices script.limits
     (first_far script.kind script.misses_pulses script.page) 0
 
 -- whether a call was refused for want of memory
@@ -38,7 +38,7 @@ lacks_memory (answered.Refused (fault.Book OutOfMemory)) = true
 lacks_memory other = false
 
 -- a new device of this kind and page, which may miss pulses or not, with these parameters
-abbrev pub new_device : Kind → Bool → List ℕ → List Entry → Running (List Entry)
+abbrev pub new_device : Kind → Bool → List ℕ → List ParameterEntry → Running (List ParameterEntry)
 new_device kind misses page params = record {
   far = first_far kind misses page;
   app = params;
@@ -50,7 +50,7 @@ new_device kind misses page params = record {
 -- the wire of a script at first: a new device of its kind, page and parameters, a second one of
 -- our own kind, which misses no pulse, where the script has its page, and its steps, none of which
 -- was used
-abbrev pub first_wire : ScriptValue → Simulated (List Entry)
+abbrev pub first_wire : ScriptValue → SimulatedWire (List ParameterEntry)
 first_wire script = record {
   device = new_device script.kind script.misses_pulses script.page script.params;
   away = option_map (λ page. new_device own false page script.params) script.other;
@@ -62,7 +62,7 @@ first_wire script = record {
 
 -- what is printed of the records at the end: that of the device that is plugged in, and
 -- that of the other one
-abbrev pub records_text : Simulated (List Entry) → List ℕ
+abbrev pub records_text : SimulatedWire (List ParameterEntry) → List ℕ
 records_text sim = record_text sim.device.far.carried
     ++ away_text (option_map (λ d. d.far.carried) sim.away)
 
@@ -75,7 +75,7 @@ pub record HasItsDevice (script : ScriptValue) : Type 0 where
 -- Calls are made on a port, one after the other: none of the answers lacks memory,
 -- and the text is what they are.
 module _ {W : Type 0} (facts : WireFacts W) where
-  pub record PortPlays (p : Parts W) (calls : List Call) (next : Parts W)
+  pub record PortPlays (p : PortParts W) (calls : List Call) (next : PortParts W)
       (text : List ℕ) : Type 0 where
     pub answers : List Answered
     -- each call does to the port's own parts, and to its wire, just what a call does there
@@ -88,7 +88,7 @@ module _ {W : Type 0} (facts : WireFacts W) where
 -- the abstract port over the new device makes these calls with the same answers, and its
 -- device has the record of this wire's
 pub record RunsAlike (script : ScriptValue) (calls : List Call) (answers : List Answered)
-    (wire : Simulated (List Entry)) : Type 0 where
+    (wire : SimulatedWire (List ParameterEntry)) : Type 0 where
   pub after : PortState
   pub run : Run (first_port script) calls answers after
   pub carried : wire.device.far.carried ≡ after.session.carried
@@ -98,14 +98,14 @@ pub record RunsAlike (script : ScriptValue) (calls : List Call) (answers : List 
 -- makes them alike.
 pub record PlaysOut (script : ScriptValue) (calls : List Call) (text : List ℕ) : Type 0 where
   pub answers : List Answered
-  pub first : Parts (Simulated (List Entry))
+  pub first : PortParts (SimulatedWire (List ParameterEntry))
   pub opens : IsOpened
       (opening_for (sim_facts Stores) script.devices script.limits (first_wire script)) first
-  pub last : Parts (Simulated (List Entry))
+  pub last : PortParts (SimulatedWire (List ParameterEntry))
   pub made : RunGives (sim_facts Stores) first calls answers last
-  pub alike : HasItsDevice script → RunsAlike script calls answers (wire_of last.station.link)
+  pub alike : HasItsDevice script → RunsAlike script calls answers (link_wire last.station.link)
   pub granted : list_any lacks_memory answers ≡ false
-  pub text_is : text ≡ answers_text calls answers ++ records_text (wire_of last.station.link)
+  pub text_is : text ≡ answers_text calls answers ++ records_text (link_wire last.station.link)
 
 -- what `run` prints for lines, which are a script
 abbrev pub PrintsRun : List (ℕ × List ℕ) → List ℕ → Type 0

@@ -20,7 +20,7 @@ use Rattle.iol_book.specs.declared.entries.Outcome.TheVariants.{Done, Unknown, W
 use Rattle.iol_book.specs.declared.entries.Ticket.{Ticket}
 use Rattle.iol_book.specs.declared.fault.BookFault.{BookFault}
 use Rattle.iol_book.specs.declared.fault.BookFault.TheVariants.{Full, JournalFull, TicketsSpent, OutOfMemory, UnknownTicket, NotYet, TakenAlready, Outstanding, NotInFlight}
-use Rattle.iol_port.specs.Faults.{fault_number}
+use Rattle.iol_port.specs.Faults.{port_fault_number}
 use Rattle.iol_port.specs.declared.call.Call.{Call}
 use Rattle.iol_port.specs.declared.call.Call.TheVariants as call
 use Rattle.iol_port.specs.declared.call.Counting.{Counting}
@@ -44,9 +44,9 @@ abbrev pub place_text : Place → List ℕ
 place_text place = decimal place.index ++ codes " " ++ decimal place.sub
 
 -- a request, with the octets of a write
-abbrev pub request_text : Request → List ℕ
-request_text (request.Read place) = codes "read " ++ place_text place
-request_text (request.Write place octets) =
+abbrev pub printed_request : Request → List ℕ
+printed_request (request.Read place) = codes "read " ++ place_text place
+printed_request (request.Write place octets) =
     codes "write " ++ place_text place ++ listed_text octets.items
 
 -- what the device answered to it
@@ -145,7 +145,7 @@ port_fault_name NoEvent = codes "NoEvent"
 
 -- the line of a refusal: its number and its name
 abbrev pub refused_text : PortFault → List ℕ
-refused_text fault = codes "refused " ++ decimal (fault_number fault) ++ codes " "
+refused_text fault = codes "refused " ++ decimal (port_fault_number fault) ++ codes " "
     ++ port_fault_name fault ++ codes "\n"
 
 -- The device
@@ -168,30 +168,30 @@ nothing_text call.Turn = []
 nothing_text other = codes "ok\n"
 
 -- what is printed for a call that was answered so
-abbrev pub answer_text : Call → Answered → List ℕ
-answer_text call (answered.Ticket ticket) = ticket_text ticket ++ codes "\n"
-answer_text call (answered.Refused fault) = refused_text fault
-answer_text call (answered.Outcome outcome) = collected_text call outcome
-answer_text call (answered.Image image) = image_text image
-answer_text call (answered.Event event) = event_text event ++ codes "\n"
-answer_text call (answered.Status status) = state_text status
-answer_text call (answered.Archived count) = number_text (codes "archived ") count ++ codes "\n"
-answer_text call (answered.Counts counting) = counting_text counting
-answer_text call (answered.Page page) = page_text page
-answer_text call (answered.Counters counters) = counters_text counters
-answer_text call answered.Nothing = nothing_text call
+abbrev pub printed_answer : Call → Answered → List ℕ
+printed_answer call (answered.Ticket ticket) = ticket_text ticket ++ codes "\n"
+printed_answer call (answered.Refused fault) = refused_text fault
+printed_answer call (answered.Outcome outcome) = collected_text call outcome
+printed_answer call (answered.Image image) = image_text image
+printed_answer call (answered.Event event) = event_text event ++ codes "\n"
+printed_answer call (answered.Status status) = state_text status
+printed_answer call (answered.Archived count) = number_text (codes "archived ") count ++ codes "\n"
+printed_answer call (answered.Counts counting) = counting_text counting
+printed_answer call (answered.Page page) = page_text page
+printed_answer call (answered.Counters counters) = counters_text counters
+printed_answer call answered.Nothing = nothing_text call
 
 -- what is printed for calls, each with its answer
 abbrev pub answers_text : List Call → List Answered → List ℕ
 answers_text (call ∷ calls) (answer ∷ answers) =
-    answer_text call answer ++ answers_text calls answers
+    printed_answer call answer ++ answers_text calls answers
 answers_text calls answers = []
 
 -- The record
 
 -- the line of a request that the device carried out, and its answer
 abbrev pub carried_text : Carried → List ℕ
-carried_text entry = codes "carried " ++ request_text entry.request ++ codes ": "
+carried_text entry = codes "carried " ++ printed_request entry.request ++ codes ": "
     ++ device_text entry.answer ++ codes "\n"
 
 -- the lines of a record

@@ -6,89 +6,89 @@ use Rattle.iol_page.specs.Page.{layouts_of}
 use Rattle.iol_page.specs.declared.fault.PageFault.{PageFault}
 use Rattle.iol_page.specs.declared.page.Layouts.{Layouts}
 use Rattle.iol_link.specs.WireFacts.{WireFacts}
-use Rattle.iol_tap.specs.Tapped.{Tapped, tap_facts, IsNoteOf}
-use Rattle.iol_tap.specs.declared.tap.Passed.{Passed}
+use Rattle.iol_tap.specs.Tapped.{TappedWire, tap_facts, IsNoteOf}
+use Rattle.iol_tap.specs.declared.tap.TapNote.{TapNote}
 use Rattle.iol_sim.specs.Params.{Stores}
-use Rattle.iol_sim.specs.declared.params.Entry.{Entry}
-use Rattle.iol_sim.specs.Sim.{Simulated, sim_facts}
+use Rattle.iol_sim.specs.declared.params.ParameterEntry.{ParameterEntry}
+use Rattle.iol_sim.specs.Sim.{SimulatedWire, sim_facts}
 use Rattle.iol_steps.specs.declared.mode.Mode.{Mode}
 use Rattle.iol_steps.specs.declared.mode.Mode.TheVariants.{Down, Startup, Preoperate, Operate}
-use Rattle.iol_app.specs.StationState.{wire_of}
+use Rattle.iol_app.specs.StationState.{link_wire}
 use Rattle.iol_port.specs.declared.call.Call.{Call}
 use Rattle.iol_port.specs.declared.call.Call.TheVariants.{Turn}
 use Rattle.iol_port.specs.declared.call.Answered.{Answered}
-use Rattle.iol_port.specs.View.{Parts, Runs, IsOpened, opening_for, status_of}
-use Rattle.iol_port.specs.EveryWire.{CallGives, page_shown}
+use Rattle.iol_port.specs.View.{PortParts, Runs, IsOpened, opening_for, status_of}
+use Rattle.iol_port.specs.EveryWire.{PortCallGives, page_shown}
 use Rattle.iol_script.specs.Script.{ScriptValue, script_in, calls_in}
 use Rattle.iol_commands.specs.Passing.{PrintsPassed}
 use Rattle.iol_commands.specs.RunPlayed.{HasItsDevice, RunsAlike, first_wire, records_text, lacks_memory}
-use Rattle.iol_commands.specs.RunPrinted.{answer_text}
+use Rattle.iol_commands.specs.RunPrinted.{printed_answer}
 
 -- the layout of a mode, if a page asks for these; in down no message is sent
-abbrev pub layout_in : Mode → Layouts → Shape
-layout_in Down layouts = startup_shape
-layout_in Startup layouts = startup_shape
-layout_in Preoperate layouts = unwrap_or layouts.pre startup_shape
-layout_in Operate layouts = layouts.run
+abbrev pub layout_of_mode : Mode → Layouts → Shape
+layout_of_mode Down layouts = startup_shape
+layout_of_mode Startup layouts = startup_shape
+layout_of_mode Preoperate layouts = unwrap_or layouts.pre startup_shape
+layout_of_mode Operate layouts = layouts.run
 
-abbrev pub layout_by : Mode → Result Layouts PageFault → Shape
-layout_by mode (Ok layouts) = layout_in mode layouts
-layout_by mode (Err fault) = startup_shape
+abbrev pub layout_or_startup : Mode → Result Layouts PageFault → Shape
+layout_or_startup mode (Ok layouts) = layout_of_mode mode layouts
+layout_or_startup mode (Err fault) = startup_shape
 
 -- the layout of a mode in a session with this page: before it was read, that of STARTUP
 abbrev pub layout_now : Mode → Option (List ℕ) → Shape
 layout_now mode None = startup_shape
-layout_now mode (Some page) = layout_by mode (layouts_of page)
+layout_now mode (Some page) = layout_or_startup mode (layouts_of page)
 
 -- the layout in which a port sends, as the page of its session asks for it
-abbrev pub layout_at : {W : Type 0} → Parts W → Shape
+abbrev pub layout_at : {W : Type 0} → PortParts W → Shape
 layout_at p = layout_now (status_of p.station).mode (page_shown p)
 
 -- where a trace is: the number of the next call of the wire, and the port over a tap
-pub record Stage (W : Type 0) : Type 0 where
+pub record TraceStage (W : Type 0) : Type 0 where
   pub number : ℕ
-  pub port : Parts (Tapped W)
+  pub port : PortParts (TappedWire W)
 
-abbrev pub stage : {W : Type 0} → ℕ → Parts (Tapped W) → Stage W
-stage number port = record { number = number; port = port }
+abbrev pub trace_stage : {W : Type 0} → ℕ → PortParts (TappedWire W) → TraceStage W
+trace_stage number port = record { number = number; port = port }
 
 -- the tap, and the wire within it
-abbrev pub tap_at : {W : Type 0} → Stage W → Tapped W
-tap_at s = wire_of s.port.station.link
+abbrev pub tap_at : {W : Type 0} → TraceStage W → TappedWire W
+tap_at s = link_wire s.port.station.link
 
-abbrev pub wire_at : {W : Type 0} → Stage W → W
+abbrev pub wire_at : {W : Type 0} → TraceStage W → W
 wire_at s = (tap_at s).wire
 
 module _ {W : Type 0} (facts : WireFacts W) where
   -- what passes in a call: a turn makes one call of the wire, whose octets are shown in
   -- the layout in which the port sends before it; no other call touches the wire
-  abbrev pub Passes : Stage W → Call → Stage W → List ℕ → Type 0
-  Passes s Turn t text =
-      (note : Passed) × IsNoteOf facts note (wire_at s) (wire_at t)
+  abbrev pub CallPasses : TraceStage W → Call → TraceStage W → List ℕ → Type 0
+  CallPasses s Turn t text =
+      (note : TapNote) × IsNoteOf facts note (wire_at s) (wire_at t)
       × PrintsPassed s.number (layout_at s.port) note text
       × (t.number ≡ s.number + 1)
-  Passes s other t text = (text ≡ []) × (wire_at t ≡ wire_at s) × (t.number ≡ s.number)
+  CallPasses s other t text = (text ≡ []) × (wire_at t ≡ wire_at s) × (t.number ≡ s.number)
 
   -- one call, which doesn't lack memory: it does to the port's own parts and to its wire
   -- just what a call does there; what passes is printed, and then what it answers
-  pub record TracesCall (s : Stage W) (call : Call) (reply : Answered) (t : Stage W)
+  pub record TracesCall (s : TraceStage W) (call : Call) (reply : Answered) (t : TraceStage W)
       (text : List ℕ) : Type 0 where
     pub passed : List ℕ
-    pub made : CallGives (tap_facts facts) s.port call reply t.port
+    pub made : PortCallGives (tap_facts facts) s.port call reply t.port
     pub granted : lacks_memory reply ≡ false
-    pub passes : Passes s call t passed
-    pub text_is : text ≡ passed ++ answer_text call reply
+    pub passes : CallPasses s call t passed
+    pub text_is : text ≡ passed ++ printed_answer call reply
 
   -- calls, one after the other, each with its answer
-  abbrev pub Traces : Stage W → List Call → List Answered → Stage W → List ℕ → Type 0
+  abbrev pub Traces : TraceStage W → List Call → List Answered → TraceStage W → List ℕ → Type 0
   Traces s [] [] t text = (t ≡ s) × (text ≡ [])
   Traces s (call ∷ calls) (reply ∷ replies) t text =
-      (mid : Stage W) × (first : List ℕ) × (later : List ℕ) × (text ≡ first ++ later)
+      (mid : TraceStage W) × (first : List ℕ) × (later : List ℕ) × (text ≡ first ++ later)
       × TracesCall s call reply mid first × Traces mid calls replies t later
   Traces s calls replies t text = ⊥
 
 -- a tap on the wire of a script at first, with nothing noted
-abbrev pub first_tap : ScriptValue → Tapped (Simulated (List Entry))
+abbrev pub first_tap : ScriptValue → TappedWire (SimulatedWire (List ParameterEntry))
 first_tap script = record { wire = first_wire script; last = None }
 
 -- What is printed for calls: what passes and what they answer, and then the records. They
@@ -96,12 +96,12 @@ first_tap script = record { wire = first_wire script; last = None }
 -- abstract port makes them alike.
 pub record TracesOut (script : ScriptValue) (calls : List Call) (text : List ℕ) : Type 0 where
   pub answers : List Answered
-  pub first : Parts (Tapped (Simulated (List Entry)))
+  pub first : PortParts (TappedWire (SimulatedWire (List ParameterEntry)))
   pub opens : IsOpened (opening_for (tap_facts (sim_facts Stores))
       script.devices script.limits (first_tap script)) first
-  pub last : Stage (Simulated (List Entry))
+  pub last : TraceStage (SimulatedWire (List ParameterEntry))
   pub calls_text : List ℕ
-  pub traces : Traces (sim_facts Stores) (stage 1 first) calls answers last calls_text
+  pub traces : Traces (sim_facts Stores) (trace_stage 1 first) calls answers last calls_text
   pub alike : HasItsDevice script → RunsAlike script calls answers (wire_at last)
   pub text_is : text ≡ calls_text ++ records_text (wire_at last)
 
@@ -119,34 +119,35 @@ pub record Flows (old new : Option (List ℕ)) (waits left text : List ℕ) : Ty
 
 -- how far a trace is: the number of the next call of the wire, what waits to be
 -- written, what is written, and the port
-pub record Place (W : Type 0) : Type 0 where
+pub record TracePlace (W : Type 0) : Type 0 where
   pub number : ℕ
   pub waits : List ℕ
   pub written : Option (List ℕ)
-  pub port : Parts (Tapped W)
+  pub port : PortParts (TappedWire W)
 
-abbrev pub place : {W : Type 0} → ℕ → List ℕ → Option (List ℕ) → Parts (Tapped W) → Place W
+abbrev pub place : {W : Type 0} → ℕ → List ℕ → Option (List ℕ) → PortParts (TappedWire W)
+    → TracePlace W
 place number waits written port =
     record { number = number; waits = waits; written = written; port = port }
 
 module _ {W : Type 0} (facts : WireFacts W) where
   -- calls of a port over a tap are traced, from the one number to the other; and whatever
   -- abstract port it stands for, that makes these calls with the same answers
-  pub record PortTraces (number : ℕ) (p : Parts (Tapped W)) (calls : List Call) (after : ℕ)
-      (next : Parts (Tapped W)) (text : List ℕ) : Type 0 where
+  pub record PortTraces (number : ℕ) (p : PortParts (TappedWire W)) (calls : List Call) (after : ℕ)
+      (next : PortParts (TappedWire W)) (text : List ℕ) : Type 0 where
     pub answers : List Answered
-    pub traces : Traces facts (stage number p) calls answers (stage after next) text
+    pub traces : Traces facts (trace_stage number p) calls answers (trace_stage after next) text
     pub runs : Runs (tap_facts facts) p calls answers next
 
   -- from one place to the next: these calls are traced, and their text is printed behind what waits
-  pub record TracesFrom (old : Place W) (calls : List Call) (new : Place W) : Type 0 where
+  pub record TracesFrom (old : TracePlace W) (calls : List Call) (new : TracePlace W) : Type 0 where
     pub text : List ℕ
     pub flows : Flows old.written new.written old.waits new.waits text
     pub traced : PortTraces old.number old.port calls new.number new.port text
 
 -- what is printed of the note of a wire, once a call was made: of a turn the note
 -- is that of its call of the wire
-abbrev pub PrintsNoteOf : Call → ℕ → Shape → Option Passed → ℕ → List ℕ → Type 0
+abbrev pub PrintsNoteOf : Call → ℕ → Shape → Option TapNote → ℕ → List ℕ → Type 0
 PrintsNoteOf Turn number layout (Some note) after text = PrintsPassed number layout note text
     × (after ≡ number + 1)
 PrintsNoteOf other number layout last after text = (text ≡ []) × (after ≡ number)

@@ -8,13 +8,13 @@ ghost use Rattle.iol_script.specs.CheckLines.{first_bad, parsed_form};
 ghost use Rattle.iol_commands.specs.Printed.{PrintsSome};
 ghost use Rattle.iol_commands.specs.Checked.{asked_layout, layout_after, PrintsLine, PrintsMessage, PrintsReply, PrintsAll};
 ghost use Rattle.iol_script.specs.Text.{numbered_lines};
-ghost use Rattle.iol_commands.specs.Input.{Answers};
+ghost use Rattle.iol_commands.specs.Input.{AnswersInput};
 
 use crate::fault::ProgramFault;
 use crate::printing::{print_layout, print_message, print_refusal, print_reply};
 use crate::streams::{read_input, write_output};
 use iol_mseq::{Layout, MseqFault, read_master, read_reply};
-use iol_script::{CheckLine, LayoutLine, Lines};
+use iol_script::{CheckLine, LayoutLine, TextLines};
 use std::alloc::{AllocError, Allocator};
 use std::io::{Read, Write};
 
@@ -30,7 +30,7 @@ pub fn check<A: Allocator + Copy, R: Read, W: Write>(
     reader: &mut R,
     writer: &mut W,
 ) -> Result<(), ProgramFault>
-    ensures answers { Answers (λ lines n. first_bad lines ≡ Some n)
+    ensures answers { AnswersInput (λ lines n. first_bad lines ≡ Some n)
         (λ lines. first_bad lines ≡ None) (PrintsAll startup_shape)
         (R.remaining reader.old) (R.remaining reader.new)
         (W.contents writer.old) (W.contents writer.new) result }
@@ -53,7 +53,7 @@ fn checked<A: Allocator>(alloc: A, input: &[u8]) -> Result<String<A>, ProgramFau
 {
     let mut output = String::new(alloc);
     let mut layout = Layout::startup();
-    for (number, line) in Lines::of(input) {
+    for (number, line) in TextLines::of(input) {
         let Some(line) = CheckLine::parse(line) else {
             return Err(ProgramFault::Line(number));
         };

@@ -8,7 +8,7 @@ ghost use Rattle.iol_commands.specs.declared.judge_command.JudgeFault.TheVariant
 ghost use Rattle.iol_commands.specs.JudgePrinted.{Judges};
 
 use crate::streams::write_output;
-use iol_capture::{CaptureFault, Finding, Form, judge_capture};
+use iol_capture::{CaptureFault, CaptureForm, Finding, judge_capture};
 use iol_judge::Odd;
 use std::alloc::{AllocError, Allocator};
 use std::io::{Read, Write};
@@ -55,7 +55,7 @@ impl From<CaptureFault> for JudgeFault {
 /// any fault is met but that of a write, nothing is written.
 pub fn judge<A: Allocator, R: Read, W: Write>(
     alloc: A,
-    form: Form,
+    form: CaptureForm,
     odd: Odd,
     reader: &mut R,
     writer: &mut W,

@@ -9,7 +9,7 @@ ghost use Rattle.iol_commands.specs.declared.fault.ProgramFault.TheVariants.{Lin
 ghost use Rattle.iol_commands.specs.declared.fault.ProgramFault.TheVariants.{OutOfMemory};
 ghost use Rattle.iol_commands.specs.declared.fault.ProgramFault.TheVariants.{WriteFailed};
 ghost use Rattle.iol_commands.specs.ManyPrinted.{PrintsCounts};
-ghost use Rattle.iol_commands.specs.Input.{Answers, OfLines};
+ghost use Rattle.iol_commands.specs.Input.{AnswersInput, OfLines};
 
 use crate::fault::ProgramFault;
 use crate::many_printing::print_counts;
@@ -35,7 +35,7 @@ pub fn many<T: Threads + Wait + Sync, R: Read, W: Write>(
     reader: &mut R,
     writer: &mut W,
 ) -> Result<(), ProgramFault>
-    ensures answers { Answers (λ lines n. plan_of lines ≡ Err n)
+    ensures answers { AnswersInput (λ lines n. plan_of lines ≡ Err n)
         (λ lines. IsOk (plan_of lines)) PrintsCounts
         (R.remaining reader.old) (R.remaining reader.new)
         (W.contents writer.old) (W.contents writer.new) result }

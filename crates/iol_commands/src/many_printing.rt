@@ -4,20 +4,20 @@ ghost use Rattle.iol_commands.specs.ManyPrinted.{counters_line, counts_text, por
 ghost use Rattle.iol_commands.specs.ManyPrinted.{tickets_line};
 
 use crate::counters_printing::print_counters;
-use iol_clients::{Counted, Counts, PortCounts};
+use iol_clients::{MasterCounts, PortCounts, RequestCounts};
 use iol_port::Counters;
-use iol_script::Shown;
+use iol_script::ShownCounts;
 use std::alloc::{AllocError, Allocator};
 
 /// A port's number, and what became of its tickets.
 fn print_tickets<A: Allocator>(
     output: &mut String<A>,
     port: usize,
-    counted: &Counted,
+    counted: &RequestCounts,
 ) -> Result<(), AllocError>
     ensures { Prints result output.old output.new (tickets_line port counted.now) }
 {
-    let Counted {
+    let RequestCounts {
         tickets,
         done,
         unknown,
@@ -32,15 +32,15 @@ fn print_tickets<A: Allocator>(
 /// A port's number, and what it counted, where that is shown.
 fn print_counted<A: Allocator>(
     output: &mut String<A>,
-    shown: Shown,
+    shown: ShownCounts,
     port: usize,
     counters: &Counters,
 ) -> Result<(), AllocError>
     ensures { Prints result output.old output.new (counters_line shown port counters.now) }
 {
     match shown {
-        Shown::Tickets => Ok(()),
-        Shown::Counters => {
+        ShownCounts::Tickets => Ok(()),
+        ShownCounts::Counters => {
             write!(output, "port {port} ")?;
             print_counters(output, counters)
         }
@@ -50,7 +50,7 @@ fn print_counted<A: Allocator>(
 /// The lines of a port.
 fn print_port<A: Allocator>(
     output: &mut String<A>,
-    shown: Shown,
+    shown: ShownCounts,
     port: usize,
     counts: &PortCounts,
 ) -> Result<(), AllocError>
@@ -63,7 +63,7 @@ fn print_port<A: Allocator>(
 /// The lines of each port, from port 1.
 fn print_ports<A: Allocator>(
     output: &mut String<A>,
-    shown: Shown,
+    shown: ShownCounts,
     ports: &[PortCounts],
 ) -> Result<(), AllocError>
     ensures { Prints result output.old output.new (ports_text shown ports.now) }
@@ -77,8 +77,8 @@ fn print_ports<A: Allocator>(
 /// The lines of each port, and how many tickets there are in all.
 pub(crate) fn print_counts<A: Allocator>(
     output: &mut String<A>,
-    counts: &Counts,
-    shown: Shown,
+    counts: &MasterCounts,
+    shown: ShownCounts,
 ) -> Result<(), AllocError>
     ensures { Prints result output.old output.new (counts_text shown counts.now) }
 {

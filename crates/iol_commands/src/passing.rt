@@ -9,7 +9,7 @@ use crate::check_command::{answer_message, answer_reply};
 use crate::printing::print_octets;
 use iol_link::Rate;
 use iol_mseq::{Layout, Message};
-use iol_tap::Passed;
+use iol_tap::TapNote;
 use std::alloc::{AllocError, Allocator};
 
 /// The first octet of a message to read something has this bit.
@@ -20,13 +20,13 @@ pub(crate) fn print_passed<A: Allocator>(
     output: &mut String<A>,
     number: u64,
     layout: &Layout,
-    passed: &Passed,
+    passed: &TapNote,
 ) -> Result<(), AllocError>
     ensures { PrintsSome result output.old output.new (PrintsPassed number layout.now passed.now) }
 {
     match passed {
-        Passed::Wake(rate) => print_wake(output, number, *rate),
-        Passed::Exchange(sent, answer) => {
+        TapNote::Wake(rate) => print_wake(output, number, *rate),
+        TapNote::Exchange(sent, answer) => {
             print_sent(output, number, layout, sent.as_slice())?;
             let read = asks_read(sent.as_slice());
             print_came(output, number, layout, read, answer)

@@ -14,7 +14,7 @@ use iol_book::BookFault;
 use iol_cell::Handle;
 use iol_link::Wire;
 use iol_port::{Answered, Call, Port, PortFault, runs_join};
-use iol_script::{CallLine, Lines, RunLine};
+use iol_script::{CallLine, RunLine, TextLines};
 use std::alloc::{AllocError, Allocator};
 use std::slice;
 
@@ -33,7 +33,7 @@ pub(crate) fn play_lines<W: Wire, A: Handle>(
 {
     runs_join();
     let turns = turns_of(alloc)?;
-    for (_, line) in Lines::of(input) {
+    for (_, line) in TextLines::of(input) {
         if let Some(RunLine::Call(call)) = RunLine::parse(line) {
             play_line(alloc, output, port, turns.as_slice(), &call)?;
         }

@@ -1,7 +1,7 @@
 //! What is printed for a line.
 ghost use Rattle.std.specs.Prelude.{◌≡◌};
 ghost use Rattle.iol_script.specs.Printing.{Prints};
-ghost use Rattle.iol_commands.specs.Printed.{hexadecimal, number_text, type_text, process_text, control_text, written_text, answered_text, status_text, octets_text, part_text, layout_text, fault_name, channel_text, refusal_text, message_text, reply_text};
+ghost use Rattle.iol_commands.specs.Printed.{hexadecimal, number_text, type_text, process_text, control_text, written_text, answered_text, status_text, octets_text, part_text, layout_text, fault_name, channel_text, refusal_text, message_text, printed_reply};
 
 use iol_mseq::{Layout, MasterMsg, MseqFault, Reply};
 use iol_octets::{Channel, Mc};
@@ -193,7 +193,7 @@ pub(crate) fn print_reply<A: Allocator>(
     read: bool,
     reply: &Reply,
 ) -> Result<(), AllocError>
-    ensures { Prints result output.old output.new (reply_text read reply.now) }
+    ensures { Prints result output.old output.new (printed_reply read reply.now) }
 {
     print_answered(output, read, reply)?;
     print_part(output, " in", reply.input.as_slice())?;

@@ -7,7 +7,7 @@ ghost use Rattle.iol_script.specs.Script.{IsScript, first_bad_run, value_of};
 ghost use Rattle.iol_script.specs.Text.{numbered_lines};
 ghost use Rattle.iol_commands.specs.declared.fault.ProgramFault.TheVariants.{Line, NoThread, OutOfMemory, WriteFailed};
 ghost use Rattle.iol_commands.specs.RunPlayed.{first_far, first_wire, new_device, PrintsRun};
-ghost use Rattle.iol_commands.specs.Input.{Answers};
+ghost use Rattle.iol_commands.specs.Input.{AnswersInput};
 
 use crate::fault::ProgramFault;
 use crate::playing::play_lines;
@@ -38,7 +38,7 @@ pub fn run<A: Handle, R: Read, W: Write>(
     reader: &mut R,
     writer: &mut W,
 ) -> Result<(), ProgramFault>
-    ensures answers { Answers (λ lines n. first_bad_run lines ≡ Some n)
+    ensures answers { AnswersInput (λ lines n. first_bad_run lines ≡ Some n)
         (λ lines. first_bad_run lines ≡ None) PrintsRun
         (R.remaining reader.old) (R.remaining reader.new)
         (W.contents writer.old) (W.contents writer.new) result }

@@ -2,7 +2,7 @@
 ghost use Rattle.std.specs.Prelude.{◌≡◌, Some};
 ghost use Rattle.std.specs.Option.{option_copied};
 ghost use Rattle.iol_script.specs.Printing.{Prints};
-ghost use Rattle.iol_commands.specs.RunPrinted.{listed_text, place_text, request_text, device_text};
+ghost use Rattle.iol_commands.specs.RunPrinted.{listed_text, place_text, printed_request, device_text};
 ghost use Rattle.iol_commands.specs.RunPrinted.{outcome_text, ticket_text, collected_text};
 ghost use Rattle.iol_commands.specs.RunPrinted.{image_text, code_text, event_text};
 ghost use Rattle.iol_commands.specs.RunPrinted.{mode_name, why_name, why_text};
@@ -10,7 +10,7 @@ ghost use Rattle.iol_commands.specs.RunPrinted.{link_text, state_text};
 ghost use Rattle.iol_commands.specs.RunPrinted.{book_fault_name, output_fault_name};
 ghost use Rattle.iol_commands.specs.RunPrinted.{port_fault_name, refused_text};
 ghost use Rattle.iol_commands.specs.RunPrinted.{counting_text, page_text};
-ghost use Rattle.iol_commands.specs.RunPrinted.{nothing_text, answer_text};
+ghost use Rattle.iol_commands.specs.RunPrinted.{nothing_text, printed_answer};
 ghost use Rattle.iol_commands.specs.RunPrinted.{carried_text, entries_text, record_text, away_text};
 ghost use Rattle.iol_commands.specs.RunPlayed.{records_text};
 
@@ -49,7 +49,7 @@ fn print_place<A: Allocator>(output: &mut String<A>, place: Place) -> Result<(),
 
 /// A request, with the octets of a write.
 fn print_request<A: Allocator>(output: &mut String<A>, request: &Request) -> Result<(), AllocError>
-    ensures { Prints result output.old output.new (request_text request.now) }
+    ensures { Prints result output.old output.new (printed_request request.now) }
 {
     match request {
         Request::Read(place) => {
@@ -300,7 +300,7 @@ pub(crate) fn print_answer<A: Allocator>(
     call: &Call,
     answered: &Answered,
 ) -> Result<(), AllocError>
-    ensures { Prints result output.old output.new (answer_text call.now answered.now) }
+    ensures { Prints result output.old output.new (printed_answer call.now answered.now) }
 {
     match answered {
         Answered::Ticket(ticket) => {

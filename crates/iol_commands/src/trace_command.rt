@@ -5,7 +5,7 @@ ghost use Rattle.iol_script.specs.Script.{IsScript, calls_in, first_bad_run, val
 ghost use Rattle.iol_script.specs.Text.{numbered_lines};
 ghost use Rattle.iol_commands.specs.declared.fault.ProgramFault.TheVariants.{NoThread, OutOfMemory, WriteFailed};
 ghost use Rattle.iol_commands.specs.TracePrinted.{PrintsTrace, TracesOut};
-ghost use Rattle.iol_commands.specs.Input.{Answers};
+ghost use Rattle.iol_commands.specs.Input.{AnswersInput};
 
 use crate::fault::ProgramFault;
 use crate::run_command::wire_of;
@@ -31,7 +31,7 @@ pub fn trace<A: Handle, R: Read, W: Write>(
     reader: &mut R,
     writer: &mut W,
 ) -> Result<(), ProgramFault>
-    ensures answers { Answers (λ lines n. first_bad_run lines ≡ Some n)
+    ensures answers { AnswersInput (λ lines n. first_bad_run lines ≡ Some n)
         (λ lines. first_bad_run lines ≡ None) PrintsTrace
         (R.remaining reader.old) (R.remaining reader.new)
         (W.contents writer.old) (W.contents writer.new) result }

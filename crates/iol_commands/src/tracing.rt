@@ -7,7 +7,7 @@ ghost use Rattle.iol_script.specs.Script.{calls_in, line_calls};
 ghost use Rattle.iol_script.specs.Text.{numbered_lines};
 ghost use Rattle.iol_commands.specs.declared.fault.ProgramFault.TheVariants.{OutOfMemory, WriteFailed};
 ghost use Rattle.iol_commands.specs.Printed.{PrintsSome};
-ghost use Rattle.iol_commands.specs.TracePrinted.{layout_in, layout_now, place, Flows, PortTraces, TracesFrom, PrintsNoteOf};
+ghost use Rattle.iol_commands.specs.TracePrinted.{layout_of_mode, layout_now, place, Flows, PortTraces, TracesFrom, PrintsNoteOf};
 
 use crate::fault::ProgramFault;
 use crate::passing::print_passed;
@@ -19,7 +19,7 @@ use iol_link::Wire;
 use iol_mseq::Layout;
 use iol_page::{Layouts, Page};
 use iol_port::{Call, Port, runs_join};
-use iol_script::{CallLine, Lines, RunLine};
+use iol_script::{CallLine, RunLine, TextLines};
 use iol_steps::Mode;
 use iol_tap::Tap;
 use std::alloc::{AllocError, Allocator};
@@ -67,7 +67,7 @@ impl<A: Handle> Tracer<A> {
         ensures faults { IfErr result (λ e. (e ≡ OutOfMemory) ⊎ (e ≡ WriteFailed)) }
     {
         runs_join();
-        for (_, line) in Lines::of(input) {
+        for (_, line) in TextLines::of(input) {
             if let Some(RunLine::Call(call)) = RunLine::parse(line) {
                 self.follow_line(port, writer, &call)?;
             }
@@ -203,7 +203,7 @@ fn layout_now(mode: Mode, page: Option<Page>) -> Layout
 
 /// The layout of a mode. In down no message is sent.
 fn layout_in(mode: Mode, layouts: &Layouts) -> Layout
-    ensures { result ≡ layout_in mode layouts.now }
+    ensures { result ≡ layout_of_mode mode layouts.now }
 {
     match mode {
         Mode::Down | Mode::Startup => Layout::startup(),

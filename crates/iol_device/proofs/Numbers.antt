@@ -10,13 +10,13 @@ use Rattle.iol_isdu.specs.declared.values.Request.{Request}
 use Rattle.iol_mseq.specs.declared.master.MasterMsg.{MasterMsg}
 use Rattle.iol_segment.specs.Join.{Stage}
 use Rattle.iol_far.specs.Codec.{flow_of}
-use Rattle.iol_far.specs.Far.{Far, moved, accepted, heard_as, hear}
-use Rattle.iol_far.specs.Isdu.{handed, own, received_at}
+use Rattle.iol_far.specs.Far.{Far, far_in_mode, accepted_message, heard_as, hear}
+use Rattle.iol_far.specs.Isdu.{handed_request, own, received_at}
 use Rattle.iol_far.specs.Laws.{is_start_read, MuchStays}
-use Rattle.iol_far.specs.declared.mode.Mode.{Mode}
+use Rattle.iol_far.specs.declared.mode.DeviceMode.{DeviceMode}
 use Rattle.iol_device.specs.Device.{Running}
 use Rattle.iol_device.specs.Number.{next_number, answer_refusal}
-use Rattle.iol_device.specs.NumberLaws.{Deed, Hears, after_deed, after_deeds, HasNumbersFor, IsPast, NumbersAreOwn}
+use Rattle.iol_device.specs.NumberLaws.{DeviceDeed, Hears, after_deed, after_deeds, HasNumbersFor, IsPast, NumbersAreOwn}
 use Rattle.iol_device.specs.declared.fault.DeviceFault.TheVariants.{OtherRequest}
 
 -- What a message does to a handed request
@@ -28,7 +28,7 @@ record Heeds (old new : Option Request) (start : Bool) : Type 0 where
 
 -- receiving hands nothing over
 received_none : (found : Stage) (octets : List ℕ) (last : Option ℕ)
-    → handed (received_at found octets last) ≡ None
+    → handed_request (received_at found octets last) ≡ None
 received_none found octets last = grind (arith, common_steps)
 
 abbrev start_in : Option (Far × MasterMsg) → Bool
@@ -39,7 +39,8 @@ start_in (Some (there, message)) =
 -- by the message that the octets are, and the far end that accepts it
 unfoldable HeedsAs : Far → List ℕ → Option (Far × MasterMsg) → Type 0
 HeedsAs far octets found =
-    Heeds (handed far.isdu) (handed (heard_as far octets found).far.isdu) (start_in found)
+    Heeds (handed_request far.isdu) (handed_request (heard_as far octets found).far.isdu)
+    (start_in found)
 
 module _ (far : Far) (octets : List ℕ) (mine : far.kind ≡ own) where
   heeds_none : HeedsAs far octets None
@@ -50,12 +51,12 @@ module _ (far : Far) (octets : List ℕ) (mine : far.kind ≡ own) where
   unfolding HeedsAs
   heeds_here message = rw mine (grind (arith, common_steps, received_none))
 
-  heeds_moved : (into : Mode) (message : MasterMsg)
-      → HeedsAs far octets (Some (moved far into, message))
+  heeds_moved : (into : DeviceMode) (message : MasterMsg)
+      → HeedsAs far octets (Some (far_in_mode far into, message))
   unfolding HeedsAs
   heeds_moved into message = rw mine (grind (arith, common_steps, received_none))
 
-  heeds_octets : HeedsAs far octets (accepted far octets)
+  heeds_octets : HeedsAs far octets (accepted_message far octets)
   heeds_octets = grind (arith, common_steps, heeds_none, heeds_here, heeds_moved)
 
 -- What a deed does to the number
@@ -80,22 +81,23 @@ keeps_heard Q n m old new start heeds room keeps = grind (arith, common_steps, n
 
 module _ {P : Type 0} (much : MuchStays) (Q : Request → Type 0) (n : ℕ) where
   abbrev KeepsAt : Running P → Type 0
-  KeepsAt device = Keeps Q n device.number (handed device.far.isdu)
+  KeepsAt device = Keeps Q n device.number (handed_request device.far.isdu)
 
-  keeps_deed : (device : Running P) (deed : Deed) → device.far.kind ≡ own
+  keeps_deed : (device : Running P) (deed : DeviceDeed) → device.far.kind ≡ own
       → device.number + 1 < 2 ^ 64 → KeepsAt device
       → ((after_deed device deed).number ≤ device.number + 1) × KeepsAt (after_deed device deed)
   unfolding HeedsAs
   keeps_deed device (Hears octets) mine room keeps =
-      keeps_heard Q n device.number (handed device.far.isdu)
-      (handed (hear device.far octets).far.isdu) _ (heeds_octets device.far octets mine) room keeps
+      keeps_heard Q n device.number (handed_request device.far.isdu)
+      (handed_request (hear device.far octets).far.isdu) _ (heeds_octets device.far octets mine)
+      room keeps
   keeps_deed device deed mine room keeps = grind (arith, common_steps)
 
-  kind_deed : (device : Running P) (deed : Deed)
+  kind_deed : (device : Running P) (deed : DeviceDeed)
       → (after_deed device deed).far.kind ≡ device.far.kind
   kind_deed device deed = grind (arith, common_steps, much.kind_heard)
 
-  keeps_all : (device : Running P) (deeds : List Deed) → device.far.kind ≡ own
+  keeps_all : (device : Running P) (deeds : List DeviceDeed) → device.far.kind ≡ own
       → HasNumbersFor device deeds → KeepsAt device → KeepsAt (after_deeds device deeds)
   keeps_all device [] mine room keeps = keeps
   keeps_all device (deed ∷ deeds) mine room keeps =
@@ -106,12 +108,12 @@ module _ {P : Type 0} (much : MuchStays) (Q : Request → Type 0) (n : ℕ) wher
 -- The law
 
 refused : {P : Type 0} (device : Running P) (n : ℕ) (answer : Answer)
-    → Keeps (λ x. ⊥) n device.number (handed device.far.isdu)
+    → Keeps (λ x. ⊥) n device.number (handed_request device.far.isdu)
     → answer_refusal device n answer ≡ Some OtherRequest
 refused device n answer keeps = grind (arith, nat_tests, common_steps)
 
 past_keeps : {P : Type 0} (device : Running P) (n : ℕ) → IsPast device n
-    → Keeps (λ x. ⊥) n device.number (handed device.far.isdu)
+    → Keeps (λ x. ⊥) n device.number (handed_request device.far.isdu)
 past_keeps device n past = grind (arith, common_steps)
 
 pub numbers_are_own : MuchStays → {P : Type 0} (device : Running P) → device.far.kind ≡ own

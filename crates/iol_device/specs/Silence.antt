@@ -3,13 +3,13 @@ use Rattle.std.specs.Prelude.{Bool, true, false, if◌then◌else◌, ℕ, List,
 use Rattle.iol_mseq.specs.declared.master.MasterMsg.{MasterMsg}
 use Rattle.iol_page.specs.declared.master_command.MasterCommand.{MasterCommand}
 use Rattle.iol_page.specs.declared.master_command.MasterCommand.TheVariants.{ProcessDataOutputOperate}
-use Rattle.iol_far.specs.declared.mode.Mode.{Mode}
-use Rattle.iol_far.specs.declared.mode.Mode.TheVariants.{Operate}
-use Rattle.iol_far.specs.Far.{Far, accepted, command_in, output_of}
+use Rattle.iol_far.specs.declared.mode.DeviceMode.{DeviceMode}
+use Rattle.iol_far.specs.declared.mode.DeviceMode.TheVariants.{Operate}
+use Rattle.iol_far.specs.Far.{Far, accepted_message, command_in, output_of}
 use Rattle.iol_device.specs.Device.{Running}
 
 -- whether a command that comes in this mode says that the output is valid
-abbrev pub says_valid : Mode → Option MasterCommand → Bool
+abbrev pub says_valid : DeviceMode → Option MasterCommand → Bool
 says_valid Operate (Some ProcessDataOutputOperate) = true
 says_valid mode command = false
 
@@ -22,7 +22,7 @@ is_told_valid (Some (there, message)) = says_valid there.mode (command_in messag
 -- DEV-19
 abbrev pub silent_after : Bool → Far → List ℕ → Bool
 silent_after silent far octets =
-    if is_told_valid (accepted far octets) then false else silent
+    if is_told_valid (accepted_message far octets) then false else silent
 
 -- the process data out that a device shows
 -- DEV-19

@@ -8,7 +8,7 @@ use crate::fault::DeviceFault;
 use crate::isdu::{IsduSide, is_kind_of};
 use crate::record::{Kept, Record};
 use iol_event::{Event, EventMemory};
-use iol_far::{Carried, Kind, Mode};
+use iol_far::{Carried, DeviceMode, Kind};
 use iol_image::Image;
 use iol_isdu::{Answer, Request};
 use iol_mseq::{
@@ -23,7 +23,7 @@ use std::marker::Model;
 #[derive(Drop)]
 pub(crate) struct FarEnd<R: Record = Kept> {
     awake: bool,
-    mode: Mode,
+    mode: DeviceMode,
     waits: Option<Waiting>,
     isdu: IsduSide,
     events: EventMemory,
@@ -73,15 +73,15 @@ impl<R: Record> FarEnd<R> {
     ghost use Rattle.iol_event.specs.Memory.{is_full};
     ghost use Rattle.iol_far.specs.Codec.{layout_in, message_in, flow_of};
     ghost use Rattle.iol_far.specs.Far as far;
-    ghost use Rattle.iol_far.specs.Far.{layout_of, moved};
-    ghost use Rattle.iol_far.specs.Isdu.{handed};
-    ghost use Rattle.iol_far.specs.Local.{local, woken, is_input, has_room, LocalStep};
+    ghost use Rattle.iol_far.specs.Far.{layout_of, far_in_mode};
+    ghost use Rattle.iol_far.specs.Isdu.{handed_request};
+    ghost use Rattle.iol_far.specs.Local.{local, far_after_wake, is_input, has_room, LocalStep};
     ghost use Rattle.iol_device.specs.App.{IsCarriedOut};
     ghost use Rattle.iol_device.specs.Number.{misfit};
     ghost use Rattle.iol_device.specs.Silence.{says_valid, silent_after};
     ghost use Rattle.std.specs.Result.{result_err};
     ghost use Rattle.iol_device.specs.Inside.{new_mode};
-    ghost use Rattle.iol_far.specs.Octets.{buffered};
+    ghost use Rattle.iol_far.specs.Octets.{octets_in_buffer};
     ghost use Rattle.iol_far.specs.Laws.{IsRegular};
     ghost use Rattle.iol_far.specs.Orderly.{IsOrderly};
     ghost use Rattle.iol_device.specs.Pulses.{is_orderly, is_asked, is_asked_if, is_said};
@@ -99,7 +99,7 @@ impl<R: Record> FarEnd<R> {
         let layout = Layout::startup();
         FarEnd {
             awake: false,
-            mode: Mode::Startup,
+            mode: DeviceMode::Startup,
             waits: None,
             isdu: IsduSide::new(kind, layout.od()),
             events: EventMemory::new(),
@@ -135,8 +135,8 @@ impl<R: Record> FarEnd<R> {
         ensures value { result ≡ is_orderly self.now }
         ensures orderly { result ≡ true → IsOrderly self.now }
     {
-        let holds_text = self.mode == Mode::Startup && !self.isdu.is_empty();
-        let is_valid = self.valid && self.mode != Mode::Operate;
+        let holds_text = self.mode == DeviceMode::Startup && !self.isdu.is_empty();
+        let is_valid = self.valid && self.mode != DeviceMode::Operate;
         !holds_text && !is_valid && self.is_asked_if_it_waits()
     }
 
@@ -161,7 +161,7 @@ impl<R: Record> FarEnd<R> {
     }
 
     /// Whether octets, where they are a message in the present layout, ask for that mode.
-    fn is_said(&self, into: Mode, octets: &[u8]) -> bool
+    fn is_said(&self, into: DeviceMode, octets: &[u8]) -> bool
         ensures { result ≡ is_said self.now into (message_in (layout_of self.now) octets.now) }
     {
         match message_in(&self.layout, octets) {
@@ -171,20 +171,20 @@ impl<R: Record> FarEnd<R> {
     }
 
     /// The layout of a mode.
-    fn layout_in(&self, mode: Mode) -> Layout
+    fn layout_in(&self, mode: DeviceMode) -> Layout
         ensures { result ≡ layout_in self.now.page mode }
     {
         match mode {
-            Mode::Startup => Layout::startup(),
-            Mode::Preoperate => self.layouts.pre.unwrap_or(Layout::startup()),
-            Mode::Operate => self.layouts.run,
+            DeviceMode::Startup => Layout::startup(),
+            DeviceMode::Preoperate => self.layouts.pre.unwrap_or(Layout::startup()),
+            DeviceMode::Operate => self.layouts.run,
         }
     }
 
     /// The mode into which the octets would take it.
     ///
     /// Rule DEV-4.
-    fn new_mode(&self, octets: &[u8]) -> Option<Mode>
+    fn new_mode(&self, octets: &[u8]) -> Option<DeviceMode>
         ensures { result ≡ new_mode self.now.waits octets.now }
     {
         match &self.waits {
@@ -196,8 +196,8 @@ impl<R: Record> FarEnd<R> {
     /// Takes the layout of a mode.
     ///
     /// Rule DEV-3.
-    fn move_into(&mut self, mode: Mode)
-        ensures { self.new ≡ moved self.old mode }
+    fn move_into(&mut self, mode: DeviceMode)
+        ensures { self.new ≡ far_in_mode self.old mode }
     {
         let layout = self.layout_in(mode);
         self.mode = mode;
@@ -212,7 +212,7 @@ impl<R: Record> FarEnd<R> {
     /// Rule DEV-2.
     fn accept<'a>(&mut self, octets: &'a [u8]) -> Option<MasterView<'a>>
         ensures length { OnSome result (length octets.now ≤ 66) }
-        ensures accepts { far.accepted self.old octets.now
+        ensures accepts { far.accepted_message self.old octets.now
             ≡ option_map (λ m. (self.new, m)) result }
         ensures none { IfNone result (self.new ≡ self.old) }
     {
@@ -237,9 +237,9 @@ impl<R: Record> FarEnd<R> {
     pub fn hear(&mut self, octets: &[u8], silent: &mut bool, reply: &mut Message) -> bool
         requires { reply.old.items ≡ [] }
         ensures far { self.new ≡ (far.hear self.old octets.now).far }
-        ensures reply { buffered result reply.new ≡ (far.hear self.old octets.now).reply }
+        ensures reply { octets_in_buffer result reply.new ≡ (far.hear self.old octets.now).reply }
         ensures unanswered { result ≡ false → reply.new.items ≡ [] }
-        ensures answers { result ≡ is_some (far.accepted self.old octets.now) }
+        ensures answers { result ≡ is_some (far.accepted_message self.old octets.now) }
         ensures unheard { result ≡ false → self.new ≡ self.old }
         ensures silent { silent.new ≡ silent_after silent.old self.old octets.now }
     {
@@ -270,14 +270,14 @@ impl<R: Record> FarEnd<R> {
         ensures { result ≡ says_valid self.now.mode (far.command_in message.now) }
     {
         match command_in(message) {
-            Some(MasterCommand::ProcessDataOutputOperate) => self.mode == Mode::Operate,
+            Some(MasterCommand::ProcessDataOutputOperate) => self.mode == DeviceMode::Operate,
             _ => false,
         }
     }
 
     fn work_message(&mut self, octets: &[u8], message: &MasterView<'_>)
         requires { length octets.now ≤ 66 }
-        ensures { self.new ≡ far.worked self.old octets.now message.now }
+        ensures { self.new ≡ far.far_after_message self.old octets.now message.now }
     {
         self.work_page(octets, message);
         self.work_isdu(message);
@@ -308,11 +308,11 @@ impl<R: Record> FarEnd<R> {
     /// The mode asked for, where a device of this page has it.
     ///
     /// Rule DEV-5.
-    fn known_mode(&self, asked: Option<Mode>) -> Option<Mode>
+    fn known_mode(&self, asked: Option<DeviceMode>) -> Option<DeviceMode>
         ensures { result ≡ far.known_mode self.now.page asked }
     {
         match asked {
-            Some(Mode::Preoperate) if self.layouts.pre.is_none() => None,
+            Some(DeviceMode::Preoperate) if self.layouts.pre.is_none() => None,
             _ => asked,
         }
     }
@@ -334,7 +334,7 @@ impl<R: Record> FarEnd<R> {
                 octets: message_of(octets),
             });
         }
-        if self.mode == Mode::Operate {
+        if self.mode == DeviceMode::Operate {
             match command {
                 Some(MasterCommand::ProcessDataOutputOperate) => self.valid = true,
                 Some(MasterCommand::DeviceOperate) => self.valid = false,
@@ -388,7 +388,7 @@ impl<R: Record> FarEnd<R> {
         ensures { self.new
             ≡ record self.old { out = far.out_after self.old.mode self.old.out out.now } }
     {
-        if self.mode == Mode::Operate {
+        if self.mode == DeviceMode::Operate {
             take_image(&mut self.out, out);
         }
     }
@@ -410,10 +410,10 @@ impl<R: Record> FarEnd<R> {
     /// The reply, read off the far end as it is after the message.
     ///
     /// Rule DEV-8.
-    #[tactic(auto, unfolding(iol_far::specs::Codec::octets_of))]
+    #[tactic(auto, unfolding(iol_far::specs::Codec::reply_octets))]
     fn reply(&self, message: &MasterView<'_>, reply: &mut Message)
         requires { reply.old.items ≡ [] }
-        ensures { Some reply.new.items ≡ (far.replied self.now message.now).reply }
+        ensures { Some reply.new.items ≡ (far.with_reply self.now message.now).reply }
     {
         let layout = &self.layout;
         let mc = message.mc();
@@ -445,7 +445,7 @@ impl<R: Record> FarEnd<R> {
 
     /// The octet at a page address.
     fn page_octet(&self, address: u8) -> u8
-        ensures { result ≡ far.page_octet self.now address }
+        ensures { result ≡ far.page_octet_of self.now address }
     {
         if address == 1 {
             self.cycle_time
@@ -472,14 +472,14 @@ impl<R: Record> FarEnd<R> {
 
     /// The request that is handed over.
     pub fn handed(&self) -> Option<&Request>
-        ensures { option_copied result ≡ handed self.now.isdu }
+        ensures { option_copied result ≡ handed_request self.now.isdu }
     {
         self.isdu.handed()
     }
 
     /// Whether a request is handed over.
     pub fn is_handed(&self) -> bool
-        ensures { result ≡ is_some (handed self.now.isdu) }
+        ensures { result ≡ is_some (handed_request self.now.isdu) }
     {
         self.isdu.is_handed()
     }
@@ -489,7 +489,7 @@ impl<R: Record> FarEnd<R> {
     /// Rule DEV-15.
     pub fn work<P: App>(&mut self, app: &mut P)
         ensures { IsCarriedOut P.carry_out_gives
-            (handed self.old.isdu) self.old app.old self.new app.new }
+            (handed_request self.old.isdu) self.old app.old self.new app.new }
     {
         // Most calls find none.
         if self.isdu.is_handed() && self.carried.has_room() {
@@ -503,7 +503,7 @@ impl<R: Record> FarEnd<R> {
     pub fn answer(&mut self, answer: Answer) -> Result<(), DeviceFault>
         ensures far { self.new ≡ local self.old (LocalStep.Carry answer) }
         ensures refusal { result_err result
-            ≡ misfit (handed self.old.isdu) (has_room self.old) answer }
+            ≡ misfit (handed_request self.old.isdu) (has_room self.old) answer }
         ensures unchanged { OnErr result (self.new ≡ self.old) }
     {
         let Some(request) = self.isdu.handed() else {
@@ -582,9 +582,9 @@ impl<R: Record> FarEnd<R> {
     ///
     /// Rule DEV-1.
     pub fn wake(&mut self)
-        ensures { self.new ≡ woken self.old }
+        ensures { self.new ≡ far_after_wake self.old }
     {
-        self.move_into(Mode::Startup);
+        self.move_into(DeviceMode::Startup);
         self.awake = true;
         self.events.other_heard();
     }
@@ -608,7 +608,7 @@ impl<R: Record> FarEnd<R> {
     }
 
     /// The mode.
-    pub fn mode(&self) -> Mode
+    pub fn mode(&self) -> DeviceMode
         ensures { result ≡ self.now.mode }
     {
         self.mode

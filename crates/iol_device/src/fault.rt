@@ -24,11 +24,11 @@ pub enum DeviceFault {
 }
 
 impl DeviceFault {
-    ghost use Rattle.iol_device.specs.Faults.{fault_number};
+    ghost use Rattle.iol_device.specs.Faults.{device_fault_number};
 
     /// The number of the refusal.
     pub fn code(&self) -> u8
-        ensures { result ≡ fault_number self.now }
+        ensures { result ≡ device_fault_number self.now }
     {
         match self {
             DeviceFault::WrongAnswerKind => 14,

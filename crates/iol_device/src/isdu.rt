@@ -5,11 +5,11 @@ ghost use Rattle.iol_segment.specs.Cut.{flow_at};
 ghost use Rattle.iol_octets.specs.Flow.{IsFlow};
 ghost use Rattle.iol_octets.specs.declared.flow_control.Flow.{Flow};
 ghost use Rattle.iol_isdu.specs.Parse.{request_of};
-ghost use Rattle.iol_far.specs.Isdu.{Empty, Receiving, IsduState, Answered, isdu_written, isdu_read, isdu_data, completed, answer_text, answered, handed, fits, recalled, handed_over, written_over, written_by, counted_by};
+ghost use Rattle.iol_far.specs.Isdu.{Empty, Receiving, IsduState, Answered, isdu_written, isdu_read, isdu_data, whole_or_empty, answer_text_to, isdu_after_answer, handed_request, fits, remaining_isdu, handed_over, written_over, written_by, counted_by};
 ghost use Rattle.iol_far.specs.Record.{takes_more};
 ghost use Rattle.iol_device.specs.App.{Reacts};
-ghost use Rattle.iol_device.specs.Pulses.{is_empty};
-ghost use Rattle.iol_device.specs.Inside.{IsduValue, IsKept, IsKeptAt, GoesOn, IsSent, state_of, last_sent, count_in, sent_flow, is_sent, is_next, is_all_sent, waits_for_read};
+ghost use Rattle.iol_device.specs.Pulses.{is_isdu_empty};
+ghost use Rattle.iol_device.specs.Inside.{IsduValue, IsKept, IsKeptAt, GoesOn, LastSentIsWithin, state_of, last_sent, count_in, sent_flow, is_sent, is_next, is_all_sent, waits_for_read};
 
 use crate::app::App;
 use crate::record::Record;
@@ -28,7 +28,7 @@ const NOTHING: Reaction = Reaction {
 
 /// How far a request has come.
 #[derive(Clone, Copy, Debug, PartialEq, Eq)]
-enum Stage {
+enum IsduStage {
     Empty,
     /// Its text comes in segments.
     Receiving,
@@ -46,7 +46,7 @@ enum Stage {
 pub(crate) struct IsduSide {
     size: OdLength,
     kind: Kind,
-    stage: Stage,
+    stage: IsduStage,
     /// The COUNT of the last write, where a text is handed over with its last segment.
     counted: Option<u8>,
     /// The text of a request, while that comes.
@@ -80,7 +80,7 @@ impl IsduSide {
             size,
             kind,
             counted: None,
-            stage: Stage::Empty,
+            stage: IsduStage::Empty,
             joiner: Joiner::new(),
             cutter: Cutter::new(NOTHING, size),
         }
@@ -91,7 +91,7 @@ impl IsduSide {
         ensures { self.new ≡ record self.old { size = size; state = Empty } }
     {
         self.size = size;
-        self.stage = Stage::Empty;
+        self.stage = IsduStage::Empty;
         self.cutter.resize(size);
     }
 
@@ -99,7 +99,7 @@ impl IsduSide {
     pub fn clear(&mut self)
         ensures { self.new ≡ record self.old { state = Empty } }
     {
-        self.stage = Stage::Empty;
+        self.stage = IsduStage::Empty;
     }
 
     /// What is left of an answer when the next message comes.
@@ -107,11 +107,11 @@ impl IsduSide {
     /// Rule DEV-20.
     fn recall(&mut self)
         ensures { self.new ≡ record self.old {
-          state = recalled self.old.kind.recalls self.old.size self.old.state;
+          state = remaining_isdu self.old.kind.recalls self.old.size self.old.state;
         } }
     {
         if self.kind.recalls == Recalls::UntilSent && self.is_sent() {
-            self.stage = Stage::Empty;
+            self.stage = IsduStage::Empty;
         }
     }
 
@@ -119,7 +119,7 @@ impl IsduSide {
     fn is_sent(&self) -> bool
         ensures { result ≡ is_all_sent self.now.size self.now.state }
     {
-        self.stage == Stage::Answered && self.cutter.flow().is_some() && !self.cutter.has_next()
+        self.stage == IsduStage::Answered && self.cutter.flow().is_some() && !self.cutter.has_next()
     }
 
     /// A write under this flow.
@@ -128,7 +128,7 @@ impl IsduSide {
     pub fn write(&mut self, flow: Flow, octets: &[u8])
         ensures { self.new ≡ record self.old {
           state = written_by self.old.kind.hands_over self.old.counted
-              (recalled self.old.kind.recalls self.old.size self.old.state) flow octets.now;
+              (remaining_isdu self.old.kind.recalls self.old.size self.old.state) flow octets.now;
           counted = counted_by self.old.kind.hands_over self.old.counted flow;
         } }
     {
@@ -149,7 +149,7 @@ impl IsduSide {
         match flow {
             Flow::Count(count) if self.waits_for_read() => {
                 if self.counted != Some(count) {
-                    self.stage = Stage::Empty;
+                    self.stage = IsduStage::Empty;
                 }
             }
             _ => {
@@ -169,8 +169,8 @@ impl IsduSide {
         ensures { result ≡ waits_for_read self.now.state }
     {
         match self.stage {
-            Stage::Handed => true,
-            Stage::Answered => self.cutter.flow().is_none(),
+            IsduStage::Handed => true,
+            IsduStage::Answered => self.cutter.flow().is_none(),
             _ => false,
         }
     }
@@ -179,8 +179,8 @@ impl IsduSide {
     fn hand_over(&mut self)
         ensures { self.new ≡ record self.old { state = handed_over self.old.state } }
     {
-        if let Stage::Whole(_) = self.stage {
-            self.stage = Stage::Handed;
+        if let IsduStage::Whole(_) = self.stage {
+            self.stage = IsduStage::Handed;
         }
     }
 
@@ -206,16 +206,16 @@ impl IsduSide {
             } }
     {
         match self.stage {
-            Stage::Receiving => {
+            IsduStage::Receiving => {
                 let flow = Flow::Count(count);
                 self.stage = take(&mut self.joiner, &mut self.cutter, flow, octets);
             }
-            Stage::Whole(last) => {
+            IsduStage::Whole(last) => {
                 if last != Some(count) {
-                    self.stage = Stage::Empty;
+                    self.stage = IsduStage::Empty;
                 }
             }
-            _ => self.stage = Stage::Empty,
+            _ => self.stage = IsduStage::Empty,
         }
     }
 
@@ -226,7 +226,7 @@ impl IsduSide {
     pub fn read(&mut self, flow: Flow)
         ensures { self.new ≡ record self.old {
           state = isdu_read self.old.size
-              (recalled self.old.kind.recalls self.old.size self.old.state) flow;
+              (remaining_isdu self.old.kind.recalls self.old.size self.old.state) flow;
         } }
     {
         self.recall();
@@ -246,13 +246,13 @@ impl IsduSide {
             ≡ record self.old { state = isdu_read self.old.size self.old.state Flow.Start } }
     {
         match self.stage {
-            Stage::Whole(_) => self.stage = Stage::Handed,
-            Stage::Handed => {}
-            Stage::Answered => {
+            IsduStage::Whole(_) => self.stage = IsduStage::Handed,
+            IsduStage::Handed => {}
+            IsduStage::Answered => {
                 self.cutter.restart();
                 self.cutter.advance();
             }
-            _ => self.stage = Stage::Empty,
+            _ => self.stage = IsduStage::Empty,
         }
     }
 
@@ -266,15 +266,15 @@ impl IsduSide {
               state = isdu_read self.old.size self.old.state (Flow.Count count);
             } }
     {
-        if self.stage != Stage::Answered {
-            self.stage = Stage::Empty;
+        if self.stage != IsduStage::Answered {
+            self.stage = IsduStage::Empty;
             return;
         }
         let sent = sent_flow(&self.cutter);
         if is_sent(sent, count) || (is_next(sent, count) && self.cutter.advance()) {
             return;
         }
-        self.stage = Stage::Empty;
+        self.stage = IsduStage::Empty;
     }
 
     /// Puts the on-request data of the reply to a read at the end.
@@ -288,34 +288,34 @@ impl IsduSide {
     {
         cut_is_whole();
         match self.stage {
-            Stage::Handed => append_first(octets, self.size, 1),
-            Stage::Answered => append_segment(&self.cutter, self.size, octets),
+            IsduStage::Handed => append_first(octets, self.size, 1),
+            IsduStage::Answered => append_segment(&self.cutter, self.size, octets),
             _ => append_zeros(octets, self.size.get()),
         }
     }
 
     /// The request that the application has, or will have.
     pub fn handed(&self) -> Option<&Request>
-        ensures { option_copied result ≡ handed self.now.state }
+        ensures { option_copied result ≡ handed_request self.now.state }
     {
         match self.stage {
-            Stage::Handed => Some(&self.cutter.source().request),
+            IsduStage::Handed => Some(&self.cutter.source().request),
             _ => None,
         }
     }
 
     /// Whether nothing is held, neither a text nor an answer.
     pub fn is_empty(&self) -> bool
-        ensures { result ≡ is_empty self.now.state }
+        ensures { result ≡ is_isdu_empty self.now.state }
     {
-        self.stage == Stage::Empty
+        self.stage == IsduStage::Empty
     }
 
     /// Whether the application has a request, or will have it.
     pub fn is_handed(&self) -> bool
-        ensures { result ≡ is_some (handed self.now.state) }
+        ensures { result ≡ is_some (handed_request self.now.state) }
     {
-        self.stage == Stage::Handed
+        self.stage == IsduStage::Handed
     }
 
     /// The request that is handed over is carried out by the application, and the record keeps it
@@ -323,27 +323,28 @@ impl IsduSide {
     ///
     /// Rule DEV-15.
     pub fn react<P: App, R: Record>(&mut self, app: &mut P, carried: &mut R)
-        requires handed { IsSome (handed self.old.state) }
+        requires handed { IsSome (handed_request self.old.state) }
         requires room { IsTrue (takes_more (R.room carried.old) (R.carried carried.old)) }
         ensures rest { self.new ≡ record self.old { state = self.new.state } }
         ensures room { R.room carried.new ≡ R.room carried.old }
-        ensures reacts { IfSome (handed self.old.state) (Reacts P.carry_out_gives app.old
+        ensures reacts { IfSome (handed_request self.old.state) (Reacts P.carry_out_gives app.old
             (R.carried carried.old) self.new.state (R.carried carried.new) app.new) }
     {
         let reaction = self.cutter.source_mut();
         answer_into(app, reaction);
         carried.push(&reaction.request, &reaction.answer);
-        self.stage = Stage::Answered;
+        self.stage = IsduStage::Answered;
     }
 
     /// The request that is handed over has this answer.
     pub fn answer(&mut self, answer: Answer)
-        requires { IfSome (handed self.old.state) (λ request. IsTrue (fits request answer)) }
-        ensures { self.new ≡ record self.old { state = answered self.old.state answer } }
+        requires { IfSome (handed_request self.old.state)
+            (λ request. IsTrue (fits request answer)) }
+        ensures { self.new ≡ record self.old { state = isdu_after_answer self.old.state answer } }
     {
-        if self.stage == Stage::Handed {
+        if self.stage == IsduStage::Handed {
             self.cutter.source_mut().answer = answer;
-            self.stage = Stage::Answered;
+            self.stage = IsduStage::Answered;
         }
     }
 }
@@ -381,7 +382,7 @@ fn answer_into<P: App>(app: &mut P, reaction: &mut Reaction)
 /// One more segment of the request, and the stage then.
 ///
 /// Rule DEV-11.
-fn take(joiner: &mut Joiner, cutter: &mut Cutter<Reaction>, flow: Flow, octets: &[u8]) -> Stage
+fn take(joiner: &mut Joiner, cutter: &mut Cutter<Reaction>, flow: Flow, octets: &[u8]) -> IsduStage
     requires goes_on { GoesOn flow joiner.old }
     ensures state { state_of result joiner.new cutter.new
         ≡ isdu_written (Receiving joiner.old.text joiner.old.count) flow octets.now }
@@ -389,29 +390,29 @@ fn take(joiner: &mut Joiner, cutter: &mut Cutter<Reaction>, flow: Flow, octets: 
     ensures kept { IsKeptAt result joiner.new cutter.new }
 {
     match joiner.take(flow, octets) {
-        Err(_) => Stage::Empty,
+        Err(_) => IsduStage::Empty,
         Ok(Took::Whole) => complete(joiner, cutter, flow),
-        Ok(Took::More) => Stage::Receiving,
+        Ok(Took::More) => IsduStage::Receiving,
         // The last segment again.
-        Ok(Took::Repeat) => Stage::Receiving,
+        Ok(Took::Repeat) => IsduStage::Receiving,
     }
 }
 
 /// The text is whole: the request is put in place, the last of whose segments came under this
 /// flow.
 #[inline(never)]
-fn complete(joiner: &Joiner, cutter: &mut Cutter<Reaction>, flow: Flow) -> Stage
+fn complete(joiner: &Joiner, cutter: &mut Cutter<Reaction>, flow: Flow) -> IsduStage
     requires whole { is_whole joiner.now.text ≡ true }
     ensures state { state_of result joiner.now cutter.new
-        ≡ completed (request_of joiner.now.text) (count_in flow) }
+        ≡ whole_or_empty (request_of joiner.now.text) (count_in flow) }
     ensures size { cutter.new.size ≡ cutter.old.size }
     ensures kept { IsKeptAt result joiner.now cutter.new }
 {
     let reaction = cutter.source_mut();
     if joiner.request_into(&mut reaction.request).is_err() {
-        return Stage::Empty;
+        return IsduStage::Empty;
     }
-    Stage::Whole(match flow {
+    IsduStage::Whole(match flow {
         Flow::Count(count) => Some(count),
         _ => None,
     })
@@ -421,8 +422,8 @@ fn complete(joiner: &Joiner, cutter: &mut Cutter<Reaction>, flow: Flow) -> Stage
 #[inline(never)]
 fn append_segment(cutter: &Cutter<Reaction>, size: OdLength, octets: &mut Message)
     requires size { size ≡ cutter.now.size }
-    requires sent { IsSent cutter.now.size
-        (answer_text cutter.now.source.request cutter.now.source.answer) cutter.now.given }
+    requires sent { LastSentIsWithin cutter.now.size
+        (answer_text_to cutter.now.source.request cutter.now.source.answer) cutter.now.given }
     requires room { length octets.old.items ≤ 32 }
     ensures { octets.new.items ≡ octets.old.items ++ isdu_data size
         (Answered cutter.now.source.request cutter.now.source.answer (last_sent cutter.now.given)) }
@@ -434,8 +435,8 @@ fn append_segment(cutter: &Cutter<Reaction>, size: OdLength, octets: &mut Messag
 
 /// The flow of the last segment given.
 fn sent_flow(cutter: &Cutter<Reaction>) -> Option<Flow>
-    requires { IsSent cutter.now.size
-        (answer_text cutter.now.source.request cutter.now.source.answer) cutter.now.given }
+    requires { LastSentIsWithin cutter.now.size
+        (answer_text_to cutter.now.source.request cutter.now.source.answer) cutter.now.given }
     ensures { result ≡ sent_flow cutter.now.given }
 {
     cutter.flow()

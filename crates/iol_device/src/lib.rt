@@ -22,5 +22,5 @@ mod record;
 pub use app::{Apart, App};
 pub use device::Device;
 pub use fault::DeviceFault;
-pub use iol_far::{Carried, Mode};
+pub use iol_far::{Carried, DeviceMode};
 pub use record::{Kept, Record, Unkept};

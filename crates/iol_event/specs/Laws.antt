@@ -2,20 +2,21 @@
 use Rattle.std.specs.Prelude.{◌≡◌, ℕ, zero, suc, ◌+◌, ◌*◌, ◌<◌, ◌≤◌, ◌-◌, List, [], ◌∷◌, ◌++◌, length, replicate, map, IsTrue, Option, Some, None, Result, Ok}
 use Rattle.iol_event.specs.declared.event.Event.{Event}
 use Rattle.iol_event.specs.declared.faults.EventForm.{EventForm}
-use Rattle.iol_event.specs.Memory.{Events, IsEventMemory, no_events, raised, confirmed, released, event_octet}
-use Rattle.iol_event.specs.Reading.{IsEventList, is_readable, marked_places, places_size, Taken, taken, next_address, reading}
+use Rattle.iol_event.specs.Memory.{Events, IsEventMemory, no_events, events_after_raise, events_after_confirm, events_after_release, event_octet}
+use Rattle.iol_event.specs.Reading.{IsEventList, is_readable, marked_places, places_size, ReaderStep, reader_step, next_address, reading}
 
 -- whatever is raised and heard, the memory is one that calls lead to
 pub record MemoryStaysValid : Type 0 where
   pub at_first : IsEventMemory no_events
   pub raise : (memory : Events) (event : Event) → IsEventMemory memory
-      → IsEventMemory (raised memory event)
-  pub confirm : (memory : Events) → IsEventMemory memory → IsEventMemory (confirmed memory)
-  pub other : (memory : Events) → IsEventMemory memory → IsEventMemory (released memory)
+      → IsEventMemory (events_after_raise memory event)
+  pub confirm : (memory : Events) → IsEventMemory memory
+      → IsEventMemory (events_after_confirm memory)
+  pub other : (memory : Events) → IsEventMemory memory → IsEventMemory (events_after_release memory)
 
 -- a reader that is given the octet of a device at the address that it asks for
-abbrev pub taken_from : (ℕ → ℕ) → List ℕ → Taken
-taken_from device reader = taken reader (device (next_address reader))
+abbrev pub taken_from : (ℕ → ℕ) → List ℕ → ReaderStep
+taken_from device reader = reader_step reader (device (next_address reader))
 
 -- the answers of a reader that is given so many octets, one after the other
 abbrev pub answers : (ℕ → ℕ) → List ℕ → ℕ → List (Result (Option (List Event)) EventForm)

@@ -29,23 +29,23 @@ is_full memory = not (freezes_at_once memory) && nat_le 32 (length memory.waitin
 
 -- the memory after an event is raised
 -- EVT-1
-abbrev pub raised : Events → Event → Events
-raised memory event =
+abbrev pub events_after_raise : Events → Event → Events
+events_after_raise memory event =
     if freezes_at_once memory then record memory { frozen = event ∷ [] } else
     if is_full memory then memory else
     record memory { waiting = memory.waiting ++ event ∷ [] }
 
 -- the memory after a confirm: a confirm directly after a confirm does nothing
 -- EVT-2
-abbrev pub confirmed : Events → Events
-confirmed memory =
+abbrev pub events_after_confirm : Events → Events
+events_after_confirm memory =
     if memory.held then memory else record { frozen = []; waiting = memory.waiting; held = true }
 
 -- the memory after any other message, or a wake: the hold ends, and where nothing
 -- is frozen up to six waiting events are
 -- EVT-3
-abbrev pub released : Events → Events
-released memory =
+abbrev pub events_after_release : Events → Events
+events_after_release memory =
     if is_empty memory.frozen
     then record { frozen = take 6 memory.waiting; waiting = drop 6 memory.waiting; held = false }
     else record memory { held = false }

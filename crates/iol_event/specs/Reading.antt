@@ -48,13 +48,13 @@ next_address [] = 0
 next_address (status ∷ octets) = place_address status (length octets)
 
 -- what a reader answers, and the octets that it goes on with
-pub record Taken : Type 0 where
+pub record ReaderStep : Type 0 where
   pub answer : Result (Option (List Event)) EventForm
   pub reader : List ℕ
 
 -- by all octets of the reading: a StatusCode that is refused, more to come, or the
 -- list; then the reader is new
-abbrev pub taken_all : List ℕ → Taken
+abbrev pub taken_all : List ℕ → ReaderStep
 taken_all [] = record { answer = Ok None; reader = [] }
 taken_all (status ∷ octets) =
     if not (is_readable status) then record { answer = Err event_form; reader = [] } else
@@ -64,8 +64,8 @@ taken_all (status ∷ octets) =
 
 -- what a reader does with the next octet
 -- EVT-6
-abbrev pub taken : List ℕ → ℕ → Taken
-taken reader octet = taken_all (reader ++ octet ∷ [])
+abbrev pub reader_step : List ℕ → ℕ → ReaderStep
+reader_step reader octet = taken_all (reader ++ octet ∷ [])
 
 -- one to six events
 pub record IsEventList (events : List Event) : Type 0 where

@@ -1,6 +1,6 @@
 //! The master's reader of the events of a device.
 ghost use Rattle.std.specs.Prelude.{◌≡◌, ◌≤◌, [], length, IsTrue};
-ghost use Rattle.iol_event.specs.Reading.{is_reading, next_address, taken, taken_all};
+ghost use Rattle.iol_event.specs.Reading.{is_reading, next_address, reader_step, taken_all};
 
 use crate::faults::EventForm;
 use crate::list::EventList;
@@ -66,8 +66,8 @@ impl EventReader {
     ///
     /// Rule EVT-6.
     pub fn take(&mut self, octet: u8) -> Result<Option<EventList>, EventForm>
-        ensures answer { result ≡ (taken self.old octet).answer }
-        ensures reader { self.new ≡ (taken self.old octet).reader }
+        ensures answer { result ≡ (reader_step self.old octet).answer }
+        ensures reader { self.new ≡ (reader_step self.old octet).reader }
     {
         self.octets.push(octet);
         let answer = answer_to(&self.octets);

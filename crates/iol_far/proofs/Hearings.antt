@@ -8,15 +8,15 @@ use Rattle.std.specs.Prelude.{Option, Some, None, IfSome, IsTrue, if◌then◌el
 use Rattle.iol_mseq.specs.Shape.{Shape}
 use Rattle.iol_mseq.specs.declared.master.MasterMsg.{MasterMsg}
 use Rattle.iol_event.specs.declared.event.Event.{Event}
-use Rattle.iol_event.specs.Memory.{raised, Events}
+use Rattle.iol_event.specs.Memory.{events_after_raise, Events}
 use Rattle.iol_isdu.specs.declared.values.Request.{Request}
 use Rattle.iol_isdu.specs.declared.values.Answer.{Answer}
-use Rattle.iol_far.specs.declared.mode.Mode.{Mode}
+use Rattle.iol_far.specs.declared.mode.DeviceMode.{DeviceMode}
 use Rattle.iol_far.specs.Codec.{message_in, layout_in}
 use Rattle.iol_far.specs.Isdu.{IsduState, Handed, Answered, fits}
-use Rattle.iol_far.specs.Far.{Far, WaitingCommand, Heard, layout_of, accepted, accepted_by, moved, worked, hear, heard_as, replied}
+use Rattle.iol_far.specs.Far.{Far, WaitingCommand, HearResult, layout_of, accepted_message, accepted_by, far_in_mode, far_after_message, hear, heard_as, with_reply}
 use Rattle.iol_far.specs.Local.{LocalStep, Carry, Raise, Input, NoInput, Power, local, carried_by, has_room, is_input}
-use Rattle.iol_far.specs.Level.{grown_by, Happening, Own, Hears, happened, hearings, Link, taken, turned}
+use Rattle.iol_far.specs.Level.{grown_by, Happening, Own, Hears, far_after_all, hearings, FarLink, accepting_link, turned_link}
 use Rattle.iol_far.specs.Linked.{IsAt, IsLinked, LinkSays, LinkLaws}
 use Rattle.iol_far.specs.declared.carried.Carried.{Carried}
 
@@ -32,10 +32,10 @@ bytes_same (x ∷ xs) = let e : (x == x) ≡ true = grind (arith, nat_tests) in 
 -- it is this one, or this one in the layout that a waiting command asks for
 abbrev pub IsHere : Far → Far → Type 0
 IsHere far there = (there ≡ far)
-    ⊎ ((w : WaitingCommand) × (far.waits ≡ Some w) × (there ≡ moved far w.into))
+    ⊎ ((w : WaitingCommand) × (far.waits ≡ Some w) × (there ≡ far_in_mode far w.into))
 
 pub kept_here : (P : Far → Type 0) (far there : Far)
-    → ((w : WaitingCommand) → far.waits ≡ Some w → P (moved far w.into)) → P far
+    → ((w : WaitingCommand) → far.waits ≡ Some w → P (far_in_mode far w.into)) → P far
     → IsHere far there → P there
 kept_here P far there moves h (inl e) = subst P (sym e) h
 kept_here P far there moves h (inr (w, waits, e)) = subst P (sym e) (moves w waits)
@@ -49,28 +49,29 @@ pub record Accepts (far : Far) (o : List ℕ) (there : Far) (m : MasterMsg) : Ty
   pub mine : IfSome there.waits (λ w. w.octets ≡ o)
 
 pub accepts : (far : Far) (o : List ℕ) (there : Far) (m : MasterMsg)
-    → accepted far o ≡ Some (there, m) → Accepts far o there m
+    → accepted_message far o ≡ Some (there, m) → Accepts far o there m
 accepts far o there m h = grind (arith, common_steps, same_octets o)
 
 -- what hearing leaves, where the octets are accepted and where they are not
-pub heard_found : (P : Heard → Type 0) (far : Far) (o : List ℕ)
+pub heard_found : (P : HearResult → Type 0) (far : Far) (o : List ℕ)
     → P (record { far = far; reply = None })
-    → ((there : Far) (m : MasterMsg) → Accepts far o there m → P (replied (worked there o m) m))
+    → ((there : Far) (m : MasterMsg) → Accepts far o there m
+    → P (with_reply (far_after_message there o m) m))
     → P (hear far o)
-heard_found P far o unheard heard = split (accepted far o) refl
+heard_found P far o unheard heard = split (accepted_message far o) refl
   where
-    split : (q : Option (Far × MasterMsg)) → accepted far o ≡ q → P (heard_as far o q)
+    split : (q : Option (Far × MasterMsg)) → accepted_message far o ≡ q → P (heard_as far o q)
     split None e = unheard
     split (Some (there, m)) e = heard there m (accepts far o there m e)
 
 -- what working a message and taking a layout keep, hearing keeps
 pub keeps_hear : (P : Far → Type 0) (o : List ℕ)
     → ((far : Far) (m : MasterMsg) (layout : Shape) → message_in layout o ≡ Some m → P far
-    → P (worked far o m))
-    → ((far : Far) (mode : Mode) → P far → P (moved far mode))
+    → P (far_after_message far o m))
+    → ((far : Far) (mode : DeviceMode) → P far → P (far_in_mode far mode))
     → (far : Far) → P far → P (hear far o).far
 keeps_hear P o works moves far h =
-    heard_found (λ (x : Heard). P x.far) far o h (λ there m a.
+    heard_found (λ (x : HearResult). P x.far) far o h (λ there m a.
     works there m (layout_of there) a.reads
     (kept_here P far there (λ w waits. moves far w.into h) h a.here))
 
@@ -85,7 +86,7 @@ asleep_silent g o r w e = grind (arith, common_steps)
 -- a message of the present layout is accepted, where what waits are its octets
 pub accepted_again : (o : List ℕ) (m : MasterMsg) (g : Far) → g.awake ≡ true
     → IfSome g.waits (λ w. w.octets ≡ o) → message_in (layout_of g) o ≡ Some m
-    → accepted g o ≡ Some (g, m)
+    → accepted_message g o ≡ Some (g, m)
 accepted_again o m g awake mine reads = grind (arith, common_steps, bytes_same o)
 
 -- Local steps
@@ -94,7 +95,7 @@ accepted_again o m g awake mine reads = grind (arith, common_steps, bytes_same o
 module _ (P : Far → Type 0) (g : Far)
     (carries : (q : Request) (a : Answer) → g.isdu ≡ Handed q → IsTrue (fits q a)
     → P (record g { isdu = Answered q a None; carried = grown_by g.carried q a }))
-    (raises : (e : Event) → P (record g { events = raised g.events e }))
+    (raises : (e : Event) → P (record g { events = events_after_raise g.events e }))
     (inputs : (image : Option (List ℕ)) → IfSome image (λ octets. is_input g octets ≡ true)
     → P (record g { input = image }))
     (power : P (local g Power)) where
@@ -114,7 +115,7 @@ module _ (P : Far → Type 0) (g : Far)
 -- While a message is out
 
 happened_more : (rest more : List Happening) (g : Far) (o : List ℕ)
-    → (happened g o (rest ++ more) ≡ happened (happened g o rest) o more)
+    → (far_after_all g o (rest ++ more) ≡ far_after_all (far_after_all g o rest) o more)
     × (hearings (rest ++ more) ≡ hearings rest + hearings more)
 happened_more [] more g o = (refl, omega arith)
 happened_more (Own step ∷ rest) more g o = happened_more rest more (local g step) o
@@ -127,15 +128,15 @@ module _ (Rests Before : Far → Type 0) (o : List ℕ) where
   abbrev pub IsOut : ℕ → Far → Type 0
   IsOut most g = Rests g
       ⊎ ((before : Far) × (rest : List Happening) × Before before × (hearings rest ≤ most)
-      × (g ≡ happened before o rest))
+      × (g ≡ far_after_all before o rest))
 
   pub out_begins : (g : Far) → Before g → IsOut 0 g
   out_begins g h = inr (g, [], h, omega arith, refl)
 
   -- whatever happens
   pub out_after : (more : List Happening) (most limit : ℕ) (g : Far)
-      → most + hearings more ≤ limit → (Rests g → Rests (happened g o more))
-      → IsOut most g → IsOut limit (happened g o more)
+      → most + hearings more ≤ limit → (Rests g → Rests (far_after_all g o more))
+      → IsOut most g → IsOut limit (far_after_all g o more)
   out_after more most limit g few rests (inl h) = inl (rests h)
   out_after more most limit g few rests (inr (before, rest, h, low, e)) =
       let both = happened_more rest more before o in
@@ -146,36 +147,37 @@ module _ (Rests Before : Far → Type 0) (o : List ℕ) where
 -- the far end in the layout in which it accepts the octets
 abbrev pub there_by : Option WaitingCommand → Far → List ℕ → Far
 there_by None g o = g
-there_by (Some w) g o = if bytes_eq o w.octets then g else moved g w.into
+there_by (Some w) g o = if bytes_eq o w.octets then g else far_in_mode g w.into
 
 -- local steps but a power cycle change neither the link nor whether it is awake
-pub at_beside : {page : List ℕ} {link : Link} {g : Far} {s : IsduState} {carried : List Carried}
+pub at_beside : {page : List ℕ} {link : FarLink} {g : Far} {s : IsduState} {carried : List Carried}
     {events : Events} {input : Option (List ℕ)} → IsAt page link g
     → IsAt page link (record g { isdu = s; carried = carried; events = events; input = input })
 at_beside h = record { awake = h.awake; page_is = h.page_is; link_is = h.link_is }
 
-module _ (page : List ℕ) (link : Link) (o : List ℕ) (m : MasterMsg)
-    (spells : message_in (layout_in page (taken link o).mode) o ≡ Some m) where
+module _ (page : List ℕ) (link : FarLink) (o : List ℕ) (m : MasterMsg)
+    (spells : message_in (layout_in page (accepting_link link o).mode) o ≡ Some m) where
   -- where the message wasn't heard yet
   module _ (g : Far) (at : IsAt page link g) where
-    pub first_accepted : accepted g o ≡ Some (there_by g.waits g o, m)
+    pub first_accepted : accepted_message g o ≡ Some (there_by g.waits g o, m)
     first_accepted = grind (arith, common_steps)
 
-    pub first_says : LinkSays page link o m (replied (worked (there_by g.waits g o) o m) m)
+    pub first_says : LinkSays page link o m
+        (with_reply (far_after_message (there_by g.waits g o) o m) m)
     first_says = grind (arith, common_steps)
 
   -- and where it was
-  module _ (g : Far) (at : IsAt page (turned page link o m) g) where
-    pub again_accepted : accepted g o ≡ Some (g, m)
+  module _ (g : Far) (at : IsAt page (turned_link page link o m) g) where
+    pub again_accepted : accepted_message g o ≡ Some (g, m)
     again_accepted = grind (arith, common_steps, same_octets o, bytes_same o)
 
-    pub again_says : LinkSays page link o m (replied (worked g o m) m)
+    pub again_says : LinkSays page link o m (with_reply (far_after_message g o m) m)
     again_says = grind (arith, common_steps)
 
   data Linking (g : Far) : Type 0 where
     asleep : g.awake ≡ false → g.page ≡ page → Linking g
     unheard : IsAt page link g → Linking g
-    heard : IsAt page (turned page link o m) g → Linking g
+    heard : IsAt page (turned_link page link o m) g → Linking g
 
   hear_linking : (g : Far) → Linking g → (g.awake ≡ false) ⊎ LinkSays page link o m (hear g o)
   hear_linking g (asleep w s) = inl w
@@ -195,7 +197,8 @@ module _ (page : List ℕ) (link : Link) (o : List ℕ) (m : MasterMsg)
   linking_local : (g : Far) (step : LocalStep) → Linking g → Linking (local g step)
   linking_local g step d = grind (arith, common_steps)
 
-  linking_happened : (rest : List Happening) (g : Far) → Linking g → Linking (happened g o rest)
+  linking_happened : (rest : List Happening) (g : Far) → Linking g
+      → Linking (far_after_all g o rest)
   linking_happened [] g d = d
   linking_happened (Own step ∷ rest) g d =
       linking_happened rest (local g step) (linking_local g step d)
@@ -208,7 +211,7 @@ module _ (page : List ℕ) (link : Link) (o : List ℕ) (m : MasterMsg)
 
   -- another message in its place
   linking_replaced : (most : ℕ) (g : Far) → IsLinked page link o most g → (other : List ℕ)
-      → IsLinked page link other 0 g ⊎ IsLinked page (turned page link o m) other 0 g
+      → IsLinked page link other 0 g ⊎ IsLinked page (turned_link page link o m) other 0 g
   linking_replaced most g l other = elim (linking most g l) [
     | asleep w s ↦ inl (inl (w, s))
     | unheard h ↦ inl (inr (g, [], h, omega arith, refl))
@@ -221,7 +224,7 @@ abbrev Sleeps : List ℕ → Far → Type 0
 Sleeps page g = (g.awake ≡ false) × (g.page ≡ page)
 
 happened_unheard : (g : Far) (o other : List ℕ) (rest : List Happening) → hearings rest ≤ 0
-    → happened g o rest ≡ happened g other rest
+    → far_after_all g o rest ≡ far_after_all g other rest
 happened_unheard g o other [] h = refl
 happened_unheard g o other (Own step ∷ rest) h = happened_unheard (local g step) o other rest h
 happened_unheard g o other (Hears ∷ rest) h = absurd (omega (arith, h))
@@ -235,7 +238,7 @@ link_laws = record {
         steps = λ most g step. after (Own step ∷ []) most most g (omega arith)
             (λ h. grind (arith, common_steps));
         hears = λ most g. after (Hears ∷ []) most (suc most) g (omega arith)
-            (λ h. rw (hear_asleep g o h.0, happened) h);
+            (λ h. rw (hear_asleep g o h.0, far_after_all) h);
         loses = λ most g. after [] most (suc most) g (omega arith) (λ h. h);
       };
   replies = λ page link o m spells most g l r e.

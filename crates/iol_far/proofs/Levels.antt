@@ -17,31 +17,31 @@ use Rattle.iol_far.specs.declared.kind.Recalls.{Recalls}
 use Rattle.iol_far.specs.declared.kind.Recalls.TheVariants.{UntilSent}
 use Rattle.iol_far.specs.Codec.{layout_in, flow_of}
 use Rattle.iol_far.specs.Isdu.{Empty, Handed, Answered, isdu_data, fits}
-use Rattle.iol_far.specs.Far.{Far, isdu_after, counted_after, worked, Heard, hear, heard_as, replied}
+use Rattle.iol_far.specs.Far.{Far, isdu_after, counted_after, far_after_message, HearResult, hear, heard_as, with_reply}
 use Rattle.iol_far.specs.Local.{LocalStep, local}
-use Rattle.iol_far.specs.Level.{IsIdle, Move, Begin, Link, taken, turned, Happening, Own, Hears, happened, hearings, base_after, Progress, Clear, Perhaps, Stands, IsGrown, IsMove, RecallsAtLeast, hands_whole, IsOutOnce, IsSent, under_way, HasIsduFor, IsBefore, IsLevel, grown_by}
+use Rattle.iol_far.specs.Level.{IsIdle, Move, Begin, FarLink, accepting_link, turned_link, Happening, Own, Hears, far_after_all, hearings, base_after, Progress, Clear, Perhaps, Stands, IsGrown, IsMove, RecallsAtLeast, hands_whole, IsOutOnce, IsSent, under_way, HasIsduFor, IsLevelBefore, IsLevel, grown_by}
 use Rattle.iol_far.specs.Laws.{LevelLaws, ReplySays}
 use Rattle.iol_far.proofs.Standing.{request_long, Mid, Needs, Leaves, first_hear, whole_hear, again_hear, mid_done, stands_done, mid_grown, stands_grown, begins_by, needs_of, isdu_next, under_way_grown}
 use Rattle.iol_far.proofs.Hearings.{hear_asleep, asleep_silent, keeps_local, out_begins, out_after, at_beside, there_by, first_accepted, first_says, again_accepted, again_says}
-use Rattle.iol_event.specs.Memory.{Events, raised}
+use Rattle.iol_event.specs.Memory.{Events, events_after_raise}
 use Rattle.iol_far.specs.Linked.{IsAt, LinkSays}
 use Rattle.iol_isdu.specs.declared.values.Answer.{Answer}
 
 -- Before a message
 
-module _ {page : List ℕ} {kind : Kind} {size : ℕ} {base : List Carried} {link : Link}
+module _ {page : List ℕ} {kind : Kind} {size : ℕ} {base : List Carried} {link : FarLink}
     {p : Progress} {g : Far} where
-  before_at : IsBefore page kind size base link p g → IsAt page link g
+  before_at : IsLevelBefore page kind size base link p g → IsAt page link g
   before_at h = record { awake = h.awake; page_is = h.page_is; link_is = h.link_is }
 
   before_by : IsAt page link g → g.kind ≡ kind → HasIsduFor page p
       → Stands kind.hands_over size base p g.isdu g.counted g.carried
-      → IsBefore page kind size base link p g
+      → IsLevelBefore page kind size base link p g
   before_by at kind_is isdu stands = assumption
 
 -- no request is under way where a command waits
-there_stands : (page : List ℕ) (kind : Kind) (size : ℕ) (base : List Carried) (link : Link)
-    (p : Progress) (o : List ℕ) (g : Far) → IsBefore page kind size base link p g
+there_stands : (page : List ℕ) (kind : Kind) (size : ℕ) (base : List Carried) (link : FarLink)
+    (p : Progress) (o : List ℕ) (g : Far) → IsLevelBefore page kind size base link p g
     → IfSome link.waits (λ command. IsIdle p) → ((there_by g.waits g o).kind ≡ kind)
     × Stands kind.hands_over size base p (there_by g.waits g o).isdu (there_by g.waits g o).counted
     (there_by g.waits g o).carried
@@ -63,7 +63,7 @@ unwhole h size base p what carried more grown = grind (arith, common_steps)
 -- The whole far end, while the message is out
 
 module _ (page : List ℕ) (kind : Kind) (size : ℕ) (texts : TextLaws size)
-    (sized : SegmentsHaveSize) (base : List Carried) (link : Link)
+    (sized : SegmentsHaveSize) (base : List Carried) (link : FarLink)
     (p : Progress) (o : List ℕ) (m : MasterMsg) (what : Move)
     (sent : IsSent page size link p o m what)
     (trust : Recalls) (trusts : RecallsAtLeast trust kind.recalls) where
@@ -75,9 +75,9 @@ module _ (page : List ℕ) (kind : Kind) (size : ℕ) (texts : TextLaws size)
     asleep : g.awake ≡ false → g.isdu ≡ Empty
         → (Once times → IsGrown base (under_way kind.hands_over size p what) g.carried)
         → During times g
-    unheard : IsBefore page kind size base link p g → During times g
+    unheard : IsLevelBefore page kind size base link p g → During times g
     -- with the record as it was when it was handed a request last
-    heard : 1 ≤ times → IsAt page (turned page link o m) g → g.kind ≡ kind → HasIsduFor page p
+    heard : 1 ≤ times → IsAt page (turned_link page link o m) g → g.kind ≡ kind → HasIsduFor page p
         → (now : List Carried) → (Once times → now ≡ base)
         → Mid kind size now p what g.isdu g.counted g.carried → During times g
 
@@ -95,7 +95,7 @@ module _ (page : List ℕ) (kind : Kind) (size : ℕ) (texts : TextLaws size)
 
   module _ (tries : ℕ) where
     -- the message was heard just now
-    pub record Just (h : Heard) : Type 0 where
+    pub record Just (h : HearResult) : Type 0 where
       pub says : LinkSays page link o m h
       pub kind_is : h.far.kind ≡ kind
       pub isdu : HasIsduFor page p
@@ -105,7 +105,8 @@ module _ (page : List ℕ) (kind : Kind) (size : ℕ) (texts : TextLaws size)
           h.far.counted h.far.carried
       pub grown : Once (suc tries) → IsGrown base p h.far.carried
 
-    just_worked : (there : Far) → LinkSays page link o m (replied (worked there o m) m)
+    just_worked : (there : Far) → LinkSays page link o m
+        (with_reply (far_after_message there o m) m)
         → there.kind ≡ kind → HasIsduFor page p → (now : List Carried)
         → (Once (suc tries) → now ≡ base) → (Once (suc tries) → IsGrown base p there.carried)
         → Leaves kind size texts sized trust trusts now p what tries
@@ -113,10 +114,11 @@ module _ (page : List ℕ) (kind : Kind) (size : ℕ) (texts : TextLaws size)
         (flow_of m.mc.address) m.od.items)
         (counted_after kind.hands_over there.counted (knows_isdu page) m.mc.channel m.mc.read
         (flow_of m.mc.address)) there.carried →
-        Just (replied (worked there o m) m)
+        Just (with_reply (far_after_message there o m) m)
     just_worked there says kind_is isdu now same grown left =
         let page_is : there.page ≡ page = says.at.page_is in
-        let mode_is : there.mode ≡ (taken link o).mode = ap (λ (l : Link). l.mode) says.at.link_is
+        let mode_is : there.mode ≡ (accepting_link link o).mode =
+        ap (λ (l : FarLink). l.mode) says.at.link_is
         in let size_is : (layout_in page there.mode).od ≡ size = rw mode_is sent.size_of in
         record {
           says = says;
@@ -128,7 +130,7 @@ module _ (page : List ℕ) (kind : Kind) (size : ℕ) (texts : TextLaws size)
           grown = grown;
         }
 
-    hear_unheard : (g : Far) → IsBefore page kind size base link p g → Just (hear g o)
+    hear_unheard : (g : Far) → IsLevelBefore page kind size base link p g → Just (hear g o)
     hear_unheard g h =
         let there = there_by g.waits g o in
         let kept = there_stands page kind size base link p o g h sent.idle in
@@ -141,7 +143,7 @@ module _ (page : List ℕ) (kind : Kind) (size : ℕ) (texts : TextLaws size)
         there.isdu there.counted there.carried p m.mc.channel m.mc.read (flow_of m.mc.address)
         m.od.items what sent.move (needed h.isdu) kept.1))
 
-  hear_heard : (tries : ℕ) (g : Far) → 1 ≤ tries → IsAt page (turned page link o m) g
+  hear_heard : (tries : ℕ) (g : Far) → 1 ≤ tries → IsAt page (turned_link page link o m) g
       → g.kind ≡ kind
       → HasIsduFor page p → (now : List Carried) → (Once tries → now ≡ base)
       → Mid kind size now p what g.isdu g.counted g.carried
@@ -226,11 +228,12 @@ module _ (page : List ℕ) (kind : Kind) (size : ℕ) (texts : TextLaws size)
       → During times (local g step)
   during_local {times} g step d =
       keeps_local (During times) g (λ q a e f. during_done q a e f d)
-      (λ e. during_beside (raised g.events e) g.input d) (λ image f. during_beside g.events image d)
+      (λ e. during_beside (events_after_raise g.events e) g.input d)
+      (λ image f. during_beside g.events image d)
       (asleep refl refl (during_grown d)) step d
 
   during_happened : (most : ℕ) (rest : List Happening) (times : ℕ) (g : Far)
-      → times + hearings rest ≤ most → During times g → During most (happened g o rest)
+      → times + hearings rest ≤ most → During times g → During most (far_after_all g o rest)
   during_happened most [] times g few d = during_more most (omega (arith, few)) d
   during_happened most (Own step ∷ rest) times g few d =
       during_happened most rest times (local g step) few (during_local g step d)
@@ -270,13 +273,13 @@ Sleeps base p g = (g.awake ≡ false) × (g.isdu ≡ Empty) × IsGrown base p g.
 -- The master asks in place of a repeat
 
 -- a message on the ISDU channel changes no link, where no command waits
-turned_isdu : (page : List ℕ) (link : Link) (o : List ℕ) (m : MasterMsg) → link.waits ≡ None
-    → m.mc.channel ≡ Isdu → turned page link o m ≡ link
+turned_isdu : (page : List ℕ) (link : FarLink) (o : List ℕ) (m : MasterMsg) → link.waits ≡ None
+    → m.mc.channel ≡ Isdu → turned_link page link o m ≡ link
 turned_isdu page link o m none isdu =
     grind (arith, common_steps)
 
 module _ (page : List ℕ) (kind : Kind) (size : ℕ) (texts : TextLaws size)
-    (sized : SegmentsHaveSize) (base : List Carried) (link : Link)
+    (sized : SegmentsHaveSize) (base : List Carried) (link : FarLink)
     (o : List ℕ) (m : MasterMsg) (r : Request)
     (sent : IsSent page size link Clear o m (Begin r)) where
   clear_written : (g : Far) → length (request_text r) ≤ size
@@ -313,13 +316,13 @@ module _ (page : List ℕ) (kind : Kind) (size : ℕ) (texts : TextLaws size)
 pub level_laws : (size : ℕ) → TextLaws size → SegmentsHaveSize → LevelLaws size
 level_laws size texts sized = record {
   stays = λ page kind base link p o.
-      let after = out_after (Sleeps base p) (IsBefore page kind size base link p) o in
+      let after = out_after (Sleeps base p) (IsLevelBefore page kind size base link p) o in
       record {
-        begins = out_begins (Sleeps base p) (IsBefore page kind size base link p) o;
+        begins = out_begins (Sleeps base p) (IsLevelBefore page kind size base link p) o;
         steps = λ most g step. after (Own step ∷ []) most most g (omega arith)
             (λ h. grind (arith, common_steps));
         hears = λ most g. after (Hears ∷ []) most (suc most) g (omega arith)
-            (λ h. rw (hear_asleep g o h.0, happened) h);
+            (λ h. rw (hear_asleep g o h.0, far_after_all) h);
         loses = λ most g. after [] most (suc most) g (omega arith) (λ h. h);
       };
   replies = λ page kind base link p o m what sent most recalls trusts.

@@ -10,14 +10,14 @@ use Rattle.iol_isdu.specs.declared.values.Answer.{Answer}
 use Rattle.iol_isdu.specs.Texts.{IsRequest, request_text, request_front, FitsAnswer}
 use Rattle.iol_segment.specs.Cut.{segment, SegmentsHaveSize}
 use Rattle.iol_segment.specs.Join.{Stage, stage, Complete, stage_by}
-use Rattle.iol_segment.specs.TextLaws.{joined, IsLast, TextLaws, HoldsLength}
+use Rattle.iol_segment.specs.TextLaws.{segments_up_to, IsLast, TextLaws, HoldsLength}
 use Rattle.iol_segment.specs.JoinLaws.{count_at}
 use Rattle.iol_far.specs.declared.carried.Carried.{Carried}
 use Rattle.iol_far.specs.declared.kind.HandsOver.{HandsOver}
 use Rattle.iol_far.specs.declared.kind.HandsOver.TheVariants.{FirstRead, LastSegment}
 use Rattle.iol_far.specs.declared.kind.Recalls.{Recalls}
 use Rattle.iol_far.specs.declared.kind.Recalls.TheVariants.{UntilSent}
-use Rattle.iol_far.specs.Isdu.{IsduState, Empty, Whole, Handed, Answered, received, received_at, isdu_written, isdu_read, recalled, handed_over, written_by, counted_by, answer_text, fits, isdu_data, completed}
+use Rattle.iol_far.specs.Isdu.{IsduState, Empty, Whole, Handed, Answered, isdu_with_octets, received_at, isdu_written, isdu_read, remaining_isdu, handed_over, written_by, counted_by, answer_text_to, fits, isdu_data, whole_or_empty}
 use Rattle.iol_far.specs.SegmentLaws.{SegmentLaws}
 use Rattle.iol_far.specs.Level.{grown_by, IsTaken, IsWritten, IsGrownOnce, Move, Begin, More, Ask, Next, Leave, Other, base_after, Progress, Perhaps, Written, Busy, Had, Stands, IsIdle, IsGrown, IsMove, may_be_none, after, RecallsAtLeast, hands_whole, under_way, is_open, MayBegin, HasIsduFor}
 use Rattle.std.proofs.lemmas.List.{length-replicate, append-nil}
@@ -39,10 +39,10 @@ answer_fits r a fit = grind (arith, nat_tests, common_steps)
 
 pub segment_laws : (size : ℕ) → TextLaws size → SegmentLaws size
 segment_laws size laws = record {
-  grows = λ r i last h more. ap (λ z. received_at z (joined size (request_text r) i) last)
+  grows = λ r i last h more. ap (λ z. received_at z (segments_up_to size (request_text r) i) last)
       (laws.request_grows r i h more);
-  ends = λ r i last h all. ap (λ z. received_at z (joined size (request_text r) i) last)
-      (laws.request_ends r i h all) ∙ ap (λ q. completed q last)
+  ends = λ r i last h all. ap (λ z. received_at z (segments_up_to size (request_text r) i) last)
+      (laws.request_ends r i h all) ∙ ap (λ q. whole_or_empty q last)
       (ap request_of (sym (append-nil (request_text r))) ∙ laws.finds r [] h);
   fitting = answer_fits;
   answers = λ r a h. laws.busy (is_read r) a (answer_fits r a h);
@@ -69,9 +69,9 @@ zeros_end (x ∷ y ∷ xs) ys (suc size) text low long whole =
 
 module _ (size : ℕ) (laws : TextLaws size) (sized : SegmentsHaveSize) where
   pub zeros_close : (text : List ℕ) (i : ℕ) → HoldsLength text → IsLast size text (suc i)
-      → is_open (stage (joined size text i ++ replicate size 0)) ≡ false
+      → is_open (stage (segments_up_to size text i ++ replicate size 0)) ≡ false
   zeros_close text i holds last =
-      zeros_end (joined size text i) (segment size text (suc i)) size text
+      zeros_end (segments_up_to size text i) (segment size text (suc i)) size text
       (omega (arith, last.0, last.1)) (sized size text (suc i))
       (laws.ends text (suc i) holds last)
 
@@ -79,20 +79,20 @@ module _ (size : ℕ) (laws : TextLaws size) (sized : SegmentsHaveSize) where
 
 module _ (k : Recalls) (size : ℕ) where
   recalled_at : (z : Stage) (t : List ℕ) (l : Option ℕ)
-      → recalled k size (received_at z t l) ≡ received_at z t l
+      → remaining_isdu k size (received_at z t l) ≡ received_at z t l
   recalled_at z t l = grind (arith, common_steps)
 
   -- an answer of which a segment was sent: it stays, or it is forgotten with its last
   recalled_sent : (r : Request) (a : Answer) (i : ℕ)
-      → (recalled k size (Answered r a (Some i)) ≡ Answered r a (Some i))
-      ⊎ ((recalled k size (Answered r a (Some i)) ≡ Empty) × (k ≡ UntilSent)
-      × (length (answer_text r a) ≤ suc i * size))
+      → (remaining_isdu k size (Answered r a (Some i)) ≡ Answered r a (Some i))
+      ⊎ ((remaining_isdu k size (Answered r a (Some i)) ≡ Empty) × (k ≡ UntilSent)
+      × (length (answer_text_to r a) ≤ suc i * size))
   recalled_sent r a i = grind (arith, nat_tests, common_steps)
 
   -- the answer's next segment
   fetched : (r : Request) (a : Answer) (i : ℕ) {s : IsduState} → s ≡ Answered r a (Some i)
-      → suc i * size < length (answer_text r a)
-      → isdu_read size (recalled k size s) (Count (suc i % 16)) ≡ Answered r a (Some (suc i))
+      → suc i * size < length (answer_text_to r a)
+      → isdu_read size (remaining_isdu k size s) (Count (suc i % 16)) ≡ Answered r a (Some (suc i))
   fetched r a i holds more = rw holds (grind (arith, nat_tests, common_steps))
 
 -- Writes
@@ -116,7 +116,7 @@ module _ (size : ℕ) (r : Request) where
   part i = segment size (request_text r) i
 
   abbrev so_far : ℕ → IsduState
-  so_far i = received (joined size (request_text r) i) (count_at i)
+  so_far i = isdu_with_octets (segments_up_to size (request_text r) i) (count_at i)
 
 module _ (k : Recalls) (size : ℕ) (laws : SegmentLaws size) (base : List Carried) where
   -- the state once the segments up to the i-th were received
@@ -151,14 +151,15 @@ module _ (k : Recalls) (size : ℕ) (laws : SegmentLaws size) (base : List Carri
   wrote r i fits more = rw (laws.grows r i (count_at i) fits more) (grind (arith, common_steps))
 
   recalled_still : (s : IsduState) (r : Request) (i : ℕ) → s ≡ so_far size r i
-      → recalled k size s ≡ so_far size r i
-  recalled_still s r i e = rw e (recalled_at k size _ (joined size (request_text r) i) (count_at i))
+      → remaining_isdu k size s ≡ so_far size r i
+  recalled_still s r i e = rw e (recalled_at k size _ (segments_up_to size (request_text r) i)
+      (count_at i))
 
   pub appended : (h : HandsOver) (r : Request) (i : ℕ) (s : IsduState) (n : Option ℕ)
       (carried : List Carried) → IsRequest r → suc i * size < length (request_text r)
       → IsWritten h size base r i s n carried
       → IsWritten h size base r (suc i)
-      (written_by h n (recalled k size s) (Count (suc i % 16)) (part size r (suc i)))
+      (written_by h n (remaining_isdu k size s) (Count (suc i % 16)) (part size r (suc i)))
       (counted_by h n (Count (suc i % 16))) carried
   appended FirstRead r i s n carried fits more w =
       rw (recalled_still s r i w.0) (wrote r i fits more, w.1)
@@ -173,7 +174,7 @@ module _ (k : Recalls) (size : ℕ) (laws : SegmentLaws size) (base : List Carri
   pub kept : (h : HandsOver) (r : Request) (i : ℕ) (s : IsduState) (n : Option ℕ)
       (carried : List Carried) → IsRequest r → IsWritten h size base r (suc i) s n carried
       → IsWritten h size base r (suc i)
-      (written_by h n (recalled k size s) (Count (suc i % 16)) (part size r (suc i)))
+      (written_by h n (remaining_isdu k size s) (Count (suc i % 16)) (part size r (suc i)))
       (counted_by h n (Count (suc i % 16))) carried
   kept FirstRead r i s n carried fits w =
       rw (recalled_still s r (suc i) w.0) (again_at _ _ (part size r (suc i)) (suc i % 16), w.1)
@@ -214,10 +215,10 @@ module _ (k : Recalls) (size : ℕ) (base : List Carried) where
   -- the segment behind the i-th was sent, or the answer is forgotten with it
   abbrev pub IsFetched : Request → ℕ → List ℕ → IsduState → List Carried → Type 0
   IsFetched r i t s carried = (a : Answer) × IsTrue (fits r a) × (carried ≡ grown_by base r a)
-      × (t ≡ joined size (answer_text r a) i)
-      × (suc i * size < length (answer_text r a))
+      × (t ≡ segments_up_to size (answer_text_to r a) i)
+      × (suc i * size < length (answer_text_to r a))
       × ((s ≡ Answered r a (Some (suc i)))
-      ⊎ ((s ≡ Empty) × (k ≡ UntilSent) × IsLast size (answer_text r a) (suc i)))
+      ⊎ ((s ≡ Empty) × (k ≡ UntilSent) × IsLast size (answer_text_to r a) (suc i)))
 
 -- What stands, whatever else is so
 
@@ -242,7 +243,7 @@ module _ (h : HandsOver) (size : ℕ) (base : List Carried) (r : Request) (s : I
   -- what was had, or is over
   had_is : (i : ℕ) (t : List ℕ) → Stands h size base (Had r i t) s n carried
       → (a : Answer) × (s ≡ Answered r a (Some i)) × IsTrue (fits r a)
-      × (t ≡ joined size (answer_text r a) i) × (carried ≡ grown_by base r a)
+      × (t ≡ segments_up_to size (answer_text_to r a) i) × (carried ≡ grown_by base r a)
   had_is i t stands = grind (arith, common_steps)
 
   -- a Begin whose text is not whole has changed no record
@@ -333,10 +334,10 @@ module _ (kind : Kind) (size : ℕ) (texts : TextLaws size) (sized : SegmentsHav
 
   -- the state once it was asked for an answer, and for its next segment
   abbrev asked : IsduState → IsduState
-  asked s = isdu_read size (recalled kind.recalls size s) Start
+  asked s = isdu_read size (remaining_isdu kind.recalls size s) Start
 
   abbrev next : IsduState → ℕ → IsduState
-  next s i = isdu_read size (recalled kind.recalls size s) (Count (suc i % 16))
+  next s i = isdu_read size (remaining_isdu kind.recalls size s) (Count (suc i % 16))
 
   -- Reads
 
@@ -351,7 +352,7 @@ module _ (kind : Kind) (size : ℕ) (texts : TextLaws size) (sized : SegmentsHav
   asked_taken s t = absurd t
 
   -- nothing is read of what holds nothing
-  nothing_read : (f : Flow) → isdu_read size (recalled kind.recalls size Empty) f ≡ Empty
+  nothing_read : (f : Flow) → isdu_read size (remaining_isdu kind.recalls size Empty) f ≡ Empty
   nothing_read f = grind (arith, common_steps)
 
   asked_whole : (r : Request) (l : Option ℕ)
@@ -421,8 +422,8 @@ module _ (kind : Kind) (size : ℕ) (texts : TextLaws size) (sized : SegmentsHav
       → IsFetched kind.recalls size base r i t s carried
       → Stood (after trust tries (Had r i t) Next (isdu_data size s)) s n carried
   stood_next tries {r = r} {i = i} n {carried = carried} never (a, f, g, e, more, inl sent) =
-      rw (sent, e) (cond_both (may_be_none trust tries (joined size (answer_text r a) i)
-      (segment size (answer_text r a) (suc i))) _ _
+      rw (sent, e) (cond_both (may_be_none trust tries (segments_up_to size (answer_text_to r a) i)
+      (segment size (answer_text_to r a) (suc i))) _ _
       (λ q. Stood q (Answered r a (Some (suc i))) n carried) (λ none. (refl, f, g))
       (λ some. (refl, f, refl, refl, g)))
   stood_next zero n never (a, f, g, e, more, inr lost) = absurd (never refl lost.0)
@@ -432,7 +433,7 @@ module _ (kind : Kind) (size : ℕ) (texts : TextLaws size) (sized : SegmentsHav
     trust_is lost.1,
     length-replicate {A = ℕ} size 0,
     bytes_same (replicate size 0),
-    zeros_close size texts sized (answer_text r a) i
+    zeros_close size texts sized (answer_text_to r a) i
         (texts.answers (is_read r) a (laws.fitting r a f)) lost.2,
   ) (inr (a, g))
 
@@ -488,7 +489,7 @@ module _ (kind : Kind) (size : ℕ) (texts : TextLaws size) (sized : SegmentsHav
       has_begun r move needs same =
           let b = begins_by size p c read f od r move in
           let w = λ (now : List Carried). begun kind.recalls size laws now kind.hands_over r
-          (recalled kind.recalls size s) n carried b.4 in
+          (remaining_isdu kind.recalls size s) n carried b.4 in
           rw (needs, b.1, b.2, b.3, b.5)
           (record { mid = (b.4, w base same); stood = (b.4, w carried refl) })
 

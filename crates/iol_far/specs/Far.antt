@@ -11,24 +11,24 @@ use Rattle.iol_page.specs.Page as sheet
 use Rattle.iol_page.specs.Commands.{command_of}
 use Rattle.iol_page.specs.declared.master_command.MasterCommand.{MasterCommand}
 use Rattle.iol_page.specs.declared.master_command.MasterCommand.TheVariants.{DeviceStartup, ProcessDataOutputOperate, DeviceOperate, DevicePreoperate}
-use Rattle.iol_event.specs.Memory.{Events, no_events, is_empty, confirmed, released, event_octet}
-use Rattle.iol_far.specs.declared.mode.Mode.{Mode}
-use Rattle.iol_far.specs.declared.mode.Mode.TheVariants.{Startup, Preoperate, Operate}
+use Rattle.iol_event.specs.Memory.{Events, no_events, is_empty, events_after_confirm, events_after_release, event_octet}
+use Rattle.iol_far.specs.declared.mode.DeviceMode.{DeviceMode}
+use Rattle.iol_far.specs.declared.mode.DeviceMode.TheVariants.{Startup, Preoperate, Operate}
 use Rattle.iol_far.specs.declared.carried.Carried.{Carried}
 use Rattle.iol_far.specs.declared.kind.Kind.{Kind}
 use Rattle.iol_far.specs.declared.kind.HandsOver.{HandsOver}
-use Rattle.iol_far.specs.Isdu.{IsduState, Empty, isdu_read, isdu_data, own, recalled, written_by, counted_by}
-use Rattle.iol_far.specs.Codec.{layout_in, message_in, octets_of, flow_of}
+use Rattle.iol_far.specs.Isdu.{IsduState, Empty, isdu_read, isdu_data, own, remaining_isdu, written_by, counted_by}
+use Rattle.iol_far.specs.Codec.{layout_in, message_in, reply_octets, flow_of}
 
 -- a mode command that waits, with its octets
 pub record WaitingCommand : Type 0 where
-  pub into : Mode
+  pub into : DeviceMode
   pub octets : List ℕ
 
 pub record Far : Type 0 where
   pub awake : Bool
   -- the mode whose layout it speaks, and the command into another one that it has heard
-  pub mode : Mode
+  pub mode : DeviceMode
   pub waits : Option WaitingCommand
   pub isdu : IsduState
   -- what it is of the kinds of device, and the COUNT of the last write on the ISDU channel,
@@ -76,15 +76,15 @@ opened_as kind page room = record {
 }
 
 -- the same of our own kind
-abbrev pub opened : List ℕ → Option ℕ → Far
-opened page room = opened_as own page room
+abbrev pub new_far : List ℕ → Option ℕ → Far
+new_far page room = opened_as own page room
 
 -- Accepted
 
 -- the far end in its new layout
 -- DEV-3
-abbrev pub moved : Far → Mode → Far
-moved far into = record far { mode = into; waits = None; isdu = Empty; valid = false }
+abbrev pub far_in_mode : Far → DeviceMode → Far
+far_in_mode far into = record far { mode = into; waits = None; isdu = Empty; valid = false }
 
 -- a message in the present layout
 abbrev pub accepted_now : Far → List ℕ → Option (Far × MasterMsg)
@@ -96,13 +96,13 @@ abbrev pub accepted_by : Option WaitingCommand → Far → List ℕ → Option (
 accepted_by None far octets = accepted_now far octets
 accepted_by (Some command) far octets =
     if bytes_eq octets command.octets then accepted_now far octets
-    else accepted_now (moved far command.into) octets
+    else accepted_now (far_in_mode far command.into) octets
 
 -- the far end in the layout in which it accepts the octets, and the message that
 -- they are there; none where they are not accepted
 -- DEV-2
-abbrev pub accepted : Far → List ℕ → Option (Far × MasterMsg)
-accepted far octets = if far.awake then accepted_by far.waits far octets else None
+abbrev pub accepted_message : Far → List ℕ → Option (Far × MasterMsg)
+accepted_message far octets = if far.awake then accepted_by far.waits far octets else None
 
 -- Worked: one function for each part
 
@@ -118,13 +118,13 @@ command_in message =
 
 -- the mode that a command asks for
 -- DEV-5
-abbrev pub mode_asked : Option MasterCommand → Option Mode
+abbrev pub mode_asked : Option MasterCommand → Option DeviceMode
 mode_asked (Some DeviceStartup) = Some Startup
 mode_asked (Some DevicePreoperate) = Some Preoperate
 mode_asked (Some DeviceOperate) = Some Operate
 mode_asked command = None
 
-abbrev pub is_mode : Mode → Mode → Bool
+abbrev pub is_mode : DeviceMode → DeviceMode → Bool
 is_mode Startup Startup = true
 is_mode Preoperate Preoperate = true
 is_mode Operate Operate = true
@@ -132,36 +132,37 @@ is_mode mode other = false
 
 -- the mode asked for, where a device of this page has it: one of V1.0 has no PREOPERATE
 -- DEV-5
-abbrev pub known_mode : List ℕ → Option Mode → Option Mode
+abbrev pub known_mode : List ℕ → Option DeviceMode → Option DeviceMode
 known_mode page (Some Preoperate) = if sheet.is_old page then None else Some Preoperate
 known_mode page asked = asked
 
 -- a command for another mode waits
 -- DEV-3
-abbrev pub waits_after : Mode → Option WaitingCommand → List ℕ → Option Mode → Option WaitingCommand
+abbrev pub waits_after : DeviceMode → Option WaitingCommand → List ℕ → Option DeviceMode
+    → Option WaitingCommand
 waits_after mode waits octets None = waits
 waits_after mode waits octets (Some into) =
     if is_mode mode into then waits else Some (record { into = into; octets = octets })
 
 -- in OPERATE two commands say whether the output is valid
 -- DEV-6
-abbrev pub valid_after : Mode → Bool → Option MasterCommand → Bool
+abbrev pub valid_after : DeviceMode → Bool → Option MasterCommand → Bool
 valid_after Operate valid (Some ProcessDataOutputOperate) = true
 valid_after Operate valid (Some DeviceOperate) = false
 valid_after mode valid command = valid
 
 -- in OPERATE each message brings output octets
 -- DEV-6
-abbrev pub out_after : Mode → List ℕ → List ℕ → List ℕ
+abbrev pub out_after : DeviceMode → List ℕ → List ℕ → List ℕ
 out_after Operate out heard = heard
 out_after mode out heard = out
 
 -- a read or a write, at what the device still knows
 abbrev pub isdu_moved : Kind → Option ℕ → ℕ → IsduState → Bool → Flow → List ℕ → IsduState
 isdu_moved kind counted size state true flow octets =
-    isdu_read size (recalled kind.recalls size state) flow
+    isdu_read size (remaining_isdu kind.recalls size state) flow
 isdu_moved kind counted size state false flow octets =
-    written_by kind.hands_over counted (recalled kind.recalls size state) flow octets
+    written_by kind.hands_over counted (remaining_isdu kind.recalls size state) flow octets
 
 -- where the device has no ISDU, the state stays empty
 -- DEV-10
@@ -183,8 +184,8 @@ is_confirm Diagnosis false address = address == 0
 is_confirm channel read address = false
 
 abbrev pub events_after : Events → Bool → Events
-events_after events true = confirmed events
-events_after events false = released events
+events_after events true = events_after_confirm events
+events_after events false = events_after_release events
 
 -- a write to page address 0x01; every other page write is ignored
 -- DEV-9
@@ -193,8 +194,8 @@ cycle_time_after old Page false address octet = if address == 1 then octet else 
 cycle_time_after old channel read address octet = old
 
 -- the far end once it has worked a message that it accepts in its present layout
-abbrev pub worked : Far → List ℕ → MasterMsg → Far
-worked far octets message = record far {
+abbrev pub far_after_message : Far → List ℕ → MasterMsg → Far
+far_after_message far octets message = record far {
   waits = waits_after far.mode far.waits octets
       (known_mode far.page (mode_asked (command_in message)));
   isdu = isdu_after far.kind far.counted (sheet.knows_isdu far.page)
@@ -214,14 +215,15 @@ worked far octets message = record far {
 -- The reply, read off the far end once it has worked the message
 
 -- the octet at a page address
-abbrev pub page_octet : Far → ℕ → ℕ
-page_octet far address = if address == 1 then far.cycle_time else sheet.page_octet far.page address
+abbrev pub page_octet_of : Far → ℕ → ℕ
+page_octet_of far address = if address == 1 then far.cycle_time else sheet.page_octet far.page
+    address
 
 -- the on-request data of the reply to a read
 -- DEV-7
 abbrev pub data_of : Far → ℕ → Channel → ℕ → List ℕ
 data_of far size Process address = replicate size 0
-data_of far size Page address = first_of_zeros size (page_octet far address)
+data_of far size Page address = first_of_zeros size (page_octet_of far address)
 data_of far size Diagnosis address = first_of_zeros size (event_octet far.events.frozen address)
 data_of far size Isdu address = isdu_data size far.isdu
 
@@ -242,22 +244,23 @@ reply_to far layout message = record {
   invalid = not (layout.pd_in == 0) && not (is_some far.input);
 }
 
-pub record Heard : Type 0 where
+pub record HearResult : Type 0 where
   pub far : Far
   pub reply : Option (List ℕ)
 
-abbrev pub replied : Far → MasterMsg → Heard
-replied far message =
-    record { far = far; reply = Some (octets_of (reply_to far (layout_of far) message)) }
+abbrev pub with_reply : Far → MasterMsg → HearResult
+with_reply far message =
+    record { far = far; reply = Some (reply_octets (reply_to far (layout_of far) message)) }
 
-abbrev pub heard_as : Far → List ℕ → Option (Far × MasterMsg) → Heard
+abbrev pub heard_as : Far → List ℕ → Option (Far × MasterMsg) → HearResult
 heard_as far octets None = record { far = far; reply = None }
-heard_as far octets (Some (there, message)) = replied (worked there octets message) message
+heard_as far octets (Some (there, message)) =
+    with_reply (far_after_message there octets message) message
 
 -- what the far end is after these octets came, and what it answers
 -- DEV-2
-abbrev pub hear : Far → List ℕ → Heard
-hear far octets = heard_as far octets (accepted far octets)
+abbrev pub hear : Far → List ℕ → HearResult
+hear far octets = heard_as far octets (accepted_message far octets)
 
 -- the process data that it has for its outputs
 abbrev pub output_of : Far → Option (List ℕ)

@@ -17,13 +17,13 @@ use Rattle.iol_image.specs.Image.{IsImage}
 use Rattle.iol_far.specs.declared.carried.Carried.{Carried}
 use Rattle.iol_far.specs.declared.kind.Kind.{Kind}
 use Rattle.iol_far.specs.declared.kind.Recalls.{Recalls}
-use Rattle.iol_far.specs.declared.mode.Mode.{Mode}
-use Rattle.iol_far.specs.declared.mode.Mode.TheVariants.{Startup, Operate}
+use Rattle.iol_far.specs.declared.mode.DeviceMode.{DeviceMode}
+use Rattle.iol_far.specs.declared.mode.DeviceMode.TheVariants.{Startup, Operate}
 use Rattle.iol_far.specs.Isdu.{isdu_data, own}
-use Rattle.iol_far.specs.Codec.{layout_in, message_in, octets_of, flow_of}
-use Rattle.iol_far.specs.Far.{Far, Heard, layout_of, accepted, hear, reply_to, is_confirm}
-use Rattle.iol_far.specs.Local.{LocalStep, local, locals, woken, input_size}
-use Rattle.iol_far.specs.Level.{Progress, Quiet, Clear, Perhaps, Move, Begin, Link, IsSent, IsBefore, IsLevel, IsGrown, RecallsAtLeast, IsOutOnce, IsIdle, IsSettled, under_way, turned, after, base_after}
+use Rattle.iol_far.specs.Codec.{layout_in, message_in, reply_octets, flow_of}
+use Rattle.iol_far.specs.Far.{Far, HearResult, layout_of, accepted_message, hear, reply_to, is_confirm}
+use Rattle.iol_far.specs.Local.{LocalStep, local, locals, far_after_wake, input_size}
+use Rattle.iol_far.specs.Level.{Progress, Quiet, Clear, Perhaps, Move, Begin, FarLink, IsSent, IsLevelBefore, IsLevel, IsGrown, RecallsAtLeast, IsOutOnce, IsIdle, IsSettled, under_way, turned_link, after, base_after}
 
 -- a START read on the ISDU channel
 abbrev pub is_start_read : Channel → Bool → Flow → Bool
@@ -36,7 +36,7 @@ is_start_read channel read flow = false
 abbrev pub OnceIsEnough : Type 0
 OnceIsEnough =
     (far there : Far) (octets : List ℕ) (message : MasterMsg) (steps : List LocalStep)
-    → far.kind ≡ own → accepted far octets ≡ Some (there, message)
+    → far.kind ≡ own → accepted_message far octets ≡ Some (there, message)
     → is_start_read message.mc.channel message.mc.read (flow_of message.mc.address) ≡ false
     → (hear (locals (hear far octets).far steps) octets).far ≡ locals (hear far octets).far steps
 
@@ -47,7 +47,7 @@ MessagesAreHeard = (layout : Shape) (message : MasterMsg) (octets : List ℕ)
 
 -- each mode's layout, whatever the page, is a layout, and has on-request data
 abbrev pub ModesHaveLayouts : Type 0
-ModesHaveLayouts = (page : List ℕ) (mode : Mode)
+ModesHaveLayouts = (page : List ℕ) (mode : DeviceMode)
     → IsLayout (layout_in page mode) × (1 ≤ (layout_in page mode).od)
 
 -- what a far end answers, in the layout that it speaks, is read back as that reply,
@@ -67,14 +67,14 @@ pub record IsRegular (far : Far) : Type 0 where
 abbrev pub RepliesAreRead : Type 0
 RepliesAreRead =
     (far : Far) (message : MasterMsg) → IsSized far
-    → reply_in (layout_of far) message.mc.read (octets_of (reply_to far (layout_of far) message))
+    → reply_in (layout_of far) message.mc.read (reply_octets (reply_to far (layout_of far) message))
     ≡ Some (reply_to far (layout_of far) message)
 
 -- the input keeps the page's length
 pub record InputStaysSized : Type 0 where
   pub hears : (far : Far) (octets : List ℕ) → IsSized far → IsSized (hear far octets).far
   pub steps : (far : Far) (step : LocalStep) → IsSized far → IsSized (local far step)
-  pub wakes : (far : Far) → IsSized far → IsSized (woken far)
+  pub wakes : (far : Far) → IsSized far → IsSized (far_after_wake far)
 
 -- only in OPERATE the output is valid
 abbrev pub IsValidInOperate : Far → Type 0
@@ -85,7 +85,7 @@ pub record OutputStaysInOperate : Type 0 where
       → IsValidInOperate (hear far octets).far
   pub steps : (far : Far) (step : LocalStep) → IsValidInOperate far
       → IsValidInOperate (local far step)
-  pub wakes : (far : Far) → IsValidInOperate (woken far)
+  pub wakes : (far : Far) → IsValidInOperate (far_after_wake far)
 
 -- Hearing carries nothing out, and nothing changes the kind, whether it misses pulses, the page or
 -- the record's room
@@ -103,10 +103,11 @@ pub record MuchStays : Type 0 where
   pub record_heard : (far : Far) (octets : List ℕ) → (hear far octets).far.carried ≡ far.carried
 
 -- What keeps the ends level while a message is out
-pub record LevelStays (page : List ℕ) (kind : Kind) (size : ℕ) (base : List Carried) (link : Link)
+pub record LevelStays (page : List ℕ) (kind : Kind) (size : ℕ) (base : List Carried)
+    (link : FarLink)
     (progress : Progress) (octets : List ℕ) : Type 0 where
   -- a new message goes out
-  pub begins : (far : Far) → IsBefore page kind size base link progress far
+  pub begins : (far : Far) → IsLevelBefore page kind size base link progress far
       → IsLevel page kind size base link progress octets 0 far
   -- the far end does something by itself
   pub steps : (most : ℕ) (far : Far) (step : LocalStep)
@@ -122,23 +123,23 @@ pub record LevelStays (page : List ℕ) (kind : Kind) (size : ℕ) (base : List 
 -- What one good reply says of the far end, after so many tries in vain: the state before the next
 -- message, what the record may have gained, and the reply, in the layout of the master's own link
 pub record ReplySays (page : List ℕ) (kind : Kind) (recalls : Recalls) (tries size : ℕ)
-    (base : List Carried) (link : Link) (progress : Progress) (octets : List ℕ)
-    (message : MasterMsg) (what : Move) (heard : Heard) : Type 0 where
-  pub before : IsBefore page kind size (base_after what base heard.far.carried)
-      (turned page link octets message)
+    (base : List Carried) (link : FarLink) (progress : Progress) (octets : List ℕ)
+    (message : MasterMsg) (what : Move) (heard : HearResult) : Type 0 where
+  pub before : IsLevelBefore page kind size (base_after what base heard.far.carried)
+      (turned_link page link octets message)
       (after recalls tries progress what (isdu_data size heard.far.isdu)) heard.far
   -- where it handed no request over a second time
   pub grown : IsOutOnce kind.hands_over size what (suc tries)
       → IsGrown base progress heard.far.carried
   pub reply_is : heard.reply
-      ≡ Some (octets_of
-      (reply_to heard.far (layout_in page (turned page link octets message).mode) message))
+      ≡ Some (reply_octets
+      (reply_to heard.far (layout_in page (turned_link page link octets message).mode) message))
 
 pub record LevelLaws (size : ℕ) : Type 0 where
-  pub stays : (page : List ℕ) (kind : Kind) (base : List Carried) (link : Link)
+  pub stays : (page : List ℕ) (kind : Kind) (base : List Carried) (link : FarLink)
       (progress : Progress) (octets : List ℕ) → LevelStays page kind size base link progress octets
   -- a good reply
-  pub replies : (page : List ℕ) (kind : Kind) (base : List Carried) (link : Link)
+  pub replies : (page : List ℕ) (kind : Kind) (base : List Carried) (link : FarLink)
       (progress : Progress) (octets : List ℕ) (message : MasterMsg) (what : Move)
       → IsSent page size link progress octets message what
       → (most : ℕ) → (recalls : Recalls) → RecallsAtLeast recalls kind.recalls
@@ -147,19 +148,19 @@ pub record LevelLaws (size : ℕ) : Type 0 where
       → ReplySays page kind recalls most size base link progress octets message what
       (hear far octets)
   -- what the record may have gained at any moment
-  pub grown : (page : List ℕ) (kind : Kind) (base : List Carried) (link : Link)
+  pub grown : (page : List ℕ) (kind : Kind) (base : List Carried) (link : FarLink)
       (progress : Progress) (octets : List ℕ) (message : MasterMsg) (what : Move)
       → IsSent page size link progress octets message what
       → (most : ℕ) → IsOutOnce kind.hands_over size what most
       → (far : Far) → IsLevel page kind size base link progress octets most far
       → IsGrown base (under_way kind.hands_over size progress what) far.carried
   -- and with no message out
-  pub gained : (page : List ℕ) (kind : Kind) (base : List Carried) (link : Link)
-      (progress : Progress) (far : Far) → IsBefore page kind size base link progress far
+  pub gained : (page : List ℕ) (kind : Kind) (base : List Carried) (link : FarLink)
+      (progress : Progress) (far : Far) → IsLevelBefore page kind size base link progress far
       → IsGrown base progress far.carried
   -- the only segment of a request had no good reply: in its place the master asks, by whatever
   -- octets
-  pub wonders : (page : List ℕ) (kind : Kind) (base : List Carried) (link : Link)
+  pub wonders : (page : List ℕ) (kind : Kind) (base : List Carried) (link : FarLink)
       (octets : List ℕ) (message : MasterMsg) (request : Request)
       → IsSent page size link Clear octets message (Begin request)
       → length (request_text request) ≤ size → link.waits ≡ None
@@ -168,19 +169,19 @@ pub record LevelLaws (size : ℕ) : Type 0 where
       → (question : List ℕ) → IsLevel page kind size base link (Perhaps request) question 0 far
   -- where the application has nothing, none is under way, with the record as it is: nothing more
   -- of the request comes
-  pub settles : (page : List ℕ) (kind : Kind) (base : List Carried) (link : Link)
+  pub settles : (page : List ℕ) (kind : Kind) (base : List Carried) (link : FarLink)
       (progress : Progress) (far : Far) → IsSettled progress
-      → IsBefore page kind size base link progress far
-      → IsBefore page kind size far.carried link Quiet far
+      → IsLevelBefore page kind size base link progress far
+      → IsLevelBefore page kind size far.carried link Quiet far
   -- after a wake
-  pub wakes : (far : Far) → IsBefore far.page far.kind size far.carried
-      (record { mode = Startup; waits = None }) Clear (woken far)
+  pub wakes : (far : Far) → IsLevelBefore far.page far.kind size far.carried
+      (record { mode = Startup; waits = None }) Clear (far_after_wake far)
   -- while no request is under way the size of segments doesn't matter, as where
   -- another layout is taken
-  pub idle : (other : ℕ) (page : List ℕ) (kind : Kind) (base : List Carried) (link : Link)
+  pub idle : (other : ℕ) (page : List ℕ) (kind : Kind) (base : List Carried) (link : FarLink)
       (progress : Progress) (far : Far) → IsIdle progress
-      → IsBefore page kind size base link progress far
-      → IsBefore page kind other base link progress far
+      → IsLevelBefore page kind size base link progress far
+      → IsLevelBefore page kind other base link progress far
 
 -- Events
 

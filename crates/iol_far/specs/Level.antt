@@ -13,7 +13,7 @@ use Rattle.iol_isdu.specs.declared.values.Answer.{Answer}
 use Rattle.iol_isdu.specs.Texts.{IsRequest, request_text}
 use Rattle.iol_segment.specs.Cut.{segment}
 use Rattle.iol_segment.specs.Join.{Stage, Open, stage}
-use Rattle.iol_segment.specs.TextLaws.{joined, IsLast}
+use Rattle.iol_segment.specs.TextLaws.{segments_up_to, IsLast}
 use Rattle.iol_segment.specs.TextLaws as texts
 use Rattle.iol_segment.specs.JoinLaws.{count_at}
 use Rattle.iol_far.specs.declared.carried.Carried.{Carried}
@@ -22,10 +22,10 @@ use Rattle.iol_far.specs.declared.kind.HandsOver.{HandsOver}
 use Rattle.iol_far.specs.declared.kind.HandsOver.TheVariants.{FirstRead, LastSegment}
 use Rattle.iol_far.specs.declared.kind.Recalls.{Recalls}
 use Rattle.iol_far.specs.declared.kind.Recalls.TheVariants.{UntilLeft, UntilSent}
-use Rattle.iol_far.specs.Isdu.{IsduState, Empty, Handed, Answered, received, answer_text, fits}
+use Rattle.iol_far.specs.Isdu.{IsduState, Empty, Handed, Answered, isdu_with_octets, answer_text_to, fits}
 use Rattle.iol_far.specs.Codec.{layout_in, message_in, flow_of}
 use Rattle.iol_far.specs.Far.{Far, WaitingCommand, hear, waits_after, mode_asked, known_mode, command_in}
-use Rattle.iol_far.specs.declared.mode.Mode.{Mode}
+use Rattle.iol_far.specs.declared.mode.DeviceMode.{DeviceMode}
 use Rattle.iol_far.specs.Local.{LocalStep, local}
 
 -- A request
@@ -63,10 +63,12 @@ IsTaken base request state carried = ⊥
 abbrev pub IsWritten : HandsOver → ℕ → List Carried → Request → ℕ → IsduState → Option ℕ
     → List Carried → Type 0
 IsWritten FirstRead size base request i state counted carried =
-    (state ≡ received (joined size (request_text request) i) (count_at i)) × (carried ≡ base)
+    (state ≡ isdu_with_octets (segments_up_to size (request_text request) i) (count_at i))
+    × (carried ≡ base)
 IsWritten LastSegment size base request i state counted carried = (counted ≡ count_at i)
     × ((texts.IsBefore size (request_text request) i
-    × (state ≡ received (joined size (request_text request) i) (count_at i)) × (carried ≡ base))
+    × (state ≡ isdu_with_octets (segments_up_to size (request_text request) i) (count_at i))
+    × (carried ≡ base))
     ⊎ (IsLast size (request_text request) i × IsTaken base request state carried))
 
 -- the record has grown by nothing, or by the request with some answer
@@ -91,7 +93,8 @@ Stands hands_over size base (Busy request) state counted carried =
     IsTaken base request state carried
 Stands hands_over size base (Had request i text) (Answered held answer (Some sent)) counted
     carried = (held ≡ request) × IsTrue (fits held answer) × (sent ≡ i)
-    × (text ≡ joined size (answer_text request answer) i) × (carried ≡ grown_by base request answer)
+    × (text ≡ segments_up_to size (answer_text_to request answer) i)
+    × (carried ≡ grown_by base request answer)
 Stands hands_over size base (Unsure request) Empty counted carried =
     IsGrownOnce base request carried
 Stands hands_over size base (Unsure request) (Answered held answer last) counted carried =
@@ -137,8 +140,8 @@ nothing_came UntilLeft request data_in = Had request 0 data_in
 nothing_came UntilSent request data_in = Unsure request
 
 -- busy, nothing, or the answer's first segment
-abbrev pub asked : Recalls → Request → List ℕ → Progress
-asked recalls request data_in =
+abbrev pub progress_after_ask : Recalls → Request → List ℕ → Progress
+progress_after_ask recalls request data_in =
     if slice_index data_in 0 == 1 then Busy request else
     if slice_index data_in 0 == 0 then nothing_came recalls request data_in else
     Had request 0 data_in
@@ -150,8 +153,8 @@ unheard_of zero request = Clear
 unheard_of (suc tries) request = Unsure request
 
 -- the same where the device may not have heard of the request
-abbrev pub wondered : ℕ → Request → List ℕ → Progress
-wondered tries request data_in =
+abbrev pub progress_after_doubt : ℕ → Request → List ℕ → Progress
+progress_after_doubt tries request data_in =
     if slice_index data_in 0 == 1 then Busy request else
     if slice_index data_in 0 == 0 then unheard_of tries request else
     Had request 0 data_in
@@ -172,9 +175,9 @@ may_be_none recalls tries text data_in = false
 abbrev pub after : Recalls → ℕ → Progress → Move → List ℕ → Progress
 after recalls tries progress (Begin request) data_in = Written request 0
 after recalls tries (Written request i) More data_in = Written request (suc i)
-after recalls tries (Perhaps request) Ask data_in = wondered tries request data_in
-after recalls tries (Written request i) Ask data_in = asked recalls request data_in
-after recalls tries (Busy request) Ask data_in = asked recalls request data_in
+after recalls tries (Perhaps request) Ask data_in = progress_after_doubt tries request data_in
+after recalls tries (Written request i) Ask data_in = progress_after_ask recalls request data_in
+after recalls tries (Busy request) Ask data_in = progress_after_ask recalls request data_in
 after recalls tries (Had request i text) Next data_in =
     if may_be_none recalls tries text data_in then Unsure request else
     Had request (suc i) (text ++ data_in)
@@ -189,28 +192,29 @@ RecallsAtLeast recalls of_device = Unit {0}
 -- Both ends of the link
 
 -- the far end's mode, and the mode command that waits there
-pub record Link : Type 0 where
-  pub mode : Mode
+pub record FarLink : Type 0 where
+  pub mode : DeviceMode
   pub waits : Option WaitingCommand
 
-abbrev pub link_of : Far → Link
+abbrev pub link_of : Far → FarLink
 link_of far = record { mode = far.mode; waits = far.waits }
 
-abbrev pub taken_by : Option WaitingCommand → Link → List ℕ → Link
+abbrev pub taken_by : Option WaitingCommand → FarLink → List ℕ → FarLink
 taken_by None link octets = link
 taken_by (Some command) link octets =
     if bytes_eq octets command.octets then link else record { mode = command.into; waits = None }
 
 -- the link in the layout in which it accepts the octets
-abbrev pub taken : Link → List ℕ → Link
-taken link octets = taken_by link.waits link octets
+abbrev pub accepting_link : FarLink → List ℕ → FarLink
+accepting_link link octets = taken_by link.waits link octets
 
 -- and once a device of this page has worked the message
-abbrev pub turned : List ℕ → Link → List ℕ → MasterMsg → Link
-turned page link octets message =
+abbrev pub turned_link : List ℕ → FarLink → List ℕ → MasterMsg → FarLink
+turned_link page link octets message =
     record {
-      mode = (taken link octets).mode;
-      waits = waits_after (taken link octets).mode (taken link octets).waits octets
+      mode = (accepting_link link octets).mode;
+      waits = waits_after (accepting_link link octets).mode (accepting_link link octets).waits
+          octets
           (known_mode page (mode_asked (command_in message)));
     }
 
@@ -237,8 +241,8 @@ IsMove size Ask (Busy request) Isdu true Start octets = Unit {0}
 IsMove size Next (Had request i text) Isdu true (Count count) octets =
     (count ≡ segment_number (suc i))
     × ((answer : Answer) → IsTrue (fits request answer)
-    → text ≡ joined size (answer_text request answer) i
-    → suc i * size < length (answer_text request answer))
+    → text ≡ segments_up_to size (answer_text_to request answer) i
+    → suc i * size < length (answer_text_to request answer))
 IsMove size Leave progress Isdu read Idle1 octets = Unit {0}
 IsMove size Leave progress Isdu read Idle2 octets = Unit {0}
 IsMove size Leave progress Isdu read Abort octets = Unit {0}
@@ -272,10 +276,11 @@ IsSettled progress = Unit {0}
 
 -- Octets that spell the message in the layout in which the far end accepts them, the message being
 -- that move. Before the first good reply in a layout no request is under way
-pub record IsSent (page : List ℕ) (size : ℕ) (link : Link) (progress : Progress) (octets : List ℕ)
+pub record IsSent (page : List ℕ) (size : ℕ) (link : FarLink) (progress : Progress)
+    (octets : List ℕ)
     (message : MasterMsg) (what : Move) : Type 0 where
-  pub spells : message_in (layout_in page (taken link octets).mode) octets ≡ Some message
-  pub size_of : (layout_in page (taken link octets).mode).od ≡ size
+  pub spells : message_in (layout_in page (accepting_link link octets).mode) octets ≡ Some message
+  pub size_of : (layout_in page (accepting_link link octets).mode).od ≡ size
   pub move : IsMove size what progress message.mc.channel message.mc.read
       (flow_of message.mc.address) message.od.items
   pub begins : MayBegin page what
@@ -296,7 +301,8 @@ HasIsduFor page Clear = Unit {0}
 HasIsduFor page progress = IsTrue (knows_isdu page)
 
 -- The far end is of this kind, and as the master's fields say, with no message out
-pub record IsBefore (page : List ℕ) (kind : Kind) (size : ℕ) (base : List Carried) (link : Link)
+pub record IsLevelBefore (page : List ℕ) (kind : Kind) (size : ℕ) (base : List Carried)
+    (link : FarLink)
     (progress : Progress) (far : Far) : Type 0 where
   pub awake : far.awake ≡ true
   pub kind_is : far.kind ≡ kind
@@ -310,10 +316,10 @@ pub data Happening : Type 0 where
   Own : LocalStep → Happening
   Hears : Happening
 
-abbrev pub happened : Far → List ℕ → List Happening → Far
-happened far octets [] = far
-happened far octets (Own step ∷ rest) = happened (local far step) octets rest
-happened far octets (Hears ∷ rest) = happened (hear far octets).far octets rest
+abbrev pub far_after_all : Far → List ℕ → List Happening → Far
+far_after_all far octets [] = far
+far_after_all far octets (Own step ∷ rest) = far_after_all (local far step) octets rest
+far_after_all far octets (Hears ∷ rest) = far_after_all (hear far octets).far octets rest
 
 abbrev pub hearings : List Happening → ℕ
 hearings [] = 0
@@ -322,10 +328,10 @@ hearings (Hears ∷ rest) = suc (hearings rest)
 
 -- The far end sleeps, or it comes from the state before the message that is out by
 -- local steps and at most that many hearings of it
-abbrev pub IsLevel : List ℕ → Kind → ℕ → List Carried → Link → Progress → List ℕ → ℕ → Far
+abbrev pub IsLevel : List ℕ → Kind → ℕ → List Carried → FarLink → Progress → List ℕ → ℕ → Far
     → Type 0
 IsLevel page kind size base link progress octets most far =
     ((far.awake ≡ false) × (far.isdu ≡ Empty) × IsGrown base progress far.carried)
     ⊎ ((before : Far) × (rest : List Happening)
-    × IsBefore page kind size base link progress before
-    × (hearings rest ≤ most) × (far ≡ happened before octets rest))
+    × IsLevelBefore page kind size base link progress before
+    × (hearings rest ≤ most) × (far ≡ far_after_all before octets rest))

@@ -3,9 +3,9 @@ use Rattle.std.specs.Prelude.{◌≡◌, ℕ, Bool, true, false, not, ◌&&◌, 
 use Rattle.iol_isdu.specs.declared.values.Request.{Request}
 use Rattle.iol_isdu.specs.declared.values.Answer.{Answer}
 use Rattle.iol_event.specs.declared.event.Event.{Event}
-use Rattle.iol_event.specs.Memory.{no_events, raised, released}
-use Rattle.iol_far.specs.declared.mode.Mode.TheVariants.{Startup, Operate}
-use Rattle.iol_far.specs.Isdu.{IsduState, Empty, Handed, Answered, fits, handed}
+use Rattle.iol_event.specs.Memory.{no_events, events_after_raise, events_after_release}
+use Rattle.iol_far.specs.declared.mode.DeviceMode.TheVariants.{Startup, Operate}
+use Rattle.iol_far.specs.Isdu.{IsduState, Empty, Handed, Answered, fits, handed_request}
 use Rattle.iol_far.specs.Codec.{layout_in}
 use Rattle.iol_far.specs.Record.{takes_more}
 use Rattle.iol_far.specs.Far.{Far}
@@ -44,7 +44,7 @@ is_answer (Some request) answer = fits request answer
 
 -- whether an answer is taken from elsewhere
 abbrev pub takes_answer : Far → Answer → Bool
-takes_answer far answer = has_room far && is_answer (handed far.isdu) answer
+takes_answer far answer = has_room far && is_answer (handed_request far.isdu) answer
 
 -- how many octets an input has, 0 where the page has no process data in
 -- DEV-17
@@ -60,7 +60,7 @@ is_input far image = not (input_size far == 0) && (length image == input_size fa
 -- DEV-16
 abbrev pub local : Far → LocalStep → Far
 local far (Carry answer) = carried_by far.isdu far answer
-local far (Raise event) = record far { events = raised far.events event }
+local far (Raise event) = record far { events = events_after_raise far.events event }
 local far (Input image) = if is_input far image then record far { input = Some image } else far
 local far NoInput = record far { input = None }
 local far Power =
@@ -72,14 +72,14 @@ locals far (step ∷ steps) = locals (local far step) steps
 
 -- the far end after a wake
 -- DEV-1
-abbrev pub woken : Far → Far
-woken far =
+abbrev pub far_after_wake : Far → Far
+far_after_wake far =
     record far {
       awake = true;
       mode = Startup;
       waits = None;
       isdu = Empty;
-      events = released far.events;
+      events = events_after_release far.events;
       valid = false;
     }
 

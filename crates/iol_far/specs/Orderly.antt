@@ -5,12 +5,12 @@ use Rattle.iol_octets.specs.declared.control.Channel.TheVariants.{Page}
 use Rattle.iol_mseq.specs.Shape.{startup_shape}
 use Rattle.iol_mseq.specs.declared.master.MasterMsg.{MasterMsg}
 use Rattle.iol_page.specs.declared.master_command.MasterCommand.TheVariants.{DeviceStartup}
-use Rattle.iol_far.specs.declared.mode.Mode.TheVariants.{Startup}
+use Rattle.iol_far.specs.declared.mode.DeviceMode.TheVariants.{Startup}
 use Rattle.iol_far.specs.Isdu.{Empty}
 use Rattle.iol_far.specs.Codec.{message_in}
-use Rattle.iol_far.specs.Far.{Far, WaitingCommand, layout_of, accepted, hear, worked, is_mode, mode_asked, known_mode, command_in, output_of}
-use Rattle.iol_far.specs.Local.{LocalStep, local, woken}
-use Rattle.iol_far.specs.Level.{Link, link_of}
+use Rattle.iol_far.specs.Far.{Far, WaitingCommand, layout_of, accepted_message, hear, far_after_message, is_mode, mode_asked, known_mode, command_in, output_of}
+use Rattle.iol_far.specs.Local.{LocalStep, local, far_after_wake}
+use Rattle.iol_far.specs.Level.{FarLink, link_of}
 use Rattle.iol_far.specs.Laws.{IsValidInOperate}
 
 -- a command that waits asks for another mode, as its octets say
@@ -34,7 +34,7 @@ pub record IsToPage (octets : List ℕ) (message : MasterMsg) : Type 0 where
 
 -- it is in STARTUP, or leaves its mode for it with the next other message, these octets having
 -- asked for that
-abbrev pub IsLeaving : List ℕ → Link → Type 0
+abbrev pub IsLeaving : List ℕ → FarLink → Type 0
 IsLeaving octets link = (link ≡ record { mode = Startup; waits = None })
     ⊎ ((is_mode link.mode Startup ≡ false)
     × (link.waits ≡ Some (record { into = Startup; octets = octets })))
@@ -44,11 +44,11 @@ pub record IsHeardAlike (octets : List ℕ) (message : MasterMsg) (there : Far)
     (heard : MasterMsg) : Type 0 where
   pub layout : layout_of there ≡ startup_shape
   pub message_is : heard ≡ message
-  pub output : output_of (worked there octets heard) ≡ None
+  pub output : output_of (far_after_message there octets heard) ≡ None
 
 pub record OrderlyLaws : Type 0 where
   pub steps : (far : Far) (step : LocalStep) → IsOrderly far → IsOrderly (local far step)
-  pub wakes : (far : Far) → IsOrderly (woken far)
+  pub wakes : (far : Far) → IsOrderly (far_after_wake far)
   pub hears : (far : Far) (octets : List ℕ) (message : MasterMsg) → IsToPage octets message
       → IsOrderly far → IsOrderly (hear far octets).far
   -- it holds what it held, or nothing
@@ -56,7 +56,7 @@ pub record OrderlyLaws : Type 0 where
       → ((hear far octets).far.isdu ≡ far.isdu) ⊎ ((hear far octets).far.isdu ≡ Empty)
   pub alike : (far : Far) (octets : List ℕ) (message : MasterMsg) → IsToPage octets message
       → IsOrderly far → (there : Far) (heard : MasterMsg)
-      → accepted far octets ≡ Some (there, heard) → IsHeardAlike octets message there heard
+      → accepted_message far octets ≡ Some (there, heard) → IsHeardAlike octets message there heard
   -- behind a reply to DeviceStartup
   pub leaves : (far : Far) (octets : List ℕ) (message : MasterMsg) → IsToPage octets message
       → command_in message ≡ Some DeviceStartup → IsOrderly far

@@ -24,4 +24,4 @@ pub use laws::{
     page_and_room_stay, parts_stay_regular, replies_are_read, requests_are_received,
     texts_are_heard,
 };
-pub use mode::Mode;
+pub use mode::DeviceMode;

@@ -3,5 +3,5 @@ use Rattle.iol_image.specs.declared.fault.ImageFault.{ImageFault}
 use Rattle.iol_image.specs.declared.fault.ImageFault.TheVariants.{WrongImageLength}
 
 -- the number of each refusal
-abbrev pub fault_number : ImageFault → ℕ
-fault_number WrongImageLength = 29
+abbrev pub image_fault_number : ImageFault → ℕ
+image_fault_number WrongImageLength = 29

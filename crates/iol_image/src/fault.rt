@@ -12,11 +12,11 @@ pub enum ImageFault {
 }
 
 impl ImageFault {
-    ghost use Rattle.iol_image.specs.Fault.{fault_number};
+    ghost use Rattle.iol_image.specs.Fault.{image_fault_number};
 
     /// Its number (profile): 29 WrongImageLength.
     pub fn code(&self) -> u8
-        ensures { result ≡ fault_number self.now }
+        ensures { result ≡ image_fault_number self.now }
     {
         match self {
             ImageFault::WrongImageLength => 29,

@@ -3,7 +3,7 @@ use Rattle.std.proofs.Common.{◌≡◌, ℕ, ◌+◌, ◌-◌, ◌<◌, ◌≤�
 use Rattle.std.proofs.lemmas.Bool.Decides.{nat_tests}
 use Rattle.std.proofs.lemmas.Grind.{common_steps}
 use Rattle.iol_isdu.specs.Frame.{isdu_fault, total_of}
-use Rattle.iol_isdu.specs.Requests.{Holds, form_number, index_part, written, IsRequestBodyIn, IsRequestBody, IsRequestText, request_accepts}
+use Rattle.iol_isdu.specs.Requests.{Holds, form_number, index_part, written_octets, IsRequestBodyIn, IsRequestBody, IsRequestText, request_accepts}
 use Rattle.iol_isdu.specs.Parse.{request_in}
 use Rattle.iol_isdu.specs.declared.service.Form.{Form}
 use Rattle.iol_isdu.specs.declared.service.Form.TheVariants.{Index, IndexSub, WideIndexSub}
@@ -18,7 +18,7 @@ writes_accepted n size small fits = grind (arith, nat_tests)
 
 module _ {form : Form} {r : Request} {service : ℕ} {body : List ℕ}
     (means : IsRequestBodyIn form r service body) where
-  body_size : length body ≡ 1 + form_number form + length (written r)
+  body_size : length body ≡ 1 + form_number form + length (written_octets r)
   body_size = grind (arith, common_steps)
 
   pub body_fits : length body ≤ 235

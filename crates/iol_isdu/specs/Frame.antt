@@ -34,11 +34,11 @@ abbrev pub total_at : List ℕ → Result ℕ IsduFault
 total_at [] = Err Truncated
 total_at (first ∷ rest) =
     if (first % 16 == 0) then Err BadIsduLength else
-    if (first % 16 == 1) then extended rest else Ok (first % 16)
+    if (first % 16 == 1) then extended_length rest else Ok (first % 16)
   where
-    extended : List ℕ → Result ℕ IsduFault
-    extended [] = Err Truncated
-    extended (total ∷ _) =
+    extended_length : List ℕ → Result ℕ IsduFault
+    extended_length [] = Err Truncated
+    extended_length (total ∷ _) =
         if (nat_le 17 total && nat_le total 238) then Ok total else Err BadIsduLength
 
 -- why the octets don't begin with as many as their total length

@@ -26,12 +26,12 @@ request_in service body = if nat_lt service 8
     else Read (place_in (service % 8) body)
 
 -- the request, where nothing refuses it
-abbrev pub unless : Option IsduFault → Request → Option Request
-unless None r = Some r
-unless (Some fault) r = None
+abbrev pub request_unless : Option IsduFault → Request → Option Request
+request_unless None r = Some r
+request_unless (Some fault) r = None
 
 -- the request that octets begin with, where they begin with one
 unfoldable pub request_of : List ℕ → Option Request
 request_of octets =
-    unless (isdu_fault request_accepts octets)
+    request_unless (isdu_fault request_accepts octets)
     (request_in (slice_index octets 0 / 16) (body_of (text_at octets)))

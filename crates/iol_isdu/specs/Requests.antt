@@ -40,17 +40,17 @@ place_of (Read p) = p
 place_of (Write p octets) = p
 
 -- the octets that a request writes
-abbrev pub written : Request → List ℕ
-written (Read p) = []
-written (Write p octets) = octets.items
+abbrev pub written_octets : Request → List ℕ
+written_octets (Read p) = []
+written_octets (Write p octets) = octets.items
 
 -- the service and the body of a request, its place in this form
 pub record IsRequestBodyIn (form : Form) (request : Request) (service : ℕ)
     (body : List ℕ) : Type 0 where
   pub holds : Holds form (place_of request)
-  pub fits : length (written request) ≤ 232
+  pub fits : length (written_octets request) ≤ 232
   pub code : service ≡ request_service request form
-  pub parts : body ≡ index_part form (place_of request) ++ written request
+  pub parts : body ≡ index_part form (place_of request) ++ written_octets request
 
 -- the service and the body of a request, its place in some form
 abbrev pub IsRequestBody : Request → ℕ → List ℕ → Type 0

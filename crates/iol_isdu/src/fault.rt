@@ -28,11 +28,11 @@ pub enum IsduFault {
 }
 
 impl IsduFault {
-    ghost use Rattle.iol_isdu.specs.Fault.{fault_number};
+    ghost use Rattle.iol_isdu.specs.Fault.{isdu_fault_number};
 
     /// The number of the refusal, 9 to 14 (profile).
     pub fn code(&self) -> u8
-        ensures { result ≡ fault_number self.now }
+        ensures { result ≡ isdu_fault_number self.now }
     {
         match self {
             IsduFault::DataTooLong => 9,

@@ -4,8 +4,8 @@ ghost use Rattle.std.specs.Prelude.{◌≡◌, ◌≤◌, ◌<◌, ◌+◌, ◌+
 ghost use Rattle.iol_isdu.specs.Services.{service_number};
 ghost use Rattle.iol_isdu.specs.Frame.{head, xor_of};
 ghost use Rattle.iol_isdu.specs.Answers.{is_read, answer_body, answer_data};
-ghost use Rattle.iol_isdu.specs.Requests.{written};
-ghost use Rattle.iol_isdu.specs.Texts.{sealed, front_of, IsRequest, request_front, answer_front};
+ghost use Rattle.iol_isdu.specs.Requests.{written_octets};
+ghost use Rattle.iol_isdu.specs.Texts.{with_chkpdu, front_of, IsRequest, request_front, answer_front};
 
 use crate::frame::{EXTENDED, LONGEST_PLAIN, xor_of, xor_on};
 use crate::service::{Form, Service};
@@ -55,7 +55,7 @@ impl Front<'_> {
     /// The text, of at most 238 octets.
     pub(crate) fn text(&self) -> Text
         requires { length self.now.head.items + length self.now.octets.now ≤ 237 }
-        ensures { result.items ≡ sealed (self.now.head.items ++ self.now.octets.now) }
+        ensures { result.items ≡ with_chkpdu (self.now.head.items ++ self.now.octets.now) }
     {
         let mut text = Text::new();
         text.try_extend_from_slice(&self.head).unwrap();
@@ -79,7 +79,7 @@ pub fn chkpdu_of(head: &[u8], octets: &[u8]) -> u8
 pub fn request_front(request: &Request) -> Front<'_>
     ensures valid { IsRequest request.now }
     ensures octets { result.head.items ++ result.octets.now ≡ request_front request.now }
-    ensures body { result.octets.now ≡ written request.now }
+    ensures body { result.octets.now ≡ written_octets request.now }
     ensures fits { length result.head.items + length result.octets.now ≤ 237 }
 {
     match request {

@@ -13,18 +13,18 @@ use Rattle.iol_isdu.specs.declared.values.Answer.{Answer}
 use Rattle.iol_isdu.specs.Answers.{is_read, answer_fault}
 use Rattle.iol_isdu.specs.Frame.{total_at}
 use Rattle.iol_segment.specs.Cut.{segment}
-use Rattle.iol_segment.specs.TextLaws.{joined, HoldsLength}
+use Rattle.iol_segment.specs.TextLaws.{segments_up_to, HoldsLength}
 use Rattle.iol_far.specs.declared.kind.Kind.{Kind}
 use Rattle.iol_far.specs.declared.kind.HandsOver.{HandsOver}
-use Rattle.iol_far.specs.Isdu.{IsduState, Empty, Handed, Answered, answer_text, fits, isdu_read, isdu_data}
-use Rattle.iol_far.specs.Far.{Far, isdu_after, layout_of, worked, reply_to, data_of, page_octet}
-use Rattle.iol_far.specs.Codec.{message_in, octets_of}
+use Rattle.iol_far.specs.Isdu.{IsduState, Empty, Handed, Answered, answer_text_to, fits, isdu_read, isdu_data}
+use Rattle.iol_far.specs.Far.{Far, isdu_after, layout_of, far_after_message, reply_to, data_of, page_octet_of}
+use Rattle.iol_far.specs.Codec.{message_in, reply_octets}
 use Rattle.iol_mseq.specs.declared.master.MasterMsg.{MasterMsg}
 use Rattle.std.specs.Option.{option_or}
 use Rattle.iol_isdu.specs.declared.fault.IsduFault.{IsduFault}
 use Rattle.iol_segment.specs.Join.{Stage}
 use Rattle.iol_judge.specs.declared.had.Ahead.{Ahead}
-use Rattle.iol_judge.specs.declared.had.Had.{Had}
+use Rattle.iol_judge.specs.declared.had.HadSegments.{HadSegments}
 use Rattle.iol_judge.specs.declared.had.TheConstants.{MOST_HAD}
 use Rattle.iol_judge.specs.declared.reason.Reason.{Reason}
 use Rattle.iol_judge.specs.declared.reason.Reason.TheVariants.{AnswerPadding, InvalidNotZero}
@@ -32,8 +32,8 @@ use Rattle.iol_judge.specs.declared.transfer.Transfer.{Transfer}
 use Rattle.iol_judge.specs.declared.transfer.Transfer.TheVariants as known
 use Rattle.iol_judge.specs.Octets.{are_zeros}
 use Rattle.iol_judge.specs.Answers.{ahead_fault, behind_fault, first_had, had_with, is_busy, next_fault, open_fault, same_fault, segment_fault, text_fault, text_fault_at, ahead_told, ahead_with, one_ahead}
-use Rattle.iol_judge.specs.Transfers.{asked_told, isdu_fault, told_by, transfer_told}
-use Rattle.iol_judge.specs.UnderWay.{AreHad, IsUnderWay, IsAnswered, IsAsked, AreAhead, later_ones}
+use Rattle.iol_judge.specs.Transfers.{asked_told, transfer_fault, transfer_told_by, transfer_told}
+use Rattle.iol_judge.specs.UnderWay.{AreHad, IsUnderWay, IsAnswered, IsAnswerAsked, AreAhead, later_ones}
 use Rattle.iol_segment.proofs.TextLaws.{joined-front}
 use Rattle.iol_judge.proofs.Sending.{begun_fits, first_grow, length_first, part_of_first, pointwise_self, zeros_behind, zeros_within, length_later, part_of_later, total_of_first, AreTexts, below_by, has_octets, same_by}
 use Rattle.std.proofs.lemmas.Bool.Decides.{nat_tests}
@@ -42,14 +42,14 @@ use Rattle.iol_mseq.specs.Replies.{reply_in}
 use Rattle.iol_mseq.specs.declared.reply.Reply.{Reply}
 use Rattle.iol_event.specs.Memory.{IsEventMemory, is_empty}
 use Rattle.iol_judge.specs.declared.verdict.Odd.{Odd}
-use Rattle.iol_judge.specs.declared.taken.Taken.{Taken}
-use Rattle.iol_judge.specs.declared.taken.Explained.TheVariants.{By, Not}
-use Rattle.iol_judge.specs.declared.events.Shown.{Shown}
+use Rattle.iol_judge.specs.declared.taken.TakenMessage.{TakenMessage}
+use Rattle.iol_judge.specs.declared.taken.Explanation.TheVariants.{By, Not}
+use Rattle.iol_judge.specs.declared.events.ShownEvents.{ShownEvents}
 use Rattle.iol_judge.specs.Seen.{is_of_page, page_noted}
-use Rattle.iol_judge.specs.State.{State}
-use Rattle.iol_judge.specs.Replies.{cycle_told, data_fault, data_oddity, explained, held_against, learned, no_zeros, page_fault, page_oddity, reply_fault, reply_oddity, shown_told}
-use Rattle.iol_judge.specs.Judged.{noted, noted_at}
-use Rattle.iol_judge.specs.Admitted.{Admits, Agrees, AreShown}
+use Rattle.iol_judge.specs.State.{KnownState}
+use Rattle.iol_judge.specs.Replies.{cycle_told, data_fault, data_oddity, explanation_of, held_against, state_after_reply, no_zeros, page_fault, page_oddity, fault_in_reply, reply_oddity, shown_told}
+use Rattle.iol_judge.specs.Judged.{page_after_reply, noted_at}
+use Rattle.iol_judge.specs.Admitted.{Admits, Agrees, AreAsKnown}
 use Rattle.iol_judge.proofs.Hearing.{control_is, shown_awake, under_way_awake}
 use Rattle.iol_judge.proofs.Sets.{events_fit, flag_fits, flagged_shown, same_known, set_agrees, told_shown}
 
@@ -74,7 +74,7 @@ sent_by kind counted knows size state channel read flow octets =
     grind (arith, common_steps, read_sent)
 
 pub worked_sent : (there : Far) (octets : List ℕ) (message : MasterMsg)
-    → IsSentBy message.mc.read message.mc.channel (worked there octets message).isdu
+    → IsSentBy message.mc.read message.mc.channel (far_after_message there octets message).isdu
 worked_sent there octets message = grind (arith, common_steps, sent_by)
 
 -- What it brings
@@ -96,7 +96,7 @@ IsNone fault = fault ≡ None
 module _ (size : ℕ) (law : AreTexts size) (request : Request) (answer : Answer)
     (fit : IsTrue (fits request answer)) where
   abbrev its_text : List ℕ
-  its_text = answer_text request answer
+  its_text = answer_text_to request answer
 
   not_busy : is_busy (segment size its_text 0) ≡ false
   not_busy = ap (λ (b : Bool). b && are_zeros (drop 1 (segment size its_text 0)))
@@ -110,24 +110,25 @@ module _ (size : ℕ) (law : AreTexts size) (request : Request) (answer : Answer
 
   -- its segments are no fault
   text_fits : (last : ℕ) → last * size < length its_text
-      → text_fault (is_read request) (joined size its_text last) ≡ None
+      → text_fault (is_read request) (segments_up_to size its_text last) ≡ None
   text_fits last begins = ⊎_elim before ended (cases_lt _ _)
     where
       before : suc last * size < length its_text
-          → text_fault (is_read request) (joined size its_text last) ≡ None
+          → text_fault (is_read request) (segments_up_to size its_text last) ≡ None
       before more =
-          ap (λ (s : Stage). text_fault_at (is_read request) s (joined size its_text last))
+          ap (λ (s : Stage). text_fault_at (is_read request) s (segments_up_to size its_text last))
           (law.texts.grows its_text last holds more) ∙ ap (open_fault (is_read request))
           (joined-front size _ last (omega arith))
           ∙ begun_fits _ _ _ holds accepted (omega arith) more
 
       ended : length its_text ≤ suc last * size
-          → text_fault (is_read request) (joined size its_text last) ≡ None
-      ended most = ap (λ (s : Stage). text_fault_at (is_read request) s (joined size its_text last))
+          → text_fault (is_read request) (segments_up_to size its_text last) ≡ None
+      ended most = ap (λ (s : Stage). text_fault_at (is_read request) s
+          (segments_up_to size its_text last))
           (law.texts.ends its_text last holds (begins, most))
           ∙ rw (accepted, zeros_behind law.sized size its_text last (omega arith) most) refl
 
-  module _ (had : Had) (sent : ℕ) (are : AreHad size had its_text sent)
+  module _ (had : HadSegments) (sent : ℕ) (are : AreHad size had its_text sent)
       (read : is_read request ≡ had.read) where
     -- the segment that was sent
     abbrev its_segment : List ℕ
@@ -190,7 +191,7 @@ module _ (size : ℕ) (law : AreTexts size) (request : Request) (answer : Answer
     next_is e = same_by size law.some sent _ (omega (arith, long))
 
     grown : had.at ≡ length had.text.items → (had.text.items ++ its_segment)
-        ≡ joined size its_text are.many
+        ≡ segments_up_to size its_text are.many
     grown e = grind (arith, common_steps, next_is, first_grow)
 
     begins_next : had.at ≡ length had.text.items → are.many * size < length its_text
@@ -312,16 +313,16 @@ module _ (size : ℕ) (law : AreTexts size) (request : Request) (answer : Answer
         count = refl;
       }
 
-answered_fits : (size : ℕ) → AreTexts size → (had : Had) (state : IsduState)
+answered_fits : (size : ℕ) → AreTexts size → (had : HadSegments) (state : IsduState)
     → IsAnswered size had state → segment_fault had (isdu_data size state) ≡ None
 answered_fits size law had (Answered request answer (Some i)) h =
     segment_fits size law request answer h.1 had i h.2 h.0
 answered_fits size law had state h = absurd h
 
-had_read : (had : Had) (od : List ℕ) → (had_with had od).read ≡ had.read
+had_read : (had : HadSegments) (od : List ℕ) → (had_with had od).read ≡ had.read
 had_read had od = grind (arith, common_steps)
 
-told_answered : (size : ℕ) → AreTexts size → (had : Had) (state : IsduState)
+told_answered : (size : ℕ) → AreTexts size → (had : HadSegments) (state : IsduState)
     → IsAnswered size had state → IsAnswered size (had_with had (isdu_data size state)) state
 told_answered size law had (Answered request answer (Some i)) h = (
   h.0 ∙ sym (had_read had _),
@@ -332,7 +333,7 @@ told_answered size law had state h = absurd h
 
 module _ (hands_over : HandsOver) (counted : Option ℕ) (size : ℕ) (law : AreTexts size) where
   pub isdu_fits : (transfer : Transfer) (state : IsduState) → IsUnderWay hands_over counted size
-      transfer state → IsSent state → isdu_fault transfer (isdu_data size state) ≡ None
+      transfer state → IsSent state → transfer_fault transfer (isdu_data size state) ≡ None
   unfolding first_holds
   isdu_fits known.Quiet state h s = rw (h, zeros_are size) refl
   isdu_fits (known.Receiving text last) state h s = rw (h, zeros_are size) refl
@@ -353,7 +354,7 @@ module _ (hands_over : HandsOver) (counted : Option ℕ) (size : ℕ) (law : Are
   isdu_fits transfer state h s = absurd h
 
   told_asked : (read : Bool) (last : Option ℕ) (state : IsduState)
-      → IsAsked hands_over counted read last state → IsSent state
+      → IsAnswerAsked hands_over counted read last state → IsSent state
       → IsUnderWay hands_over counted size (asked_told read last (isdu_data size state)) state
   told_asked read last (Handed request) h s = rw (busy_is size) h
   told_asked read last (Answered request answer (Some zero)) h s =
@@ -363,7 +364,7 @@ module _ (hands_over : HandsOver) (counted : Option ℕ) (size : ℕ) (law : Are
 
   pub told_under_way : (transfer : Transfer) (state : IsduState)
       → IsUnderWay hands_over counted size transfer state → IsSent state
-      → IsUnderWay hands_over counted size (told_by transfer (isdu_data size state)) state
+      → IsUnderWay hands_over counted size (transfer_told_by transfer (isdu_data size state)) state
   told_under_way (known.Asked read last) state h s = told_asked read last state h s
   told_under_way (known.Answered had) state h s = told_answered size law had state h
   -- where it was sent, or the answer had ended before
@@ -397,27 +398,28 @@ one_outside address e = grind (arith, nat_tests)
 
 -- an address of the page reads as its octet there
 page_at : (far : Far) (address : ℕ) → is_of_page address ≡ true
-    → page_octet far address ≡ slice_index far.page (address - 2)
+    → page_octet_of far address ≡ slice_index far.page (address - 2)
 page_at far address e = rw (one_outside _ e, e) refl
 
 -- that is what is known of it
 seen_fits : (seen : List (Option ℕ)) (far : Far) (address : ℕ) → Agrees seen far.page
-    → (if is_of_page address then page_fault seen address (page_octet far address) else None) ≡ None
+    → (if is_of_page address then page_fault seen address (page_octet_of far address) else None)
+    ≡ None
 seen_fits seen far address agrees = cond_both _ _ _ IsNone
     (λ e. rw (page_at far address e, e, same_known _ _ (agrees (address - 2))) refl) (λ e. refl)
 
 -- and nothing is odd in it
 page_even : (cycle : Option ℕ) (far : Far) (address : ℕ) → IfSome cycle (λ o. far.cycle_time ≡ o)
-    → page_oddity cycle address (page_octet far address) ≡ None
+    → page_oddity cycle address (page_octet_of far address) ≡ None
 page_even cycle far address at = grind (arith, common_steps, same_known)
 
 -- the data that a reply brings, where it brings some
 abbrev brought : Far → ℕ → Bool → Channel → ℕ → List ℕ
 brought far size read channel address = if read then data_of far size channel address else []
 
-module _ (seen : List (Option ℕ)) (state : State) (far : Far) (size : ℕ) (law : AreTexts size)
+module _ (seen : List (Option ℕ)) (state : KnownState) (far : Far) (size : ℕ) (law : AreTexts size)
     (agrees : Agrees seen far.page) (six : length far.events.frozen ≤ 6)
-    (shown : AreShown state.events far.events)
+    (shown : AreAsKnown state.events far.events)
     (under_way : IsUnderWay far.kind.hands_over far.counted size state.transfer far.isdu) where
   data_fits : (read : Bool) (channel : Channel) (address : ℕ) → IsSentBy read channel far.isdu
       → (if read then data_fault seen state (not (is_empty far.events.frozen)) channel address
@@ -431,7 +433,7 @@ data_even : (cycle : Option ℕ) (far : Far) (size : ℕ) (read : Bool) (channel
 data_even cycle far size read channel address at =
     grind (arith, common_steps, zeros_are, neither, page_even)
 
-nothing_said : (odd : Odd) (kept : State) (fault oddity : Option Reason) → fault ≡ None
+nothing_said : (odd : Odd) (kept : KnownState) (fault oddity : Option Reason) → fault ≡ None
     → oddity ≡ None → (elim (held_against odd fault oddity) [
       | None ↦ By kept oddity
       | Some reason ↦ Not reason
@@ -440,17 +442,17 @@ nothing_said odd kept fault oddity e f = grind arith
 
 module _ (seen : List (Option ℕ)) (there : Far) (octets : List ℕ) (message : MasterMsg)
     (law : AreTexts (layout_of there).od) (awake : there.awake ≡ true)
-    (memory : IsEventMemory (worked there octets message).events)
+    (memory : IsEventMemory (far_after_message there octets message).events)
     (agrees : Agrees seen there.page) where
   -- the device that worked the message
   abbrev worked_far : Far
-  worked_far = worked there octets message
+  worked_far = far_after_message there octets message
 
   abbrev its_answer : Reply
   its_answer = reply_to worked_far (layout_of there) message
 
-  no_fault : (state : State) → Admits state worked_far
-      → reply_fault seen state (layout_of there) message.mc its_answer ≡ None
+  no_fault : (state : KnownState) → Admits state worked_far
+      → fault_in_reply seen state (layout_of there) message.mc its_answer ≡ None
   no_fault state admits =
       let shown = shown_awake state worked_far awake admits in
       rw (status_fits ((layout_of there).pd_in == 0) (not (is_some there.input))) (neither _ _
@@ -459,14 +461,15 @@ module _ (seen : List (Option ℕ)) (there : Far) (octets : List ℕ) (message :
       message.mc.read message.mc.channel message.mc.address (worked_sent there octets message)))
 
   -- nor is anything odd
-  no_oddity : (state : State) → Admits state worked_far
+  no_oddity : (state : KnownState) → Admits state worked_far
       → reply_oddity state.cycle message.mc its_answer ≡ None
   no_oddity state admits = grind (arith, common_steps, neither, invalid_zeros, data_even)
 
-  pub explains : (odd : Odd) (found : Taken) (reply : List ℕ) → found.message ≡ message
+  pub explains : (odd : Odd) (found : TakenMessage) (reply : List ℕ) → found.message ≡ message
       → found.layout ≡ layout_of there → Admits found.kept worked_far
       → reply_in (layout_of there) message.mc.read reply ≡ Some its_answer
-      → explained odd seen (Some found) reply ≡ By (learned found.kept message.mc its_answer) None
+      → explanation_of odd seen (Some found) reply
+      ≡ By (state_after_reply found.kept message.mc its_answer) None
   explains odd found reply same_message same_layout admits reads =
       grind (arith, common_steps, nothing_said, no_fault, no_oddity)
 
@@ -478,9 +481,9 @@ cycle_said : (old : Option ℕ) (far : Far) (size : ℕ) (read : Bool) (channel 
     (slice_index (brought far size read channel address) 0)) (λ o. far.cycle_time ≡ o)
 cycle_said old far size read channel address h = grind (arith, common_steps)
 
-events_said : (events : Shown) (far : Far) (size : ℕ) (read : Bool) (channel : Channel)
-    (address : ℕ) → length far.events.frozen ≤ 6 → AreShown events far.events
-    → AreShown (shown_told events read channel address
+events_said : (events : ShownEvents) (far : Far) (size : ℕ) (read : Bool) (channel : Channel)
+    (address : ℕ) → length far.events.frozen ≤ 6 → AreAsKnown events far.events
+    → AreAsKnown (shown_told events read channel address
     (slice_index (brought far size read channel address) 0)) far.events
 events_said events far size true Diagnosis address six s = told_shown _ _ six s _
 events_said events far size read channel address six s = s
@@ -494,10 +497,10 @@ isdu_said : (size : ℕ) → AreTexts size → (transfer : Transfer) (far : Far)
 isdu_said size law transfer far true Isdu address h sent = told_under_way _ _ size law _ _ h sent
 isdu_said size law transfer far read channel address h sent = h
 
-pub learned_admits : (state : State) (far : Far) (message : MasterMsg)
+pub learned_admits : (state : KnownState) (far : Far) (message : MasterMsg)
     → AreTexts (layout_of far).od → far.awake ≡ true → IsEventMemory far.events
     → IsSentBy message.mc.read message.mc.channel far.isdu → Admits state far
-    → Admits (learned state message.mc (reply_to far (layout_of far) message)) far
+    → Admits (state_after_reply state message.mc (reply_to far (layout_of far) message)) far
 learned_admits state far message law awake memory sent h =
     grind (
       arith,
@@ -511,22 +514,22 @@ learned_admits state far message law awake memory sent h =
     )
 
 page_told : (seen : List (Option ℕ)) (far : Far) (address : ℕ) → Agrees seen far.page
-    → Agrees (page_noted seen address (page_octet far address)) far.page
+    → Agrees (page_noted seen address (page_octet_of far address)) far.page
 page_told seen far address agrees = cond_both _ _ _ (λ (s : List (Option ℕ)). Agrees s far.page)
     (λ e. rw (page_at far address e) (set_agrees seen _ _ _ agrees refl)) (λ e. agrees)
 
 noted_told : (seen : List (Option ℕ)) (far : Far) (reply : Reply) (size : ℕ) (read : Bool)
     (channel : Channel) (address : ℕ) → reply.od.items ≡ (brought far size read channel address)
     → Agrees seen far.page
-    → Agrees (noted_at seen read channel address (slice_index (octets_of reply) 0)) far.page
-unfolding octets_of
+    → Agrees (noted_at seen read channel address (slice_index (reply_octets reply) 0)) far.page
+unfolding reply_octets
 noted_told seen far reply size read channel address e agrees =
     grind (arith, common_steps, page_told)
 
 pub noted_agrees : (seen : List (Option ℕ)) (far : Far) (sent : List ℕ) (layout : Shape)
     (message : MasterMsg) → message_in layout sent ≡ Some message → (size : Shape)
     → Agrees seen far.page
-    → Agrees (noted seen sent (octets_of (reply_to far size message))) far.page
+    → Agrees (page_after_reply seen sent (reply_octets (reply_to far size message))) far.page
 noted_agrees seen far sent layout message h size agrees = rw (← control_is layout sent message h)
     (noted_told seen far (reply_to far size message) size.od message.mc.read
     message.mc.channel message.mc.address refl agrees)

@@ -9,36 +9,36 @@ use Rattle.iol_mseq.specs.declared.fault.MseqFault.{MseqFault}
 use Rattle.iol_mseq.specs.declared.fault.MseqFault.TheVariants.{BadLength}
 use Rattle.iol_mseq.specs.declared.master.MasterMsg.{MasterMsg}
 use Rattle.iol_link.specs.Honest.{IsUnread, HonestExchange, Passage, OutLost, BackLost, Clean, IsAnswer, far_after}
-use Rattle.iol_judge.specs.Replies.{is_read_in, is_read_with, is_readable, explained, learned}
+use Rattle.iol_judge.specs.Replies.{is_read_in, is_read_with, can_be_read, explanation_of, state_after_reply}
 use Rattle.std.proofs.lemmas.Bool.{cond_both}
 use Rattle.iol_page.specs.Page.{PagesAskForLayouts}
 use Rattle.iol_page.specs.declared.page.Layouts.{Layouts}
 use Rattle.iol_event.specs.Memory.{IsEventMemory}
-use Rattle.iol_far.specs.Codec.{message_in, octets_of}
-use Rattle.iol_far.specs.Far.{Far, Heard, layout_of, accepted, hear, replied, worked, reply_to}
-use Rattle.iol_far.specs.Local.{LocalStep, local, locals, woken}
+use Rattle.iol_far.specs.Codec.{message_in, reply_octets}
+use Rattle.iol_far.specs.Far.{Far, HearResult, layout_of, accepted_message, hear, with_reply, far_after_message, reply_to}
+use Rattle.iol_far.specs.Local.{LocalStep, local, locals, far_after_wake}
 use Rattle.iol_far.specs.Laws.{IsRegular, IsSized, MuchStays, RepliesAreRead}
 use Rattle.iol_far.specs.Regular.{RegularStays}
 use Rattle.iol_judge.specs.declared.open.Open.{Open}
 use Rattle.iol_judge.specs.declared.reason.Reason.{Reason}
-use Rattle.iol_judge.specs.declared.taken.Explained.{Explained}
-use Rattle.iol_judge.specs.declared.taken.Explained.TheVariants.{By, Not}
-use Rattle.iol_judge.specs.declared.taken.Next.{Next}
-use Rattle.iol_judge.specs.declared.taken.Taken.{Taken}
+use Rattle.iol_judge.specs.declared.taken.Explanation.{Explanation}
+use Rattle.iol_judge.specs.declared.taken.Explanation.TheVariants.{By, Not}
+use Rattle.iol_judge.specs.declared.taken.NextStates.{NextStates}
+use Rattle.iol_judge.specs.declared.taken.TakenMessage.{TakenMessage}
 use Rattle.iol_judge.specs.declared.verdict.Verdict.{Verdict}
 use Rattle.iol_judge.specs.declared.verdict.Verdict.TheVariants.{Honest, NotHonest}
 use Rattle.iol_judge.specs.declared.verdict.Wake.{Wake}
 use Rattle.iol_judge.specs.declared.verdict.Wake.TheVariants.{Unanswered}
 use Rattle.iol_far.specs.declared.kind.Kind.{Kind}
 use Rattle.iol_judge.specs.declared.kinds.Kinds.{Kinds}
-use Rattle.iol_judge.specs.Family.{both_kinds, has_kind}
+use Rattle.iol_judge.specs.Family.{both_kinds, admits_kind}
 use Rattle.iol_judge.specs.Numbers.{later}
 use Rattle.iol_judge.specs.Seen.{nothing_seen, whole_page, layouts_seen}
-use Rattle.iol_judge.specs.State.{State, parts}
-use Rattle.iol_judge.specs.Taking.{taken_by}
-use Rattle.iol_judge.specs.Judged.{Judged, added, added_taken, each_in_turn, lost_into, lost_part, explained_into, replied_part, replied_into, concluded_lost, concluded_replied, odd_for_all, unanswered, answered, one_more, exchanged, woken_states, woken_into, woke, kinds_left, kinds_with}
+use Rattle.iol_judge.specs.State.{KnownState, parts}
+use Rattle.iol_judge.specs.Taking.{taken_by_state}
+use Rattle.iol_judge.specs.Judged.{JudgeState, states_with, added_taken, each_in_turn, lost_into, lost_part, explained_into, replied_part, replied_into, concluded_lost, concluded_replied, odd_for_all, judge_without_reply, judge_after_answer, one_more, judge_after_exchange, woken_states, woken_into, judge_after_wake, kinds_left, kinds_with}
 use Rattle.iol_judge.specs.Judged as judging
-use Rattle.iol_judge.specs.Admitted.{Agrees, Admits, IsPossible, IsFair, Passing, Wakes, Passes, told, told_all, is_answered, IsHonest, IsHonestRun, IsWake, NeverBlamed}
+use Rattle.iol_judge.specs.Admitted.{Agrees, Admits, IsPossible, IsFair, Passing, Wakes, Passes, judge_after_passing, told_all, is_answered, IsHonest, IsHonestRun, IsWake, NeverBlamed}
 use Rattle.iol_judge.proofs.Sets.{Gains, Keeps, bound, each_gains, each_keeps, Left, added_keeps, added_admits, both_has, other_has, nothing_known, released_free, Alike, locals_alike, one_alike, woken_admits}
 use Rattle.iol_judge.proofs.Hearing.{IsPart, all_have, parts_admit, Knows, knows, Accepting, accepting, Fits, state_fits}
 use Rattle.iol_judge.proofs.Answering.{explains, learned_admits, noted_agrees, worked_sent}
@@ -84,7 +84,7 @@ module _ (sent reply : List ℕ) (unread : IsUnread sent (Some reply)) where
       (pd_out_by size) ≡ Ok layout → IsLayout layout) → is_read_with code size sent reply ≡ true → ⊥
   not_with code size is = not_by _ is
 
-  readable_is_unaltered : is_readable sent reply ≡ true → ⊥
+  readable_is_unaltered : can_be_read sent reply ≡ true → ⊥
   readable_is_unaltered = either _ _ (either _ _ (either _ _
       (not_with 4 1 (shaped 1 (pd_in_by 1) (pd_out_by 1) refl))
       (not_with 5 2 (shaped 2 (pd_in_by 2) (pd_out_by 2) refl)))
@@ -103,16 +103,16 @@ record Works (far : Far) (sent : List ℕ) : Type 0 where
   pub message : MasterMsg
   pub accepting : Accepting far there sent
   pub spells : message_in (layout_of there) sent ≡ Some message
-  pub heard_is : hear far sent ≡ replied (worked there sent message) message
+  pub heard_is : hear far sent ≡ with_reply (far_after_message there sent message) message
 
 -- the device, once it worked the message
 abbrev worked_by : {far : Far} {sent : List ℕ} → Works far sent → Far
-worked_by {sent = sent} work = worked work.there sent work.message
+worked_by {sent = sent} work = far_after_message work.there sent work.message
 
 abbrev Unheard : Far → List ℕ → Type 0
 Unheard far sent = ((hear far sent).far ≡ far) × ((hear far sent).reply ≡ None)
 
-unheard : (far : Far) (sent : List ℕ) → accepted far sent ≡ None → Unheard far sent
+unheard : (far : Far) (sent : List ℕ) → accepted_message far sent ≡ None → Unheard far sent
 unheard far sent none = (rw none refl, rw none refl)
 
 hears : (far : Far) (sent : List ℕ) → Unheard far sent ⊎ Works far sent
@@ -120,7 +120,7 @@ hears far sent = split far.awake refl
   where
     read : (there : Far) → Accepting far there sent → (message : Option MasterMsg)
         → message_in (layout_of there) sent ≡ message
-        → accepted far sent ≡ option_map {U = Far × MasterMsg} (λ n. (there, n)) message
+        → accepted_message far sent ≡ option_map {U = Far × MasterMsg} (λ n. (there, n)) message
         → Unheard far sent ⊎ Works far sent
     read there accepting None e is = inl (unheard far sent is)
     read there accepting (Some message) e is = inr (record {
@@ -144,13 +144,13 @@ Follows far sent new = (new ≡ far) ⊎ ((work : Works far sent) × (new ≡ wo
 follows_heard : (far : Far) (sent : List ℕ) → Follows far sent (hear far sent).far
 follows_heard far sent = elim (hears far sent) [
   | inl none ↦ inl none.0
-  | inr work ↦ inr (work, ap (λ (h : Heard). h.far) work.heard_is)
+  | inr work ↦ inr (work, ap (λ (h : HearResult). h.far) work.heard_is)
 ]
 
 -- what one of its parts makes of the message is what the device does
 part_fits : (known : Result Layouts Open) (sent : List ℕ) (far : Far) → AllTexts
-    → Knows known far.page → (part : State) → IsPart far sent part → (work : Works far sent)
-    → (found : Option Taken) → taken_by known part sent ≡ Ok found
+    → Knows known far.page → (part : KnownState) → IsPart far sent part → (work : Works far sent)
+    → (found : Option TakenMessage) → taken_by_state known part sent ≡ Ok found
     → Fits work.there sent (Some work.message) found
 part_fits known sent far texts knows part is_part work found e = rw work.spells at (state_fits known
     far work.there sent part texts knows work.accepting is_part.0 is_part.1 found e)
@@ -166,10 +166,10 @@ module _ (known : Result Layouts Open) (sent : List ℕ) (far new : Far)
       → Gains (lost_part known sent) (IsPart far sent) (Left new)
   unfolding Fits
   part_gains work is mid part more h is_part =
-      let s = bound (taken_by known part sent) (added_taken mid) h in
+      let s = bound (taken_by_state known part sent) (added_taken mid) h in
       inner s.0 s.2 (part_fits known sent far texts knows part is_part work s.0 s.1)
     where
-      inner : (found : Option Taken) → added_taken mid found ≡ Ok more
+      inner : (found : Option TakenMessage) → added_taken mid found ≡ Ok more
           → Fits work.there sent (Some work.message) found → Left new more
       inner None h fits = absurd fits
       inner (Some taken) h fits = added_admits texts new mid taken.kept more h (rw is fits.2)
@@ -182,7 +182,7 @@ module _ (known : Result Layouts Open) (sent : List ℕ) (far new : Far)
 
   lost_gains : Gains (lost_into known sent) (λ state. Admits state far) (Left new)
   lost_gains next state more h a =
-      let s = bound (added next state)
+      let s = bound (states_with next state)
       (λ mid. each_in_turn (lost_part known sent) mid (parts state sent)) h in
       elim follows [
         | inl is ↦ each_keeps part_keeps (parts state sent) s.0 more s.2
@@ -191,66 +191,68 @@ module _ (known : Result Layouts Open) (sent : List ℕ) (far new : Far)
             s.2 (parts_admit far sent texts work.0.accepting.hears state a)
       ]
 
-  lost_admits : (states out : List State)
+  lost_admits : (states out : List KnownState)
       → each_in_turn (lost_into known sent) [] states ≡ Ok out → Left far states → Left new out
   lost_admits states out h admits = each_gains lost_keeps lost_gains states [] out h admits
 
-concluded_fair : (judged : Judged) (new : Far) (found : Result (List State) Open)
+concluded_fair : (judged : JudgeState) (new : Far) (found : Result (List KnownState) Open)
     → judged.verdict ≡ Honest → judged.oddities ≡ 0 → Agrees judged.seen new.page
-    → ((out : List State) → found ≡ Ok out → Left new out)
+    → ((out : List KnownState) → found ≡ Ok out → Left new out)
     → IsFair (concluded_lost judged found) new
 concluded_fair judged new found honest even agrees admits = grind (arith, common_steps)
 
 -- With one
 
 -- where a state was admitted, and nothing odd found, nothing odd is found for all
-old_even : (states : List State) (old oddity : Option Reason) (far : Far) → Left far states
+old_even : (states : List KnownState) (old oddity : Option Reason) (far : Far) → Left far states
     → old ≡ None → odd_for_all states old oddity ≡ None
 old_even states old oddity far h e = grind (arith, common_steps)
 
-now_even : (states : List State) (old : Option Reason) → odd_for_all states old None ≡ None
+now_even : (states : List KnownState) (old : Option Reason) → odd_for_all states old None ≡ None
 now_even [] old = refl
 now_even (state ∷ states) old = refl
 
-module _ (law : Laws) (reads : RepliesAreRead) (judged : Judged)
+module _ (law : Laws) (reads : RepliesAreRead) (judged : JudgeState)
     (honest : judged.verdict ≡ Honest) (even : judged.oddities ≡ 0) (far : Far)
     (agrees : Agrees judged.seen far.page) (admits : Left far judged.states) (sent : List ℕ)
     (work : Works far sent) (sized : IsSized (worked_by work))
     (memory : IsEventMemory (worked_by work).events) where
   abbrev its_reply : List ℕ
-  its_reply = octets_of (reply_to (worked_by work) (layout_of work.there) work.message)
+  its_reply = reply_octets (reply_to (worked_by work) (layout_of work.there) work.message)
 
   abbrev known : Result Layouts Open
   known = layouts_seen judged.seen
 
   -- what a state explains, and a part of it
-  abbrev into : Next → State → Result Next Open
+  abbrev into : NextStates → KnownState → Result NextStates Open
   into = replied_into known judged.odd judged.seen sent its_reply
 
-  abbrev part_into : Next → State → Result Next Open
+  abbrev part_into : NextStates → KnownState → Result NextStates Open
   part_into = replied_part known judged.odd judged.seen sent its_reply
 
   -- and nothing odd is found
-  abbrev AdmitsNext : Next → Type 0
+  abbrev AdmitsNext : NextStates → Type 0
   AdmitsNext next = Left (worked_by work) next.states.items × (next.oddity ≡ None)
 
-  next_admits : (next : Next) (kept : State) (oddity : Option Reason) (more : Next)
+  next_admits : (next : NextStates) (kept : KnownState) (oddity : Option Reason) (more : NextStates)
       → odd_for_all next.states.items next.oddity oddity ≡ None
-      → ((out : List State) → added next.states.items kept ≡ Ok out → Left (worked_by work) out)
+      → ((out : List KnownState) → states_with next.states.items kept ≡ Ok out
+      → Left (worked_by work) out)
       → explained_into next (By kept oddity) ≡ Ok more → AdmitsNext more
   next_admits next kept oddity more even admits h = grind (arith, common_steps, bound)
 
   part_kept : Keeps part_into AdmitsNext
   part_kept next state more h a =
-      let s = bound (taken_by known state sent)
-      (λ found. explained_into next (explained judged.odd judged.seen found its_reply)) h in
-      inner (explained judged.odd judged.seen s.0 its_reply) s.2
+      let s = bound (taken_by_state known state sent)
+      (λ found. explained_into next (explanation_of judged.odd judged.seen found its_reply)) h in
+      inner (explanation_of judged.odd judged.seen s.0 its_reply) s.2
     where
-      inner : (by : Explained) → explained_into next by ≡ Ok more → AdmitsNext more
+      inner : (by : Explanation) → explained_into next by ≡ Ok more → AdmitsNext more
       inner (By found oddity) h = next_admits next found oddity more (old_even _ _ _ _ a.0 a.1)
           (λ out e. added_keeps law.texts _ next.states.items found out e a.0) h
       inner (Not reason) h =
-          let e : ◌≡◌ {A = Next} (record next { reason = later next.reason reason }) more = cc in
+          let e : ◌≡◌ {A = NextStates} (record next { reason = later next.reason reason })
+          more = cc in
           subst AdmitsNext e a
 
   there_agrees : Agrees judged.seen work.there.page
@@ -259,26 +261,26 @@ module _ (law : Laws) (reads : RepliesAreRead) (judged : Judged)
   part_gained : Gains part_into (IsPart far sent) AdmitsNext
   unfolding Fits
   part_gained next state more h a =
-      let s = bound (taken_by known state sent)
-      (λ found. explained_into next (explained judged.odd judged.seen found its_reply)) h in
+      let s = bound (taken_by_state known state sent)
+      (λ found. explained_into next (explanation_of judged.odd judged.seen found its_reply)) h in
       inner s.0 (part_fits known sent far law.texts
       (knows law.pages _ _ agrees) state a work s.0 s.1) s.2
     where
-      inner : (found : Option Taken) → Fits work.there sent (Some work.message) found
-          → explained_into next (explained judged.odd judged.seen found its_reply) ≡ Ok more
+      inner : (found : Option TakenMessage) → Fits work.there sent (Some work.message) found
+          → explained_into next (explanation_of judged.odd judged.seen found its_reply) ≡ Ok more
           → AdmitsNext more
       inner None fits h = absurd fits
       inner (Some found) fits h =
-          let new = learned found.kept work.message.mc
+          let new = state_after_reply found.kept work.message.mc
           (reply_to (worked_by work) (layout_of work.there) work.message) in
-          let by : explained judged.odd judged.seen (Some found) its_reply ≡ By new None =
+          let by : explanation_of judged.odd judged.seen (Some found) its_reply ≡ By new None =
           explains _ work.there sent _ (law.texts work.there) work.accepting.awake memory
           there_agrees _ found _ fits.0 fits.1 fits.2 (reads (worked_by work) work.message sized) in
           next_admits next new None more (now_even _ _)
           (λ out e. added_admits law.texts _ next.states.items new out e
           (learned_admits _ _ work.message (law.texts work.there) work.accepting.awake memory
           (worked_sent work.there sent work.message) fits.2))
-          (sym (ap (λ (x : Explained). explained_into next x) by) ∙ h)
+          (sym (ap (λ (x : Explanation). explained_into next x) by) ∙ h)
 
   replied_keeps : Keeps into AdmitsNext
   replied_keeps next state more h a = each_keeps part_kept (parts state sent) next more h a
@@ -287,13 +289,14 @@ module _ (law : Laws) (reads : RepliesAreRead) (judged : Judged)
   replied_gains next state more h a = each_gains part_kept part_gained (parts state sent) next more
       h (parts_admit far sent law.texts work.accepting.hears state a)
 
-  concluded_next : (found : Result Next Open) → ((out : Next) → found ≡ Ok out → AdmitsNext out)
+  concluded_next : (found : Result NextStates Open)
+      → ((out : NextStates) → found ≡ Ok out → AdmitsNext out)
       → IsFair (concluded_replied judged sent its_reply found) (worked_by work)
   concluded_next (Err why) admits = record { page = there_agrees; state = tt; odd = even }
   concluded_next (Ok out) admits =
       split out.states.items (admits out refl).0 out.oddity (admits out refl).1
     where
-      split : (states : List State) → Left (worked_by work) states
+      split : (states : List KnownState) → Left (worked_by work) states
           → (oddity : Option Reason) → oddity ≡ None
           → IsFair (concluded_replied judged sent its_reply
           (Ok (record out { states = record { items = states }; oddity = oddity })))
@@ -307,44 +310,47 @@ module _ (law : Laws) (reads : RepliesAreRead) (judged : Judged)
         odd = even;
       }
 
-  replied_fair : IsFair (judging.replied judged sent its_reply) (worked_by work)
+  replied_fair : IsFair (judging.judge_after_reply judged sent its_reply) (worked_by work)
   replied_fair =
       concluded_next _ (λ out e. each_gains replied_keeps replied_gains _ _ out e admits)
 
 -- A wake-up request
 
 module _ (texts : AllTexts) (wake : Wake) (far new : Far)
-    (follows : (new ≡ woken far) ⊎ ((wake ≡ Unanswered) × (new ≡ far))) where
+    (follows : (new ≡ far_after_wake far) ⊎ ((wake ≡ Unanswered) × (new ≡ far))) where
   woken_keeps : Keeps (woken_into wake) (Left new)
   woken_keeps next state more h a =
       each_keeps (added_keeps texts new) (woken_states wake state) next more h a
 
   -- the device after the wake-up request is one of those that are added
-  woken_one : (state : State) → Admits state far → Left new (woken_states wake state)
+  woken_one : (state : KnownState) → Admits state far → Left new (woken_states wake state)
   woken_one state admits = grind (arith, common_steps, woken_admits)
 
   woken_gains : Gains (woken_into wake) (λ state. Admits state far) (Left new)
   woken_gains next state more h a = each_gains (added_keeps texts new) (added_admits texts new)
       _ next more h (woken_one state a)
 
-  all_woken_admits : (states out : List State) → each_in_turn (woken_into wake) [] states ≡ Ok out
+  all_woken_admits : (states out : List KnownState)
+      → each_in_turn (woken_into wake) [] states ≡ Ok out
       → Left far states → Left new out
   all_woken_admits states out h admits = each_gains woken_keeps woken_gains states [] out h admits
 
 -- the wake took effect, or wasn't answered and was lost
 took_effect : (wake : Wake) (far new : Far) (wakes : Bool) → new
-    ≡ (if wakes then woken far else far) → (is_answered wake ≡ true → wakes ≡ true)
-    → (new ≡ woken far) ⊎ ((wake ≡ Unanswered) × (new ≡ far))
+    ≡ (if wakes then far_after_wake far else far) → (is_answered wake ≡ true → wakes ≡ true)
+    → (new ≡ far_after_wake far) ⊎ ((wake ≡ Unanswered) × (new ≡ far))
 took_effect wake far new wakes is answers = grind (arith, common_steps)
 
 -- what waking leaves as it is, a wake-up request leaves
 woken_same : {A : Type 0} (part : Far → A) (far new : Far) (wakes : Bool)
-    → part (woken far) ≡ part far → new ≡ (if wakes then woken far else far) → part new ≡ part far
+    → part (far_after_wake far) ≡ part far → new ≡ (if wakes then far_after_wake far else far)
+    → part new ≡ part far
 woken_same part far new true same is = ap part is ∙ same
 woken_same part far new false same is = ap part is
 
-wake_fair : AllTexts → (judged : Judged) (far : Far) (wake : Wake) (new : Far)
-    → IsWake far (is_answered wake) new → IsFair judged far → IsFair (woke judged wake) new
+wake_fair : AllTexts → (judged : JudgeState) (far : Far) (wake : Wake) (new : Far)
+    → IsWake far (is_answered wake) new → IsFair judged far
+    → IsFair (judge_after_wake judged wake) new
 wake_fair texts judged far wake new h fair =
     grind (
       arith,
@@ -369,22 +375,23 @@ whole_agrees page place = grind (arith, common_steps)
 
 -- Kinds
 
-with_keeps : (states : List State) (kinds : Kinds) (kind : Kind) → has_kind kinds kind ≡ true
-    → has_kind (kinds_with kinds states) kind ≡ true
+with_keeps : (states : List KnownState) (kinds : Kinds) (kind : Kind)
+    → admits_kind kinds kind ≡ true
+    → admits_kind (kinds_with kinds states) kind ≡ true
 with_keeps [] kinds kind h = h
 with_keeps (state ∷ states) kinds kind h = with_keeps states (both_kinds kinds state.kinds) kind
     (both_has kinds _ kind h)
 
-with_gains : (states : List State) (kinds : Kinds) (far : Far) → Left far states
-    → has_kind (kinds_with kinds states) far.kind ≡ true
+with_gains : (states : List KnownState) (kinds : Kinds) (far : Far) → Left far states
+    → admits_kind (kinds_with kinds states) far.kind ≡ true
 with_gains [] kinds far h = absurd h
 with_gains (state ∷ states) kinds far (inl here) =
     with_keeps states _ _ (other_has kinds _ _ here.kind)
 with_gains (state ∷ states) kinds far (inr there) = with_gains states _ far there
 
 -- a device's kind is among those that are left
-fair_kinds : (judged : Judged) (far : Far) → IsFair judged far
-    → has_kind (kinds_left judged) far.kind ≡ true
+fair_kinds : (judged : JudgeState) (far : Far) → IsFair judged far
+    → admits_kind (kinds_left judged) far.kind ≡ true
 fair_kinds judged far fair = grind (arith, common_steps, all_have, with_gains)
 
 -- An exchange
@@ -401,11 +408,11 @@ regular_all law far [] h = h
 regular_all law far (step ∷ steps) h = regular_all law (local far step) steps (law.steps far step h)
 
 module _ (law : Laws) (stays : RegularStays) (much : MuchStays) (reads : RepliesAreRead) where
-  module _ (judged : Judged) (honest : judged.verdict ≡ Honest) (even : judged.oddities ≡ 0)
+  module _ (judged : JudgeState) (honest : judged.verdict ≡ Honest) (even : judged.oddities ≡ 0)
       (far : Far) (regular : IsRegular far) (agrees : Agrees judged.seen far.page)
       (admits : Left far judged.states) (sent : List ℕ) where
     quiet_fair : (new : Far) → Follows far sent new → new.page ≡ far.page
-        → IsFair (unanswered judged sent) new
+        → IsFair (judge_without_reply judged sent) new
     quiet_fair new follows page =
         concluded_fair judged new (each_in_turn (lost_into (layouts_seen judged.seen) sent) []
         judged.states) honest
@@ -415,23 +422,25 @@ module _ (law : Laws) (stays : RegularStays) (much : MuchStays) (reads : Replies
     -- whatever came, where the device answered nothing or the reply was lost
     lost_fair : (new : Far) → Follows far sent new → new.page ≡ far.page
         → (answer : Option (List ℕ)) → IsUnread sent answer
-        → IsFair (answered judged sent answer) new
+        → IsFair (judge_after_answer judged sent answer) new
     lost_fair new follows page None unread = quiet_fair new follows page
-    lost_fair new follows page (Some reply) unread = cond_both _ _ _ (λ (j : Judged). IsFair j new)
+    lost_fair new follows page (Some reply) unread =
+        cond_both _ _ _ (λ (j : JudgeState). IsFair j new)
         (λ e. absurd (readable_is_unaltered sent reply unread e)) (λ e. quiet_fair new follows page)
 
     -- the unaltered reply of a device that worked the message
-    clean_works : (work : Works far sent) → IsFair (answered judged sent (replied (worked_by work)
+    clean_works : (work : Works far sent)
+        → IsFair (judge_after_answer judged sent (with_reply (worked_by work)
         work.message).reply) (worked_by work)
     clean_works work =
-        let reply = octets_of (reply_to (worked_by work) (layout_of work.there) work.message) in
+        let reply = reply_octets (reply_to (worked_by work) (layout_of work.there) work.message) in
         let new : IsRegular (worked_by work) = rw work.heard_is at (stays.hears far sent regular) in
-        cond_both (is_readable sent reply) (judging.replied judged sent reply)
-        (unanswered judged sent) (λ (j : Judged). IsFair j (worked_by work))
+        cond_both (can_be_read sent reply) (judging.judge_after_reply judged sent reply)
+        (judge_without_reply judged sent) (λ (j : JudgeState). IsFair j (worked_by work))
         (λ e. replied_fair law reads judged honest even far agrees admits sent work new.sized
         new.memory) (λ e. quiet_fair (worked_by work) (inr (work, refl)) work.accepting.by.page)
 
-    clean_fair : IsFair (answered judged sent (hear far sent).reply) (hear far sent).far
+    clean_fair : IsFair (judge_after_answer judged sent (hear far sent).reply) (hear far sent).far
     clean_fair = elim (hears far sent) [
       | inl none ↦ rw none.1 (quiet_fair _ (inl none.0) (much.page_heard far sent))
       | inr work ↦ rw work.heard_is (clean_works work)
@@ -439,16 +448,16 @@ module _ (law : Laws) (stays : RegularStays) (much : MuchStays) (reads : Replies
 
     -- an exchange, once the device did what it does by itself
     passed_fair : (answer : Option (List ℕ)) (passage : Passage) → IsAnswer passage far sent answer
-        → IsFair (answered judged sent answer) (far_after passage far sent)
+        → IsFair (judge_after_answer judged sent answer) (far_after passage far sent)
     passed_fair answer OutLost came = lost_fair far (inl refl) refl answer came
     passed_fair answer BackLost came = lost_fair _ (follows_heard far sent)
         (much.page_heard far sent) answer came
     passed_fair answer Clean came = rw came clean_fair
 
-  exchange_fair : (judged : Judged) (far : Far) (silence : ℕ) (sent : List ℕ)
+  exchange_fair : (judged : JudgeState) (far : Far) (silence : ℕ) (sent : List ℕ)
       (answer : Option (List ℕ)) (new : Far) (silence_new : ℕ)
       → HonestExchange far silence sent answer new silence_new → IsFair judged far
-      → IsFair (exchanged judged sent answer) new
+      → IsFair (judge_after_exchange judged sent answer) new
   exchange_fair judged far silence sent answer new silence_new h fair =
       split judged.verdict fair.state
     where
@@ -460,7 +469,7 @@ module _ (law : Laws) (stays : RegularStays) (much : MuchStays) (reads : Replies
           _ _ sent (much.page_heard (locals far h.steps) sent) ∙ same.page) fair.page
 
       split : (verdict : Verdict) → IsPossible verdict judged.states far
-          → IsFair (exchanged (record judged { verdict = verdict }) sent answer) new
+          → IsFair (judge_after_exchange (record judged { verdict = verdict }) sent answer) new
       split Honest state = rw h.far_is (passed_fair (record judged {
         verdict = Honest;
         exchanges = one_more judged.exchanges;
@@ -472,9 +481,9 @@ module _ (law : Laws) (stays : RegularStays) (much : MuchStays) (reads : Replies
 
   -- A capture
 
-  told_fair : (judged : Judged) (far : Far) (silence : ℕ) (passing : Passing) (new : Far)
+  told_fair : (judged : JudgeState) (far : Far) (silence : ℕ) (passing : Passing) (new : Far)
       (silence_new : ℕ) → IsHonest far silence passing new silence_new → IsFair judged far
-      → IsFair (told judged passing) new
+      → IsFair (judge_after_passing judged passing) new
   told_fair judged far silence (Wakes wake) new silence_new h fair =
       wake_fair law.texts _ far wake new h.0 fair
   told_fair judged far silence (Passes sent answer) new silence_new h fair =
@@ -486,12 +495,12 @@ module _ (law : Laws) (stays : RegularStays) (much : MuchStays) (reads : Replies
   told_kind far silence passing new silence_new h =
       grind (arith, common_steps, woken_same, passed_same)
 
-  run_all : (judged : Judged) (far : Far) → IsFair judged far
+  run_all : (judged : JudgeState) (far : Far) → IsFair judged far
       → (silence : ℕ) (capture : List Passing) → IsHonestRun far silence capture
       → (last : Far) × IsFair (told_all judged capture) last × (last.kind ≡ far.kind)
   run_all judged far fair silence [] h = (far, fair, refl)
   run_all judged far fair silence (passing ∷ capture) h =
-      let rest = run_all (told judged passing) h.0
+      let rest = run_all (judge_after_passing judged passing) h.0
       (told_fair judged far silence passing h.0 h.1 h.2 fair) h.1 capture h.3 in
       (rest.0, rest.1, rest.2 ∙ told_kind far silence passing h.0 h.1 h.2)
 

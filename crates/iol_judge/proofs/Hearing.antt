@@ -6,16 +6,16 @@ use Rattle.iol_mseq.specs.Shape.{Shape}
 use Rattle.iol_page.specs.Page.{layouts_of, knows_isdu, IsAskedBy, PagesAskForLayouts}
 use Rattle.iol_page.specs.declared.page.Layouts.{Layouts}
 use Rattle.iol_page.specs.declared.fault.PageFault.{PageFault}
-use Rattle.iol_far.specs.declared.mode.Mode.{Mode}
+use Rattle.iol_far.specs.declared.mode.DeviceMode.{DeviceMode}
 use Rattle.iol_far.specs.Codec.{layout_in, layout_by, flow_of, message_in}
-use Rattle.iol_far.specs.Far.{known_mode, Far, WaitingCommand, layout_of, accepted, accepted_by, accepted_now, moved, worked, command_in, mode_asked, waits_after, cycle_time_after, is_confirm}
+use Rattle.iol_far.specs.Far.{known_mode, Far, WaitingCommand, layout_of, accepted_message, accepted_by, accepted_now, far_in_mode, far_after_message, command_in, mode_asked, waits_after, cycle_time_after, is_confirm}
 use Rattle.iol_judge.specs.declared.open.Open.{Open}
 use Rattle.iol_judge.specs.declared.open.Open.TheVariants.{PageRefused}
 use Rattle.std.specs.Result.{result_map_both}
 use Rattle.iol_judge.specs.Seen.{layouts_by, layouts_known, layouts_seen}
 use Rattle.iol_judge.specs.Taking.{and_then, mode_layout, mode_known, cycle_after, state_after, taken_message}
 use Rattle.iol_judge.specs.Transfers.{isdu_known, is_apart, transfer_after, transfer_in}
-use Rattle.iol_judge.specs.Admitted.{Agrees, Admits, AreShown, One}
+use Rattle.iol_judge.specs.Admitted.{Agrees, Admits, AreAsKnown, One}
 use Rattle.std.proofs.lemmas.Bool.{cond_both}
 use Rattle.iol_octets.specs.Control.{control_of}
 use Rattle.iol_octets.specs.declared.flow_control.Flow.{Flow}
@@ -23,12 +23,12 @@ use Rattle.iol_octets.specs.declared.control.Channel.{Channel}
 use Rattle.iol_octets.specs.declared.control.Channel.TheVariants.{Isdu}
 use Rattle.iol_mseq.specs.declared.master.MasterMsg.{MasterMsg}
 use Rattle.iol_far.specs.declared.kind.Kind.{Kind}
-use Rattle.iol_far.specs.Level.{Link, link_of, taken, taken_by}
-use Rattle.iol_judge.specs.declared.taken.Taken.{Taken}
+use Rattle.iol_far.specs.Level.{FarLink, link_of, accepting_link, taken_by}
+use Rattle.iol_judge.specs.declared.taken.TakenMessage.{TakenMessage}
 use Rattle.iol_judge.specs.declared.transfer.Transfer.{Transfer}
 use Rattle.iol_judge.specs.declared.transfer.Transfer.TheVariants.{Quiet}
-use Rattle.iol_judge.specs.Family.{has_kind, kind_in, all_kinds, has_by, only_by, only_kind}
-use Rattle.iol_judge.specs.State.{State, tells_apart, all_parts, parts, parts_of, state_of}
+use Rattle.iol_judge.specs.Family.{admits_kind, kind_in, all_kinds, has_by, only_by, only_kind}
+use Rattle.iol_judge.specs.State.{KnownState, tells_apart, all_parts, parts, parts_of, state_of_kind}
 use Rattle.iol_judge.specs.Taking as take
 use Rattle.iol_judge.specs.UnderWay.{HasUnderWay}
 use Rattle.iol_judge.proofs.Sets.{bound, of_kinds, worked_shown}
@@ -42,9 +42,9 @@ use Rattle.iol_far.specs.declared.kind.Recalls.TheVariants.{UntilLeft, UntilSent
 -- Layouts that are known are the device's
 
 pub record Knows (known : Result Layouts Open) (page : List ℕ) : Type 0 where
-  pub layout : (mode : Mode) (layout : Shape) → mode_layout known mode ≡ Ok layout
+  pub layout : (mode : DeviceMode) (layout : Shape) → mode_layout known mode ≡ Ok layout
       → layout_in page mode ≡ layout
-  pub mode : (asked found : Option Mode) → mode_known known asked ≡ Ok found
+  pub mode : (asked found : Option DeviceMode) → mode_known known asked ≡ Ok found
       → known_mode page asked ≡ found
   pub isdu : IfSome (isdu_known known) (λ there. knows_isdu page ≡ there)
 
@@ -70,12 +70,12 @@ seen_layouts seen page layouts agrees h =
     known_by page _ _ _ _ _ (agrees 1) (agrees 2) (agrees 3) (agrees 4) h
 
 layout_known : (page : List ℕ) (layouts : Layouts) → layouts_of page ≡ Ok layouts
-    → (mode : Mode) (layout : Shape) → mode_layout (Ok layouts) mode ≡ Ok layout
+    → (mode : DeviceMode) (layout : Shape) → mode_layout (Ok layouts) mode ≡ Ok layout
     → layout_by mode (layouts_of page) ≡ layout
 layout_known page layouts asks mode layout h = grind (arith, common_steps)
 
 mode_found : (page : List ℕ) (layouts : Layouts) → IsAskedBy page layouts
-    → (asked found : Option Mode) → mode_known (Ok layouts) asked ≡ Ok found
+    → (asked found : Option DeviceMode) → mode_known (Ok layouts) asked ≡ Ok found
     → known_mode page asked ≡ found
 mode_found page layouts asks asked found h = grind (arith, common_steps)
 
@@ -119,7 +119,7 @@ pub record Accepting (far there : Far) (octets : List ℕ) : Type 0 where
   pub by : AcceptingBy far.waits far there octets
   pub hears : far.awake ≡ true
   pub awake : there.awake ≡ true
-  pub accepts : accepted far octets ≡ accepted_now there octets
+  pub accepts : accepted_message far octets ≡ accepted_now there octets
 
 accepting_by : (waits : Option WaitingCommand) (far : Far) (octets : List ℕ)
     → (there : Far) × AcceptingBy waits far there octets
@@ -129,7 +129,7 @@ accepting_by (Some command) far octets = split (bytes_eq octets command.octets) 
     split : (b : Bool) → bytes_eq octets command.octets ≡ b
         → (there : Far) × AcceptingBy (Some command) far there octets
     split true e = (far, grind (arith, common_steps))
-    split false e = (moved far command.into, grind (arith, common_steps))
+    split false e = (far_in_mode far command.into, grind (arith, common_steps))
 
 pub accepting : (far : Far) (octets : List ℕ) → far.awake ≡ true
     → (there : Far) × Accepting far there octets
@@ -146,11 +146,11 @@ accepting far octets awake =
     )
 
 -- what a state makes of octets fits what the device makes of them
-unfoldable pub Fits : Far → List ℕ → Option MasterMsg → Option Taken → Type 0
+unfoldable pub Fits : Far → List ℕ → Option MasterMsg → Option TakenMessage → Type 0
 Fits there octets None found = found ≡ None
 Fits there octets (Some message) None = ⊥
 Fits there octets (Some message) (Some found) = (found.message ≡ message)
-    × (found.layout ≡ layout_of there) × Admits found.kept (worked there octets message)
+    × (found.layout ≡ layout_of there) × Admits found.kept (far_after_message there octets message)
 
 cycle_admits : (old : ℕ) (known : Option ℕ) (channel : Channel) (read : Bool) (address octet : ℕ)
     → IfSome known (λ o. old ≡ o) → IfSome (cycle_after known channel read address octet)
@@ -158,15 +158,15 @@ cycle_admits : (old : ℕ) (known : Option ℕ) (channel : Channel) (read : Bool
 cycle_admits old known channel read address octet h = grind (arith, common_steps)
 
 -- the link once the message was worked
-worked_link : (there : Far) (link : Link) (octets : List ℕ) (asked : Option Mode)
+worked_link : (there : Far) (link : FarLink) (octets : List ℕ) (asked : Option DeviceMode)
     (message : MasterMsg)
     → link_of there ≡ link → known_mode there.page (mode_asked (command_in message)) ≡ asked
-    → link_of (worked there octets message)
+    → link_of (far_after_message there octets message)
     ≡ record { mode = link.mode; waits = waits_after link.mode link.waits octets asked }
 worked_link there link octets asked message at finds = rw (finds, ← at) refl
 
 -- all devices of the state do the same on these octets, or the state is of one kind
-abbrev pub Moves : State → Kind → List ℕ → Type 0
+abbrev pub Moves : KnownState → Kind → List ℕ → Type 0
 Moves state kind octets = (kind_in state.kinds ≡ kind)
     ⊎ (tells_apart state (control_of (slice_index octets 0)) ≡ false)
 
@@ -188,23 +188,23 @@ in_alike : (waits : Option WaitingCommand) (octets : List ℕ) (transfer : Trans
 in_alike waits octets transfer channel read flow e = grind (arith, common_steps, quiet_alike)
 
 -- the events of a device that is awake
-pub shown_awake : (state : State) (far : Far) → far.awake ≡ true → Admits state far
-    → AreShown state.events far.events
+pub shown_awake : (state : KnownState) (far : Far) → far.awake ≡ true → Admits state far
+    → AreAsKnown state.events far.events
 shown_awake state far awake admits = rw awake at admits.events
 
 -- and its transfer
-pub under_way_awake : (state : State) (far : Far) → far.awake ≡ true → Admits state far
+pub under_way_awake : (state : KnownState) (far : Far) → far.awake ≡ true → Admits state far
     → HasUnderWay far state.transfer
 under_way_awake state far awake admits = rw awake at admits.isdu
 
-module _ (known : Result Layouts Open) (far there : Far) (octets : List ℕ) (state : State)
+module _ (known : Result Layouts Open) (far there : Far) (octets : List ℕ) (state : KnownState)
     (texts : AllTexts) (knows : Knows known far.page) (accepting : Accepting far there octets)
     (admits : Admits state far) (moves : Moves state far.kind octets) where
-  abbrev its_link : Link
-  its_link = taken state.link octets
+  abbrev its_link : FarLink
+  its_link = accepting_link state.link octets
 
   at : link_of there ≡ its_link
-  at = accepting.by.link ∙ ap (λ (l : Link). taken l octets) admits.link
+  at = accepting.by.link ∙ ap (λ (l : FarLink). accepting_link l octets) admits.link
 
   -- what is known of its transfer, and what is once a device of a kind worked the message
   abbrev its_transfer : Transfer
@@ -221,7 +221,7 @@ module _ (known : Result Layouts Open) (far there : Far) (octets : List ℕ) (st
 
   transfer_after_it : (layout : Shape) (message : MasterMsg)
       → message.mc ≡ control_of (slice_index octets 0) → layout ≡ layout_of there
-      → HasUnderWay (worked there octets message) (if there.awake
+      → HasUnderWay (far_after_message there octets message) (if there.awake
       then (state_after known its_link state octets layout message None).transfer else Quiet)
   transfer_after_it layout message mc l =
       rw accepting.awake (rw l (rw (moves_alike (layout_of there).od message mc) at
@@ -230,40 +230,42 @@ module _ (known : Result Layouts Open) (far there : Far) (octets : List ℕ) (st
       (flow_of message.mc.address) message.od.items (rw (← admits.link)
       (accepting.by.isdu state.transfer (under_way_awake state far accepting.hears admits))))))
 
-  fits_asked : (layout : Shape) (message : MasterMsg) (asked : Result (Option Mode) Open)
+  fits_asked : (layout : Shape) (message : MasterMsg) (asked : Result (Option DeviceMode) Open)
       → message.mc ≡ control_of (slice_index octets 0)
       → mode_known known (mode_asked (command_in message)) ≡ asked → layout ≡ layout_of there
-      → (found : Option Taken) → and_then asked (λ mode. Ok (Some (record {
+      → (found : Option TakenMessage) → and_then asked (λ mode. Ok (Some (record {
         kept = state_after known its_link state octets layout message mode;
         layout = layout;
         message = message;
       }))) ≡ Ok found → Fits there octets (Some message) found
   unfolding Fits
   fits_asked layout message (Ok asked) mc e l (Some found) h =
-      let is : ◌≡◌ {A = Taken} (record {
+      let is : ◌≡◌ {A = TakenMessage} (record {
         kept = state_after known its_link state octets layout message asked;
         layout = layout;
         message = message;
       }) found = cc in (
-        ap (λ (t : Taken). t.message) (sym is),
-        ap (λ (t : Taken). t.layout) (sym is) ∙ l,
-        subst (λ (t : Taken). Admits t.kept (worked there octets message)) is (record {
-          kind = rw accepting.by.kind admits.kind;
-          link = worked_link there its_link octets asked message at
-              (rw accepting.by.page (knows.mode (mode_asked (command_in message)) asked e));
-          cycle = cycle_admits there.cycle_time state.cycle message.mc.channel message.mc.read
-              message.mc.address (slice_index message.od.items 0)
-              (rw accepting.by.cycle admits.cycle);
-          events = rw accepting.awake (worked_shown state.events there.events
-              (is_confirm message.mc.channel message.mc.read message.mc.address)
-              (rw accepting.by.events (shown_awake state far accepting.hears admits)));
-          isdu = transfer_after_it layout message mc l;
-        }),
+        ap (λ (t : TakenMessage). t.message) (sym is),
+        ap (λ (t : TakenMessage). t.layout) (sym is) ∙ l,
+        subst (λ (t : TakenMessage). Admits t.kept (far_after_message there octets message)) is
+            (record {
+              kind = rw accepting.by.kind admits.kind;
+              link = worked_link there its_link octets asked message at
+                  (rw accepting.by.page (knows.mode (mode_asked (command_in message)) asked e));
+              cycle = cycle_admits there.cycle_time state.cycle message.mc.channel message.mc.read
+                  message.mc.address (slice_index message.od.items 0)
+                  (rw accepting.by.cycle admits.cycle);
+              events = rw accepting.awake (worked_shown state.events there.events
+                  (is_confirm message.mc.channel message.mc.read message.mc.address)
+                  (rw accepting.by.events (shown_awake state far accepting.hears admits)));
+              isdu = transfer_after_it layout message mc l;
+            }),
       )
   fits_asked layout message asked mc e l found h = absurd (cc)
 
   fits_message : (layout : Shape) (message : Option MasterMsg) → message_in layout octets ≡ message
-      → layout ≡ layout_of there → (found : Option Taken) → taken_message known its_link state
+      → layout ≡ layout_of there → (found : Option TakenMessage)
+      → taken_message known its_link state
       octets layout message ≡ Ok found → Fits there octets message found
   unfolding Fits
   fits_message layout None e l found h = cc
@@ -271,26 +273,26 @@ module _ (known : Result Layouts Open) (far there : Far) (octets : List ℕ) (st
       fits_asked layout message _ (control_is layout octets message e) refl l found h
 
   -- a state that stands for the device makes of the octets what it makes of them
-  pub state_fits : (found : Option Taken) → take.taken_by known state octets ≡ Ok found
+  pub state_fits : (found : Option TakenMessage) → take.taken_by_state known state octets ≡ Ok found
       → Fits there octets (message_in (layout_of there) octets) found
   state_fits found h =
       let s = bound _ _ h in
       let l : s.0 ≡ layout_of there = sym (knows.layout its_link.mode s.0 s.1)
-      ∙ ap (λ (l : Link). layout_in far.page l.mode) (sym at)
+      ∙ ap (λ (l : FarLink). layout_in far.page l.mode) (sym at)
       ∙ ap (λ (p : List ℕ). layout_in p there.mode) (sym accepting.by.page) in
       rw l at (fits_message s.0 _ refl l found s.2)
 
 -- What a state stands for is told apart by kinds where a message tells them apart
 
 -- a state stands for the device, and moves as it does
-abbrev pub IsPart : Far → List ℕ → State → Type 0
+abbrev pub IsPart : Far → List ℕ → KnownState → Type 0
 IsPart far sent part = Admits part far × Moves part far.kind sent
 
-pub all_have : (kind : Kind) → has_kind all_kinds kind ≡ true
+pub all_have : (kind : Kind) → admits_kind all_kinds kind ≡ true
 all_have kind = of_kinds (λ o r. has_by all_kinds o r ≡ true) refl refl refl refl
     kind.hands_over kind.recalls
 
-only_has : (kind : Kind) → has_kind (only_kind kind) kind ≡ true
+only_has : (kind : Kind) → admits_kind (only_kind kind) kind ≡ true
 only_has kind = of_kinds (λ o r. has_by (only_by o r) o r ≡ true) refl refl refl refl
     kind.hands_over kind.recalls
 
@@ -312,11 +314,11 @@ later_one Q [] ys h = h
 later_one Q (x ∷ xs) ys h = inr (later_one Q xs ys h)
 
 module _ (far : Far) (sent : List ℕ) (texts : AllTexts) (awake : far.awake ≡ true)
-    (state : State) (admits : Admits state far) where
+    (state : KnownState) (admits : Admits state far) where
   -- of its own kind
   its_parts : (kind : Kind) → far.kind ≡ kind → (transfers : List Transfer)
       → OneUnderWay far.kind.hands_over far.counted (layout_of far).od transfers far.isdu
-      → One (IsPart far sent) (map (state_of state kind) transfers)
+      → One (IsPart far sent) (map (state_of_kind state kind) transfers)
   its_parts kind is [] h = absurd h
   its_parts kind is (transfer ∷ transfers) (inr h) = inr (its_parts kind is transfers h)
   its_parts kind is (transfer ∷ transfers) (inl h) = inl (
@@ -327,13 +329,13 @@ module _ (far : Far) (sent : List ℕ) (texts : AllTexts) (awake : far.awake ≡
   kind_parts : (kind : Kind) → far.kind ≡ kind → One (IsPart far sent) (parts_of state kind)
   kind_parts kind is = grind (arith, common_steps, its_parts, apart_under_way)
 
-  abbrev its : HandsOver → Recalls → List State
+  abbrev its : HandsOver → Recalls → List KnownState
   its hands_over recalls = parts_of state (kind_of hands_over recalls)
 
-  abbrev two : List State
+  abbrev two : List KnownState
   two = its FirstRead UntilLeft ++ its FirstRead UntilSent
 
-  abbrev three : List State
+  abbrev three : List KnownState
   three = two ++ its LastSegment UntilLeft
 
   of_all : One (IsPart far sent) (all_parts state)

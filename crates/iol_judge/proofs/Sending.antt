@@ -8,7 +8,7 @@ use Rattle.std.proofs.lemmas.Bool.{and_from, cases_lt, eq-eqb, cond_both, ltb-tr
 use Rattle.std.proofs.lemmas.List.{length-append, length-drop, drop_at, drop-append-le, take-append-le, take_all, drop-drop, drop-take}
 use Rattle.std.proofs.Math.Nat.{mul-le-mul_right}
 use Rattle.iol_segment.specs.Cut.{segment, SegmentsHaveSize}
-use Rattle.iol_segment.specs.TextLaws.{joined, HoldsLength, TextLaws}
+use Rattle.iol_segment.specs.TextLaws.{segments_up_to, HoldsLength, TextLaws}
 use Rattle.iol_judge.specs.Octets.{are_zeros}
 use Rattle.iol_judge.specs.UnderWay.{first_ones, later_ones, AreHad, IsUnderWay, IsAnswered}
 use Rattle.std.proofs.lemmas.Bool.Decides.{nat_tests}
@@ -17,7 +17,7 @@ use Rattle.iol_isdu.specs.declared.fault.IsduFault.TheVariants.{BadIsduLength, T
 use Rattle.iol_isdu.specs.Answers.{answer_accepts, answer_fault, kind_fault, is_read}
 use Rattle.iol_isdu.specs.Frame.{first_of, total_at}
 use Rattle.iol_judge.specs.declared.reason.Reason.TheVariants.{AnswerKind}
-use Rattle.iol_judge.specs.Answers.{is_answered_by, open_fault, total_begun, is_next, is_open, was_sent}
+use Rattle.iol_judge.specs.Answers.{is_answered_by, open_fault, total_begun, is_next_count, is_stage_open, was_sent}
 use Rattle.iol_segment.proofs.Growing.{total-bounds, total_at-more}
 use Rattle.iol_segment.proofs.TextLaws.{joined-front, joined-whole}
 use Rattle.iol_judge.specs.Transfers.{longest_answer, answered_read, first_again, further, missed_further, or_ended, sent_again, while_further}
@@ -26,7 +26,7 @@ use Rattle.iol_octets.specs.declared.flow_control.Flow.TheVariants.{Start, Count
 use Rattle.iol_isdu.specs.declared.values.Request.{Request}
 use Rattle.iol_isdu.specs.declared.values.Answer.{Answer}
 use Rattle.iol_segment.specs.Join.{stage}
-use Rattle.iol_far.specs.Isdu.{IsduState, Empty, Answered, answer_text, fits, has_segment, isdu_read, recalled}
+use Rattle.iol_far.specs.Isdu.{IsduState, Empty, Answered, answer_text_to, fits, has_segment, isdu_read, remaining_isdu}
 use Rattle.iol_far.specs.declared.kind.Kind.{Kind}
 use Rattle.iol_far.specs.declared.kind.HandsOver.{HandsOver}
 use Rattle.iol_far.specs.declared.kind.Recalls.{Recalls}
@@ -36,7 +36,7 @@ use Rattle.iol_far.specs.Laws.{ModesHaveLayouts}
 use Rattle.iol_far.specs.SegmentLaws.{AnswersFit, SegmentLaws}
 use Rattle.iol_judge.specs.declared.had.Further.{Further}
 use Rattle.iol_judge.specs.declared.had.Further.TheVariants.{GoesOn, MayEnd, Ends}
-use Rattle.iol_judge.specs.declared.had.Had.{Had}
+use Rattle.iol_judge.specs.declared.had.HadSegments.{HadSegments}
 use Rattle.iol_judge.specs.declared.transfer.Transfer.{Transfer}
 use Rattle.iol_judge.specs.declared.transfer.Transfer.TheVariants as known
 use Rattle.iol_judge.specs.declared.transfer.TheConstants.{SHORTEST}
@@ -90,7 +90,7 @@ module _ (sized : SegmentsHaveSize) (size : ℕ) (text : List ℕ) where
   length_first many = ap (λ (l : List ℕ). length l) (first_is_later many) ∙ length_later 0 many
 
   pub first_grow : (many : ℕ) → first_ones size text many ++ segment size text many
-      ≡ joined size text many
+      ≡ segments_up_to size text many
   first_grow zero = refl
   first_grow (suc last) = refl
 
@@ -98,7 +98,8 @@ module _ (sized : SegmentsHaveSize) (size : ℕ) (text : List ℕ) where
       → take size (drop (i * size) (first_ones size text many)) ≡ segment size text i
   part_of_first many i h = grind (arith, common_steps, first_is_later, part_of_later)
 
-  last_of_joined : (last : ℕ) → drop (last * size) (joined size text last) ≡ segment size text last
+  last_of_joined : (last : ℕ) → drop (last * size) (segments_up_to size text last)
+      ≡ segment size text last
   last_of_joined zero =
       let none : 0 * size ≡ 0 = omega arith in
       ap (λ n. drop n (segment size text 0)) none
@@ -127,12 +128,13 @@ module _ (sized : SegmentsHaveSize) (size : ℕ) (text : List ℕ) where
 
   -- and so in all that were joined
   pub zeros_behind : (last : ℕ) → last * size ≤ length text → length text ≤ suc last * size
-      → are_zeros (drop (length text) (joined size text last)) ≡ true
+      → are_zeros (drop (length text) (segments_up_to size text last)) ≡ true
   zeros_behind last low high =
       let rest = length text - last * size in
       let sum : last * size + rest ≡ length text = omega arith in
-      let whole : drop (length text) (joined size text last) ≡ take (size - rest) (replicate size 0)
-      = ap (λ n. drop n (joined size text last)) (sym sum) ∙ sym (drop-drop rest _ _)
+      let whole : drop (length text) (segments_up_to size text last)
+      ≡ take (size - rest) (replicate size 0)
+      = ap (λ n. drop n (segments_up_to size text last)) (sym sum) ∙ sym (drop-drop rest _ _)
       ∙ ap (drop rest) (last_of_joined last) ∙ rest_is_zeros last low high in
       ap are_zeros whole ∙ zeros_taken _ size
 
@@ -289,11 +291,11 @@ below_by size some a b h =
 pub same_by : (size : ℕ) → 1 ≤ size → (a b : ℕ) → a * size ≡ b * size → a ≡ b
 same_by size some a b h = grind (arith, common_steps, by_le, mul-le-mul_right)
 
-module _ (size : ℕ) (law : AreTexts size) (request : Request) (answer : Answer) (had : Had)
+module _ (size : ℕ) (law : AreTexts size) (request : Request) (answer : Answer) (had : HadSegments)
     (sent : ℕ) (read : is_read request ≡ had.read) (fit : IsTrue (fits request answer))
-    (are : AreHad size had (answer_text request answer) sent) where
+    (are : AreHad size had (answer_text_to request answer) sent) where
   abbrev its_text : List ℕ
-  its_text = answer_text request answer
+  its_text = answer_text_to request answer
 
   holds : HoldsLength its_text
   holds = law.texts.answers (is_read request) answer (law.fitting request answer fit)
@@ -312,16 +314,16 @@ module _ (size : ℕ) (law : AreTexts size) (request : Request) (answer : Answer
   counts = let count = are.count in ap (λ c. (c + 1) % 16) count ∙ counted_up sent
 
   -- all up to the one sent last were had
-  joined_had : suc sent ≡ are.many → had.text.items ≡ joined size its_text sent
+  joined_had : suc sent ≡ are.many → had.text.items ≡ segments_up_to size its_text sent
   joined_had same = rw (← same) at are.octets
 
   -- there is a next segment where the octets had are no whole text
-  open_within : suc sent ≡ are.many → is_open (stage had.text.items) ≡ true
+  open_within : suc sent ≡ are.many → is_stage_open (stage had.text.items) ≡ true
       → (sent + 1) * size < length its_text
   open_within same e = grind (arith, common_steps, by_lt, joined_had, holds)
 
   -- and none where they are
-  closed_within : suc sent ≡ are.many → is_open (stage had.text.items) ≡ false
+  closed_within : suc sent ≡ are.many → is_stage_open (stage had.text.items) ≡ false
       → length its_text ≤ (sent + 1) * size
   closed_within same e = grind (arith, common_steps, by_le, joined_had, holds)
 
@@ -355,9 +357,10 @@ module _ (size : ℕ) (law : AreTexts size) (request : Request) (answer : Answer
       let next = had.at + size in
       let octets = had.text.items in
       cond_both (nat_lt (length octets) next) (missed_further had.read (total_at octets) next) (if
-      nat_lt next (length octets) then GoesOn else if is_open (stage octets) then GoesOn else Ends)
+      nat_lt next (length octets) then GoesOn else if is_stage_open (stage octets) then GoesOn
+      else Ends)
       Says (λ p. missed_says _ refl) (λ p. cond_both (nat_lt next (length octets)) GoesOn
-      (if is_open (stage octets) then GoesOn else Ends) Says (λ b.
+      (if is_stage_open (stage octets) then GoesOn else Ends) Says (λ b.
       let less = ltb-true next (length octets) b in
       let before : suc sent < are.many =
       below_by size law.some (suc sent) are.many (omega (arith, length_had)) in
@@ -367,7 +370,8 @@ module _ (size : ℕ) (law : AreTexts size) (request : Request) (answer : Answer
       let ge = ltb-false next (length octets) b in
       let same : suc sent ≡ are.many =
       same_by size law.some (suc sent) are.many (omega (arith, length_had)) in
-      cond_both (is_open (stage octets)) GoesOn Ends Says (open_within same) (closed_within same)))
+      cond_both (is_stage_open (stage octets)) GoesOn Ends Says (open_within same)
+      (closed_within same)))
 
   module _ (hands_over : HandsOver) (counted : Option ℕ) where
     abbrev its_state : IsduState
@@ -378,7 +382,7 @@ module _ (size : ℕ) (law : AreTexts size) (request : Request) (answer : Answer
     next_if asked = if (asked && has_segment size its_text (sent + 1))
         then Answered request answer (Some (sent + 1)) else Empty
 
-    abbrev had_next : ℕ → Had
+    abbrev had_next : ℕ → HadSegments
     had_next count = record had { at = had.at + size; count = count }
 
     -- what holds behind a read under COUNT, of the segment sent last or of the next
@@ -386,10 +390,10 @@ module _ (size : ℕ) (law : AreTexts size) (request : Request) (answer : Answer
     Goes recalls count was next = IsUnderWay hands_over counted size
         (if was then sent_again recalls size had had else
         if next then while_further (further had (had.at + size)) (had_next count) else known.Quiet)
-        (isdu_read size (recalled recalls size its_state) (Count count))
+        (isdu_read size (remaining_isdu recalls size its_state) (Count count))
 
     -- so this is held, where it holds while there is one
-    goes_on : (kept : Had) (state : IsduState)
+    goes_on : (kept : HadSegments) (state : IsduState)
         → ((sent + 1) * size < length its_text → IsAnswered size kept state)
         → IsUnderWay hands_over counted size (while_further (further had (had.at + size)) kept)
         (if has_segment size its_text (sent + 1) then state else Empty)
@@ -408,12 +412,12 @@ module _ (size : ℕ) (law : AreTexts size) (request : Request) (answer : Answer
         split Ends more false e = refl
 
     -- a segment is sent again
-    again_goes : (recalls : Recalls) (again : Had) (number : ℕ)
+    again_goes : (recalls : Recalls) (again : HadSegments) (number : ℕ)
         → IsAnswered size again (Answered request answer (Some number))
         → (next : IsduState → IsduState) → next its_state ≡ Answered request answer (Some number)
         → next Empty ≡ Empty
         → IsUnderWay hands_over counted size (sent_again recalls size had again)
-        (next (recalled recalls size its_state))
+        (next (remaining_isdu recalls size its_state))
     again_goes UntilLeft again number holds next e f = rw e holds
     again_goes UntilSent again number holds next e f =
         rw (split (has_segment size its_text (sent + 1))) (goes_on again _ (λ more. holds))
@@ -426,7 +430,7 @@ module _ (size : ℕ) (law : AreTexts size) (request : Request) (answer : Answer
     -- a read under START
     start_goes : (recalls : Recalls)
         → IsUnderWay hands_over counted size (first_again recalls size had)
-        (isdu_read size (recalled recalls size its_state) Start)
+        (isdu_read size (remaining_isdu recalls size its_state) Start)
     start_goes recalls = again_goes recalls (record had { at = 0; count = 0 }) 0
         (sent_at 0 0 0 (let within = are.within in omega arith) (omega arith) refl)
         (λ (s : IsduState). isdu_read size s Start) refl refl
@@ -434,20 +438,20 @@ module _ (size : ℕ) (law : AreTexts size) (request : Request) (answer : Answer
     -- a read under COUNT of another segment than that sent last
     sent_read : (recalls : Recalls) (count : ℕ) (b : Bool)
         → (nat_lt 0 sent && count == sent % 16) ≡ false → (count == (sent + 1) % 16) ≡ b
-        → isdu_read size (recalled recalls size its_state) (Count count) ≡ next_if b
+        → isdu_read size (remaining_isdu recalls size its_state) (Count count) ≡ next_if b
     sent_read recalls count b p q = grind (arith, common_steps)
 
     -- a read under COUNT
     pub count_goes : (recalls : Recalls) (count : ℕ)
         → IsUnderWay hands_over counted size (answered_read recalls size had count)
-        (isdu_read size (recalled recalls size its_state) (Count count))
+        (isdu_read size (remaining_isdu recalls size its_state) (Count count))
     count_goes recalls count = rw (was, next)
         (going (nat_lt 0 sent && count == sent % 16) (count == (sent + 1) % 16) refl refl)
       where
         was : was_sent had count ≡ (nat_lt 0 sent && count == sent % 16)
         was = rw (are.count, above_zero size law.some sent had.at are.at) refl
 
-        next : is_next had count ≡ (count == (sent + 1) % 16)
+        next : is_next_count had count ≡ (count == (sent + 1) % 16)
         next = ap (λ c. count == c) counts
 
         going : (a b : Bool) → (nat_lt 0 sent && count == sent % 16) ≡ a
@@ -476,7 +480,7 @@ Holds by transfer state = IsUnderWay by.kind.hands_over by.counted by.size trans
 
 -- the state once a read was worked
 abbrev pub read_by : Manner → IsduState → Flow → IsduState
-read_by by state flow = isdu_read by.size (recalled by.kind.recalls by.size state) flow
+read_by by state flow = isdu_read by.size (remaining_isdu by.kind.recalls by.size state) flow
 
 -- what a device knows that has sent nothing of an answer, stays
 abbrev pub Unsent : IsduState → Type 0
@@ -484,16 +488,17 @@ Unsent (Answered request answer (Some sent)) = ⊥
 Unsent state = Unit {0}
 
 pub stays : (recalls : Recalls) (size : ℕ) (state : IsduState) → Unsent state
-    → recalled recalls size state ≡ state
+    → remaining_isdu recalls size state ≡ state
 stays UntilSent size (Answered request answer (Some sent)) u = absurd u
 stays recalls size state u = refl
 
 module _ (by : Manner) where
-  pub answered_start : (had : Had) (state : IsduState) → IsAnswered by.size had state
+  pub answered_start : (had : HadSegments) (state : IsduState) → IsAnswered by.size had state
       → Holds by (first_again by.kind.recalls by.size had) (read_by by state Start)
   answered_start had state h = grind (arith, common_steps, start_goes)
 
-  pub answered_count : (had : Had) (state : IsduState) (count : ℕ) → IsAnswered by.size had state
+  pub answered_count : (had : HadSegments) (state : IsduState) (count : ℕ)
+      → IsAnswered by.size had state
       → Holds by (answered_read by.kind.recalls by.size had count) (read_by by state (Count count))
   answered_count had state count h = grind (arith, common_steps, count_goes)
 
@@ -503,16 +508,17 @@ module _ (by : Manner) where
   still_goes (known.Answered had) state h = inl h
   still_goes transfer state h = h
 
-  further_ended : (f : Further) (had : Had) → Holds by (or_ended (while_further f had)) Empty
+  further_ended : (f : Further) (had : HadSegments)
+      → Holds by (or_ended (while_further f had)) Empty
   further_ended Ends had = refl
   further_ended f had = inr refl
 
-  pub again_ended : (recalls : Recalls) (had again : Had)
+  pub again_ended : (recalls : Recalls) (had again : HadSegments)
       → Holds by (or_ended (sent_again recalls by.size had again)) Empty
   again_ended UntilLeft had again = inr refl
   again_ended UntilSent had again = further_ended _ again
 
-  pub had_ended : (had : Had) (count : ℕ)
+  pub had_ended : (had : HadSegments) (count : ℕ)
       → Holds by (or_ended (answered_read by.kind.recalls by.size had count)) Empty
   had_ended had count = grind (arith, common_steps, again_ended, further_ended)
 

@@ -7,14 +7,14 @@ use Rattle.std.proofs.lemmas.Option.{slice_get_past}
 use Rattle.std.specs.Prelude.{Option, Some, None, IfSome, not, ◌||◌, ◌==◌, nat_lt, if◌then◌else◌, slice_get, slice_index_or, Result, Ok, Err}
 use Rattle.std.specs.Cmp.Lexicographic.{pointwise}
 use Rattle.iol_event.specs.declared.event.Event.{Event}
-use Rattle.iol_event.specs.Memory.{Events, is_empty, raised, released, event_octet, place_octet, status_code}
+use Rattle.iol_event.specs.Memory.{Events, is_empty, events_after_raise, events_after_release, event_octet, place_octet, status_code}
 use Rattle.iol_far.specs.Far.{events_after, Far, WaitingCommand, is_mode, layout_of}
-use Rattle.iol_judge.specs.declared.events.Places.{Places}
-use Rattle.iol_judge.specs.declared.events.Shown.{Shown}
-use Rattle.iol_judge.specs.declared.events.Shown.TheVariants.{Fresh, Filled}
+use Rattle.iol_judge.specs.declared.events.FilledPlaces.{FilledPlaces}
+use Rattle.iol_judge.specs.declared.events.ShownEvents.{ShownEvents}
+use Rattle.iol_judge.specs.declared.events.ShownEvents.TheVariants.{Fresh, Filled}
 use Rattle.iol_judge.specs.Octets.{is_known_in, is_other}
-use Rattle.iol_judge.specs.Events.{covers_events, shown_after, flag_fault, flag_told, marked, place_known, places_fault, places_of, events_fault, octet_told, places_told, events_told}
-use Rattle.iol_judge.specs.Admitted.{IsReleased, AreIn, AreShown, Admits, One}
+use Rattle.iol_judge.specs.Events.{covers_events, shown_after, flag_fault, flag_told, marked_count, place_known, places_fault, places_of, events_fault, octet_told, places_told, events_told}
+use Rattle.iol_judge.specs.Admitted.{IsReleased, AreIn, AreAsKnown, Admits, One}
 use Rattle.std.specs.Cmp.{booleans_Decides}
 use Rattle.std.specs.Option.{option_eq}
 use Rattle.std.proofs.lemmas.Slice.Eq.{bytes_eq-Decides}
@@ -23,42 +23,43 @@ use Rattle.iol_isdu.specs.declared.values.Answer.{Answer}
 use Rattle.iol_far.specs.declared.kind.HandsOver.{HandsOver}
 use Rattle.iol_far.specs.declared.kind.HandsOver.TheVariants.{FirstRead, LastSegment}
 use Rattle.iol_far.specs.Isdu.{IsduState, Handed, Answered, fits}
-use Rattle.iol_judge.specs.declared.had.Had.{Had}
+use Rattle.iol_judge.specs.declared.had.HadSegments.{HadSegments}
 use Rattle.iol_judge.specs.declared.transfer.Transfer.{Transfer}
 use Rattle.iol_judge.specs.declared.transfer.Transfer.TheVariants as known
 use Rattle.iol_judge.specs.Answers.{none_had, same_had}
 use Rattle.iol_judge.specs.Transfers.{covers_transfer}
-use Rattle.iol_judge.specs.UnderWay.{IsUnderWay, IsHanded, IsAsked, IsAnswered, HasUnderWay}
+use Rattle.iol_judge.specs.UnderWay.{IsUnderWay, IsHanded, IsAnswerAsked, IsAnswered, HasUnderWay}
 use Rattle.iol_judge.specs.declared.open.Open.{Open}
-use Rattle.iol_judge.specs.State.{State, are_alike, covers, covers_alike, is_command, startup_state, woken_state, powered_state}
+use Rattle.iol_judge.specs.State.{KnownState, are_alike, covers, covers_alike, is_command, startup_state, woken_state, powered_state}
 use Rattle.iol_judge.specs.Taking.{and_then}
-use Rattle.iol_judge.specs.Judged.{each_in_turn, added, has_state, uncovered, united}
+use Rattle.iol_judge.specs.Judged.{each_in_turn, states_with, has_state, uncovered_states, united_state}
 use Rattle.iol_far.specs.declared.kind.Kind.{Kind}
 use Rattle.iol_far.specs.declared.kind.Recalls.{Recalls}
 use Rattle.iol_far.specs.declared.kind.Recalls.TheVariants.{UntilLeft, UntilSent}
-use Rattle.iol_far.specs.declared.mode.Mode.{Mode}
+use Rattle.iol_far.specs.declared.mode.DeviceMode.{DeviceMode}
 use Rattle.iol_far.specs.Level.{link_of}
 use Rattle.iol_judge.specs.declared.transfer.Transfer.TheVariants.{Quiet}
 use Rattle.iol_judge.specs.declared.kinds.Kinds.{Kinds}
-use Rattle.iol_judge.specs.Family.{both_kinds, has_kind, kinds_within}
+use Rattle.iol_judge.specs.Family.{both_kinds, admits_kind, kinds_within}
 use Rattle.iol_judge.proofs.Sending.{AllTexts}
-use Rattle.iol_far.specs.Local.{LocalStep, local, locals, carried_by, woken}
+use Rattle.iol_far.specs.Local.{LocalStep, local, locals, carried_by, far_after_wake}
 
 -- Events: what is known of them holds through all that a device does, and explains what it shows
 
 -- By itself
 
-pub raised_shown : (shown : Shown) (memory : Events) (event : Event) → AreShown shown memory
-    → AreShown shown (raised memory event)
+pub raised_shown : (shown : ShownEvents) (memory : Events) (event : Event) → AreAsKnown shown memory
+    → AreAsKnown shown (events_after_raise memory event)
 raised_shown shown memory event s = grind (arith, common_steps)
 
 -- A message, and a wake-up request
 
-pub released_free : (memory : Events) → IsReleased (released memory)
+pub released_free : (memory : Events) → IsReleased (events_after_release memory)
 released_free memory = grind (arith, common_steps)
 
-pub worked_shown : (shown : Shown) (memory : Events) (confirm : Bool) → AreShown shown memory
-    → AreShown (shown_after shown confirm) (events_after memory confirm)
+pub worked_shown : (shown : ShownEvents) (memory : Events) (confirm : Bool)
+    → AreAsKnown shown memory
+    → AreAsKnown (shown_after shown confirm) (events_after memory confirm)
 worked_shown shown memory confirm s = grind (arith, common_steps)
 
 -- What the first allows whatever the second does
@@ -74,13 +75,14 @@ known_in_all (x ∷ a) (y ∷ b) zero P h p = known_in_keeps x y P (and_parts _ 
 known_in_all (x ∷ a) (y ∷ b) (suc k) P h p = known_in_all a b k P (and_parts _ _ h).1 p
 known_in_all a b k P h p = absurd (cc)
 
-pub covers_shown : (a b : Shown) (memory : Events) → covers_events a b ≡ true → AreShown b memory
-    → AreShown a memory
+pub covers_shown : (a b : ShownEvents) (memory : Events) → covers_events a b ≡ true
+    → AreAsKnown b memory
+    → AreAsKnown a memory
 covers_shown a b memory h s = grind (arith, common_steps, known_in_all)
 
 -- The Event flag
 
-pub flag_fits : (shown : Shown) (memory : Events) → AreShown shown memory
+pub flag_fits : (shown : ShownEvents) (memory : Events) → AreAsKnown shown memory
     → flag_fault shown (not (is_empty memory.frozen)) ≡ None
 flag_fits shown memory s = grind (arith, common_steps)
 
@@ -88,18 +90,19 @@ flag_fits shown memory s = grind (arith, common_steps)
 pub nothing_known : (n k : ℕ) (P : ℕ → Type 0) → IfSome (get_or (replicate n None) k None) P
 nothing_known n k P = grind (arith, common_steps)
 
-pub flagged_shown : (shown : Shown) (memory : Events) → length memory.frozen ≤ 6
-    → AreShown shown memory → AreShown (flag_told shown (not (is_empty memory.frozen))) memory
+pub flagged_shown : (shown : ShownEvents) (memory : Events) → length memory.frozen ≤ 6
+    → AreAsKnown shown memory → AreAsKnown (flag_told shown (not (is_empty memory.frozen))) memory
 flagged_shown shown memory six s = grind (arith, common_steps, nothing_known)
 
 -- The octets of the diagnosis channel
 
 -- once the flag was had, the places are the device's
-places_in : (shown : Shown) (memory : Events) → length memory.frozen ≤ 6 → AreShown shown memory
+places_in : (shown : ShownEvents) (memory : Events) → length memory.frozen ≤ 6
+    → AreAsKnown shown memory
     → AreIn (places_of (flag_told shown (not (is_empty memory.frozen)))) memory.frozen
 places_in shown memory six s = grind (arith, common_steps, nothing_known)
 
-marks_length : (n : ℕ) → n ≤ 6 → marked (128 + (2 ^ n - 1)) ≡ Some n
+marks_length : (n : ℕ) → n ≤ 6 → marked_count (128 + (2 ^ n - 1)) ≡ Some n
 marks_length zero h = refl
 marks_length (suc zero) h = refl
 marks_length (suc (suc zero)) h = refl
@@ -141,9 +144,9 @@ module _ (f : List Event) (address : ℕ) where
   unfolding event_octet
   is_place e = rw e refl
 
-  module _ (places : Places) (six : length f ≤ 6) (s : AreIn places f) where
-    marks : (address == 0) ≡ true → marked (event_octet f address) ≡ Some (length f)
-    marks e = ap marked (is_status e) ∙ marks_length _ six
+  module _ (places : FilledPlaces) (six : length f ≤ 6) (s : AreIn places f) where
+    marks : (address == 0) ≡ true → marked_count (event_octet f address) ≡ Some (length f)
+    marks e = ap marked_count (is_status e) ∙ marks_length _ six
 
     known_there : (address == 0) ≡ false
         → is_other (place_known places.octets address) (event_octet f address) ≡ false
@@ -167,16 +170,16 @@ module _ (f : List Event) (address : ℕ) where
     told_in = grind (arith, common_steps, marks, octet_in)
 
 -- a reply to a read of the diagnosis channel
-pub events_fit : (shown : Shown) (memory : Events) → length memory.frozen ≤ 6
-    → AreShown shown memory → (address : ℕ)
+pub events_fit : (shown : ShownEvents) (memory : Events) → length memory.frozen ≤ 6
+    → AreAsKnown shown memory → (address : ℕ)
     → events_fault (flag_told shown (not (is_empty memory.frozen))) address
     (event_octet memory.frozen address) ≡ None
 events_fit shown memory six s address = octet_fits memory.frozen address
     (places_of (flag_told shown (not (is_empty memory.frozen)))) six (places_in shown memory six s)
 
-pub told_shown : (shown : Shown) (memory : Events) → length memory.frozen ≤ 6
-    → AreShown shown memory → (address : ℕ)
-    → AreShown (events_told shown address (event_octet memory.frozen address)) memory
+pub told_shown : (shown : ShownEvents) (memory : Events) → length memory.frozen ≤ 6
+    → AreAsKnown shown memory → (address : ℕ)
+    → AreAsKnown (events_told shown address (event_octet memory.frozen address)) memory
 told_shown (Filled places) memory six s address = (s.0, s.1, told_in _ address places six s.2)
 told_shown shown memory six s address = s
 
@@ -184,10 +187,10 @@ told_shown shown memory six s address = s
 
 pub asked_covers : (hands_over : HandsOver) (counted : Option ℕ) (read : Bool) (last : Option ℕ)
     (state : IsduState) → IsHanded hands_over counted read last state
-    → IsAsked hands_over counted read last state
+    → IsAnswerAsked hands_over counted read last state
 asked_covers hands_over counted read last state h = grind arith
 
-had_same : (a b : Had) → same_had a b ≡ true → a ≡ b
+had_same : (a b : HadSegments) → same_had a b ≡ true → a ≡ b
 had_same a b e = grind (arith, common_steps, bytes_eq-Decides, booleans_Decides)
 
 -- a segment was sent, and none was had: it is the first
@@ -197,7 +200,7 @@ none_first size (suc sent) some at = absurd (omega (arith, some))
 
 module _ (hands_over : HandsOver) (counted : Option ℕ) (size : ℕ) (some : 1 ≤ size) where
   none_covers : (read : Bool) (last : Option ℕ) (state : IsduState)
-      → IsAnswered size (none_had read) state → IsAsked hands_over counted read last state
+      → IsAnswered size (none_had read) state → IsAnswerAsked hands_over counted read last state
   none_covers read last state h = grind (arith, common_steps, none_first)
 
   pub covers_under_way : (a b : Transfer) (state : IsduState) → covers_transfer a b ≡ true
@@ -249,7 +252,7 @@ Gains {S = S} {A = A} step Q P =
     (next : A) (item : S) (more : A) → step next item ≡ Ok more → Q item → P more
 
 -- one of the states stands for the device
-abbrev pub Left : Far → List State → Type 0
+abbrev pub Left : Far → List KnownState → Type 0
 Left far states = One (λ state. Admits state far) states
 
 module _ {S A : Type 0} {step : A → S → Result A Open} {P : A → Type 0} (keeps : Keeps step P) where
@@ -281,12 +284,12 @@ pub of_kinds : (P : HandsOver → Recalls → Type 0) → P FirstRead UntilLeft 
 of_kinds P a b c d hands_over recalls = grind arith
 
 -- with those of another set, it has what it had
-pub both_has : (a b : Kinds) (kind : Kind) → has_kind a kind ≡ true
-    → has_kind (both_kinds a b) kind ≡ true
+pub both_has : (a b : Kinds) (kind : Kind) → admits_kind a kind ≡ true
+    → admits_kind (both_kinds a b) kind ≡ true
 both_has a b kind e = grind arith
 
-pub other_has : (a b : Kinds) (kind : Kind) → has_kind b kind ≡ true
-    → has_kind (both_kinds a b) kind ≡ true
+pub other_has : (a b : Kinds) (kind : Kind) → admits_kind b kind ≡ true
+    → admits_kind (both_kinds a b) kind ≡ true
 other_has a b kind e = grind arith
 
 -- segments have octets, in whatever layout
@@ -297,14 +300,14 @@ option_same : {A : Type 0} (eq : A → A → Bool) → ((a b : A) → eq a b ≡
     → (a b : Option A) → option_eq eq a b ≡ true → a ≡ b
 option_same eq same a b e = grind (arith, common_steps)
 
-same_mode : (a b : Mode) → is_mode a b ≡ true → a ≡ b
+same_mode : (a b : DeviceMode) → is_mode a b ≡ true → a ≡ b
 same_mode a b h = grind arith
 
 same_command : (a b : WaitingCommand) → is_command a b ≡ true → a ≡ b
 same_command a b h = grind (arith, common_steps, bytes_eq-Decides)
 
-alike_admits : (a b : State) (far : Far) → HasSegments far → covers_alike a b ≡ true
-    → has_kind a.kinds far.kind ≡ true → Admits b far → Admits a far
+alike_admits : (a b : KnownState) (far : Far) → HasSegments far → covers_alike a b ≡ true
+    → admits_kind a.kinds far.kind ≡ true → Admits b far → Admits a far
 alike_admits a b far some h kind s =
     grind (
       arith,
@@ -319,17 +322,17 @@ alike_admits a b far some h kind s =
     )
 
 -- a kind of the first is one of the second
-within_has : (a b : Kinds) (kind : Kind) → kinds_within a b ≡ true → has_kind a kind ≡ true
-    → has_kind b kind ≡ true
+within_has : (a b : Kinds) (kind : Kind) → kinds_within a b ≡ true → admits_kind a kind ≡ true
+    → admits_kind b kind ≡ true
 within_has a b kind h e = grind arith
 
-covers_admits : (a b : State) (far : Far) → HasSegments far → covers a b ≡ true → Admits b far
+covers_admits : (a b : KnownState) (far : Far) → HasSegments far → covers a b ≡ true → Admits b far
     → Admits a far
 covers_admits a b far some h s =
     let parts = and_parts _ _ h in
     alike_admits a b far some parts.1 (within_has b.kinds a.kinds _ parts.0 s.kind) s
 
-has_admits : (states : List State) (state : State) (far : Far) → HasSegments far
+has_admits : (states : List KnownState) (state : KnownState) (far : Far) → HasSegments far
     → has_state states state ≡ true → Admits state far → Left far states
 has_admits [] state far some h admits = absurd (cc)
 has_admits (x ∷ states) state far some h admits =
@@ -339,21 +342,23 @@ has_admits (x ∷ states) state far some h admits =
     ]
 
 -- the one at the end
-last_admits : (states : List State) (state : State) (far : Far) → Admits state far
+last_admits : (states : List KnownState) (state : KnownState) (far : Far) → Admits state far
     → Left far (states ++ state ∷ [])
 last_admits [] state far h = inl h
 last_admits (x ∷ states) state far h = inr (last_admits states state far h)
 
 -- a state takes the place of those that it covers
-front_admits : (states : List State) (state : State) (far : Far) → HasSegments far → Left far states
-    → Left far (uncovered states state ++ state ∷ [])
+front_admits : (states : List KnownState) (state : KnownState) (far : Far) → HasSegments far
+    → Left far states
+    → Left far (uncovered_states states state ++ state ∷ [])
 front_admits [] state far some h = absurd h
 front_admits (x ∷ states) state far some h =
     split (covers state x) refl h (λ rest. front_admits states state far some rest)
   where
     split : (b : Bool) → covers state x ≡ b → Admits x far ⊎ Left far states
-        → (Left far states → Left far (uncovered states state ++ state ∷ []))
-        → Left far ((if not b then x ∷ uncovered states state else uncovered states state)
+        → (Left far states → Left far (uncovered_states states state ++ state ∷ []))
+        → Left far ((if not b then x ∷ uncovered_states states state else uncovered_states
+        states state)
         ++ state ∷ [])
     split true e (inl here) go = last_admits _ state far (covers_admits state x far some e here)
     split true e (inr there) go = go there
@@ -361,28 +366,28 @@ front_admits (x ∷ states) state far some h =
     split false e (inr there) go = inr (go there)
 
 -- a state with the kinds of those that are alike stands for what it did
-united_admits : (states : List State) (state : State) (far : Far) → Admits state far
-    → Admits (united states state) far
+united_admits : (states : List KnownState) (state : KnownState) (far : Far) → Admits state far
+    → Admits (united_state states state) far
 united_admits [] state far h = h
 united_admits (x ∷ states) state far h =
-    let more : State = record state { kinds = both_kinds state.kinds x.kinds } in
+    let more : KnownState = record state { kinds = both_kinds state.kinds x.kinds } in
     united_admits states (if are_alike x state then more else state) far
-    (cond_both (are_alike x state) more state (λ (s : State). Admits s far)
+    (cond_both (are_alike x state) more state (λ (s : KnownState). Admits s far)
     (λ e. grind (arith, common_steps, both_has)) (λ e. h))
 
 -- a state that is added is covered, or takes the place of others
-added_next : (states : List State) (state : State) (next : List State)
-    → added states state ≡ Ok next → ((has_state states state ≡ true) × (states ≡ next))
-    ⊎ (uncovered states (united states state) ++ united states state ∷ [] ≡ next)
+added_next : (states : List KnownState) (state : KnownState) (next : List KnownState)
+    → states_with states state ≡ Ok next → ((has_state states state ≡ true) × (states ≡ next))
+    ⊎ (uncovered_states states (united_state states state) ++ united_state states state ∷ [] ≡ next)
 added_next states state next h = grind (arith, common_steps)
 
 module _ (texts : AllTexts) (far : Far) where
   -- what was admitted still is
-  pub added_keeps : Keeps added (Left far)
+  pub added_keeps : Keeps states_with (Left far)
   added_keeps states state next h admits = grind (arith, common_steps, added_next, front_admits)
 
   -- and so is what the state admits that is added
-  pub added_admits : Gains added (λ state. Admits state far) (Left far)
+  pub added_admits : Gains states_with (λ state. Admits state far) (Left far)
   added_admits states state next h admits =
       grind (arith, common_steps, added_next, has_admits, last_admits, united_admits)
 
@@ -395,8 +400,8 @@ pub record Alike (far new : Far) : Type 0 where
   pub link : link_of new ≡ link_of far
   pub cycle : new.cycle_time ≡ far.cycle_time
   pub page : new.page ≡ far.page
-  pub events : (known : Shown) → AreShown (if far.awake then known else Fresh) far.events
-      → AreShown (if new.awake then known else Fresh) new.events
+  pub events : (known : ShownEvents) → AreAsKnown (if far.awake then known else Fresh) far.events
+      → AreAsKnown (if new.awake then known else Fresh) new.events
   pub isdu : (known : Transfer) → HasUnderWay far (if far.awake then known else Quiet)
       → HasUnderWay new (if new.awake then known else Quiet)
 
@@ -422,11 +427,11 @@ locals_alike far [] = itself far
 locals_alike far (step ∷ steps) = then_alike far _ _
     (local_alike far step) (locals_alike (local far step) steps)
 
-pub admits_alike : (state : State) (far new : Far) → Alike far new → Admits state far
+pub admits_alike : (state : KnownState) (far new : Far) → Alike far new → Admits state far
     → Admits state new
 admits_alike state far new same h = grind (arith, common_steps)
 
-pub one_alike : (states : List State) (far new : Far) → Alike far new → Left far states
+pub one_alike : (states : List KnownState) (far new : Far) → Alike far new → Left far states
     → Left new states
 one_alike [] far new same h = absurd h
 one_alike (state ∷ states) far new same h = elim h [
@@ -434,11 +439,11 @@ one_alike (state ∷ states) far new same h = elim h [
   | inr there ↦ inr (one_alike states far new same there)
 ]
 
-woken_as : (state : State) (far : Far) → Admits state far → (shown : Shown)
-    → AreShown shown far.events
-    → Admits (startup_state state.kinds state.cycle (shown_after shown false)) (woken far)
+woken_as : (state : KnownState) (far : Far) → Admits state far → (shown : ShownEvents)
+    → AreAsKnown shown far.events
+    → Admits (startup_state state.kinds state.cycle (shown_after shown false)) (far_after_wake far)
 woken_as state far h shown s = grind (arith, common_steps, worked_shown)
 
-pub woken_admits : (state : State) (far : Far) → Admits state far
-    → Left (woken far) (woken_state state ∷ powered_state state ∷ [])
+pub woken_admits : (state : KnownState) (far : Far) → Admits state far
+    → Left (far_after_wake far) (woken_state state ∷ powered_state state ∷ [])
 woken_admits state far h = grind (arith, common_steps, woken_as)

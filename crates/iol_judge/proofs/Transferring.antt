@@ -5,17 +5,17 @@ use Rattle.std.specs.Prelude.{Option, Some, None, ◌==◌, if◌then◌else◌,
 use Rattle.iol_octets.specs.declared.flow_control.Flow.TheVariants.{Start, Count}
 use Rattle.iol_isdu.specs.declared.values.Request.{Request}
 use Rattle.iol_segment.specs.Join.{Stage, next_count, is_last}
-use Rattle.iol_far.specs.Isdu.{IsduState, Empty, Receiving, Whole, Handed, Answered, fits, isdu_written, isdu_read, recalled, handed_over, written_over, written_by, counted_by}
+use Rattle.iol_far.specs.Isdu.{IsduState, Empty, Receiving, Whole, Handed, Answered, fits, isdu_written, isdu_read, remaining_isdu, handed_over, written_over, written_by, counted_by}
 use Rattle.iol_far.specs.Isdu as far
 use Rattle.iol_far.specs.declared.kind.HandsOver.{HandsOver}
 use Rattle.iol_far.specs.declared.kind.HandsOver.TheVariants.{FirstRead, LastSegment}
 use Rattle.iol_far.specs.declared.kind.Recalls.{Recalls}
-use Rattle.iol_judge.specs.declared.had.Had.{Had}
+use Rattle.iol_judge.specs.declared.had.HadSegments.{HadSegments}
 use Rattle.iol_judge.specs.declared.transfer.Transfer.{Transfer}
 use Rattle.iol_judge.specs.declared.transfer.Transfer.TheVariants as known
-use Rattle.iol_judge.specs.Transfers.{completed, count_written, received, received_at, answered_read, asked_again, count_read, is_quiet, or_ended, start_read, transfer_after, transfer_on, transfer_unknown, whole_read, apart, is_apart}
+use Rattle.iol_judge.specs.Transfers.{transfer_of_request, count_written, transfer_of_octets, transfer_at_stage, answered_read, asked_again, count_read, is_quiet, or_ended, start_read, transfer_after, transfer_on, transfer_unknown, whole_read, apart, is_apart}
 use Rattle.iol_judge.specs.Admitted.{One}
-use Rattle.iol_judge.specs.UnderWay.{IsCounted, IsUnderWay, IsHanded, IsAsked, IsAnswered, IsWhole}
+use Rattle.iol_judge.specs.UnderWay.{IsCounted, IsUnderWay, IsHanded, IsAnswerAsked, IsAnswered, IsWhole}
 use Rattle.iol_judge.proofs.Sets.{asked_covers}
 use Rattle.iol_octets.specs.declared.control.Channel.{Channel}
 use Rattle.iol_octets.specs.declared.control.Channel.TheVariants.{Isdu}
@@ -40,32 +40,33 @@ left_by LastSegment state = handed_over state
 
 module _ (by : HandsOver) (counted : Option ℕ) (size : ℕ) where
   completed_under_way : (request : Option Request) (last : Option ℕ) → IsCounted by counted last
-      → IsUnderWay by counted size (completed request last)
-      (left_by by (far.completed request last))
+      → IsUnderWay by counted size (transfer_of_request request last)
+      (left_by by (far.whole_or_empty request last))
   completed_under_way request last e = grind (arith, common_steps)
 
   received_under_way : (found : Stage) (octets : List ℕ) (last : Option ℕ)
       → IsCounted by counted last → IsUnderWay by counted size
-      (received_at found octets last) (left_by by (far.received_at found octets last))
+      (transfer_at_stage found octets last) (left_by by (far.received_at found octets last))
   received_under_way found octets last e = grind (arith, common_steps, completed_under_way)
 
   -- a text goes on, by a segment under a COUNT
   goes_on : (text octets : List ℕ) (last : Option ℕ) (count : ℕ) (same next : Bool)
       → IsCounted by counted (Some count) → IsUnderWay by counted size
-      (if same then known.Receiving (record { items = text }) last else if next then received
+      (if same then known.Receiving (record { items = text }) last else if next then
+      transfer_of_octets
       (text ++ octets) (Some count) else known.Quiet) (left_by by (if same then Receiving text last
-      else if next then far.received (text ++ octets) (Some count) else Empty))
+      else if next then far.isdu_with_octets (text ++ octets) (Some count) else Empty))
   goes_on text octets last count same next e = grind (arith, common_steps, received_under_way)
 
   pub start_under_way : (state : IsduState) (octets : List ℕ)
       → IsUnderWay by (counted_by by counted Start) size
-      (received octets None) (written_by by counted state Start octets)
+      (transfer_of_octets octets None) (written_by by counted state Start octets)
   start_under_way state octets = grind (arith, common_steps)
 
 -- what is left of an answer doesn't matter to a write
 pub recalled_written : (recalls : Recalls) (size : ℕ) (hands_over : HandsOver) (counted : Option ℕ)
     (state : IsduState) (count : ℕ) (octets : List ℕ)
-    → written_by hands_over counted (recalled recalls size state) (Count count) octets
+    → written_by hands_over counted (remaining_isdu recalls size state) (Count count) octets
     ≡ written_by hands_over counted state (Count count) octets
 recalled_written recalls size hands_over counted state count octets = grind (arith, common_steps)
 
@@ -83,10 +84,11 @@ module _ (counted : Option ℕ) (size count : ℕ) (octets : List ℕ) where
   Writes state = isdu_written state (Count count) octets ≡ Empty
 
   asked_written : (read : Bool) (last : Option ℕ) (state : IsduState)
-      → IsAsked FirstRead counted read last state → Writes state
+      → IsAnswerAsked FirstRead counted read last state → Writes state
   asked_written read last state h = grind (arith, common_steps)
 
-  answered_written : (had : Had) (state : IsduState) → IsAnswered size had state → Writes state
+  answered_written : (had : HadSegments) (state : IsduState) → IsAnswered size had state
+      → Writes state
   answered_written had state h = grind (arith, common_steps)
 
   count_first : (transfer : Transfer) (state : IsduState)
@@ -120,10 +122,10 @@ module _ (counted : Option ℕ) (size count : ℕ) (octets : List ℕ) where
   handed_again here read last keeps state h = grind (arith, common_steps, kept_again, counted_again)
 
   asked_over : (read : Bool) (last : Option ℕ) (state : IsduState)
-      → IsAsked LastSegment counted read last state → Again known.Free state last
+      → IsAnswerAsked LastSegment counted read last state → Again known.Free state last
   asked_over read last state h = grind (arith, common_steps, handed_again)
 
-  answered_over : (had : Had) (state : IsduState) → IsAnswered size had state
+  answered_over : (had : HadSegments) (state : IsduState) → IsAnswered size had state
       → written_over counted state (Count count) octets ≡ Empty
   answered_over had state h = grind (arith, common_steps)
 
@@ -168,9 +170,10 @@ whole_unsent : (hands_over : HandsOver) (counted : Option ℕ) (read : Bool) (la
 whole_unsent hands_over counted read last state h = grind (arith, common_steps, handed_unsent)
 
 asked_start : (hands_over : HandsOver) (counted : Option ℕ) (recalls : Recalls) (size : ℕ)
-    (read : Bool) (last : Option ℕ) (state : IsduState) → IsAsked hands_over counted read last state
+    (read : Bool) (last : Option ℕ) (state : IsduState)
+    → IsAnswerAsked hands_over counted read last state
     → IsUnderWay hands_over counted size (asked_again recalls read last)
-    (isdu_read size (recalled recalls size state) Start)
+    (isdu_read size (remaining_isdu recalls size state) Start)
 asked_start hands_over counted recalls size read last state h = grind (arith, common_steps)
 
 module _ (by : Manner) where
@@ -185,14 +188,14 @@ module _ (by : Manner) where
   whole_start hands_over read last state h = grind (arith, common_steps, handed_start)
 
   -- of an answer that may have ended before
-  perhaps_goes : (transfer : Transfer) (flow : Flow) (had : Had) (state : IsduState)
+  perhaps_goes : (transfer : Transfer) (flow : Flow) (had : HadSegments) (state : IsduState)
       → Holds by (or_ended transfer) Empty → isdu_read by.size Empty flow ≡ Empty
       → (IsAnswered by.size had state → Holds by transfer (read_by by state flow)) → IsAnswered
       by.size had state ⊎ (state ≡ Empty) → Holds by (or_ended transfer) (read_by by state flow)
   perhaps_goes transfer flow had state ended empty goes h = grind (arith, common_steps, still_goes)
 
   asked_count : (read : Bool) (last : Option ℕ) (state : IsduState) (count : ℕ)
-      → IsAsked by.kind.hands_over by.counted read last state
+      → IsAnswerAsked by.kind.hands_over by.counted read last state
       → Holds by (or_ended (answered_read by.kind.recalls by.size (none_had read) count))
       (read_by by state (Count count))
   asked_count read last (Answered request answer (Some zero)) count h = still_goes by _ _
@@ -329,7 +332,8 @@ OneUnderWay hands_over counted size transfers state =
 
 module _ (hands_over : HandsOver) (counted : Option ℕ) (size : ℕ) (law : AreTexts size) where
   asked_apart : (read : Bool) (last : Option ℕ) (state : IsduState)
-      → IsAsked hands_over counted read last state → IsHanded hands_over counted read last state
+      → IsAnswerAsked hands_over counted read last state
+      → IsHanded hands_over counted read last state
       ⊎ (IsAnswered size (none_had read) state ⊎ ⊥)
   asked_apart read last (Handed request) h = inl h
   asked_apart read last (Answered request answer None) h = inl h

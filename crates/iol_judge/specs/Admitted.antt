@@ -4,11 +4,11 @@ use Rattle.iol_event.specs.declared.event.Event.{Event}
 use Rattle.iol_event.specs.Memory.{Events, event_octet}
 use Rattle.iol_far.specs.Far.{Far}
 use Rattle.iol_far.specs.Level.{link_of}
-use Rattle.iol_far.specs.Local.{LocalStep, locals, woken}
+use Rattle.iol_far.specs.Local.{LocalStep, locals, far_after_wake}
 use Rattle.iol_link.specs.Honest.{HonestExchange, SeenWake}
-use Rattle.iol_judge.specs.declared.events.Places.{Places}
-use Rattle.iol_judge.specs.declared.events.Shown.{Shown}
-use Rattle.iol_judge.specs.declared.events.Shown.TheVariants.{Held, Any, Fresh, Filled}
+use Rattle.iol_judge.specs.declared.events.FilledPlaces.{FilledPlaces}
+use Rattle.iol_judge.specs.declared.events.ShownEvents.{ShownEvents}
+use Rattle.iol_judge.specs.declared.events.ShownEvents.TheVariants.{Held, Any, Fresh, Filled}
 use Rattle.iol_judge.specs.declared.reason.Reason.{Reason}
 use Rattle.iol_judge.specs.declared.transfer.Transfer.TheVariants.{Quiet}
 use Rattle.iol_judge.specs.declared.verdict.Verdict.{Verdict}
@@ -17,10 +17,10 @@ use Rattle.iol_judge.specs.declared.verdict.Odd.{Odd}
 use Rattle.iol_judge.specs.declared.verdict.Wake.{Wake}
 use Rattle.iol_judge.specs.declared.verdict.Wake.TheVariants.{Answered, Unanswered}
 use Rattle.iol_judge.specs.Seen.{whole_page}
-use Rattle.iol_judge.specs.State.{State}
-use Rattle.iol_judge.specs.Family.{has_kind}
+use Rattle.iol_judge.specs.State.{KnownState}
+use Rattle.iol_judge.specs.Family.{admits_kind}
 use Rattle.iol_judge.specs.UnderWay.{HasUnderWay}
-use Rattle.iol_judge.specs.Judged.{Judged, new_judge, exchanged, kinds_left, woke}
+use Rattle.iol_judge.specs.Judged.{JudgeState, new_judge, judge_after_exchange, kinds_left, judge_after_wake}
 
 -- each octet that is known is the page's
 abbrev pub Agrees : List (Option ℕ) → List ℕ → Type 0
@@ -33,28 +33,28 @@ pub record IsReleased (memory : Events) : Type 0 where
   pub waits : memory.frozen ≡ [] → memory.waiting ≡ []
 
 -- so many events are frozen, with these octets
-pub record AreIn (places : Places) (frozen : List Event) : Type 0 where
+pub record AreIn (places : FilledPlaces) (frozen : List Event) : Type 0 where
   pub least : places.least ≤ length frozen
   pub most : length frozen ≤ places.most
   pub octets : (place : ℕ) → IfSome (slice_index_or places.octets place None)
       (λ octet. event_octet frozen (suc place) ≡ octet)
 
 -- the events of a device that is awake are as known
-abbrev pub AreShown : Shown → Events → Type 0
-AreShown Held memory = (memory.held ≡ true) × (memory.frozen ≡ [])
-AreShown Any memory = IsReleased memory
-AreShown Fresh memory = IsReleased memory × (length memory.frozen ≤ 1)
-AreShown (Filled places) memory =
+abbrev pub AreAsKnown : ShownEvents → Events → Type 0
+AreAsKnown Held memory = (memory.held ≡ true) × (memory.frozen ≡ [])
+AreAsKnown Any memory = IsReleased memory
+AreAsKnown Fresh memory = IsReleased memory × (length memory.frozen ≤ 1)
+AreAsKnown (Filled places) memory =
     IsReleased memory × (1 ≤ length memory.frozen) × AreIn places memory.frozen
 
 -- A state stands for each device of its kinds in its mode, with its mode command waiting, its octet
 -- at page address 0x01, its events and its ISDU transfer. One that sleeps had a power cycle, and
 -- has at most one event, and no transfer. All else is free: whether it sleeps, process data, record
-pub record Admits (state : State) (far : Far) : Type 0 where
-  pub kind : has_kind state.kinds far.kind ≡ true
+pub record Admits (state : KnownState) (far : Far) : Type 0 where
+  pub kind : admits_kind state.kinds far.kind ≡ true
   pub link : link_of far ≡ state.link
   pub cycle : IfSome state.cycle (λ octet. far.cycle_time ≡ octet)
-  pub events : AreShown (if far.awake then state.events else Fresh) far.events
+  pub events : AreAsKnown (if far.awake then state.events else Fresh) far.events
   pub isdu : HasUnderWay far (if far.awake then state.transfer else Quiet)
 
 -- so it is of one of them
@@ -63,13 +63,13 @@ One Q [] = ⊥
 One Q (item ∷ items) = Q item ⊎ One Q items
 
 -- a device is among those that a verdict leaves possible: one of the states stands for it
-abbrev pub IsPossible : Verdict → List State → Far → Type 0
+abbrev pub IsPossible : Verdict → List KnownState → Far → Type 0
 IsPossible Honest states far = One (λ state. Admits state far) states
 IsPossible (NotHonest exchange reason) states far = ⊥
 IsPossible verdict states far = Unit {0}
 
 -- the judge says nothing against the device, and found nothing odd
-pub record IsFair (judged : Judged) (far : Far) : Type 0 where
+pub record IsFair (judged : JudgeState) (far : Far) : Type 0 where
   pub page : Agrees judged.seen far.page
   pub state : IsPossible judged.verdict judged.states far
   pub odd : judged.oddities ≡ 0
@@ -85,21 +85,21 @@ pub data Passing : Type 0 where
   Wakes : Wake → Passing
   Passes : List ℕ → Option (List ℕ) → Passing
 
-abbrev pub told : Judged → Passing → Judged
-told judged (Wakes wake) = woke judged wake
-told judged (Passes sent answer) = exchanged judged sent answer
+abbrev pub judge_after_passing : JudgeState → Passing → JudgeState
+judge_after_passing judged (Wakes wake) = judge_after_wake judged wake
+judge_after_passing judged (Passes sent answer) = judge_after_exchange judged sent answer
 
 -- the judge, told a whole capture
-abbrev pub told_all : Judged → List Passing → Judged
+abbrev pub told_all : JudgeState → List Passing → JudgeState
 told_all judged [] = judged
-told_all judged (passing ∷ capture) = told_all (told judged passing) capture
+told_all judged (passing ∷ capture) = told_all (judge_after_passing judged passing) capture
 
 -- one wake of a device of any kind: some steps by itself, then the wake's effect or nothing; it is
 -- answered only where it took effect
 pub record IsWake (far : Far) (answered : Bool) (far_new : Far) : Type 0 where
   pub steps : List LocalStep
   pub wakes : Bool
-  pub far_is : far_new ≡ (if wakes then woken (locals far steps) else locals far steps)
+  pub far_is : far_new ≡ (if wakes then far_after_wake (locals far steps) else locals far steps)
   pub answered_is : answered ≡ true → wakes ≡ true
 
 -- a device brings this over a lossy line
@@ -121,26 +121,26 @@ IsHonestRun far silence (passing ∷ capture) = (far_new : Far) × (silence_new 
 pub record NeverBlamed : Type 0 where
   pub begins : (odd : Odd) (far : Far) → IsFair (new_judge odd) far
   -- its page, where it is told
-  pub pages : (judged : Judged) (far : Far) → IsFair judged far
+  pub pages : (judged : JudgeState) (far : Far) → IsFair judged far
       → IsFair (record judged { seen = whole_page far.page }) far
-  pub wakes_any : (judged : Judged) (far : Far) (wake : Wake) (far_new : Far)
+  pub wakes_any : (judged : JudgeState) (far : Far) (wake : Wake) (far_new : Far)
       → IsWake far (is_answered wake) far_new → IsFair judged far
-      → IsFair (woke judged wake) far_new
+      → IsFair (judge_after_wake judged wake) far_new
   -- one of our own kind
-  pub wakes : (judged : Judged) (far : Far) (wake : Wake) (far_new : Far)
+  pub wakes : (judged : JudgeState) (far : Far) (wake : Wake) (far_new : Far)
       → SeenWake far (is_answered wake) far_new → IsFair judged far
-      → IsFair (woke judged wake) far_new
-  pub exchanges : (judged : Judged) (far : Far) (silence : ℕ) (sent : List ℕ)
+      → IsFair (judge_after_wake judged wake) far_new
+  pub exchanges : (judged : JudgeState) (far : Far) (silence : ℕ) (sent : List ℕ)
       (answer : Option (List ℕ)) (far_new : Far) (silence_new : ℕ)
       → HonestExchange far silence sent answer far_new silence_new → IsFair judged far
-      → IsFair (exchanged judged sent answer) far_new
-  pub runs : (judged : Judged) (far : Far) → IsFair judged far
+      → IsFair (judge_after_exchange judged sent answer) far_new
+  pub runs : (judged : JudgeState) (far : Far) → IsFair judged far
       → (silence : ℕ) (capture : List Passing) → IsHonestRun far silence capture
       → (exchange : ℕ) (reason : Reason)
       → (told_all judged capture).verdict ≢ NotHonest exchange reason
-  pub none_odd : (judged : Judged) (far : Far) → IsFair judged far
+  pub none_odd : (judged : JudgeState) (far : Far) → IsFair judged far
       → (silence : ℕ) (capture : List Passing) → IsHonestRun far silence capture
       → (told_all judged capture).oddities ≡ 0
-  pub kinds : (judged : Judged) (far : Far) → IsFair judged far
+  pub kinds : (judged : JudgeState) (far : Far) → IsFair judged far
       → (silence : ℕ) (capture : List Passing) → IsHonestRun far silence capture
-      → has_kind (kinds_left (told_all judged capture)) far.kind ≡ true
+      → admits_kind (kinds_left (told_all judged capture)) far.kind ≡ true

@@ -10,38 +10,38 @@ use Rattle.iol_isdu.specs.declared.fault.IsduFault.{IsduFault}
 use Rattle.iol_isdu.specs.declared.fault.IsduFault.TheVariants.{Truncated, BadIsduLength, BadChkpdu}
 use Rattle.iol_segment.specs.Join.{Stage, Open, Complete, Wrong, stage}
 use Rattle.iol_judge.specs.declared.had.Ahead.{Ahead}
-use Rattle.iol_judge.specs.declared.had.Had.{Had}
+use Rattle.iol_judge.specs.declared.had.HadSegments.{HadSegments}
 use Rattle.iol_judge.specs.declared.had.TheConstants.{MOST_AHEAD, MOST_HAD}
 use Rattle.iol_judge.specs.declared.reason.Reason.{Reason}
 use Rattle.iol_judge.specs.declared.reason.Reason.TheVariants.{BusyAgain, AnswerKind, AnswerLength, AnswerSum, AnswerPadding, SegmentChanged}
 use Rattle.iol_judge.specs.Octets.{are_zeros}
 
-abbrev pub first_had : Bool → List ℕ → Had
+abbrev pub first_had : Bool → List ℕ → HadSegments
 first_had read od =
     record { read = read; text = record { items = od }; at = 0; count = 0; ahead = None }
 
 -- the first segment was sent, and not had
-abbrev pub none_had : Bool → Had
+abbrev pub none_had : Bool → HadSegments
 none_had read = first_had read []
 
 abbrev pub is_ahead : Ahead → Ahead → Bool
 is_ahead a b = a.at == b.at && bytes_eq a.octets.items b.octets.items
 
-abbrev pub same_had : Had → Had → Bool
+abbrev pub same_had : HadSegments → HadSegments → Bool
 same_had a b = beq a.read b.read && bytes_eq a.text.items b.text.items && a.at == b.at
     && a.count == b.count && option_eq is_ahead a.ahead b.ahead
 
 -- the segment sent last, behind the first, has this COUNT
-abbrev pub was_sent : Had → ℕ → Bool
+abbrev pub was_sent : HadSegments → ℕ → Bool
 was_sent had count = nat_lt 0 had.at && count == had.count
 
 -- the segment behind it has
-abbrev pub is_next : Had → ℕ → Bool
-is_next had count = count == segment_number (had.count + 1)
+abbrev pub is_next_count : HadSegments → ℕ → Bool
+is_next_count had count = count == segment_number (had.count + 1)
 
-abbrev pub is_open : Stage → Bool
-is_open Open = true
-is_open found = false
+abbrev pub is_stage_open : Stage → Bool
+is_stage_open Open = true
+is_stage_open found = false
 
 -- busy: 01 and zeros
 abbrev pub is_busy : List ℕ → Bool
@@ -95,8 +95,8 @@ abbrev pub same_fault : List ℕ → List ℕ → Option Reason
 same_fault octets od = if starts_with nat_eq octets od then None else Some SegmentChanged
 
 -- how far behind the first octet a place is that is in segments behind one that wasn't had
-abbrev pub place_in : Ahead → ℕ → Option ℕ
-place_in ahead at =
+abbrev pub place_ahead : Ahead → ℕ → Option ℕ
+place_ahead ahead at =
     if nat_le ahead.at at && nat_lt (at - ahead.at) (length ahead.octets.items)
     then Some (at - ahead.at) else None
 
@@ -104,7 +104,7 @@ place_in ahead at =
 abbrev pub ahead_fault : Option Ahead → ℕ → List ℕ → Option Reason
 ahead_fault None at od = None
 ahead_fault (Some ahead) at od =
-    option_and_then (λ place. same_fault (drop place ahead.octets.items) od) (place_in ahead at)
+    option_and_then (λ place. same_fault (drop place ahead.octets.items) od) (place_ahead ahead at)
 
 -- why an answer of this total length can't have these octets at a place
 abbrev pub padding_fault : ℕ → ℕ → List ℕ → Option Reason
@@ -118,13 +118,13 @@ behind_fault (Ok total) at od = padding_fault total at od
 behind_fault (Err fault) at od = None
 
 -- why the segment sent last can't, behind those from the first on
-abbrev pub next_fault : Had → List ℕ → Option Reason
+abbrev pub next_fault : HadSegments → List ℕ → Option Reason
 next_fault had od = if had.at == length had.text.items
     then text_fault had.read (had.text.items ++ od)
     else behind_fault (total_at had.text.items) had.at od
 
 -- why the segment sent last can't have these octets: busy again, others than before, or no text
-abbrev pub segment_fault : Had → List ℕ → Option Reason
+abbrev pub segment_fault : HadSegments → List ℕ → Option Reason
 segment_fault had od =
     if had.at == 0 && is_busy od then Some BusyAgain else
     if nat_lt had.at (length had.text.items) then same_fault (drop had.at had.text.items) od else
@@ -145,10 +145,10 @@ ahead_with ahead at od =
 abbrev pub ahead_told : Option Ahead → ℕ → List ℕ → Ahead
 ahead_told None at od = one_ahead at od
 ahead_told (Some ahead) at od =
-    if is_some (place_in ahead at) then ahead else ahead_with ahead at od
+    if is_some (place_ahead ahead at) then ahead else ahead_with ahead at od
 
 -- once it had these octets
-abbrev pub had_with : Had → List ℕ → Had
+abbrev pub had_with : HadSegments → List ℕ → HadSegments
 had_with had od =
     if nat_lt (length had.text.items) had.at
     then record had { ahead = Some (ahead_told had.ahead had.at od) } else

@@ -39,8 +39,8 @@ has_by kinds FirstRead UntilSent = kinds.first_sent
 has_by kinds LastSegment UntilLeft = kinds.last_left
 has_by kinds LastSegment UntilSent = kinds.last_sent
 
-abbrev pub has_kind : Kinds → Kind → Bool
-has_kind kinds kind = has_by kinds kind.hands_over kind.recalls
+abbrev pub admits_kind : Kinds → Kind → Bool
+admits_kind kinds kind = has_by kinds kind.hands_over kind.recalls
 
 -- those of both
 abbrev pub both_kinds : Kinds → Kinds → Kinds

@@ -11,18 +11,18 @@ use Rattle.iol_mseq.specs.declared.master.MasterMsg.{MasterMsg}
 use Rattle.iol_mseq.specs.declared.reply.Reply.{Reply}
 use Rattle.iol_judge.specs.declared.reason.Reason.{Reason}
 use Rattle.iol_judge.specs.declared.reason.Reason.TheVariants.{NotTaken, ReplyLength, StatusWithoutData, InvalidNotZero, PageChanged, PageZero, CycleTime, ProcessNotZero, RestNotZero}
-use Rattle.iol_judge.specs.declared.taken.Taken.{Taken}
+use Rattle.iol_judge.specs.declared.taken.TakenMessage.{TakenMessage}
 use Rattle.iol_judge.specs.declared.verdict.Odd.{Odd}
 use Rattle.iol_judge.specs.declared.verdict.Odd.TheVariants.{Blamed, PassedOver}
 use Rattle.iol_judge.specs.Numbers.{earlier}
-use Rattle.iol_judge.specs.declared.taken.Explained.{Explained}
-use Rattle.iol_judge.specs.declared.taken.Explained.TheVariants.{By, Not}
-use Rattle.iol_judge.specs.declared.events.Shown.{Shown}
+use Rattle.iol_judge.specs.declared.taken.Explanation.{Explanation}
+use Rattle.iol_judge.specs.declared.taken.Explanation.TheVariants.{By, Not}
+use Rattle.iol_judge.specs.declared.events.ShownEvents.{ShownEvents}
 use Rattle.iol_judge.specs.Octets.{are_zeros, is_other}
-use Rattle.iol_judge.specs.Transfers.{isdu_fault, transfer_told}
+use Rattle.iol_judge.specs.Transfers.{transfer_fault, transfer_told}
 use Rattle.iol_judge.specs.Events.{flag_fault, flag_told, events_fault, events_told}
 use Rattle.iol_judge.specs.Seen.{is_of_page, octet_seen}
-use Rattle.iol_judge.specs.State.{State}
+use Rattle.iol_judge.specs.State.{KnownState}
 
 -- Which can be read
 
@@ -46,8 +46,8 @@ is_read_with code size sent reply =
     ]
 
 -- the codes 4 to 7 with all lengths have every layout
-abbrev pub is_readable : List ℕ → List ℕ → Bool
-is_readable sent reply = is_read_with 4 1 sent reply || is_read_with 5 2 sent reply
+abbrev pub can_be_read : List ℕ → List ℕ → Bool
+can_be_read sent reply = is_read_with 4 1 sent reply || is_read_with 5 2 sent reply
     || is_read_with 6 8 sent reply || is_read_with 7 32 sent reply
 
 -- Why a device can't have sent a reply
@@ -63,16 +63,16 @@ abbrev pub page_fault : List (Option ℕ) → ℕ → ℕ → Option Reason
 page_fault seen address octet = other_than (octet_seen seen address) octet PageChanged
 
 -- the on-request data of the reply to a read, once its Event flag was had
-abbrev pub data_fault : List (Option ℕ) → State → Bool → Channel → ℕ → List ℕ → Option Reason
+abbrev pub data_fault : List (Option ℕ) → KnownState → Bool → Channel → ℕ → List ℕ → Option Reason
 data_fault seen state flag Process address od = None
 data_fault seen state flag Page address od =
     if is_of_page address then page_fault seen address (slice_index od 0) else None
 data_fault seen state flag Diagnosis address od =
     events_fault (flag_told state.events flag) address (slice_index od 0)
-data_fault seen state flag Isdu address od = isdu_fault state.transfer od
+data_fault seen state flag Isdu address od = transfer_fault state.transfer od
 
-abbrev pub reply_fault : List (Option ℕ) → State → Shape → Mc → Reply → Option Reason
-reply_fault seen state layout mc reply =
+abbrev pub fault_in_reply : List (Option ℕ) → KnownState → Shape → Mc → Reply → Option Reason
+fault_in_reply seen state layout mc reply =
     if reply.invalid && (layout.pd_in == 0) then Some StatusWithoutData else
     option_or (flag_fault state.events reply.event)
     (if mc.read
@@ -107,13 +107,13 @@ cycle_told old true Page address octet =
     if address == 1 then option_or old (Some octet) else old
 cycle_told old read channel address octet = old
 
-abbrev pub shown_told : Shown → Bool → Channel → ℕ → ℕ → Shown
+abbrev pub shown_told : ShownEvents → Bool → Channel → ℕ → ℕ → ShownEvents
 shown_told events true Diagnosis address octet = events_told events address octet
 shown_told events read channel address octet = events
 
 -- the state, once its reply to that message was had
-abbrev pub learned : State → Mc → Reply → State
-learned state mc reply = record state {
+abbrev pub state_after_reply : KnownState → Mc → Reply → KnownState
+state_after_reply state mc reply = record state {
   cycle =
       cycle_told state.cycle mc.read mc.channel mc.address (slice_index reply.od.items 0);
   events =
@@ -124,29 +124,29 @@ learned state mc reply = record state {
 
 -- Whether a state explains a reply
 
-abbrev pub first_of : Option Reason → Option Reason → Option Reason
-first_of None b = b
-first_of (Some a) None = Some a
-first_of (Some a) (Some b) = Some (earlier a b)
+abbrev pub earlier_reason : Option Reason → Option Reason → Option Reason
+earlier_reason None b = b
+earlier_reason (Some a) None = Some a
+earlier_reason (Some a) (Some b) = Some (earlier a b)
 
 -- what speaks against it, of its fault and what is odd
 abbrev pub held_against : Odd → Option Reason → Option Reason → Option Reason
-held_against Blamed fault oddity = first_of fault oddity
+held_against Blamed fault oddity = earlier_reason fault oddity
 held_against PassedOver fault oddity = fault
 
-abbrev pub explained_by : Odd → List (Option ℕ) → State → Shape → MasterMsg → Option Reply
-    → Explained
+abbrev pub explained_by : Odd → List (Option ℕ) → KnownState → Shape → MasterMsg → Option Reply
+    → Explanation
 explained_by odd seen state layout message None = Not ReplyLength
 explained_by odd seen state layout message (Some reply) =
     let oddity = reply_oddity state.cycle message.mc reply in
-    elim (held_against odd (reply_fault seen state layout message.mc reply) oddity) [
-      | None ↦ By (learned state message.mc reply) oddity
+    elim (held_against odd (fault_in_reply seen state layout message.mc reply) oddity) [
+      | None ↦ By (state_after_reply state message.mc reply) oddity
       | Some reason ↦ Not reason
     ]
 
 -- whether a state explains the reply that came, by what it makes of the message
-abbrev pub explained : Odd → List (Option ℕ) → Option Taken → List ℕ → Explained
-explained odd seen None reply = Not NotTaken
-explained odd seen (Some taken) reply =
+abbrev pub explanation_of : Odd → List (Option ℕ) → Option TakenMessage → List ℕ → Explanation
+explanation_of odd seen None reply = Not NotTaken
+explanation_of odd seen (Some taken) reply =
     explained_by odd seen taken.kept taken.layout taken.message
     (reply_in taken.layout taken.message.mc.read reply)

@@ -5,17 +5,17 @@ use Rattle.iol_octets.specs.declared.control.Channel.TheVariants.{Page}
 use Rattle.iol_mseq.specs.Shape.{Shape, startup_shape}
 use Rattle.iol_mseq.specs.declared.master.MasterMsg.{MasterMsg}
 use Rattle.iol_page.specs.declared.page.Layouts.{Layouts}
-use Rattle.iol_far.specs.declared.mode.Mode.{Mode}
-use Rattle.iol_far.specs.declared.mode.Mode.TheVariants.{Startup, Preoperate, Operate}
+use Rattle.iol_far.specs.declared.mode.DeviceMode.{DeviceMode}
+use Rattle.iol_far.specs.declared.mode.DeviceMode.TheVariants.{Startup, Preoperate, Operate}
 use Rattle.iol_far.specs.Codec.{flow_of, message_in}
 use Rattle.iol_far.specs.Far.{command_in, is_confirm, mode_asked, waits_after}
-use Rattle.iol_far.specs.Level.{Link, taken}
+use Rattle.iol_far.specs.Level.{FarLink, accepting_link}
 use Rattle.iol_judge.specs.declared.open.Open.{Open}
-use Rattle.iol_judge.specs.declared.taken.Taken.{Taken}
+use Rattle.iol_judge.specs.declared.taken.TakenMessage.{TakenMessage}
 use Rattle.iol_judge.specs.Events.{shown_after}
 use Rattle.iol_judge.specs.Family.{kind_in}
 use Rattle.iol_judge.specs.Transfers.{isdu_known, transfer_after, transfer_in}
-use Rattle.iol_judge.specs.State.{State}
+use Rattle.iol_judge.specs.State.{KnownState}
 
 -- what goes on with a result, where there is one
 abbrev pub and_then : {A B : Type 0} → Result A Open → (A → Result B Open) → Result B Open
@@ -23,14 +23,14 @@ and_then (Ok found) go = go found
 and_then (Err why) go = Err why
 
 -- the layout of a mode, where it is known
-abbrev pub mode_layout : Result Layouts Open → Mode → Result Shape Open
+abbrev pub mode_layout : Result Layouts Open → DeviceMode → Result Shape Open
 mode_layout known Startup = Ok startup_shape
 mode_layout (Ok layouts) Preoperate = Ok (unwrap_or layouts.pre startup_shape)
 mode_layout (Ok layouts) Operate = Ok layouts.run
 mode_layout (Err why) mode = Err why
 
 -- the mode asked for, where the device has it, and where that is known
-abbrev pub mode_known : Result Layouts Open → Option Mode → Result (Option Mode) Open
+abbrev pub mode_known : Result Layouts Open → Option DeviceMode → Result (Option DeviceMode) Open
 mode_known known None = Ok None
 mode_known known (Some Startup) = Ok (Some Startup)
 mode_known (Ok layouts) (Some Preoperate) =
@@ -44,8 +44,8 @@ cycle_after old Page false address octet = if address == 1 then Some octet else 
 cycle_after old channel read address octet = old
 
 -- the state once the message was worked, by the link in which it was taken and the mode asked for
-abbrev pub state_after : Result Layouts Open → Link → State → List ℕ → Shape → MasterMsg
-    → Option Mode → State
+abbrev pub state_after : Result Layouts Open → FarLink → KnownState → List ℕ → Shape → MasterMsg
+    → Option DeviceMode → KnownState
 state_after known link state octets layout message asked = record {
   kinds = state.kinds;
   link = record { mode = link.mode; waits = waits_after link.mode link.waits octets asked };
@@ -58,8 +58,8 @@ state_after known link state octets layout message asked = record {
       (flow_of message.mc.address) message.od.items;
 }
 
-abbrev pub taken_message : Result Layouts Open → Link → State → List ℕ → Shape
-    → Option MasterMsg → Result (Option Taken) Open
+abbrev pub taken_message : Result Layouts Open → FarLink → KnownState → List ℕ → Shape
+    → Option MasterMsg → Result (Option TakenMessage) Open
 taken_message known link state octets layout None = Ok None
 taken_message known link state octets layout (Some message) =
     and_then (mode_known known (mode_asked (command_in message))) (λ asked. Ok (Some (record {
@@ -70,8 +70,9 @@ taken_message known link state octets layout (Some message) =
 
 -- what a state makes of octets, none where it doesn't take them; open where the page's layouts
 -- would have to be known
-abbrev pub taken_by : Result Layouts Open → State → List ℕ → Result (Option Taken) Open
-taken_by known state octets =
-    let link = taken state.link octets in
+abbrev pub taken_by_state : Result Layouts Open → KnownState → List ℕ
+    → Result (Option TakenMessage) Open
+taken_by_state known state octets =
+    let link = accepting_link state.link octets in
     and_then (mode_layout known link.mode)
     (λ layout. taken_message known link state octets layout (message_in layout octets))

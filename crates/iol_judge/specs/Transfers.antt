@@ -22,7 +22,7 @@ use Rattle.iol_far.specs.declared.kind.Recalls.TheVariants.{UntilLeft, UntilSent
 use Rattle.iol_far.specs.Far.{WaitingCommand}
 use Rattle.iol_judge.specs.declared.had.Further.{Further}
 use Rattle.iol_judge.specs.declared.had.Further.TheVariants.{GoesOn, MayEnd, Ends}
-use Rattle.iol_judge.specs.declared.had.Had.{Had}
+use Rattle.iol_judge.specs.declared.had.HadSegments.{HadSegments}
 use Rattle.iol_judge.specs.declared.open.Open.{Open as Unsaid}
 use Rattle.iol_judge.specs.declared.reason.Reason.{Reason}
 use Rattle.iol_judge.specs.declared.reason.Reason.TheVariants.{NoAnswerDue, NotBusy}
@@ -30,7 +30,7 @@ use Rattle.iol_judge.specs.declared.transfer.Transfer.{Transfer}
 use Rattle.iol_judge.specs.declared.transfer.Transfer.TheVariants.{Quiet, Receiving, Whole, Handed, Asked, Answered, Perhaps, Free}
 use Rattle.iol_judge.specs.declared.transfer.TheConstants.{LONGEST, LONGEST_TO_READ, LONGEST_TO_WRITE, SHORTEST}
 use Rattle.iol_judge.specs.Octets.{are_zeros}
-use Rattle.iol_judge.specs.Answers.{first_had, had_with, is_busy, is_next, is_open, none_had, same_had, segment_fault, text_fault, was_sent}
+use Rattle.iol_judge.specs.Answers.{first_had, had_with, is_busy, is_next_count, is_stage_open, none_had, same_had, segment_fault, text_fault, was_sent}
 
 -- what the first allows whatever the second does
 abbrev pub covers_transfer : Transfer → Transfer → Bool
@@ -55,28 +55,28 @@ covers_transfer a b = false
 
 -- A write on the ISDU channel
 
-abbrev pub completed : Option Request → Option ℕ → Transfer
-completed None last = Quiet
-completed (Some request) last = Whole (is_read request) last
+abbrev pub transfer_of_request : Option Request → Option ℕ → Transfer
+transfer_of_request None last = Quiet
+transfer_of_request (Some request) last = Whole (is_read request) last
 
 -- not all octets of a text came
-abbrev pub receiving : List ℕ → Option ℕ → Transfer
-receiving octets last =
+abbrev pub transfer_receiving : List ℕ → Option ℕ → Transfer
+transfer_receiving octets last =
     if nat_le (length octets) LONGEST then Receiving (record { items = octets }) last else Free
 
-abbrev pub received_at : Stage → List ℕ → Option ℕ → Transfer
-received_at Open octets last = receiving octets last
-received_at (Complete text) octets last = completed (request_of text) last
-received_at Wrong octets last = Quiet
+abbrev pub transfer_at_stage : Stage → List ℕ → Option ℕ → Transfer
+transfer_at_stage Open octets last = transfer_receiving octets last
+transfer_at_stage (Complete text) octets last = transfer_of_request (request_of text) last
+transfer_at_stage Wrong octets last = Quiet
 
 -- of a request these octets came, the last of them under this COUNT
-abbrev pub received : List ℕ → Option ℕ → Transfer
-received octets last = received_at (stage octets) octets last
+abbrev pub transfer_of_octets : List ℕ → Option ℕ → Transfer
+transfer_of_octets octets last = transfer_at_stage (stage octets) octets last
 
 abbrev pub count_written : HandsOver → Transfer → ℕ → List ℕ → Transfer
 count_written hands_over (Receiving text last) count octets =
     if is_last last count then Receiving text last else
-    if count == next_count last then received (text.items ++ octets) (Some count) else
+    if count == next_count last then transfer_of_octets (text.items ++ octets) (Some count) else
     Quiet
 count_written hands_over (Whole read last) count octets =
     if is_last last count then Whole read last else Quiet
@@ -110,30 +110,30 @@ missed_further read (Err fault) next =
 
 -- whether an answer has a segment at a place behind one that was sent: one that was had, or one
 -- that the octets had say there is
-abbrev pub further : Had → ℕ → Further
+abbrev pub further : HadSegments → ℕ → Further
 further had next =
     if nat_lt (length had.text.items) next
     then missed_further had.read (total_at had.text.items) next else
     if nat_lt next (length had.text.items) then GoesOn else
-    if is_open (stage had.text.items) then GoesOn else Ends
+    if is_stage_open (stage had.text.items) then GoesOn else Ends
 
 -- this is known where the answer goes on, and nothing is under way where it ends
-abbrev pub while_further : Further → Had → Transfer
+abbrev pub while_further : Further → HadSegments → Transfer
 while_further GoesOn had = Answered had
 while_further MayEnd had = Perhaps had
 while_further Ends had = Quiet
 
 -- A segment that was sent is sent again, so that this is known: a device that recalls its answer
 -- until it was sent has it only while there is a segment behind the one sent last
-abbrev pub sent_again : Recalls → ℕ → Had → Had → Transfer
+abbrev pub sent_again : Recalls → ℕ → HadSegments → HadSegments → Transfer
 sent_again UntilLeft size had again = Answered again
 sent_again UntilSent size had again = while_further (further had (had.at + size)) again
 
 -- of an answer of which a segment was sent
-abbrev pub answered_read : Recalls → ℕ → Had → ℕ → Transfer
+abbrev pub answered_read : Recalls → ℕ → HadSegments → ℕ → Transfer
 answered_read recalls size had count =
     if was_sent had count then sent_again recalls size had had else
-    if is_next had count
+    if is_next_count had count
     then while_further (further had (had.at + size))
     (record had { at = had.at + size; count = count }) else
     Quiet
@@ -153,7 +153,7 @@ count_read recalls size Free count = Free
 count_read recalls size old count = Quiet
 
 -- an answer of which a segment was sent, from the first on
-abbrev pub first_again : Recalls → ℕ → Had → Transfer
+abbrev pub first_again : Recalls → ℕ → HadSegments → Transfer
 first_again recalls size had = sent_again recalls size had (record had { at = 0; count = 0 })
 
 abbrev pub asked_again : Recalls → Bool → Option ℕ → Transfer
@@ -174,7 +174,7 @@ start_read kind size old = Quiet
 
 -- of a device of this kind, with ISDU, by the size of a segment
 abbrev pub transfer_on : Kind → ℕ → Transfer → Bool → Flow → List ℕ → Transfer
-transfer_on kind size old false Start octets = received octets None
+transfer_on kind size old false Start octets = transfer_of_octets octets None
 transfer_on kind size old false (Count count) octets =
     count_written kind.hands_over old count octets
 transfer_on kind size old true Start octets = start_read kind size old
@@ -239,32 +239,32 @@ transfer_in (Some command) octets old = if bytes_eq octets command.octets then o
 -- The reply to a read on the ISDU channel
 
 -- where no transfer is under way there is no answer, and a whole request is answered by busy first
-abbrev pub isdu_fault : Transfer → List ℕ → Option Reason
-isdu_fault (Handed read last) od = if is_busy od then None else Some NotBusy
-isdu_fault (Asked read last) od = if is_busy od then None else text_fault read od
-isdu_fault (Answered had) od = segment_fault had od
-isdu_fault (Perhaps had) od = if are_zeros od then None else segment_fault had od
-isdu_fault Free od = None
+abbrev pub transfer_fault : Transfer → List ℕ → Option Reason
+transfer_fault (Handed read last) od = if is_busy od then None else Some NotBusy
+transfer_fault (Asked read last) od = if is_busy od then None else text_fault read od
+transfer_fault (Answered had) od = segment_fault had od
+transfer_fault (Perhaps had) od = if are_zeros od then None else segment_fault had od
+transfer_fault Free od = None
 -- a read leaves no text whole
-isdu_fault (Whole read last) od = None
-isdu_fault transfer od = if are_zeros od then None else Some NoAnswerDue
+transfer_fault (Whole read last) od = None
+transfer_fault transfer od = if are_zeros od then None else Some NoAnswerDue
 
 -- busy, or the answer's first segment
 abbrev pub asked_told : Bool → Option ℕ → List ℕ → Transfer
 asked_told read last od = if is_busy od then Handed read last else Answered (first_had read od)
 
 -- no answer any more, or a segment; zeros may be either
-abbrev pub perhaps_told : Had → List ℕ → Transfer
+abbrev pub perhaps_told : HadSegments → List ℕ → Transfer
 perhaps_told had od =
     if not (are_zeros od) then Answered (had_with had od) else
     if is_some (segment_fault had od) then Quiet else Perhaps (had_with had od)
 
-abbrev pub told_by : Transfer → List ℕ → Transfer
-told_by (Asked read last) od = asked_told read last od
-told_by (Answered had) od = Answered (had_with had od)
-told_by (Perhaps had) od = perhaps_told had od
-told_by old od = old
+abbrev pub transfer_told_by : Transfer → List ℕ → Transfer
+transfer_told_by (Asked read last) od = asked_told read last od
+transfer_told_by (Answered had) od = Answered (had_with had od)
+transfer_told_by (Perhaps had) od = perhaps_told had od
+transfer_told_by old od = old
 
 abbrev pub transfer_told : Transfer → Bool → Channel → List ℕ → Transfer
-transfer_told old true Isdu od = told_by old od
+transfer_told old true Isdu od = transfer_told_by old od
 transfer_told old read channel od = old

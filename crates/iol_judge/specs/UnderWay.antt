@@ -3,20 +3,20 @@ use Rattle.std.specs.Prelude.{◌≡◌, ◌⊎◌, ◌<◌, ℕ, zero, suc, ◌
 use Rattle.iol_octets.specs.SegmentNumber.{segment_number}
 use Rattle.iol_isdu.specs.Answers.{is_read}
 use Rattle.iol_segment.specs.Cut.{segment}
-use Rattle.iol_segment.specs.TextLaws.{joined}
+use Rattle.iol_segment.specs.TextLaws.{segments_up_to}
 use Rattle.iol_far.specs.declared.kind.HandsOver.{HandsOver}
 use Rattle.iol_far.specs.declared.kind.HandsOver.TheVariants.{FirstRead, LastSegment}
 use Rattle.iol_far.specs.Far.{Far, layout_of}
-use Rattle.iol_far.specs.Isdu.{IsduState, Empty, Receiving, Whole, Handed, Answered, answer_text, fits}
+use Rattle.iol_far.specs.Isdu.{IsduState, Empty, Receiving, Whole, Handed, Answered, answer_text_to, fits}
 use Rattle.iol_judge.specs.declared.had.Ahead.{Ahead}
-use Rattle.iol_judge.specs.declared.had.Had.{Had}
+use Rattle.iol_judge.specs.declared.had.HadSegments.{HadSegments}
 use Rattle.iol_judge.specs.declared.transfer.Transfer.{Transfer}
 use Rattle.iol_judge.specs.declared.transfer.Transfer.TheVariants as known
 
 -- so many segments of a text, of this size, from the first on
 abbrev pub first_ones : ℕ → List ℕ → ℕ → List ℕ
 first_ones size text zero = []
-first_ones size text (suc last) = joined size text last
+first_ones size text (suc last) = segments_up_to size text last
 
 -- so many from another on
 abbrev pub later_ones : ℕ → List ℕ → ℕ → ℕ → List ℕ
@@ -33,7 +33,7 @@ pub record AreAhead (size : ℕ) (text : List ℕ) (ahead : Ahead) : Type 0 wher
 
 -- Segments of a text were had, of this size: so many from the first on, each of which begins within
 -- it, and some behind; and this one was sent last
-pub record AreHad (size : ℕ) (had : Had) (text : List ℕ) (sent : ℕ) : Type 0 where
+pub record AreHad (size : ℕ) (had : HadSegments) (text : List ℕ) (sent : ℕ) : Type 0 where
   pub many : ℕ
   pub octets : had.text.items ≡ first_ones size text many
   pub begins : many * size < length text + size
@@ -63,15 +63,15 @@ IsWhole FirstRead counted read last (Whole request count) =
 IsWhole FirstRead counted read last state = ⊥
 
 -- the application has it, or has answered it, or the answer's first segment was sent
-abbrev pub IsAsked : HandsOver → Option ℕ → Bool → Option ℕ → IsduState → Type 0
-IsAsked hands_over counted read last (Answered request answer (Some zero)) =
+abbrev pub IsAnswerAsked : HandsOver → Option ℕ → Bool → Option ℕ → IsduState → Type 0
+IsAnswerAsked hands_over counted read last (Answered request answer (Some zero)) =
     (is_read request ≡ read) × IsTrue (fits request answer)
-IsAsked hands_over counted read last state = IsHanded hands_over counted read last state
+IsAnswerAsked hands_over counted read last state = IsHanded hands_over counted read last state
 
 -- segments of an answer were sent
-abbrev pub IsAnswered : ℕ → Had → IsduState → Type 0
+abbrev pub IsAnswered : ℕ → HadSegments → IsduState → Type 0
 IsAnswered size had (Answered request answer (Some sent)) = (is_read request ≡ had.read)
-    × IsTrue (fits request answer) × AreHad size had (answer_text request answer) sent
+    × IsTrue (fits request answer) × AreHad size had (answer_text_to request answer) sent
 IsAnswered size had state = ⊥
 
 -- the ISDU state, with the COUNT of the last write, is as known, by when the device hands over, and
@@ -85,7 +85,7 @@ IsUnderWay hands_over counted size (known.Whole read last) state =
 IsUnderWay hands_over counted size (known.Handed read last) state =
     IsHanded hands_over counted read last state
 IsUnderWay hands_over counted size (known.Asked read last) state =
-    IsAsked hands_over counted read last state
+    IsAnswerAsked hands_over counted read last state
 IsUnderWay hands_over counted size (known.Answered had) state = IsAnswered size had state
 IsUnderWay hands_over counted size (known.Perhaps had) state =
     IsAnswered size had state ⊎ (state ≡ Empty)

@@ -9,7 +9,7 @@ const PLACES: u8 = 6;
 
 /// What is known of the events of a device that is awake.
 #[derive(Clone, Copy, Debug, PartialEq, Eq)]
-pub(crate) enum Shown {
+pub(crate) enum ShownEvents {
     /// None is shown, for the last message was their confirm.
     Held,
     /// Any may be.
@@ -17,12 +17,12 @@ pub(crate) enum Shown {
     /// None is, or one that was raised since the last reply.
     Fresh,
     /// Some are.
-    Filled(Places),
+    Filled(FilledPlaces),
 }
 
 /// The filled places of an event memory.
 #[derive(Clone, Copy, Debug, PartialEq, Eq)]
-pub(crate) struct Places {
+pub(crate) struct FilledPlaces {
     /// How many they are at least.
     pub least: u8,
     /// How many they are at most.
@@ -31,27 +31,29 @@ pub(crate) struct Places {
     pub octets: [Option<u8>; 18],
 }
 
-impl Shown {
+impl ShownEvents {
     /// Whether it allows all that the other does.
-    pub fn covers(&self, other: &Shown) -> bool
+    pub fn covers(&self, other: &ShownEvents) -> bool
         ensures { result ≡ covers_events self.now other.now }
     {
         match (self, other) {
-            (Shown::Held, Shown::Held) | (Shown::Fresh, Shown::Fresh) => true,
-            (Shown::Any, Shown::Any | Shown::Fresh | Shown::Filled(_)) => true,
-            (Shown::Filled(a), Shown::Filled(b)) => a.covers(b),
+            (ShownEvents::Held, ShownEvents::Held) | (ShownEvents::Fresh, ShownEvents::Fresh) =>
+                true,
+            (ShownEvents::Any, ShownEvents::Any | ShownEvents::Fresh | ShownEvents::Filled(_)) =>
+                true,
+            (ShownEvents::Filled(a), ShownEvents::Filled(b)) => a.covers(b),
             _ => false,
         }
     }
 
     /// Once a message was worked, their confirm or another. A wake-up request does what another
     /// message does.
-    pub fn after(&self, confirm: bool) -> Shown
+    pub fn after(&self, confirm: bool) -> ShownEvents
         ensures { result ≡ shown_after self.now confirm }
     {
         match self {
-            _ if confirm => Shown::Held,
-            Shown::Held => Shown::Any,
+            _ if confirm => ShownEvents::Held,
+            ShownEvents::Held => ShownEvents::Any,
             _ => *self,
         }
     }
@@ -61,29 +63,29 @@ impl Shown {
         ensures { result ≡ flag_fault self.now flag }
     {
         match (self, flag) {
-            (Shown::Held, true) => Some(Reason::FlagAtConfirm),
-            (Shown::Filled(_), false) => Some(Reason::FlagGone),
+            (ShownEvents::Held, true) => Some(Reason::FlagAtConfirm),
+            (ShownEvents::Filled(_), false) => Some(Reason::FlagGone),
             _ => None,
         }
     }
 
     /// Once a reply had this Event flag.
-    pub fn flag_told(&self, flag: bool) -> Shown
+    pub fn flag_told(&self, flag: bool) -> ShownEvents
         ensures { result ≡ flag_told self.now flag }
     {
         match (self, flag) {
-            (Shown::Any, true) => Shown::first(PLACES),
-            (Shown::Fresh, true) => Shown::first(1),
-            (Shown::Any, false) => Shown::Fresh,
+            (ShownEvents::Any, true) => ShownEvents::first(PLACES),
+            (ShownEvents::Fresh, true) => ShownEvents::first(1),
+            (ShownEvents::Any, false) => ShownEvents::Fresh,
             _ => *self,
         }
     }
 
     /// Some places are filled, at most so many, and none was read.
-    fn first(most: u8) -> Shown
+    fn first(most: u8) -> ShownEvents
         ensures { result ≡ first_places most }
     {
-        Shown::Filled(Places {
+        ShownEvents::Filled(FilledPlaces {
             least: 1,
             most,
             octets: [None; 18],
@@ -98,34 +100,34 @@ impl Shown {
     }
 
     /// The filled places, of which there are none but where some are known to be.
-    fn places(&self) -> Places
+    fn places(&self) -> FilledPlaces
         ensures { result ≡ places_of self.now }
     {
         match self {
-            Shown::Filled(places) => *places,
-            _ => Places::none(),
+            ShownEvents::Filled(places) => *places,
+            _ => FilledPlaces::none(),
         }
     }
 
     /// Once a diagnosis address was read as this octet.
-    pub fn told(&self, address: u8, octet: u8) -> Shown
+    pub fn told(&self, address: u8, octet: u8) -> ShownEvents
         ensures { result ≡ events_told self.now address octet }
     {
         match self {
-            Shown::Filled(places) => Shown::Filled(places.told(address, octet)),
+            ShownEvents::Filled(places) => ShownEvents::Filled(places.told(address, octet)),
             _ => *self,
         }
     }
 }
 
-impl Places {
-    ghost use Rattle.iol_judge.specs.Events.{covers_places, fills, marked, marks_told, no_places, place_known, places_fault, places_told, status_fault};
+impl FilledPlaces {
+    ghost use Rattle.iol_judge.specs.Events.{covers_places, fills, marked_count, marks_told, no_places, place_known, places_fault, places_told, status_fault};
 
     /// No place is filled.
-    fn none() -> Places
+    fn none() -> FilledPlaces
         ensures { result ≡ no_places }
     {
-        Places {
+        FilledPlaces {
             least: 0,
             most: 0,
             octets: [None; 18],
@@ -133,7 +135,7 @@ impl Places {
     }
 
     /// Whether they allow all that the others do.
-    fn covers(&self, other: &Places) -> bool
+    fn covers(&self, other: &FilledPlaces) -> bool
         ensures { result ≡ covers_places self.now other.now }
     {
         self.least <= other.least
@@ -188,7 +190,7 @@ impl Places {
 
     /// Once a diagnosis address was read as this octet: one of a place that isn't 0 stands in a
     /// filled place.
-    fn told(&self, address: u8, octet: u8) -> Places
+    fn told(&self, address: u8, octet: u8) -> FilledPlaces
         ensures { result ≡ places_told self.now address octet }
     {
         match address {
@@ -206,11 +208,11 @@ impl Places {
     }
 
     /// Once the StatusCode marked so many.
-    fn marks_told(&self, count: Option<u8>) -> Places
+    fn marks_told(&self, count: Option<u8>) -> FilledPlaces
         ensures { result ≡ marks_told self.now count }
     {
         match count {
-            Some(count) => Places {
+            Some(count) => FilledPlaces {
                 least: count,
                 most: count,
                 octets: self.octets,
@@ -220,13 +222,13 @@ impl Places {
     }
 }
 
-ghost use Rattle.iol_judge.specs.Events.{marked};
+ghost use Rattle.iol_judge.specs.Events.{marked_count};
 ghost use Rattle.std.specs.Cmp.Lexicographic.{pointwise};
 ghost use Rattle.iol_judge.specs.Octets.{is_known_in};
 
 /// How many places a StatusCode marks, the first ones; none where it marks others.
 fn marked(status: u8) -> Option<u8>
-    ensures { result ≡ marked status }
+    ensures { result ≡ marked_count status }
 {
     match status {
         0x80 => Some(0),

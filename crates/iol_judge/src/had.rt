@@ -3,7 +3,7 @@ ghost use Rattle.std.specs.Prelude.{◌≡◌, ◌⊎◌, ◌<◌, ◌≤◌, �
 ghost use Rattle.std.specs.Option.{option_eq};
 ghost use Rattle.iol_isdu.specs.Frame.{total_at};
 ghost use Rattle.iol_segment.specs.Join.{stage};
-ghost use Rattle.iol_judge.specs.Answers.{ahead_fault, ahead_told, ahead_with, first_had, had_with, is_ahead, is_busy, is_next, is_open, next_fault, none_had, one_ahead, padding_fault, place_in, same_fault, same_had, segment_fault, was_sent};
+ghost use Rattle.iol_judge.specs.Answers.{ahead_fault, ahead_told, ahead_with, first_had, had_with, is_ahead, is_busy, is_next_count, is_stage_open, next_fault, none_had, one_ahead, padding_fault, place_ahead, same_fault, same_had, segment_fault, was_sent};
 ghost use Rattle.iol_judge.specs.declared.had.Further.TheVariants.{Ends};
 ghost use Rattle.iol_judge.specs.declared.had.TheConstants.{MOST_HAD};
 ghost use Rattle.iol_judge.specs.Transfers.{further, missed_further};
@@ -27,7 +27,7 @@ const MOST_JOINED: usize = 302;
 pub(crate) const MOST_AHEAD: usize = 64;
 
 /// Octets of an answer's segments.
-pub(crate) type Octets = ArrayVec<u8, MOST_HAD>;
+pub(crate) type HadOctets = ArrayVec<u8, MOST_HAD>;
 
 /// Segments of an answer that were had, one behind the other, behind one that wasn't.
 #[derive(Debug, Drop)]
@@ -50,7 +50,7 @@ impl Ahead {
 
     /// How far behind the first octet a place is that is in them.
     fn place(&self, at: u16) -> Option<usize>
-        ensures { result ≡ place_in self.now at }
+        ensures { result ≡ place_ahead self.now at }
     {
         if at >= self.at && ((at - self.at) as usize) < self.octets.len() {
             Some((at - self.at) as usize)
@@ -101,11 +101,11 @@ pub(crate) enum Further {
 /// What is known of an answer that is sent: the segments from the first on, up to one that wasn't
 /// had, and some of those behind it.
 #[derive(Debug, Drop)]
-pub(crate) struct Had {
+pub(crate) struct HadSegments {
     /// Whether it is one to a read.
     pub read: bool,
     /// The segments that were had from the first on.
-    pub text: Octets,
+    pub text: HadOctets,
     /// Where in the answer the segment begins that was sent last.
     pub at: u16,
     /// Its COUNT, 0 for the first.
@@ -114,14 +114,14 @@ pub(crate) struct Had {
     pub ahead: Option<Ahead>,
 }
 
-impl Had {
+impl HadSegments {
     /// The first segment was had.
-    pub fn first(read: bool, reply: &ReplyView<'_>) -> Had
+    pub fn first(read: bool, reply: &ReplyView<'_>) -> HadSegments
         ensures { result ≡ first_had read reply.now.od.items }
     {
-        Had {
+        HadSegments {
             read,
-            text: Octets::try_from(reply.od()).unwrap(),
+            text: HadOctets::try_from(reply.od()).unwrap(),
             at: 0,
             count: 0,
             ahead: None,
@@ -129,22 +129,22 @@ impl Had {
     }
 
     /// The first segment was sent, and not had.
-    pub fn none(read: bool) -> Had
+    pub fn none(read: bool) -> HadSegments
         ensures { result ≡ none_had read }
     {
-        Had {
+        HadSegments {
             read,
-            text: Octets::new(),
+            text: HadOctets::new(),
             at: 0,
             count: 0,
             ahead: None,
         }
     }
 
-    pub fn copy(&self) -> Had
+    pub fn copy(&self) -> HadSegments
         ensures { result ≡ self.now }
     {
-        Had {
+        HadSegments {
             read: self.read,
             text: self.text.clone().unwrap(),
             at: self.at,
@@ -162,7 +162,7 @@ impl Had {
         }
     }
 
-    pub fn is(&self, other: &Had) -> bool
+    pub fn is(&self, other: &HadSegments) -> bool
         ensures { result ≡ same_had self.now other.now }
     {
         self.read == other.read
@@ -172,7 +172,7 @@ impl Had {
             && self.ahead_as(other)
     }
 
-    fn ahead_as(&self, other: &Had) -> bool
+    fn ahead_as(&self, other: &HadSegments) -> bool
         ensures { result ≡ option_eq is_ahead self.now.ahead other.now.ahead }
     {
         match (&self.ahead, &other.ahead) {
@@ -183,17 +183,17 @@ impl Had {
     }
 
     /// The first segment was sent again.
-    pub fn from_the_first(self) -> Had
+    pub fn from_the_first(self) -> HadSegments
         ensures { result ≡ record self { at = 0; count = 0 } }
     {
         self.going_on(0, 0)
     }
 
     /// Another segment was sent.
-    pub fn going_on(self, at: u16, count: u8) -> Had
+    pub fn going_on(self, at: u16, count: u8) -> HadSegments
         ensures { result ≡ record self { at = at; count = count } }
     {
-        Had {
+        HadSegments {
             read: self.read,
             text: self.text,
             at,
@@ -211,14 +211,14 @@ impl Had {
 
     /// Whether the segment behind it has this COUNT.
     pub fn is_next(&self, count: u8) -> bool
-        ensures { result ≡ is_next self.now count }
+        ensures { result ≡ is_next_count self.now count }
     {
         count == segment_number(self.count as usize + 1)
     }
 
     /// Whether the octets that were had are no whole text.
     pub fn is_open(&self) -> bool
-        ensures { result ≡ is_open (stage self.now.text.items) }
+        ensures { result ≡ is_stage_open (stage self.now.text.items) }
     {
         match total_of(&self.text) {
             Ok(total) => total > self.text.len(),
@@ -313,7 +313,7 @@ impl Had {
     }
 
     /// Once it had the octets of this reply.
-    pub fn with(self, reply: &ReplyView<'_>) -> Had
+    pub fn with(self, reply: &ReplyView<'_>) -> HadSegments
         ensures { result ≡ had_with self reply.now.od.items }
     {
         let od = reply.od();

@@ -2,17 +2,17 @@
 ghost use Rattle.std.specs.Prelude.{◌≡◌, option_copied, if◌then◌else◌, [], Ok, Err};
 ghost use Rattle.iol_judge.specs.Seen.{whole_page};
 ghost use Rattle.iol_judge.specs.Family.{no_kinds};
-ghost use Rattle.iol_judge.specs.Judged.{concluded_lost, exchanged, kinds_left, kinds_with, new_judge, noted, woke};
+ghost use Rattle.iol_judge.specs.Judged.{concluded_lost, judge_after_exchange, kinds_left, kinds_with, new_judge, page_after_reply, judge_after_wake};
 
-use crate::kept::Kept;
+use crate::kept::KeptState;
 use crate::kinds::Kinds;
 use crate::next::{lose, move_states, reply, wake};
 use crate::octets::first_octet;
 use crate::open::Open;
 use crate::readable::is_readable;
 use crate::reason::Reason;
-use crate::seen::Seen;
-use crate::taken::{Next, States};
+use crate::seen::SeenPage;
+use crate::taken::{NextStates, States};
 use crate::verdict::{Odd, Verdict, Wake};
 use iol_octets::Mc;
 use std::marker::Model;
@@ -25,10 +25,10 @@ use std::marker::Model;
 /// there was one.
 #[derive(Drop)]
 pub struct Judge {
-    seen: Seen,
+    seen: SeenPage,
     states: States,
     /// Where those after an exchange are put together, so that no turn makes room anew.
-    next: Next,
+    next: NextStates,
     verdict: Verdict,
     exchanges: u64,
     odd: Odd,
@@ -37,9 +37,9 @@ pub struct Judge {
 }
 
 impl Model for Judge {
-    ghost use Rattle.iol_judge.specs.Judged.{Judged};
+    ghost use Rattle.iol_judge.specs.Judged.{JudgeState};
 
-    ghost Value = { Judged };
+    ghost Value = { JudgeState };
 
     ghost view = { λ j. record {
       seen = j.seen;
@@ -58,9 +58,9 @@ impl Judge {
         ensures { result ≡ new_judge odd }
     {
         Judge {
-            seen: Seen::nothing(),
+            seen: SeenPage::nothing(),
             states: States::new(),
-            next: Next::none(),
+            next: NextStates::none(),
             verdict: Verdict::Unjudged,
             exchanges: 0,
             odd,
@@ -73,12 +73,12 @@ impl Judge {
     pub fn page(&mut self, octets: &[u8; 10])
         ensures { self.new ≡ record self.old { seen = whole_page octets.now } }
     {
-        self.seen = Seen::whole(octets);
+        self.seen = SeenPage::whole(octets);
     }
 
     /// A wake-up request was sent.
     pub fn wake(&mut self, answer: Wake)
-        ensures { self.new ≡ woke self.old answer }
+        ensures { self.new ≡ judge_after_wake self.old answer }
     {
         match (self.verdict, answer) {
             (Verdict::Unjudged, Wake::Answered) => self.begin(),
@@ -89,7 +89,7 @@ impl Judge {
 
     /// These octets were sent, and those came in the time of a reply, if any.
     pub fn exchange(&mut self, sent: &[u8], answer: Option<&[u8]>)
-        ensures { self.new ≡ exchanged self.old sent.now (option_copied answer.entry) }
+        ensures { self.new ≡ judge_after_exchange self.old sent.now (option_copied answer.entry) }
     {
         self.exchanges = self.exchanges.saturating_add(1);
         self.oddity = None;
@@ -141,7 +141,7 @@ impl Judge {
     ghost use Rattle.std.specs.Prelude.{◌∷◌};
     ghost use Rattle.iol_judge.specs.Seen.{layouts_seen};
     ghost use Rattle.iol_judge.specs.State.{first_state};
-    ghost use Rattle.iol_judge.specs.Judged.{each_in_turn, replied, unanswered, with_oddity, woken_into};
+    ghost use Rattle.iol_judge.specs.Judged.{each_in_turn, judge_after_reply, judge_without_reply, with_oddity, woken_into};
     ghost use Rattle.iol_judge.specs.declared.verdict.Verdict.TheVariants.{Honest};
 
     /// The first answered wake-up request.
@@ -150,7 +150,7 @@ impl Judge {
             ≡ record self.old { states = first_state ∷ []; verdict = Honest } }
     {
         self.states.clear();
-        self.states.push(Kept::first());
+        self.states.push(KeptState::first());
         self.verdict = Verdict::Honest;
     }
 
@@ -167,7 +167,7 @@ impl Judge {
 
     /// No reply came that can be read.
     fn hear_nothing(&mut self, sent: &[u8])
-        ensures { self.new ≡ unanswered self.old sent.now }
+        ensures { self.new ≡ judge_without_reply self.old sent.now }
     {
         self.next.clear();
         let layouts = self.seen.layouts();
@@ -179,7 +179,7 @@ impl Judge {
 
     /// A reply came that can be read: the states that explain it, or that there is none.
     fn hear_reply(&mut self, sent: &[u8], octets: &[u8])
-        ensures { self.new ≡ replied self.old sent.now octets.now }
+        ensures { self.new ≡ judge_after_reply self.old sent.now octets.now }
     {
         self.next.clear();
         let layouts = self.seen.layouts();
@@ -217,7 +217,8 @@ impl Judge {
 
     /// The octet of the page that a reply brings.
     fn note(&mut self, sent: &[u8], octets: &[u8])
-        ensures { self.new ≡ record self.old { seen = noted self.old.seen sent.now octets.now } }
+        ensures { self.new
+            ≡ record self.old { seen = page_after_reply self.old.seen sent.now octets.now } }
     {
         let mc = Mc::from_octet(first_octet(sent));
         self.seen.note_reply(mc, octets);
@@ -225,7 +226,7 @@ impl Judge {
 }
 
 /// The kinds that states stand for.
-fn kinds_of(states: &[Kept]) -> Kinds
+fn kinds_of(states: &[KeptState]) -> Kinds
     ensures { result ≡ kinds_with no_kinds states.now }
 {
     let mut kinds = Kinds::none();

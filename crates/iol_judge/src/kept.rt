@@ -2,27 +2,27 @@
 ghost use Rattle.std.specs.Prelude.{◌≡◌, ◌≤◌, ◌+◌, ◌++◌, None, Some, Option, slice_index};
 ghost use Rattle.arrayvec.specs.ArrayVec.{array_vec_len};
 ghost use Rattle.iol_octets.specs.Control.{control_of};
-ghost use Rattle.iol_judge.specs.State.{all_parts, first_state, is_command, parts_of, startup_state, state_of, tells_apart};
+ghost use Rattle.iol_judge.specs.State.{all_parts, first_state, is_command, parts_of, startup_state, state_of_kind, tells_apart};
 
-use crate::events::{Shown, is_known_in};
-use crate::had::Had;
+use crate::events::{ShownEvents, is_known_in};
+use crate::had::HadSegments;
 use crate::kinds::Kinds;
 use crate::octets::first_octet;
 use crate::transfer::Transfer;
 use arrayvec::ArrayVec;
-use iol_far::{HandsOver, Kind, Mode, Recalls};
+use iol_far::{DeviceMode, HandsOver, Kind, Recalls};
 use iol_mseq::Message;
 use iol_octets::{Channel, Mc};
 use std::marker::Model;
 
 /// A command into another mode, with its octets, until a message comes in that mode's layout.
 #[derive(Debug, Drop)]
-pub(crate) struct Waiting {
-    pub into: Mode,
+pub(crate) struct ModeCommand {
+    pub into: DeviceMode,
     pub octets: Message,
 }
 
-impl Model for Waiting {
+impl Model for ModeCommand {
     ghost use Rattle.iol_far.specs.Far.{WaitingCommand};
 
     ghost Value = { WaitingCommand };
@@ -32,17 +32,17 @@ impl Model for Waiting {
     ghost inverse = { λ w. record { into = w.into; octets = record { items = w.octets } } };
 }
 
-impl Waiting {
-    fn is(&self, other: &Waiting) -> bool
+impl ModeCommand {
+    fn is(&self, other: &ModeCommand) -> bool
         ensures { result ≡ is_command self.now other.now }
     {
         self.into == other.into && self.octets.as_slice() == other.octets.as_slice()
     }
 
-    pub fn copy(&self) -> Waiting
+    pub fn copy(&self) -> ModeCommand
         ensures { result ≡ self.now }
     {
-        Waiting {
+        ModeCommand {
             into: self.into,
             octets: self.octets.clone().unwrap(),
         }
@@ -50,25 +50,25 @@ impl Waiting {
 }
 
 /// What one state stands for, told apart by kinds: of each kind two at most.
-pub(crate) type Parts = ArrayVec<Kept, 8>;
+pub(crate) type Parts = ArrayVec<KeptState, 8>;
 
 /// A state of a device that the exchanges so far admit.
 #[derive(Debug, Drop)]
-pub(crate) struct Kept {
+pub(crate) struct KeptState {
     /// Which kinds of device it stands for.
     pub kinds: Kinds,
-    pub mode: Mode,
-    pub waits: Option<Waiting>,
+    pub mode: DeviceMode,
+    pub waits: Option<ModeCommand>,
     /// The octet of page address 0x01, where it is known.
     pub cycle: Option<u8>,
-    pub events: Shown,
+    pub events: ShownEvents,
     pub transfer: Transfer,
 }
 
-impl Model for Kept {
-    ghost use Rattle.iol_judge.specs.State.{State};
+impl Model for KeptState {
+    ghost use Rattle.iol_judge.specs.State.{KnownState};
 
-    ghost Value = { State };
+    ghost Value = { KnownState };
 
     ghost view = { λ k. record {
       kinds = k.kinds;
@@ -88,29 +88,29 @@ impl Model for Kept {
     } };
 }
 
-impl Default for Kept {
-    fn default() -> Kept {
-        Kept::first()
+impl Default for KeptState {
+    fn default() -> KeptState {
+        KeptState::first()
     }
 }
 
-impl Kept {
+impl KeptState {
     ghost use Rattle.std.specs.Option.{option_eq};
     ghost use Rattle.iol_judge.specs.State.{are_alike, covers, covers_alike, powered_state, woken_state};
 
     /// A device of any kind right after the first answered wake-up request.
-    pub fn first() -> Kept
+    pub fn first() -> KeptState
         ensures { result ≡ first_state }
     {
-        Kept::started(Kinds::all(), None, Shown::Any)
+        KeptState::started(Kinds::all(), None, ShownEvents::Any)
     }
 
-    fn started(kinds: Kinds, cycle: Option<u8>, events: Shown) -> Kept
+    fn started(kinds: Kinds, cycle: Option<u8>, events: ShownEvents) -> KeptState
         ensures { result ≡ startup_state kinds cycle events }
     {
-        Kept {
+        KeptState {
             kinds,
-            mode: Mode::Startup,
+            mode: DeviceMode::Startup,
             waits: None,
             cycle,
             events,
@@ -119,23 +119,23 @@ impl Kept {
     }
 
     /// The state after a wake-up request, of a device that was awake.
-    pub fn woken(&self) -> Kept
+    pub fn woken(&self) -> KeptState
         ensures { result ≡ woken_state self.now }
     {
-        Kept::started(self.kinds, self.cycle, self.events.after(false))
+        KeptState::started(self.kinds, self.cycle, self.events.after(false))
     }
 
     /// The state after a wake-up request, of a device that had a power cycle.
-    pub fn powered(&self) -> Kept
+    pub fn powered(&self) -> KeptState
         ensures { result ≡ powered_state self.now }
     {
-        Kept::started(self.kinds, self.cycle, Shown::Fresh)
+        KeptState::started(self.kinds, self.cycle, ShownEvents::Fresh)
     }
 
-    pub fn copy(&self) -> Kept
+    pub fn copy(&self) -> KeptState
         ensures { result ≡ self.now }
     {
-        Kept {
+        KeptState {
             kinds: self.kinds,
             mode: self.mode,
             waits: self.waits_copy(),
@@ -146,10 +146,10 @@ impl Kept {
     }
 
     /// The same of one kind, with this transfer.
-    fn of(&self, kind: Kind, transfer: Transfer) -> Kept
-        ensures { result ≡ state_of self.now kind transfer }
+    fn of(&self, kind: Kind, transfer: Transfer) -> KeptState
+        ensures { result ≡ state_of_kind self.now kind transfer }
     {
-        Kept {
+        KeptState {
             kinds: Kinds::only(kind),
             mode: self.mode,
             waits: self.waits_copy(),
@@ -196,13 +196,13 @@ impl Kept {
         match &self.transfer {
             Transfer::Asked(read, last) => {
                 parts.push(self.of(kind, Transfer::Handed(*read, *last)));
-                parts.push(self.of(kind, Transfer::Answered(Had::none(*read))));
+                parts.push(self.of(kind, Transfer::Answered(HadSegments::none(*read))));
             }
             transfer => parts.push(self.of(kind, transfer.copy())),
         }
     }
 
-    fn waits_copy(&self) -> Option<Waiting>
+    fn waits_copy(&self) -> Option<ModeCommand>
         ensures { result ≡ self.now.link.waits }
     {
         match &self.waits {
@@ -212,21 +212,21 @@ impl Kept {
     }
 
     /// Whether it stands for each device that the other does.
-    pub fn covers(&self, other: &Kept) -> bool
+    pub fn covers(&self, other: &KeptState) -> bool
         ensures { result ≡ covers self.now other.now }
     {
         other.kinds.are_within(&self.kinds) && self.covers_alike(other)
     }
 
     /// Whether both stand for the same devices, but for their kinds.
-    pub fn is_alike(&self, other: &Kept) -> bool
+    pub fn is_alike(&self, other: &KeptState) -> bool
         ensures { result ≡ are_alike self.now other.now }
     {
         self.covers_alike(other) && other.covers_alike(self)
     }
 
     /// Whether it does, of devices of the same kind.
-    fn covers_alike(&self, other: &Kept) -> bool
+    fn covers_alike(&self, other: &KeptState) -> bool
         ensures { result ≡ covers_alike self.now other.now }
     {
         self.mode == other.mode
@@ -236,7 +236,7 @@ impl Kept {
             && self.transfer.covers(&other.transfer)
     }
 
-    fn waits_as(&self, other: &Kept) -> bool
+    fn waits_as(&self, other: &KeptState) -> bool
         ensures { result ≡ option_eq is_command self.now.link.waits other.now.link.waits }
     {
         match (&self.waits, &other.waits) {

@@ -17,7 +17,7 @@ pub struct Kinds {
 }
 
 impl Kinds {
-    ghost use Rattle.iol_judge.specs.Family.{all_kinds, both_kinds, has_kind, kind_in, kinds_within, no_kinds, only_kind};
+    ghost use Rattle.iol_judge.specs.Family.{all_kinds, both_kinds, admits_kind, kind_in, kinds_within, no_kinds, only_kind};
 
     /// None of them.
     pub fn none() -> Kinds
@@ -59,7 +59,7 @@ impl Kinds {
 
     /// Whether this kind is one of them.
     pub fn has(&self, kind: Kind) -> bool
-        ensures { result ≡ has_kind self.now kind }
+        ensures { result ≡ admits_kind self.now kind }
     {
         match (kind.hands_over, kind.recalls) {
             (HandsOver::FirstRead, Recalls::UntilLeft) => self.first_left,

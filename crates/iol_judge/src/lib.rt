@@ -45,7 +45,7 @@ pub use laws::honest_lines_are_never_blamed;
 pub use octets::are_zeros;
 pub use open::Open;
 pub use reason::Reason;
-pub use seen::{Known, Seen};
+pub use seen::{KnownLayouts, SeenPage};
 pub use take::{command_in, layout_in, message_in, mode_asked};
 pub use transfer::next_count;
 pub use verdict::{Odd, Verdict, Wake};

@@ -3,20 +3,20 @@ ghost use Rattle.std.specs.Prelude.{◌≡◌, [], Ok, Err, ◌≤◌, ◌++◌,
 ghost use Rattle.std.specs.Result.{result_err};
 ghost use Rattle.arrayvec.specs.ArrayVec.{array_vec_len};
 ghost use Rattle.iol_judge.specs.State.{all_parts};
-ghost use Rattle.iol_judge.specs.Judged.{added, added_whole, each_in_turn, has_state, lost_into, lost_part, replied_into, replied_part, result_with, uncovered, united, woken_into};
+ghost use Rattle.iol_judge.specs.Judged.{states_with, added_whole, each_in_turn, has_state, lost_into, lost_part, replied_into, replied_part, result_with, uncovered_states, united_state, woken_into};
 
-use crate::kept::Kept;
+use crate::kept::KeptState;
 use crate::open::Open;
 use crate::reason::Reason;
 use crate::reply::explain;
-use crate::seen::{Known, Seen};
-use crate::taken::{Explained, MAX_STATES, Next, States};
+use crate::seen::{KnownLayouts, SeenPage};
+use crate::taken::{Explanation, MAX_STATES, NextStates, States};
 use crate::verdict::{Odd, Wake};
 
 /// Puts a state to the others, where none of them covers it: in the place of those that it covers,
 /// and, for their kinds too, of those that are alike.
-pub(crate) fn add(states: &mut States, kept: Kept) -> Result<(), Open>
-    ensures { result_with result states.new.items ≡ added states.old.items kept }
+pub(crate) fn add(states: &mut States, kept: KeptState) -> Result<(), Open>
+    ensures { result_with result states.new.items ≡ states_with states.old.items kept }
 {
     if has_state(states, &kept) {
         return Ok(());
@@ -27,8 +27,8 @@ pub(crate) fn add(states: &mut States, kept: Kept) -> Result<(), Open>
 }
 
 /// Gives a state the kinds of those that are alike.
-fn unite(states: &[Kept], kept: &mut Kept)
-    ensures { kept.new ≡ united states.now kept.old }
+fn unite(states: &[KeptState], kept: &mut KeptState)
+    ensures { kept.new ≡ united_state states.now kept.old }
 {
     for other in states {
         if other.is_alike(kept) {
@@ -38,7 +38,7 @@ fn unite(states: &[Kept], kept: &mut Kept)
 }
 
 /// Puts a state to the others, in the place of those that it covers.
-fn add_whole(states: &mut States, kept: Kept) -> Result<(), Open>
+fn add_whole(states: &mut States, kept: KeptState) -> Result<(), Open>
     ensures { result_with result states.new.items ≡ added_whole states.old.items kept }
 {
     remove_covered(states, &kept);
@@ -62,15 +62,15 @@ pub(crate) fn move_states(from: &mut States, into: &mut States)
 }
 
 /// Whether one of the others covers a state.
-fn has_state(states: &[Kept], kept: &Kept) -> bool
+fn has_state(states: &[KeptState], kept: &KeptState) -> bool
     ensures { result ≡ has_state states.now kept.now }
 {
     states.iter().any(|other| other.covers(kept))
 }
 
 /// Takes out those that a state covers.
-fn remove_covered(states: &mut States, kept: &Kept)
-    ensures { states.new.items ≡ uncovered states.old.items kept.now }
+fn remove_covered(states: &mut States, kept: &KeptState)
+    ensures { states.new.items ≡ uncovered_states states.old.items kept.now }
 {
     states.retain(|other| !kept.covers(other));
 }
@@ -78,8 +78,8 @@ fn remove_covered(states: &mut States, kept: &Kept)
 /// The states after an exchange without a reply that can be read: each as it was, for the message
 /// may be lost, and with the message worked, for the reply may be.
 pub(crate) fn lose(
-    states: &[Kept],
-    layouts: &Known,
+    states: &[KeptState],
+    layouts: &KnownLayouts,
     sent: &[u8],
     next: &mut States,
 ) -> Result<(), Open>
@@ -93,7 +93,12 @@ pub(crate) fn lose(
 }
 
 /// One of them.
-fn lose_one(kept: &Kept, layouts: &Known, sent: &[u8], next: &mut States) -> Result<(), Open>
+fn lose_one(
+    kept: &KeptState,
+    layouts: &KnownLayouts,
+    sent: &[u8],
+    next: &mut States,
+) -> Result<(), Open>
     ensures { result_with result next.new.items
         ≡ lost_into layouts.now sent.now next.old.items kept.now }
 {
@@ -109,7 +114,12 @@ fn lose_one(kept: &Kept, layouts: &Known, sent: &[u8], next: &mut States) -> Res
 /// The states after the message was worked by what one state stands for, told apart by kinds.
 // Its locals are large, and seldom needed.
 #[inline(never)]
-fn lose_apart(kept: &Kept, layouts: &Known, sent: &[u8], next: &mut States) -> Result<(), Open>
+fn lose_apart(
+    kept: &KeptState,
+    layouts: &KnownLayouts,
+    sent: &[u8],
+    next: &mut States,
+) -> Result<(), Open>
     ensures { result_with result next.new.items
         ≡ each_in_turn (lost_part layouts.now sent.now) next.old.items (all_parts kept.now) }
 {
@@ -120,7 +130,12 @@ fn lose_apart(kept: &Kept, layouts: &Known, sent: &[u8], next: &mut States) -> R
 }
 
 /// One of them.
-fn lose_part(part: &Kept, layouts: &Known, sent: &[u8], next: &mut States) -> Result<(), Open>
+fn lose_part(
+    part: &KeptState,
+    layouts: &KnownLayouts,
+    sent: &[u8],
+    next: &mut States,
+) -> Result<(), Open>
     ensures { result_with result next.new.items
         ≡ lost_part layouts.now sent.now next.old.items part.now }
 {
@@ -130,15 +145,15 @@ fn lose_part(part: &Kept, layouts: &Known, sent: &[u8], next: &mut States) -> Re
     }
 }
 
-impl Next {
+impl NextStates {
     ghost use Rattle.iol_judge.specs.Judged.{explained_into, no_next};
-    ghost use Rattle.iol_judge.specs.declared.taken.Explained.TheVariants.{By};
+    ghost use Rattle.iol_judge.specs.declared.taken.Explanation.TheVariants.{By};
 
     /// None yet.
-    pub fn none() -> Next
+    pub fn none() -> NextStates
         ensures { result ≡ no_next }
     {
-        Next {
+        NextStates {
             states: States::new(),
             reason: Reason::NotTaken,
             oddity: None,
@@ -155,7 +170,7 @@ impl Next {
     }
 
     /// One more state explains the reply, with what is odd then.
-    fn add(&mut self, kept: Kept, oddity: Option<Reason>) -> Result<(), Open>
+    fn add(&mut self, kept: KeptState, oddity: Option<Reason>) -> Result<(), Open>
         ensures { result_with result self.new ≡ explained_into self.old (By kept oddity) }
     {
         if self.states.is_empty() || oddity.is_none() {
@@ -167,13 +182,13 @@ impl Next {
 
 /// The states after a reply that can be read: each that explains it.
 pub(crate) fn reply(
-    states: &[Kept],
-    layouts: &Known,
+    states: &[KeptState],
+    layouts: &KnownLayouts,
     odd: Odd,
-    seen: &Seen,
+    seen: &SeenPage,
     sent: &[u8],
     octets: &[u8],
-    next: &mut Next,
+    next: &mut NextStates,
 ) -> Result<(), Open>
     ensures { result_with result next.new ≡ each_in_turn
         (replied_into layouts.now odd seen.now sent.now octets.now) next.old states.now }
@@ -186,13 +201,13 @@ pub(crate) fn reply(
 
 /// One of them.
 fn reply_one(
-    kept: &Kept,
-    layouts: &Known,
+    kept: &KeptState,
+    layouts: &KnownLayouts,
     odd: Odd,
-    seen: &Seen,
+    seen: &SeenPage,
     sent: &[u8],
     octets: &[u8],
-    next: &mut Next,
+    next: &mut NextStates,
 ) -> Result<(), Open>
     ensures { result_with result next.new
         ≡ replied_into layouts.now odd seen.now sent.now octets.now next.old kept.now }
@@ -208,13 +223,13 @@ fn reply_one(
 // Its locals are large, and seldom needed.
 #[inline(never)]
 fn reply_apart(
-    kept: &Kept,
-    layouts: &Known,
+    kept: &KeptState,
+    layouts: &KnownLayouts,
     odd: Odd,
-    seen: &Seen,
+    seen: &SeenPage,
     sent: &[u8],
     octets: &[u8],
-    next: &mut Next,
+    next: &mut NextStates,
 ) -> Result<(), Open>
     ensures { result_with result next.new ≡ each_in_turn
         (replied_part layouts.now odd seen.now sent.now octets.now) next.old (all_parts kept.now) }
@@ -227,21 +242,21 @@ fn reply_apart(
 
 /// One of them.
 fn reply_part(
-    part: &Kept,
-    layouts: &Known,
+    part: &KeptState,
+    layouts: &KnownLayouts,
     odd: Odd,
-    seen: &Seen,
+    seen: &SeenPage,
     sent: &[u8],
     octets: &[u8],
-    next: &mut Next,
+    next: &mut NextStates,
 ) -> Result<(), Open>
     ensures { result_with result next.new
         ≡ replied_part layouts.now odd seen.now sent.now octets.now next.old part.now }
 {
     let taken = part.take(layouts, sent)?;
     match explain(odd, seen, taken, octets) {
-        Explained::By(after, oddity) => next.add(after, oddity),
-        Explained::Not(reason) => {
+        Explanation::By(after, oddity) => next.add(after, oddity),
+        Explanation::Not(reason) => {
             next.reason = next.reason.or_later(reason);
             Ok(())
         }
@@ -250,7 +265,7 @@ fn reply_part(
 
 /// The states after a wake-up request: each as woken, as it is or after a power cycle, and, where
 /// it wasn't answered, as it was too, for the request may be lost.
-pub(crate) fn wake(states: &[Kept], wake: Wake, next: &mut States) -> Result<(), Open>
+pub(crate) fn wake(states: &[KeptState], wake: Wake, next: &mut States) -> Result<(), Open>
     ensures { result_with result next.new.items
         ≡ each_in_turn (woken_into wake) next.old.items states.now }
 {
@@ -261,7 +276,7 @@ pub(crate) fn wake(states: &[Kept], wake: Wake, next: &mut States) -> Result<(),
 }
 
 /// One of them.
-fn wake_one(kept: &Kept, wake: Wake, next: &mut States) -> Result<(), Open>
+fn wake_one(kept: &KeptState, wake: Wake, next: &mut States) -> Result<(), Open>
     ensures { result_with result next.new.items ≡ woken_into wake next.old.items kept.now }
 {
     if wake == Wake::Unanswered {

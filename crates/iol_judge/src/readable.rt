@@ -1,6 +1,6 @@
 //! Which replies can be read.
 ghost use Rattle.std.specs.Prelude.{◌≡◌, nat_lt, ◌-◌, length, slice_index};
-ghost use Rattle.iol_judge.specs.Replies.{is_read_with, is_readable};
+ghost use Rattle.iol_judge.specs.Replies.{is_read_with, can_be_read};
 
 use crate::octets::first_octet;
 use iol_mseq::{Layout, view_master, view_reply};
@@ -8,7 +8,7 @@ use iol_mseq::{Layout, view_master, view_reply};
 /// Whether a reply can be read: there is a layout in which what was sent is a message, and this a
 /// good reply to it. One that can't be read was damaged on the line.
 pub(crate) fn is_readable(sent: &[u8], reply: &[u8]) -> bool
-    ensures { result ≡ is_readable sent.now reply.now }
+    ensures { result ≡ can_be_read sent.now reply.now }
 {
     is_read_with(4, 1, sent, reply)
         || is_read_with(5, 2, sent, reply)

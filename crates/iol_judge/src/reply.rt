@@ -1,23 +1,28 @@
 //! Which replies a device in a kept state may have sent.
 ghost use Rattle.std.specs.Prelude.{◌≡◌};
 ghost use Rattle.iol_mseq.specs.Replies.{reply_in};
-ghost use Rattle.iol_judge.specs.Replies.{data_fault, data_oddity, explained, explained_by, first_of, held_against, learned, no_zeros, page_fault, page_oddity, reply_fault, reply_oddity};
+ghost use Rattle.iol_judge.specs.Replies.{data_fault, data_oddity, explanation_of, explained_by, earlier_reason, held_against, state_after_reply, no_zeros, page_fault, page_oddity, fault_in_reply, reply_oddity};
 
-use crate::kept::Kept;
+use crate::kept::KeptState;
 use crate::octets::{are_zeros, first_octet, rest_of};
 use crate::reason::Reason;
-use crate::seen::Seen;
-use crate::taken::{Explained, Taken};
+use crate::seen::SeenPage;
+use crate::taken::{Explanation, TakenMessage};
 use crate::verdict::Odd;
 use iol_mseq::{Layout, MasterView, ReplyView, view_reply};
 use iol_octets::{Channel, Mc};
 
 /// Whether a state explains the reply that came, by what it makes of the message.
-pub(crate) fn explain(odd: Odd, seen: &Seen, taken: Option<Taken<'_>>, reply: &[u8]) -> Explained
-    ensures { result ≡ explained odd seen.now taken.entry reply.now }
+pub(crate) fn explain(
+    odd: Odd,
+    seen: &SeenPage,
+    taken: Option<TakenMessage<'_>>,
+    reply: &[u8],
+) -> Explanation
+    ensures { result ≡ explanation_of odd seen.now taken.entry reply.now }
 {
     match taken {
-        None => Explained::Not(Reason::NotTaken),
+        None => Explanation::Not(Reason::NotTaken),
         Some(taken) => explain_by(odd, seen, taken.kept, &taken.layout, &taken.message, reply),
     }
 }
@@ -25,23 +30,23 @@ pub(crate) fn explain(odd: Odd, seen: &Seen, taken: Option<Taken<'_>>, reply: &[
 /// Whether the state once it worked the message, in this layout, explains the reply.
 fn explain_by(
     odd: Odd,
-    seen: &Seen,
-    kept: Kept,
+    seen: &SeenPage,
+    kept: KeptState,
     layout: &Layout,
     message: &MasterView<'_>,
     octets: &[u8],
-) -> Explained
+) -> Explanation
     ensures { result ≡ explained_by odd seen.now kept layout.now message.now
         (reply_in layout.now message.now.mc.read octets.now) }
 {
     let Ok(reply) = view_reply(layout, message.mc().read, octets) else {
-        return Explained::Not(Reason::ReplyLength);
+        return Explanation::Not(Reason::ReplyLength);
     };
     let fault = fault_of(seen, &kept, layout, message.mc(), &reply);
     let oddity = oddity_of(kept.cycle, message.mc(), &reply);
     match held_against(odd, fault, oddity) {
-        Some(reason) => Explained::Not(reason),
-        None => Explained::By(learned(kept, message.mc(), &reply), oddity),
+        Some(reason) => Explanation::Not(reason),
+        None => Explanation::By(learned(kept, message.mc(), &reply), oddity),
     }
 }
 
@@ -57,7 +62,7 @@ fn held_against(odd: Odd, fault: Option<Reason>, oddity: Option<Reason>) -> Opti
 
 /// The one of the earlier look at the reply.
 fn first_of(fault: Option<Reason>, oddity: Option<Reason>) -> Option<Reason>
-    ensures { result ≡ first_of fault oddity }
+    ensures { result ≡ earlier_reason fault oddity }
 {
     match (fault, oddity) {
         (None, _) => oddity,
@@ -67,8 +72,8 @@ fn first_of(fault: Option<Reason>, oddity: Option<Reason>) -> Option<Reason>
 }
 
 /// The state, once its reply was had.
-fn learned(kept: Kept, mc: Mc, reply: &ReplyView<'_>) -> Kept
-    ensures { result ≡ learned kept mc reply.now }
+fn learned(kept: KeptState, mc: Mc, reply: &ReplyView<'_>) -> KeptState
+    ensures { result ≡ state_after_reply kept mc reply.now }
 {
     let mut kept = kept;
     kept.events = kept.events.flag_told(reply.event());
@@ -84,13 +89,13 @@ fn learned(kept: Kept, mc: Mc, reply: &ReplyView<'_>) -> Kept
 
 /// Why the state can't have sent the reply, none where it can, but for what is odd.
 fn fault_of(
-    seen: &Seen,
-    kept: &Kept,
+    seen: &SeenPage,
+    kept: &KeptState,
     layout: &Layout,
     mc: Mc,
     reply: &ReplyView<'_>,
 ) -> Option<Reason>
-    ensures { result ≡ reply_fault seen.now kept.now layout.now mc reply.now }
+    ensures { result ≡ fault_in_reply seen.now kept.now layout.now mc reply.now }
 {
     if reply.invalid() && layout.pd_in() == 0 {
         return Some(Reason::StatusWithoutData);
@@ -106,7 +111,7 @@ fn fault_of(
 }
 
 /// Why the on-request data can't be those of the reply to a read, but for what is odd.
-fn data_fault(seen: &Seen, kept: &Kept, mc: Mc, reply: &ReplyView<'_>) -> Option<Reason>
+fn data_fault(seen: &SeenPage, kept: &KeptState, mc: Mc, reply: &ReplyView<'_>) -> Option<Reason>
     ensures { result ≡ data_fault seen.now kept.now reply.now.event mc.channel mc.address
         reply.now.od.items }
 {
@@ -125,7 +130,7 @@ fn data_fault(seen: &Seen, kept: &Kept, mc: Mc, reply: &ReplyView<'_>) -> Option
 }
 
 /// Why this can't be the octet of an address of the page.
-fn page_fault(seen: &Seen, address: u8, octet: u8) -> Option<Reason>
+fn page_fault(seen: &SeenPage, address: u8, octet: u8) -> Option<Reason>
     ensures { result ≡ page_fault seen.now address octet }
 {
     match seen.octet(address) {

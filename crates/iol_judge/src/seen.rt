@@ -17,15 +17,15 @@ const PROCESS_DATA_IN: u8 = 0x05;
 const PROCESS_DATA_OUT: u8 = 0x06;
 
 /// The layouts that a page asks for, where they are known.
-pub type Known = Result<Layouts, Open>;
+pub type KnownLayouts = Result<Layouts, Open>;
 
 /// The octets of direct parameter page 1, 0x02 to 0x0B, as far as they are known.
 #[derive(Clone, Copy, Debug, PartialEq, Eq)]
-pub struct Seen {
+pub struct SeenPage {
     octets: [Option<u8>; 10],
 }
 
-impl Model for Seen {
+impl Model for SeenPage {
     ghost use Rattle.std.specs.Prelude.{List, Option, ℕ};
 
     ghost Value = { List (Option ℕ) };
@@ -35,22 +35,22 @@ impl Model for Seen {
     ghost inverse = { λ octets. record { octets = octets } };
 }
 
-impl Seen {
+impl SeenPage {
     ghost use Rattle.iol_judge.specs.Judged.{noted_by};
     ghost use Rattle.iol_judge.specs.Seen.{nothing_seen, whole_page, octet_seen, page_noted, layouts_seen};
 
     /// None of them.
-    pub fn nothing() -> Seen
+    pub fn nothing() -> SeenPage
         ensures { result ≡ nothing_seen }
     {
-        Seen { octets: [None; 10] }
+        SeenPage { octets: [None; 10] }
     }
 
     /// All of them.
-    pub fn whole(page: &[u8; 10]) -> Seen
+    pub fn whole(page: &[u8; 10]) -> SeenPage
         ensures { result ≡ whole_page page.now }
     {
-        Seen {
+        SeenPage {
             octets: [
                 Some(page[0]),
                 Some(page[1]),
@@ -96,7 +96,7 @@ impl Seen {
 
     /// The layouts that the page asks for, by the octets 0x03 to 0x06. Open: one of them isn't
     /// known, or they ask for none.
-    pub fn layouts(&self) -> Known
+    pub fn layouts(&self) -> KnownLayouts
         ensures { result ≡ layouts_seen self.now }
     {
         let capability = self.octet(CAPABILITY).ok_or(Open::PageUnread)?;
@@ -109,7 +109,7 @@ impl Seen {
 
 /// The layouts that a page with these octets at 0x03 to 0x06 asks for.
 #[tactic(auto, unfolding(crate::specs::Seen::layouts_by))]
-fn layouts_of(capability: u8, revision: u8, input: u8, output: u8) -> Known
+fn layouts_of(capability: u8, revision: u8, input: u8, output: u8) -> KnownLayouts
     ensures { result ≡ layouts_by capability revision input output }
 {
     let octets = [0, capability, revision, input, output, 0, 0, 0, 0, 0];

@@ -2,25 +2,25 @@
 ghost use Rattle.std.specs.Prelude.{◌≡◌, ◌≤◌, length, slice_index, OnSome};
 ghost use Rattle.iol_far.specs.Codec.{message_in};
 ghost use Rattle.iol_far.specs.Far.{command_in, is_confirm, mode_asked, waits_after};
-ghost use Rattle.iol_far.specs.Level.{taken};
+ghost use Rattle.iol_far.specs.Level.{accepting_link};
 ghost use Rattle.iol_judge.specs.Transfers.{isdu_known, transfer_in};
-ghost use Rattle.iol_judge.specs.Taking.{cycle_after, mode_known, mode_layout, taken_by};
+ghost use Rattle.iol_judge.specs.Taking.{cycle_after, mode_known, mode_layout, taken_by_state};
 
-use crate::kept::{Kept, Waiting};
+use crate::kept::{KeptState, ModeCommand};
 use crate::open::Open;
-use crate::seen::Known;
-use crate::taken::Taken;
+use crate::seen::KnownLayouts;
+use crate::taken::TakenMessage;
 use crate::transfer::Transfer;
-use iol_far::Mode;
+use iol_far::DeviceMode;
 use iol_mseq::{Layout, MasterView, Message, first, view_master};
 use iol_octets::Channel;
 use iol_page::MasterCommand;
 
-impl Kept {
+impl KeptState {
     /// The mode in whose layout it takes these octets, with the command that waits there.
-    fn taking(&self, octets: &[u8]) -> (Mode, Option<Waiting>)
-        ensures mode { result.0 ≡ (taken self.now.link octets.now).mode }
-        ensures waits { result.1 ≡ (taken self.now.link octets.now).waits }
+    fn taking(&self, octets: &[u8]) -> (DeviceMode, Option<ModeCommand>)
+        ensures mode { result.0 ≡ (accepting_link self.now.link octets.now).mode }
+        ensures waits { result.1 ≡ (accepting_link self.now.link octets.now).waits }
     {
         match &self.waits {
             None => (self.mode, None),
@@ -43,8 +43,12 @@ impl Kept {
 
     /// What it makes of octets, none where it doesn't take them; open where the page's layouts
     /// would have to be known.
-    pub fn take<'a>(&self, layouts: &Known, octets: &'a [u8]) -> Result<Option<Taken<'a>>, Open>
-        ensures { result ≡ taken_by layouts.now self.now octets.now }
+    pub fn take<'a>(
+        &self,
+        layouts: &KnownLayouts,
+        octets: &'a [u8],
+    ) -> Result<Option<TakenMessage<'a>>, Open>
+        ensures { result ≡ taken_by_state layouts.now self.now octets.now }
     {
         let (mode, waits) = self.taking(octets);
         let layout = layout_in(layouts, mode)?;
@@ -52,7 +56,7 @@ impl Kept {
             return Ok(None);
         };
         let asked = known_mode(layouts, mode_asked(command_in(&message)))?;
-        let kept = Kept {
+        let kept = KeptState {
             kinds: self.kinds,
             mode,
             waits: waits_after(mode, waits, octets, asked),
@@ -65,7 +69,7 @@ impl Kept {
                 &message,
             ),
         };
-        Ok(Some(Taken {
+        Ok(Some(TakenMessage {
             kept,
             layout,
             message,
@@ -74,7 +78,7 @@ impl Kept {
 }
 
 /// Whether the device has ISDU, where that is known.
-fn isdu_of(layouts: &Known) -> Option<bool>
+fn isdu_of(layouts: &KnownLayouts) -> Option<bool>
     ensures { result ≡ isdu_known layouts.now }
 {
     match layouts {
@@ -84,13 +88,13 @@ fn isdu_of(layouts: &Known) -> Option<bool>
 }
 
 /// The layout of a mode, where it is known.
-pub fn layout_in(layouts: &Known, mode: Mode) -> Result<Layout, Open>
+pub fn layout_in(layouts: &KnownLayouts, mode: DeviceMode) -> Result<Layout, Open>
     ensures { result ≡ mode_layout layouts.now mode }
 {
     match (mode, layouts) {
-        (Mode::Startup, _) => Ok(Layout::startup()),
-        (Mode::Preoperate, Ok(layouts)) => Ok(layouts.pre.unwrap_or(Layout::startup())),
-        (Mode::Operate, Ok(layouts)) => Ok(layouts.run),
+        (DeviceMode::Startup, _) => Ok(Layout::startup()),
+        (DeviceMode::Preoperate, Ok(layouts)) => Ok(layouts.pre.unwrap_or(Layout::startup())),
+        (DeviceMode::Operate, Ok(layouts)) => Ok(layouts.run),
         (_, Err(why)) => Err(*why),
     }
 }
@@ -118,24 +122,24 @@ pub fn command_in(message: &MasterView<'_>) -> Option<MasterCommand>
 }
 
 /// The mode that a command asks for.
-pub fn mode_asked(command: Option<MasterCommand>) -> Option<Mode>
+pub fn mode_asked(command: Option<MasterCommand>) -> Option<DeviceMode>
     ensures { result ≡ mode_asked command }
 {
     match command {
-        Some(MasterCommand::DeviceStartup) => Some(Mode::Startup),
-        Some(MasterCommand::DevicePreoperate) => Some(Mode::Preoperate),
-        Some(MasterCommand::DeviceOperate) => Some(Mode::Operate),
+        Some(MasterCommand::DeviceStartup) => Some(DeviceMode::Startup),
+        Some(MasterCommand::DevicePreoperate) => Some(DeviceMode::Preoperate),
+        Some(MasterCommand::DeviceOperate) => Some(DeviceMode::Operate),
         _ => None,
     }
 }
 
 /// The mode asked for, where the device has it.
-fn known_mode(layouts: &Known, asked: Option<Mode>) -> Result<Option<Mode>, Open>
+fn known_mode(layouts: &KnownLayouts, asked: Option<DeviceMode>) -> Result<Option<DeviceMode>, Open>
     ensures { result ≡ mode_known layouts.now asked }
 {
     match (asked, layouts) {
-        (None | Some(Mode::Startup), _) => Ok(asked),
-        (Some(Mode::Preoperate), Ok(layouts)) if layouts.pre.is_none() => Ok(None),
+        (None | Some(DeviceMode::Startup), _) => Ok(asked),
+        (Some(DeviceMode::Preoperate), Ok(layouts)) if layouts.pre.is_none() => Ok(None),
         (_, Ok(_)) => Ok(asked),
         (_, Err(why)) => Err(*why),
     }
@@ -143,16 +147,16 @@ fn known_mode(layouts: &Known, asked: Option<Mode>) -> Result<Option<Mode>, Open
 
 /// The command that waits once one asked for this mode.
 fn waits_after(
-    mode: Mode,
-    waits: Option<Waiting>,
+    mode: DeviceMode,
+    waits: Option<ModeCommand>,
     octets: &[u8],
-    asked: Option<Mode>,
-) -> Option<Waiting>
+    asked: Option<DeviceMode>,
+) -> Option<ModeCommand>
     requires { length octets.now ≤ 66 }
     ensures { result ≡ waits_after mode waits octets.now asked }
 {
     match asked {
-        Some(into) if into != mode => Some(Waiting {
+        Some(into) if into != mode => Some(ModeCommand {
             into,
             octets: Message::try_from(octets).unwrap(),
         }),

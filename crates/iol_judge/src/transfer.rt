@@ -3,10 +3,10 @@ ghost use Rattle.std.specs.Prelude.{◌≡◌, ◌++◌, None, Some};
 ghost use Rattle.iol_isdu.specs.Parse.{request_of};
 ghost use Rattle.iol_segment.specs.Join.{next_count};
 ghost use Rattle.iol_far.specs.Codec.{flow_of};
-ghost use Rattle.iol_judge.specs.Transfers.{answered_read, asked_again, completed, count_read, count_written, covers_transfer, first_again, is_apart_at, is_quiet, isdu_fault, or_ended, perhaps_told, received, receiving, sent_again, start_read, told_by, transfer_after, transfer_on, transfer_unknown, while_further, whole_read};
+ghost use Rattle.iol_judge.specs.Transfers.{answered_read, asked_again, transfer_of_request, count_read, count_written, covers_transfer, first_again, is_apart_at, is_quiet, transfer_fault, or_ended, perhaps_told, transfer_of_octets, transfer_receiving, sent_again, start_read, transfer_told_by, transfer_after, transfer_on, transfer_unknown, while_further, whole_read};
 
 use crate::answer::text_fault;
-use crate::had::{Further, Had, Octets, is_busy};
+use crate::had::{Further, HadOctets, HadSegments, is_busy};
 use crate::octets::are_zeros;
 use crate::reason::Reason;
 use iol_far::{HandsOver, Kind, Recalls};
@@ -44,9 +44,9 @@ pub(crate) enum Transfer {
     /// So it is, or the answer's first segment was sent.
     Asked(bool, Option<u8>),
     /// A segment of the answer was sent.
-    Answered(Had),
+    Answered(HadSegments),
     /// So it was, or the answer had no more segments, and none is under way.
-    Perhaps(Had),
+    Perhaps(HadSegments),
     /// Any of these.
     Free,
 }
@@ -67,7 +67,7 @@ impl Transfer {
                 Transfer::Asked(read, last),
                 Transfer::Handed(reads, other) | Transfer::Asked(reads, other),
             ) => { read == reads && last == other }
-            (Transfer::Asked(read, _), Transfer::Answered(had)) => Had::none(*read).is(had),
+            (Transfer::Asked(read, _), Transfer::Answered(had)) => HadSegments::none(*read).is(had),
             (Transfer::Answered(had), Transfer::Answered(other))
             | (Transfer::Perhaps(had), Transfer::Answered(other) | Transfer::Perhaps(other)) => {
                 had.is(other)
@@ -215,7 +215,7 @@ impl Transfer {
             Transfer::Answered(had) => answered_read(recalls, size, had, count),
             Transfer::Perhaps(had) => answered_read(recalls, size, had, count).or_ended(),
             Transfer::Asked(read, _) => {
-                answered_read(recalls, size, Had::none(read), count).or_ended()
+                answered_read(recalls, size, HadSegments::none(read), count).or_ended()
             }
             Transfer::Free => Transfer::Free,
             _ => Transfer::Quiet,
@@ -240,7 +240,7 @@ impl Transfer {
 
     /// Why a read of the ISDU channel can't bring this reply, none where it can.
     pub fn fault(&self, reply: &ReplyView<'_>) -> Option<Reason>
-        ensures { result ≡ isdu_fault self.now reply.now.od.items }
+        ensures { result ≡ transfer_fault self.now reply.now.od.items }
     {
         let od = reply.od();
         match self {
@@ -260,11 +260,11 @@ impl Transfer {
 
     /// Once a read of the ISDU channel brought this reply.
     pub fn told(self, reply: &ReplyView<'_>) -> Transfer
-        ensures { result ≡ told_by self reply.now.od.items }
+        ensures { result ≡ transfer_told_by self reply.now.od.items }
     {
         match self {
             Transfer::Asked(read, last) if is_busy(reply.od()) => Transfer::Handed(read, last),
-            Transfer::Asked(read, _) => Transfer::Answered(Had::first(read, reply)),
+            Transfer::Asked(read, _) => Transfer::Answered(HadSegments::first(read, reply)),
             Transfer::Answered(had) => Transfer::Answered(had.with(reply)),
             Transfer::Perhaps(had) => perhaps_told(had, reply),
             other => other,
@@ -294,7 +294,7 @@ fn asked_again(recalls: Recalls, read: bool, last: Option<u8>) -> Transfer
 }
 
 /// A read under COUNT, of an answer of which a segment was sent.
-fn answered_read(recalls: Recalls, size: u8, had: Had, count: u8) -> Transfer
+fn answered_read(recalls: Recalls, size: u8, had: HadSegments, count: u8) -> Transfer
     ensures { result ≡ answered_read recalls size had count }
 {
     let next = had.at as usize + size as usize;
@@ -313,7 +313,7 @@ fn answered_read(recalls: Recalls, size: u8, had: Had, count: u8) -> Transfer
 
 /// This segment of an answer is sent again. A device that recalls its answer until it was sent has
 /// it only while there is a segment behind the one sent last.
-fn sent_again(recalls: Recalls, size: u8, had: Had, at: u16, count: u8) -> Transfer
+fn sent_again(recalls: Recalls, size: u8, had: HadSegments, at: u16, count: u8) -> Transfer
     ensures { result ≡ sent_again recalls size had (record had { at = at; count = count }) }
 {
     match recalls {
@@ -326,7 +326,7 @@ fn sent_again(recalls: Recalls, size: u8, had: Had, at: u16, count: u8) -> Trans
 }
 
 /// This segment of an answer was sent, where it goes on; else none is under way.
-fn while_further(further: Further, had: Had, at: u16, count: u8) -> Transfer
+fn while_further(further: Further, had: HadSegments, at: u16, count: u8) -> Transfer
     ensures { result ≡ while_further further (record had { at = at; count = count }) }
 {
     match further {
@@ -337,14 +337,14 @@ fn while_further(further: Further, had: Had, at: u16, count: u8) -> Transfer
 }
 
 /// A read under START, of an answer of which a segment was sent.
-fn first_again(recalls: Recalls, size: u8, had: Had) -> Transfer
+fn first_again(recalls: Recalls, size: u8, had: HadSegments) -> Transfer
     ensures { result ≡ first_again recalls size had }
 {
     sent_again(recalls, size, had, 0, 0)
 }
 
 /// A reply had octets of an answer's segment, or zeros, since there are no more.
-fn perhaps_told(had: Had, reply: &ReplyView<'_>) -> Transfer
+fn perhaps_told(had: HadSegments, reply: &ReplyView<'_>) -> Transfer
     ensures { result ≡ perhaps_told had reply.now.od.items }
 {
     if !are_zeros(reply.od()) {
@@ -368,9 +368,9 @@ pub fn next_count(last: Option<u8>) -> u8
 
 /// The octets of a message behind those of a text.
 fn received_more(text: &Text, message: &MasterView<'_>, count: u8) -> Transfer
-    ensures { result ≡ received (text.now.items ++ message.now.od.items) (Some count) }
+    ensures { result ≡ transfer_of_octets (text.now.items ++ message.now.od.items) (Some count) }
 {
-    let mut joined: Octets = Octets::new();
+    let mut joined: HadOctets = HadOctets::new();
     joined.try_extend_from_slice(text).unwrap();
     joined.try_extend_from_slice(message.od()).unwrap();
     received(&joined, Some(count))
@@ -378,7 +378,7 @@ fn received_more(text: &Text, message: &MasterView<'_>, count: u8) -> Transfer
 
 /// A request of which these octets came, the last of them under this COUNT.
 fn received(octets: &[u8], last: Option<u8>) -> Transfer
-    ensures { result ≡ received octets.now last }
+    ensures { result ≡ transfer_of_octets octets.now last }
 {
     match total_of(octets) {
         Ok(total) if total <= octets.len() => completed(&octets[..total], last),
@@ -389,7 +389,7 @@ fn received(octets: &[u8], last: Option<u8>) -> Transfer
 
 /// Not all octets of a text came.
 fn receiving(octets: &[u8], last: Option<u8>) -> Transfer
-    ensures { result ≡ receiving octets.now last }
+    ensures { result ≡ transfer_receiving octets.now last }
 {
     if octets.len() <= LONGEST {
         Transfer::Receiving(Text::try_from(octets).unwrap(), last)
@@ -400,7 +400,7 @@ fn receiving(octets: &[u8], last: Option<u8>) -> Transfer
 
 /// A text came.
 fn completed(text: &[u8], last: Option<u8>) -> Transfer
-    ensures { result ≡ completed (request_of text.now) last }
+    ensures { result ≡ transfer_of_request (request_of text.now) last }
 {
     match read_request(text) {
         Ok(Request::Read(_)) => Transfer::Whole(true, last),

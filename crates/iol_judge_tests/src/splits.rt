@@ -2,7 +2,7 @@
 
 use iol_judge::{Judge, Odd, Open, Reason, Verdict, Wake};
 use iol_link::Rate;
-use iol_splitter::{OctetLine, Passed, SplitFault, Splitter, bit_time};
+use iol_splitter::{OctetLine, SplitFault, SplitItem, Splitter, bit_time};
 use std::test::Fail;
 
 /// The message to which each octet of page addresses 0x03 to 0x06 is the reply, with the reply:
@@ -65,7 +65,7 @@ impl Line {
 
     /// Octets one behind another, the first so many T_BIT behind the frame before: the last that
     /// is told.
-    fn hear(&mut self, bits: u8, octets: &[u8]) -> Result<Option<Passed>, SplitFault> {
+    fn hear(&mut self, bits: u8, octets: &[u8]) -> Result<Option<SplitItem>, SplitFault> {
         let mut last = None;
         let mut gap = bits;
         for octet in octets {
@@ -90,7 +90,7 @@ impl Line {
     }
 
     /// A message and its reply.
-    fn exchange(&mut self, sent: &[u8], reply: &[u8]) -> Result<Option<Passed>, SplitFault> {
+    fn exchange(&mut self, sent: &[u8], reply: &[u8]) -> Result<Option<SplitItem>, SplitFault> {
         let _ = self.hear(PAUSE, sent)?;
         self.hear(RESPONSE, reply)
     }
@@ -101,9 +101,9 @@ fn behind_frame(bits: u8) -> u64 {
     (11 + u64::from(bits)) * bit_time(Rate::Com3)
 }
 
-fn is_exchange(passed: &Option<Passed>, sent: &[u8], answer: &[u8]) -> bool {
+fn is_exchange(passed: &Option<SplitItem>, sent: &[u8], answer: &[u8]) -> bool {
     match passed {
-        Some(Passed::Exchange(exchange)) => match &exchange.answer {
+        Some(SplitItem::Exchange(exchange)) => match &exchange.answer {
             Some(octets) => exchange.sent.as_slice() == sent && octets.as_slice() == answer,
             None => exchange.sent.as_slice() == sent && answer.is_empty(),
         },
@@ -111,9 +111,9 @@ fn is_exchange(passed: &Option<Passed>, sent: &[u8], answer: &[u8]) -> bool {
     }
 }
 
-fn is_wake(passed: &Option<Passed>, answer: Wake) -> bool {
+fn is_wake(passed: &Option<SplitItem>, answer: Wake) -> bool {
     match passed {
-        Some(Passed::Wake(wake)) => *wake == answer,
+        Some(SplitItem::Wake(wake)) => *wake == answer,
         _ => false,
     }
 }

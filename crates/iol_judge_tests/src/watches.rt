@@ -1,7 +1,7 @@
 //! The watch on lists of calls: a run by the rules, and the shortest list for each fault.
 
 use iol_judge::Wake;
-use iol_watch::{MasterFault, Verdict, Watch};
+use iol_watch::{Blame, MasterVerdict, Watch};
 use std::test::Fail;
 
 /// The octets that were sent, and those that came back, if any did.
@@ -261,16 +261,16 @@ fn operating() -> Watch {
 }
 
 /// Whether in OPERATE the last of these is the first fault, and this one.
-fn is_blamed(exchanges: &[Exchange], fault: MasterFault) -> bool {
+fn is_blamed(exchanges: &[Exchange], fault: Blame) -> bool {
     let mut watch = operating();
     let Some((last, before)) = exchanges.split_last() else {
         return false;
     };
     tell(&mut watch, before);
-    let fair = watch.verdict() == Verdict::ByTheRules;
+    let fair = watch.verdict() == MasterVerdict::ByTheRules;
     watch.exchange(last.0, last.1);
     let number = 4 + exchanges.len() as u64;
-    fair && watch.verdict() == Verdict::NotByTheRules(number, fault)
+    fair && watch.verdict() == MasterVerdict::NotByTheRules(number, fault)
 }
 
 /// A start-up that reads the page, and each kind of work in OPERATE; then a restart.
@@ -278,7 +278,7 @@ fn is_blamed(exchanges: &[Exchange], fault: MasterFault) -> bool {
 fn work_is_by_the_rules(rt: HostRuntime) -> Result<(), Fail> {
     let mut watch = Watch::new();
     watch.exchange(&[0xFF], None);
-    assert!(rt; watch.verdict() == Verdict::Unjudged);
+    assert!(rt; watch.verdict() == MasterVerdict::Unjudged);
     for _ in 0..2 {
         watch.wake(Wake::Unanswered);
         watch.wake(Wake::Answered);
@@ -293,102 +293,102 @@ fn work_is_by_the_rules(rt: HostRuntime) -> Result<(), Fail> {
         tell(&mut watch, &READS);
         tell(&mut watch, &MODES);
         tell(&mut watch, &OUTPUTS);
-        assert!(rt; watch.verdict() == Verdict::ByTheRules);
+        assert!(rt; watch.verdict() == MasterVerdict::ByTheRules);
     }
     Ok(())
 }
 
 #[test]
 fn wakes_are_due(rt: HostRuntime) -> Result<(), Fail> {
-    assert!(rt; is_blamed(&LOST, MasterFault::WakeDue));
+    assert!(rt; is_blamed(&LOST, Blame::WakeDue));
     let mut watch = Watch::new();
     watch.wake(Wake::Unanswered);
     tell(&mut watch, &READS[..1]);
-    assert!(rt; watch.verdict() == Verdict::NotByTheRules(1, MasterFault::WakeDue));
+    assert!(rt; watch.verdict() == MasterVerdict::NotByTheRules(1, Blame::WakeDue));
     // Of what comes behind it nothing is said.
     watch.wake(Wake::Answered);
     tell(&mut watch, &SKIPPED);
-    assert!(rt; watch.verdict() == Verdict::NotByTheRules(1, MasterFault::WakeDue));
+    assert!(rt; watch.verdict() == MasterVerdict::NotByTheRules(1, Blame::WakeDue));
     Ok(())
 }
 
 #[test]
 fn messages_are_repeated(rt: HostRuntime) -> Result<(), Fail> {
-    assert!(rt; is_blamed(&ANOTHER, MasterFault::NotRepeated));
+    assert!(rt; is_blamed(&ANOTHER, Blame::NotRepeated));
     Ok(())
 }
 
 /// The modes are entered in their order, by what was read of the page.
 #[test]
 fn start_ups_have_an_order(rt: HostRuntime) -> Result<(), Fail> {
-    assert!(rt; is_blamed(&STARTUP_COMMAND, MasterFault::NotStartUp));
-    assert!(rt; is_blamed(&SHORT_CYCLE, MasterFault::NotStartUp));
+    assert!(rt; is_blamed(&STARTUP_COMMAND, Blame::NotStartUp));
+    assert!(rt; is_blamed(&SHORT_CYCLE, Blame::NotStartUp));
     for (read, first, fair) in [(10, 1, 0), (4, 0, 1), (10, 3, 0)] {
         let mut watch = Watch::new();
         watch.wake(Wake::Answered);
         tell(&mut watch, &READS[..read]);
         tell(&mut watch, &MODES[first..]);
         let number = (read + fair + 1) as u64;
-        assert!(rt; watch.verdict() == Verdict::NotByTheRules(number, MasterFault::NotStartUp));
+        assert!(rt; watch.verdict() == MasterVerdict::NotByTheRules(number, Blame::NotStartUp));
     }
     Ok(())
 }
 
 #[test]
 fn messages_are_well_formed(rt: HostRuntime) -> Result<(), Fail> {
-    assert!(rt; is_blamed(&SHORT, MasterFault::NotWellFormed));
-    assert!(rt; is_blamed(&DAMAGED, MasterFault::NotWellFormed));
+    assert!(rt; is_blamed(&SHORT, Blame::NotWellFormed));
+    assert!(rt; is_blamed(&DAMAGED, Blame::NotWellFormed));
     Ok(())
 }
 
 #[test]
 fn outputs_change_while_they_are_valid(rt: HostRuntime) -> Result<(), Fail> {
-    assert!(rt; is_blamed(&CHANGED, MasterFault::OutputOctets));
+    assert!(rt; is_blamed(&CHANGED, Blame::OutputOctets));
     Ok(())
 }
 
 #[test]
 fn messages_are_due(rt: HostRuntime) -> Result<(), Fail> {
-    assert!(rt; is_blamed(&NO_START, MasterFault::NotDue));
-    assert!(rt; is_blamed(&SECOND_START, MasterFault::NotDue));
-    assert!(rt; is_blamed(&TOO_EARLY, MasterFault::NotDue));
-    assert!(rt; is_blamed(&NO_ANSWER, MasterFault::NotDue));
-    assert!(rt; is_blamed(&IDLE, MasterFault::NotDue));
-    assert!(rt; is_blamed(&NO_REQUEST, MasterFault::NotDue));
-    assert!(rt; is_blamed(&GOES_ON, MasterFault::NotDue));
-    assert!(rt; is_blamed(&RESERVED, MasterFault::NotDue));
+    assert!(rt; is_blamed(&NO_START, Blame::NotDue));
+    assert!(rt; is_blamed(&SECOND_START, Blame::NotDue));
+    assert!(rt; is_blamed(&TOO_EARLY, Blame::NotDue));
+    assert!(rt; is_blamed(&NO_ANSWER, Blame::NotDue));
+    assert!(rt; is_blamed(&IDLE, Blame::NotDue));
+    assert!(rt; is_blamed(&NO_REQUEST, Blame::NotDue));
+    assert!(rt; is_blamed(&GOES_ON, Blame::NotDue));
+    assert!(rt; is_blamed(&RESERVED, Blame::NotDue));
     Ok(())
 }
 
 #[test]
 fn events_are_read_in_order(rt: HostRuntime) -> Result<(), Fail> {
-    assert!(rt; is_blamed(&NO_FLAG, MasterFault::NotDue));
-    assert!(rt; is_blamed(&WRONG_PLACE, MasterFault::NotDue));
-    assert!(rt; is_blamed(&CONFIRM, MasterFault::NotDue));
+    assert!(rt; is_blamed(&NO_FLAG, Blame::NotDue));
+    assert!(rt; is_blamed(&WRONG_PLACE, Blame::NotDue));
+    assert!(rt; is_blamed(&CONFIRM, Blame::NotDue));
     Ok(())
 }
 
 #[test]
 fn requests_are_texts(rt: HostRuntime) -> Result<(), Fail> {
-    assert!(rt; is_blamed(&NO_LENGTH, MasterFault::RequestText));
-    assert!(rt; is_blamed(&NO_REQUEST_TEXT, MasterFault::RequestText));
-    assert!(rt; is_blamed(&BEHIND, MasterFault::RequestText));
+    assert!(rt; is_blamed(&NO_LENGTH, Blame::RequestText));
+    assert!(rt; is_blamed(&NO_REQUEST_TEXT, Blame::RequestText));
+    assert!(rt; is_blamed(&BEHIND, Blame::RequestText));
     Ok(())
 }
 
 #[test]
 fn counts_are_in_line(rt: HostRuntime) -> Result<(), Fail> {
-    assert!(rt; is_blamed(&SKIPPED, MasterFault::NotInLine));
-    assert!(rt; is_blamed(&TWICE, MasterFault::NotInLine));
-    assert!(rt; is_blamed(&ASKED_LATER, MasterFault::NotInLine));
+    assert!(rt; is_blamed(&SKIPPED, Blame::NotInLine));
+    assert!(rt; is_blamed(&TWICE, Blame::NotInLine));
+    assert!(rt; is_blamed(&ASKED_LATER, Blame::NotInLine));
     Ok(())
 }
 
 /// The numbers and names are those of the documents.
 #[test]
 fn faults_have_numbers(rt: HostRuntime) -> Result<(), Fail> {
-    assert!(rt; MasterFault::RequestText.code() == 7);
-    let name = format!(in rt.alloc(); "{}", MasterFault::OutputOctets)?;
+    assert!(rt; Blame::RequestText.code() == 7);
+    let name = format!(in rt.alloc(); "{}", Blame::OutputOctets)?;
     assert!(rt; name.as_str() == "OutputOctets");
     Ok(())
 }

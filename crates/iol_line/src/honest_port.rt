@@ -8,16 +8,16 @@ ghost use Rattle.iol_book.specs.declared.fault.BookFault.TheVariants.{OutOfMemor
 ghost use Rattle.iol_book.specs.BookModel.{IsReplayed};
 ghost use Rattle.iol_app.specs.Pieces.{IsAskedOut};
 ghost use Rattle.iol_port.specs.declared.fault.PortFault.TheVariants as fault;
-ghost use Rattle.iol_port.specs.declared.awaited.Awaited.{Awaited};
+ghost use Rattle.iol_port.specs.declared.awaited.AwaitedAnswer.{AwaitedAnswer};
 ghost use Rattle.iol_port.specs.Asks.{asks_of};
 ghost use Rattle.iol_port.specs.RightDevice.{IsForRightDevice};
-ghost use Rattle.iol_port.specs.CorePort.{IsNew, IsNewFor, CoreOpens, CoreOpensFor, awaited, SendGives, SendDoes};
-ghost use Rattle.iol_port.specs.CorePort.{ReceiveGives, ReceiveDoes, WakeGives, WakeDoes};
+ghost use Rattle.iol_port.specs.CorePort.{IsNew, IsNewFor, CoreOpens, CoreOpensFor, awaited_answer, PortSendGives, SendDoes};
+ghost use Rattle.iol_port.specs.CorePort.{PortReceiveGives, ReceiveDoes, WakeGives, WakeDoes};
 ghost use Rattle.iol_port.specs.Called.{Submits, SubmitsUrgent, Collects, Withdraws, Cancels, Restarts, SetsOutput};
 ghost use Rattle.iol_port.specs.Called.{ClearsOutput, Expects, SetsCycle, TakesEvent, Archives};
-ghost use Rattle.iol_line.specs.Standing.{Standing};
+ghost use Rattle.iol_line.specs.Standing.{LinePosition};
 
-use crate::place::Place;
+use crate::place::GhostPlace;
 use iol_app::Asked;
 use iol_book::{Entry, Limits, Outcome, Ticket};
 use iol_event::Event;
@@ -55,16 +55,16 @@ use std::snapshot::Snapshot;
 #[derive(Drop)]
 pub struct HonestPort<A: Allocator + Copy = Global> {
     core: PortCore<A>,
-    at: Place,
+    at: GhostPlace,
     devices: Snapshot<Devices>,
     limits: Snapshot<Limits>,
-    from: Place,
+    from: GhostPlace,
 }
 
 impl<A: Allocator + Copy> Model for HonestPort<A> {
-    ghost use Rattle.iol_line.specs.Honestly.{HonestPort, IsRun};
+    ghost use Rattle.iol_line.specs.Honestly.{HonestParts, IsRunInPieces};
 
-    ghost Value = { HonestPort };
+    ghost Value = { HonestParts };
 
     ghost view = { λ p. record {
       parts = p.core;
@@ -74,7 +74,7 @@ impl<A: Allocator + Copy> Model for HonestPort<A> {
       from = p.from.at;
     } };
 
-    ghost invariant = { λ p. IsRun (record {
+    ghost invariant = { λ p. IsRunInPieces (record {
       parts = p.core;
       at = p.at.at;
       devices = p.devices.value;
@@ -84,13 +84,13 @@ impl<A: Allocator + Copy> Model for HonestPort<A> {
 }
 
 impl<A: Allocator + Copy> HonestPort<A> {
-    ghost use Rattle.iol_line.specs.Honestly.{IsRun, BeganWell, Keeps, IsLevel, Moves, Calls, Exchanges};
+    ghost use Rattle.iol_line.specs.Honestly.{IsRunInPieces, BeganWell, RecordFitsJournal, BothEndsAreLevel, Moves, Calls, Exchanges};
 
     /// A port as [`PortCore::open`] gives it, whose line stands there.
     ///
     /// `at` is a value that no code holds; what names it may speak of `near`.
     pub fn open<T>(alloc: A, limits: &Limits, near: &T) -> Result<HonestPort<A>, PortFault>
-        ghost at: { Standing }
+        ghost at: { LinePosition }
         ensures parts { IfOk result (λ p. IsNew limits.now p.parts) }
         ensures opens { IfOk result (λ p. CoreOpens limits.now p.parts) }
         ensures stands { IfOk result (λ p. p
@@ -113,7 +113,7 @@ impl<A: Allocator + Copy> HonestPort<A> {
         devices: Devices,
         near: &T,
     ) -> Result<HonestPort<A>, PortFault>
-        ghost at: { Standing }
+        ghost at: { LinePosition }
         ensures parts { IfOk result (λ p. IsNewFor devices limits.now p.parts) }
         ensures opens { IfOk result (λ p. CoreOpensFor devices limits.now p.parts) }
         ensures stands { IfOk result (λ p. p
@@ -126,8 +126,8 @@ impl<A: Allocator + Copy> HonestPort<A> {
             }) }
         ensures refused { IfErr result (λ e. e ≡ fault.Book OutOfMemory) }
     {
-        let at = Place::of(near);
-        let from = Place::of(near);
+        let at = GhostPlace::of(near);
+        let from = GhostPlace::of(near);
         match PortCore::open_for(alloc, limits, devices) {
             Ok(core) => Ok(HonestPort {
                 core,
@@ -203,7 +203,7 @@ impl<A: Allocator + Copy> HonestPort<A> {
 
     /// As [`PortCore::restart`]: what was sent has to be answered first.
     pub fn restart(&mut self)
-        requires { awaited self.old.parts ≡ Awaited.Nothing }
+        requires { awaited_answer self.old.parts ≡ AwaitedAnswer.Nothing }
         ensures { Restarts (Calls self.old self.new) self.old.parts self.new.parts }
     {
         self.core.restart();
@@ -270,7 +270,7 @@ impl<A: Allocator + Copy> HonestPort<A> {
         ensures says { IsAskedOut result self.new.parts.station.link.state }
         ensures asked { result ≡ asks_of self.old.parts }
         ensures again { IsTrue self.old.parts.sent → self.new ≡ self.old }
-        ensures gives { SendGives self.old.parts self.new.parts }
+        ensures gives { PortSendGives self.old.parts self.new.parts }
         ensures does { SendDoes self.old.parts self.new.parts }
         ensures moves { Moves self.old self.old.at self.new }
     {
@@ -280,22 +280,22 @@ impl<A: Allocator + Copy> HonestPort<A> {
     /// Takes what came back, as [`PortCore::receive`] does. The line stands at `after` then, which
     /// may speak of `near`: an honest exchange of what was sent could bring this, and lead there.
     pub fn receive<T>(&mut self, came: &Option<Message>, near: &T)
-        ghost after: { Standing }
-        requires awaited { awaited self.old.parts ≡ Awaited.Reply }
+        ghost after: { LinePosition }
+        requires awaited { awaited_answer self.old.parts ≡ AwaitedAnswer.Reply }
         requires premise { Exchanges self.old (octets_in came.now) after }
-        ensures gives { ReceiveGives self.old.parts (octets_in came.now) self.new.parts }
+        ensures gives { PortReceiveGives self.old.parts (octets_in came.now) self.new.parts }
         ensures does { ReceiveDoes self.old.parts (octets_in came.now) self.new.parts }
         ensures moves { Moves self.old after self.new }
     {
         self.core.receive(came);
-        self.at = Place::of(near);
+        self.at = GhostPlace::of(near);
     }
 
     /// Takes what came of a wake-up request, as [`PortCore::receive_wake`] does. The device is
     /// `after` then, which may speak of `near`: an honest wake could bring this, and leave it so.
     pub fn receive_wake<T>(&mut self, rate: Option<Rate>, near: &T)
         ghost after: { Far }
-        requires awaited { awaited self.old.parts ≡ Awaited.Wake }
+        requires awaited { awaited_answer self.old.parts ≡ AwaitedAnswer.Wake }
         requires premise { HonestWake self.old.at.far (is_some rate) after }
         ensures gives { WakeGives self.old.parts (is_some rate) self.new.parts }
         ensures does { WakeDoes self.old.parts (is_some rate) self.new.parts }
@@ -303,7 +303,7 @@ impl<A: Allocator + Copy> HonestPort<A> {
     {
         let _ = near;
         self.core.receive_wake(rate);
-        self.at = Place::of(&self.at);
+        self.at = GhostPlace::of(&self.at);
     }
 
     /// A law of each such port, without code: at every moment the journal says where each ticket
@@ -312,9 +312,9 @@ impl<A: Allocator + Copy> HonestPort<A> {
     /// pulse of a wake, its record fits the journal, and between requests both ends are level.
     pub fn keeps_record(&self)
         ensures replayed { IsReplayed self.now.parts.book.state }
-        ensures run { IsRun self.now }
-        ensures record_fits { BeganWell self.now → Keeps self.now }
-        ensures level { BeganWell self.now → IsLevel self.now }
+        ensures run { IsRunInPieces self.now }
+        ensures record_fits { BeganWell self.now → RecordFitsJournal self.now }
+        ensures level { BeganWell self.now → BothEndsAreLevel self.now }
     {
         record_fits_journal();
         self.core.keeps_record();

@@ -5,9 +5,9 @@ use Rattle.iol_mseq.specs.Master.{master_in}
 use Rattle.iol_mseq.specs.Replies.{reply_in}
 use Rattle.iol_mseq.specs.declared.master.MasterMsg.{MasterMsg}
 use Rattle.iol_link.specs.Attempts.{most_attempts}
-use Rattle.iol_far.specs.Isdu.{handed}
+use Rattle.iol_far.specs.Isdu.{handed_request}
 use Rattle.iol_far.specs.Far.{Far, hear}
-use Rattle.iol_far.specs.Local.{LocalStep, locals, woken, IsWorkedOff}
+use Rattle.iol_far.specs.Local.{LocalStep, locals, far_after_wake, IsWorkedOff}
 use Rattle.iol_far.specs.Laws.{IsRegular}
 use Rattle.iol_far.specs.Orderly.{IsOrderly}
 
@@ -44,9 +44,9 @@ IsAnswer passage far sent answer = IsUnread sent answer
 
 -- the unaltered reply that an exchange brings, none where it brings none
 -- WIRE-4
-abbrev pub brought : Passage → Far → List ℕ → Option (List ℕ)
-brought Clean far sent = (hear far sent).reply
-brought passage far sent = None
+abbrev pub unaltered_reply : Passage → Far → List ℕ → Option (List ℕ)
+unaltered_reply Clean far sent = (hear far sent).reply
+unaltered_reply passage far sent = None
 
 -- how many exchanges in a row, up to now, brought no unaltered reply, counted up to the most
 -- attempts
@@ -65,7 +65,8 @@ pub record HonestExchange (far : Far) (silence : ℕ) (sent : List ℕ) (answer 
   pub passage : Passage
   pub far_is : far_new ≡ far_after passage (locals far steps) sent
   pub answer_is : IsAnswer passage (locals far steps) sent answer
-  pub silence_is : silence_new ≡ silence_after silence (brought passage (locals far steps) sent)
+  pub silence_is : silence_new ≡ silence_after silence
+      (unaltered_reply passage (locals far steps) sent)
 
 -- one wake: some steps of the far end by itself, then the wake's effect or nothing; a rate is
 -- answered only where it took effect
@@ -73,7 +74,7 @@ pub record HonestExchange (far : Far) (silence : ℕ) (sent : List ℕ) (answer 
 pub record SeenWake (far : Far) (answered : Bool) (far_new : Far) : Type 0 where
   pub steps : List LocalStep
   pub wakes : Bool
-  pub far_is : far_new ≡ (if wakes then woken (locals far steps) else locals far steps)
+  pub far_is : far_new ≡ (if wakes then far_after_wake (locals far steps) else locals far steps)
   pub answered_is : answered ≡ true → wakes ≡ true
 
 -- the test read of a wake: that of the page's first octet
@@ -100,6 +101,6 @@ HonestWake far answered far_new = SeenWake far answered far_new ⊎ UnseenWake f
 pub record CleanExchange (far : Far) (sent : List ℕ) (answer : Option (List ℕ))
     (far_new : Far) : Type 0 where
   pub ready : Far
-  pub work : IsWorkedOff (handed far.isdu) far ready
+  pub work : IsWorkedOff (handed_request far.isdu) far ready
   pub far_is : far_new ≡ (hear ready sent).far
   pub answer_is : answer ≡ (hear ready sent).reply

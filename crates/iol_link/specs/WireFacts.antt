@@ -2,7 +2,7 @@
 use Rattle.std.specs.Prelude.{ℕ, Bool, false, List, [], Option, None, is_some, IsTrue, ⊤}
 use Rattle.arrayvec.specs.ArrayVec.{ArrayVec}
 use Rattle.iol_far.specs.Octets.{octets_in}
-use Rattle.iol_far.specs.Far.{Far, opened}
+use Rattle.iol_far.specs.Far.{Far, new_far}
 use Rattle.iol_link.specs.Honest.{HonestExchange, HonestWake}
 use Rattle.iol_link.specs.declared.wire.Rate.{Rate}
 
@@ -27,7 +27,7 @@ pub record WireFacts (W : Type 0) : Type 1 where
 abbrev pub unknown : {W : Type 0} → WireFacts W
 unknown = record {
   honest = λ w. false;
-  far = λ w. opened [] None;
+  far = λ w. new_far [] None;
   silence = λ w. 0;
   clean = λ w. false;
   wake_gives = λ w answer next. ⊤;

@@ -7,19 +7,19 @@ use Rattle.iol_link.specs.WireFacts.{WireFacts}
 use Rattle.iol_app.specs.declared.asked.Asked.{Asked}
 use Rattle.iol_app.specs.declared.asked.Asked.TheVariants as asked
 use Rattle.iol_app.specs.Pieces.{IsAskedOut}
-use Rattle.iol_port.specs.declared.awaited.Awaited.{Awaited}
-use Rattle.iol_port.specs.declared.awaited.Awaited.TheVariants.{Nothing, Wake, Reply}
+use Rattle.iol_port.specs.declared.awaited.AwaitedAnswer.{AwaitedAnswer}
+use Rattle.iol_port.specs.declared.awaited.AwaitedAnswer.TheVariants.{Nothing, Wake, Reply}
 use Rattle.iol_port.specs.declared.call.Call.{Call}
 use Rattle.iol_port.specs.declared.call.Answered.{Answered}
 use Rattle.iol_port.specs.Asks.{asks_of}
 use Rattle.iol_port.specs.Called.{CoreCalled, Restarts}
-use Rattle.iol_port.specs.View.{Parts}
+use Rattle.iol_port.specs.View.{PortParts}
 use Rattle.iol_port.specs.WireCalls.{AreCalls}
-use Rattle.iol_port.specs.CorePort.{awaited, SendGives, SendDoes, ReceiveGives, ReceiveDoes, WakeGives, WakeDoes}
+use Rattle.iol_port.specs.CorePort.{awaited_answer, PortSendGives, SendDoes, PortReceiveGives, ReceiveDoes, WakeGives, WakeDoes}
 use Rattle.iol_master.specs.Served.{GateFacts, IsLet}
 
 pub record LineState : Type 0 where
-  pub parts : Parts (Unit {0})
+  pub parts : PortParts (Unit {0})
   -- a restart waits until what is out has been answered
   pub restart_waits : Bool
 
@@ -30,58 +30,58 @@ pub record LineCalled (old new : LineState) (c : Call) (reply : Answered) (given
   pub rest : new ≡ record old { parts = new.parts }
 
 -- the port's own restart
-abbrev pub CoreRestarts : Parts (Unit {0}) → Parts (Unit {0}) → Type 0
+abbrev pub CoreRestarts : PortParts (Unit {0}) → PortParts (Unit {0}) → Type 0
 CoreRestarts p next = Restarts (CoreCalled p next) p next
 
 -- it is made at once where nothing is out, else it waits
-abbrev pub RestartsIn : Awaited → LineState → LineState → Type 0
+abbrev pub RestartsIn : AwaitedAnswer → LineState → LineState → Type 0
 RestartsIn Nothing p next = CoreRestarts p.parts next.parts × (next.restart_waits ≡ p.restart_waits)
 RestartsIn Wake p next = next ≡ record p { restart_waits = true }
 RestartsIn Reply p next = next ≡ record p { restart_waits = true }
 
 abbrev pub RestartsOnce : LineState → LineState → Type 0
-RestartsOnce p next = RestartsIn (awaited p.parts) p next
+RestartsOnce p next = RestartsIn (awaited_answer p.parts) p next
 
 -- once what was out has been answered the restart that waited is made, and waits no more
-abbrev pub RestartsWhere : Bool → Parts (Unit {0}) → LineState → Type 0
+abbrev pub RestartsWhere : Bool → PortParts (Unit {0}) → LineState → Type 0
 RestartsWhere true p next = CoreRestarts p next.parts × (next.restart_waits ≡ false)
 RestartsWhere false p next = next ≡ record { parts = p; restart_waits = false }
 
 -- The port's own sending, which the restart that waits waits through
-pub record Sends (p : LineState) (asked : Asked) (next : LineState) : Type 0 where
+pub record LineSends (p : LineState) (asked : Asked) (next : LineState) : Type 0 where
   pub says : IsAskedOut asked next.parts.station.link.state
   pub asked_is : asked ≡ asks_of p.parts
   pub again : IsTrue p.parts.sent → next ≡ p
-  pub gives : SendGives p.parts next.parts
+  pub gives : PortSendGives p.parts next.parts
   pub does : SendDoes p.parts next.parts
   pub waits : next.restart_waits ≡ p.restart_waits
 
 -- what came back is taken
 abbrev pub TakesReply : LineState → Option (List ℕ) → LineState → Type 0
 TakesReply p came next =
-    (mid : Parts (Unit {0})) × ReceiveGives p.parts came mid × ReceiveDoes p.parts came mid
+    (mid : PortParts (Unit {0})) × PortReceiveGives p.parts came mid × ReceiveDoes p.parts came mid
     × RestartsWhere p.restart_waits mid next
 
 -- and so is what came of a wake
 abbrev pub TakesRate : LineState → Bool → LineState → Type 0
 TakesRate p answered next =
-    (mid : Parts (Unit {0})) × WakeGives p.parts answered mid × WakeDoes p.parts answered mid
+    (mid : PortParts (Unit {0})) × WakeGives p.parts answered mid × WakeDoes p.parts answered mid
     × RestartsWhere p.restart_waits mid next
 
 -- The ledger by which a port and its worker agree on what is out
 
-abbrev pub awaited_number : Awaited → ℕ
+abbrev pub awaited_number : AwaitedAnswer → ℕ
 awaited_number Nothing = 0
 awaited_number Wake = 1
 awaited_number Reply = 2
 
-abbrev pub awaited_of : Asked → Awaited
+abbrev pub awaited_of : Asked → AwaitedAnswer
 awaited_of asked.Wake = Wake
 awaited_of (asked.Exchange out) = Reply
 
 -- all of the ledger
-abbrev pub IsWhole : ℕ → ℕ → Type 0
-IsWhole held parts = (0 < held) × (held ≡ parts)
+abbrev pub HasWholeLedger : ℕ → ℕ → Type 0
+HasWholeLedger held parts = (0 < held) × (held ≡ parts)
 
 module _ {W : Type 0} (facts : WireFacts W) where
   open facts use {wake_gives, exchange_gives}
@@ -100,9 +100,9 @@ module _ {W : Type 0} (facts : WireFacts W) where
     pub asked : Asked
     pub first : LineState
     pub sent : LineState
-    pub sends : Sends first asked sent
+    pub sends : LineSends first asked sent
     pub again : LineState
-    pub awaits : awaited again.parts ≡ awaited_of asked
+    pub awaits : awaited_answer again.parts ≡ awaited_of asked
     pub taken : LineState
     pub brings : Brings asked old new again taken
 

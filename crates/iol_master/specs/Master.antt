@@ -11,14 +11,14 @@ use Rattle.iol_master.specs.declared.accounts.Settled.TheVariants.{Part, Last}
 use Rattle.iol_master.specs.Counts.{DeskState, AccountState, Opens, Settles}
 
 -- ports are numbered from 1
-abbrev pub IsPort : ℕ → ℕ → Type 0
-IsPort ports port = (1 ≤ port) × (port ≤ ports)
+abbrev pub IsPortNumber : ℕ → ℕ → Type 0
+IsPortNumber ports port = (1 ≤ port) × (port ≤ ports)
 
 -- a desk is opened with no submit
 abbrev pub Desks : ℕ → ℕ → Result DeskState MasterFault → Type 0
-Desks ports port (Ok desk) = IsPort ports port × (desk ≡ record { port = port; accepted = 0 })
-Desks ports port (Err NoSuchPort) = ¬ IsPort ports port
-Desks ports port (Err DesksFull) = IsPort ports port
+Desks ports port (Ok desk) = IsPortNumber ports port × (desk ≡ record { port = port; accepted = 0 })
+Desks ports port (Err NoSuchPort) = ¬ IsPortNumber ports port
+Desks ports port (Err DesksFull) = IsPortNumber ports port
 Desks ports port (Err (Port why)) = ⊥
 Desks ports port (Err OutOfMemory) = ⊥
 Desks ports port (Err NoThread) = ⊥
@@ -39,14 +39,15 @@ IsSubmitRefusal why = (why ≡ Book Full) ⊎ (why ≡ Book JournalFull) ⊎ (wh
     ⊎ (why ≡ Book NoMemory)
 
 -- A desk counts one more exactly where a ticket is answered. Tickets are numbered from 1.
-abbrev pub Submitted : ℕ → DeskState → Result Ticket MasterFault → DeskState → Type 0
-Submitted ports d (Ok ticket) d' =
-    IsPort ports d.port × (1 ≤ ticket.0) × (d' ≡ record d { accepted = d.accepted + 1 })
-Submitted ports d (Err NoSuchPort) d' = (¬ IsPort ports d.port) × (d' ≡ d)
-Submitted ports d (Err (Port why)) d' = IsPort ports d.port × IsSubmitRefusal why × (d' ≡ d)
-Submitted ports d (Err OutOfMemory) d' = ⊥
-Submitted ports d (Err NoThread) d' = ⊥
-Submitted ports d (Err DesksFull) d' = ⊥
+abbrev pub DeskCountsSubmit : ℕ → DeskState → Result Ticket MasterFault → DeskState → Type 0
+DeskCountsSubmit ports d (Ok ticket) d' =
+    IsPortNumber ports d.port × (1 ≤ ticket.0) × (d' ≡ record d { accepted = d.accepted + 1 })
+DeskCountsSubmit ports d (Err NoSuchPort) d' = (¬ IsPortNumber ports d.port) × (d' ≡ d)
+DeskCountsSubmit ports d (Err (Port why)) d' = IsPortNumber ports d.port × IsSubmitRefusal why
+    × (d' ≡ d)
+DeskCountsSubmit ports d (Err OutOfMemory) d' = ⊥
+DeskCountsSubmit ports d (Err NoThread) d' = ⊥
+DeskCountsSubmit ports d (Err DesksFull) d' = ⊥
 
 -- the last desk is told the total, in which its own submits are
 abbrev pub SettledAs : ℕ → Settled → Type 0

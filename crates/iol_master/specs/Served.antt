@@ -1,8 +1,8 @@
 -- The turns that workers make at ports whose locks are held, while their gate lets them.
 use Rattle.std.specs.Prelude.{◌≡◌, ◌⊎◌, ◌<◌, ◌≤◌, ◌+◌, ℕ, Bool, true, false, List, length, Result, Ok, Err}
 use Rattle.iol_link.specs.WireFacts.{WireFacts}
-use Rattle.iol_port.specs.View.{Port}
-use Rattle.iol_port.specs.Called.{Turns, Shown}
+use Rattle.iol_port.specs.View.{PortValue}
+use Rattle.iol_port.specs.Called.{Turns, PublishesAfter}
 use Rattle.iol_master.specs.declared.fault.MasterFault.{MasterFault}
 
 -- What a gate gives: the gate, the port's number, the turn's, the answer
@@ -19,9 +19,9 @@ module _ {G : Type 0} (pass_gives : GateFacts G) (gate : G) (number : ℕ) where
 module _ {W : Type 0} (facts : WireFacts W) where
   -- a turn that was made at some port, whose lock was held
   pub record PortTurn : Type 0 where
-    pub before : Port W
-    pub after : Port W
-    pub turns : Shown (Turns facts before) before after
+    pub before : PortValue W
+    pub after : PortValue W
+    pub turns : PublishesAfter (Turns facts before) before after
 
   -- A worker's turns: a list, of so many, that its gate let pass
   pub record IsWorked {G : Type 0} (pass_gives : GateFacts G) (gate : G) (number turns made : ℕ)

@@ -6,21 +6,21 @@ use Rattle.iol_book.specs.declared.entries.Ticket.{Ticket}
 use Rattle.iol_book.specs.declared.fault.BookFault.TheVariants.{TicketsSpent, OutOfMemory as NoMemory}
 use Rattle.iol_port.specs.declared.fault.PortFault.{PortFault}
 use Rattle.iol_port.specs.declared.fault.PortFault.TheVariants.{Book}
-use Rattle.iol_port.specs.Called.{Submits, SubmitsUrgent, Called}
-use Rattle.iol_port.specs.View.{Port}
-use Rattle.iol_master.specs.declared.held.Urgency.{Urgency}
-use Rattle.iol_master.specs.declared.held.Urgency.TheVariants.{Ordinary, Urgent}
+use Rattle.iol_port.specs.Called.{Submits, SubmitsUrgent, MakesCall}
+use Rattle.iol_port.specs.View.{PortValue}
+use Rattle.iol_master.specs.declared.held.DeskUrgency.{DeskUrgency}
+use Rattle.iol_master.specs.declared.held.DeskUrgency.TheVariants.{Ordinary, Urgent}
 use Rattle.iol_master.specs.declared.fault.MasterFault.{MasterFault}
 use Rattle.iol_master.specs.declared.fault.MasterFault.TheVariants.{Port as OfPort, OutOfMemory, NoSuchPort, NoThread, DesksFull}
 use Rattle.iol_master.specs.declared.accounts.Tally.{Tally}
 use Rattle.iol_master.specs.Counts.{DeskState, AccountState}
 
 -- so many tickets were given since the port was opened
-abbrev pub HasGiven : {W : Type 0} → Port W → ℕ → Type 0
+abbrev pub HasGiven : {W : Type 0} → PortValue W → ℕ → Type 0
 HasGiven p count = p.parts.book.state.last ≡ p.opening.limits.given + count
 
 -- these ports gave so many together
-abbrev pub HaveGiven : {W : Type 0} → List (Port W) → ℕ → Type 0
+abbrev pub HaveGiven : {W : Type 0} → List (PortValue W) → ℕ → Type 0
 HaveGiven [] count = count ≡ 0
 HaveGiven (p ∷ ports) count = (given : ℕ) × (others : ℕ)
     × HasGiven p given × HaveGiven ports others × (count ≡ given + others)
@@ -28,7 +28,7 @@ HaveGiven (p ∷ ports) count = (given : ℕ) × (others : ℕ)
 -- What lay under a master's locks as it was closed: its ports, and a tally, which both gave as
 -- many tickets as are told
 pub record WasClosed (W : Type 0) (count : ℕ) (tally : Tally) : Type 0 where
-  pub ports : List (Port W)
+  pub ports : List (PortValue W)
   pub all : length ports ≡ count
   pub given : HaveGiven ports tally.tickets
   pub accounts : AccountState
@@ -38,43 +38,46 @@ pub record WasClosed (W : Type 0) (count : ℕ) (tally : Tally) : Type 0 where
 
 module _ {W : Type 0} (facts : WireFacts W) where
   -- the port's own submit, or its urgent one
-  abbrev pub SubmitsBy : Urgency → Port W → Request → Result Ticket PortFault → Port W → Type 0
+  abbrev pub SubmitsBy : DeskUrgency → PortValue W → Request → Result Ticket PortFault
+      → PortValue W → Type 0
   SubmitsBy Ordinary p request answer p' =
-      Submits (Called facts p p') p.parts p'.parts request answer
+      Submits (MakesCall facts p p') p.parts p'.parts request answer
   SubmitsBy Urgent p request answer p' =
-      SubmitsUrgent (Called facts p p') p.parts p'.parts request answer
+      SubmitsUrgent (MakesCall facts p p') p.parts p'.parts request answer
 
   -- memory is lacking only where the book had no room left
-  abbrev pub SubmitsAs : Port W → Urgency → Request → Result Ticket PortFault → Port W → Type 0
+  abbrev pub SubmitsAs : PortValue W → DeskUrgency → Request → Result Ticket PortFault
+      → PortValue W → Type 0
   SubmitsAs p kind request answer p' = SubmitsBy kind p request answer p'
       × IfErr answer (λ why. why ≡ Book NoMemory → p.parts.book.room ≡ 0)
 
   -- because the tally is as large as it can be, and then the port isn't asked; or
   -- as the port refuses it
-  abbrev pub IsRefused : Port W → AccountState → Urgency → Request → PortFault → Port W → Type 0
-  IsRefused p a kind request why p' =
+  abbrev pub SubmitIsRefused : PortValue W → AccountState → DeskUrgency → Request → PortFault
+      → PortValue W → Type 0
+  SubmitIsRefused p a kind request why p' =
       ((a.total + 1 ≡ 2 ^ 64) × (why ≡ Book TicketsSpent) × (p' ≡ p))
       ⊎ ((a.total + 1 < 2 ^ 64) × SubmitsAs p kind request (Err why) p')
 
   -- A submit at a desk: the port, the tally and the desk, before and after.
   -- Where a ticket is answered, each counts one more; else none does.
-  abbrev pub Enters : Port W → AccountState → DeskState → Urgency → Request
+  abbrev pub Enters : PortValue W → AccountState → DeskState → DeskUrgency → Request
       → Result Ticket MasterFault
-      → Port W → AccountState → DeskState → Type 0
+      → PortValue W → AccountState → DeskState → Type 0
   Enters p a d kind request (Ok ticket) p' a' d' =
       (a.total + 1 < 2 ^ 64) × SubmitsAs p kind request (Ok ticket) p'
       × (a' ≡ record a { total = a.total + 1 })
       × (d' ≡ record d { accepted = d.accepted + 1 })
   Enters p a d kind request (Err (OfPort why)) p' a' d' = (a' ≡ a) × (d' ≡ d)
-      × IsRefused p a kind request why p'
+      × SubmitIsRefused p a kind request why p'
   Enters p a d kind request (Err OutOfMemory) p' a' d' = ⊥
   Enters p a d kind request (Err NoSuchPort) p' a' d' = ⊥
   Enters p a d kind request (Err NoThread) p' a' d' = ⊥
   Enters p a d kind request (Err DesksFull) p' a' d' = ⊥
 
   -- some port and some tally, whose locks were held, between which this very submit was made
-  abbrev pub WasEntered : DeskState → Urgency → Request → Result Ticket MasterFault → DeskState
+  abbrev pub WasEntered : DeskState → DeskUrgency → Request → Result Ticket MasterFault → DeskState
       → Type 0
   WasEntered d kind request result d' =
-      (p : Port W) × (a : AccountState) × (p' : Port W) × (a' : AccountState)
+      (p : PortValue W) × (a : AccountState) × (p' : PortValue W) × (a' : AccountState)
       × Enters p a d kind request result p' a' d'

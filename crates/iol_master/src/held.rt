@@ -1,12 +1,12 @@
 //! What lies under a port's lock: the port, and its share of the tickets.
 ghost use Rattle.std.specs.Prelude.{◌≡◌, ◌≤◌, None, Some, IfOk, [], length};
 ghost use Rattle.std.specs.Option.{option_copied};
-ghost use Rattle.iol_app.specs.StationState.{wire_of};
+ghost use Rattle.iol_app.specs.StationState.{link_wire};
 ghost use Rattle.iol_book.specs.BookModel.{IsReplayed};
 ghost use Rattle.iol_port.specs.View.{IsRun, OpensWell, KeepsRecord};
 ghost use Rattle.iol_port.specs.Called.{Collects, Withdraws, Cancels, Restarts, SetsOutput, ClearsOutput};
-ghost use Rattle.iol_port.specs.Called.{Expects, SetsCycle, TakesEvent, Archives, Turns, Shown};
-ghost use Rattle.iol_port.specs.Called.{ShowsPage, ShowsCounters, ShowsImage, ShowsStatus, Called, Looked};
+ghost use Rattle.iol_port.specs.Called.{Expects, SetsCycle, TakesEvent, Archives, Turns, PublishesAfter};
+ghost use Rattle.iol_port.specs.Called.{ShowsPage, ShowsCounters, ShowsImage, ShowsStatus, MakesCall, PortOnlyLooks};
 ghost use Rattle.iol_port.specs.Claim.{Claim};
 ghost use Rattle.iol_port.specs.WireCalls.{ComesFrom};
 ghost use Rattle.iol_port.specs.RightDevice.{IsForRightDevice};
@@ -35,7 +35,7 @@ const APART: usize = 128;
 
 /// Before which requests one waits.
 #[derive(Clone, Copy, PartialEq, Eq, Debug)]
-pub(crate) enum Urgency {
+pub(crate) enum DeskUrgency {
     /// Behind all others.
     Ordinary,
     /// Before all but the urgent ones.
@@ -45,14 +45,14 @@ pub(crate) enum Urgency {
 /// The port's submit, or its urgent one.
 fn submit_as<W: Wire, A: Handle>(
     port: &mut Port<W, A>,
-    urgency: Urgency,
+    urgency: DeskUrgency,
     request: Request,
 ) -> Result<Ticket, PortFault>
     ensures { SubmitsAs W.facts port.old urgency request result port.new }
 {
     match urgency {
-        Urgency::Ordinary => port.submit(request),
-        Urgency::Urgent => port.submit_urgent(request),
+        DeskUrgency::Ordinary => port.submit(request),
+        DeskUrgency::Urgent => port.submit_urgent(request),
     }
 }
 
@@ -75,10 +75,10 @@ pub struct Held<W: Wire, K: Ledger, A: Handle = Global> {
 
 impl<W: Wire, K: Ledger, A: Handle> Model for Held<W, K, A> {
     ghost use Rattle.std.specs.Prelude.{◌≡◌};
-    ghost use Rattle.iol_port.specs.View.{Port};
+    ghost use Rattle.iol_port.specs.View.{PortValue};
     ghost use Rattle.iol_master.specs.Tickets.{HasGiven};
 
-    ghost Value = { Port W };
+    ghost Value = { PortValue W };
 
     ghost view = { λ h. h.port };
 
@@ -110,7 +110,7 @@ impl<W: Wire, K: Ledger, A: Handle> Held<W, K, A> {
         &mut self,
         accounts: &mut Accounts<L, K>,
         desk: &mut Desk<L>,
-        urgency: Urgency,
+        urgency: DeskUrgency,
         request: Request,
     ) -> Result<Ticket, MasterFault>
         ensures { Enters W.facts self.old accounts.old desk.old urgency request result
@@ -140,7 +140,7 @@ impl<W: Wire, K: Ledger, A: Handle> Held<W, K, A> {
     /// Refused, with nothing changed, by 25 where no such ticket is outstanding, and by 26 where it
     /// has no outcome yet.
     pub fn collect(&mut self, ticket: Ticket) -> Result<Outcome, PortFault>
-        ensures { Collects (Called W.facts self.old self.new) self.old.parts self.new.parts
+        ensures { Collects (MakesCall W.facts self.old self.new) self.old.parts self.new.parts
             ticket result }
     {
         self.port.collect(ticket)
@@ -151,7 +151,7 @@ impl<W: Wire, K: Ledger, A: Handle> Held<W, K, A> {
     /// Refused, with nothing changed, by 25 where no such ticket is outstanding, and by 27 where it
     /// waits no longer.
     pub fn withdraw(&mut self, ticket: Ticket) -> Result<(), PortFault>
-        ensures { Withdraws (Called W.facts self.old self.new) self.old.parts self.new.parts
+        ensures { Withdraws (MakesCall W.facts self.old self.new) self.old.parts self.new.parts
             ticket result }
     {
         self.port.withdraw(ticket)
@@ -165,7 +165,7 @@ impl<W: Wire, K: Ledger, A: Handle> Held<W, K, A> {
     /// that it was cut off for another cause. Refused, with nothing changed, by 25 where
     /// no such ticket is outstanding, and by 36 where it waits, or has an outcome.
     pub fn cancel(&mut self, ticket: Ticket) -> Result<(), PortFault>
-        ensures { Cancels (Called W.facts self.old self.new) self.old.parts self.new.parts
+        ensures { Cancels (MakesCall W.facts self.old self.new) self.old.parts self.new.parts
             ticket result }
     {
         self.port.cancel(ticket)
@@ -177,7 +177,8 @@ impl<W: Wire, K: Ledger, A: Handle> Held<W, K, A> {
     /// What waits goes on waiting. The device may still carry the request that was cut off out,
     /// once, until it is reset.
     pub fn restart<R: Wait>(&mut self, rt: &R)
-        ensures { Shown (λ new. Restarts (Called W.facts self.old new) self.old.parts new.parts)
+        ensures { PublishesAfter
+            (λ new. Restarts (MakesCall W.facts self.old new) self.old.parts new.parts)
             self.old self.new }
     {
         self.port.restart_shown(rt);
@@ -188,7 +189,7 @@ impl<W: Wire, K: Ledger, A: Handle> Held<W, K, A> {
     /// Refused, with nothing changed, by the first of 34 where no start-up has told the lengths of
     /// the process data yet, and 29 where the image has not the length that was told last.
     pub fn set_output(&mut self, image: &Image) -> Result<(), PortFault>
-        ensures { SetsOutput (Called W.facts self.old self.new) self.old.parts self.new.parts
+        ensures { SetsOutput (MakesCall W.facts self.old self.new) self.old.parts self.new.parts
             image.now result }
     {
         self.port.set_output(image)
@@ -196,7 +197,7 @@ impl<W: Wire, K: Ledger, A: Handle> Held<W, K, A> {
 
     /// Wants no output of the device.
     pub fn clear_output(&mut self)
-        ensures { ClearsOutput (Called W.facts self.old self.new) self.old.parts self.new.parts }
+        ensures { ClearsOutput (MakesCall W.facts self.old self.new) self.old.parts self.new.parts }
     {
         self.port.clear_output();
     }
@@ -208,7 +209,7 @@ impl<W: Wire, K: Ledger, A: Handle> Held<W, K, A> {
     /// was written to the device. Requests wait on. A page that was checked already is not checked
     /// again.
     pub fn expect(&mut self, identity: Identity) -> Counting
-        ensures { Expects (Called W.facts self.old self.new) self.old.parts self.new.parts
+        ensures { Expects (MakesCall W.facts self.old self.new) self.old.parts self.new.parts
             (Some identity) result }
     {
         self.port.expect(identity)
@@ -216,7 +217,7 @@ impl<W: Wire, K: Ledger, A: Handle> Held<W, K, A> {
 
     /// Expects any device, as a port does that is new.
     pub fn expect_any(&mut self) -> Counting
-        ensures { Expects (Called W.facts self.old self.new) self.old.parts self.new.parts
+        ensures { Expects (MakesCall W.facts self.old self.new) self.old.parts self.new.parts
             None result }
     {
         self.port.expect_any()
@@ -225,7 +226,7 @@ impl<W: Wire, K: Ledger, A: Handle> Held<W, K, A> {
     /// Has start-ups write this cycle time to MasterCycleTime, where it is at least the device's
     /// MinCycleTime; else, and with none, they write MinCycleTime as it stands in the page.
     pub fn set_cycle(&mut self, cycle: Option<CycleTime>) -> Counting
-        ensures { SetsCycle (Called W.facts self.old self.new) self.old.parts self.new.parts
+        ensures { SetsCycle (MakesCall W.facts self.old self.new) self.old.parts self.new.parts
             cycle result }
     {
         self.port.set_cycle(cycle)
@@ -234,14 +235,14 @@ impl<W: Wire, K: Ledger, A: Handle> Held<W, K, A> {
     /// The device's page, once the start-up of the present session has read it whole and checked
     /// it; none before, and in down.
     pub fn page(&self) -> Option<Page>
-        ensures { ShowsPage (Looked W.facts self.now) self.now.parts result }
+        ensures { ShowsPage (PortOnlyLooks W.facts self.now) self.now.parts result }
     {
         self.port.page()
     }
 
     /// What the port counted since its opening.
     pub fn counters(&self) -> &Counters
-        ensures { ShowsCounters (Looked W.facts self.now) self.now.parts result.now }
+        ensures { ShowsCounters (PortOnlyLooks W.facts self.now) self.now.parts result.now }
     {
         self.port.counters()
     }
@@ -252,7 +253,7 @@ impl<W: Wire, K: Ledger, A: Handle> Held<W, K, A> {
     /// This is the read under the port's lock. A seat at the cell in which the port publishes
     /// (crate iol_image) reads the image without it.
     pub fn image(&self) -> Option<&Image>
-        ensures { ShowsImage (Looked W.facts self.now) self.now.parts
+        ensures { ShowsImage (PortOnlyLooks W.facts self.now) self.now.parts
             (option_copied result) }
     {
         self.port.image()
@@ -260,7 +261,7 @@ impl<W: Wire, K: Ledger, A: Handle> Held<W, K, A> {
 
     /// Hands out the event that was kept longest. Refused by 30 where none is kept.
     pub fn take_event(&mut self) -> Result<Event, PortFault>
-        ensures { TakesEvent (Called W.facts self.old self.new) self.old.parts self.new.parts
+        ensures { TakesEvent (MakesCall W.facts self.old self.new) self.old.parts self.new.parts
             result }
     {
         self.port.take_event()
@@ -268,7 +269,7 @@ impl<W: Wire, K: Ledger, A: Handle> Held<W, K, A> {
 
     /// The mode of the link, and why it is down.
     pub fn status(&self) -> Status
-        ensures { ShowsStatus (Looked W.facts self.now) self.now.parts result }
+        ensures { ShowsStatus (PortOnlyLooks W.facts self.now) self.now.parts result }
     {
         self.port.status()
     }
@@ -279,7 +280,7 @@ impl<W: Wire, K: Ledger, A: Handle> Held<W, K, A> {
     /// cut off by a lost link or a restart and the device wasn't reset since, as it may still carry
     /// that request out.
     pub fn archive(&mut self) -> Result<Vec<Entry, A>, PortFault>
-        ensures is { Archives (Called W.facts self.old self.new) self.old.parts self.new.parts
+        ensures is { Archives (MakesCall W.facts self.old self.new) self.old.parts self.new.parts
             (λ entries. entries.items) result }
         ensures within { IfOk result (λ entries. length entries.items ≤ 1000000) }
     {
@@ -294,7 +295,7 @@ impl<W: Wire, K: Ledger, A: Handle> Held<W, K, A> {
     /// in this turn; where the device has no ISDU it is denied, never taken, and IDLE 1 goes out.
     /// At most 64 events are kept, and a list of events is read only where there is room for it.
     pub fn turn<R: Wait>(&mut self, rt: &R)
-        ensures { Shown (Turns W.facts self.old) self.old self.new }
+        ensures { PublishesAfter (Turns W.facts self.old) self.old self.new }
     {
         self.port.turn_shown(rt);
     }
@@ -311,7 +312,7 @@ impl<W: Wire, K: Ledger, A: Handle> Held<W, K, A> {
         ensures claim { OpensWell self.now.opening
             → Claim W.facts self.now.opening [] [] self.now.parts }
         ensures wire { ComesFrom W.facts
-            self.now.opening.wire (wire_of self.now.parts.station.link) }
+            self.now.opening.wire (link_wire self.now.parts.station.link) }
         ensures record_fits { OpensWell self.now.opening → KeepsRecord W.facts self.now.parts }
         ensures level { OpensWell self.now.opening → IsLevelBetween W.facts self.now.parts }
     {

@@ -5,7 +5,7 @@ ghost use Rattle.std.specs.Option.{option_copied};
 ghost use Rattle.std.specs.Result.{result_map_both};
 ghost use Rattle.iol_far.specs.Octets.{octets_in};
 ghost use Rattle.iol_book.specs.declared.fault.BookFault.TheVariants.{OutOfMemory};
-ghost use Rattle.iol_book.specs.BookModel.{submitted};
+ghost use Rattle.iol_book.specs.BookModel.{book_after_submit};
 ghost use Rattle.iol_app.specs.declared.asked.Asked.{Asked};
 ghost use Rattle.iol_app.specs.Asking.{IsCall};
 ghost use Rattle.iol_port.specs.declared.fault.PortFault.TheVariants as fault;
@@ -13,11 +13,11 @@ ghost use Rattle.iol_port.specs.declared.call.Answered.TheVariants as answered;
 ghost use Rattle.iol_port.specs.Called.{Submits, SubmitsUrgent, Collects, Withdraws, Cancels, SetsOutput, ClearsOutput};
 ghost use Rattle.iol_port.specs.Called.{Expects, SetsCycle, TakesEvent, Archives, CoreCalled};
 ghost use Rattle.iol_port.specs.Called.{ShowsPage, ShowsCounters, ShowsImage, ShowsStatus};
-ghost use Rattle.iol_port.specs.declared.awaited.Awaited.TheVariants as Awaited;
-ghost use Rattle.iol_port.specs.CorePort.{awaited};
+ghost use Rattle.iol_port.specs.declared.awaited.AwaitedAnswer.TheVariants as AwaitedAnswer;
+ghost use Rattle.iol_port.specs.CorePort.{awaited_answer};
 ghost use Rattle.iol_master.specs.Ledgers.{IsBlankFor};
-ghost use Rattle.iol_master.specs.Line.{LineCalled, RestartsOnce, Sends, TakesReply, TakesRate};
-ghost use Rattle.iol_master.specs.Line.{IsWhole, IsLineTurn, IsServed, IsLineWorked};
+ghost use Rattle.iol_master.specs.Line.{LineCalled, RestartsOnce, LineSends, TakesReply, TakesRate};
+ghost use Rattle.iol_master.specs.Line.{HasWholeLedger, IsLineTurn, IsServed, IsLineWorked};
 ghost use Rattle.iol_master.specs.Line.{awaited_number, awaited_of};
 
 use crate::serve::Gate;
@@ -29,7 +29,7 @@ use iol_isdu::Request;
 use iol_link::{Rate, Wire};
 use iol_mseq::Message;
 use iol_page::{CycleTime, Identity, Page};
-use iol_port::{Awaited, Counters, Counting, PortCore, PortFault};
+use iol_port::{AwaitedAnswer, Counters, Counting, PortCore, PortFault};
 use std::alloc::{Allocator, Global};
 use std::marker::Model;
 use std::sync::ledger::{Blank, Book, Ledger, Share};
@@ -69,7 +69,7 @@ pub struct LinePort<K: Ledger, A: Allocator + Copy = Global> {
 
 impl<K: Ledger, A: Allocator + Copy> Model for LinePort<K, A> {
     ghost use Rattle.std.specs.Prelude.{◌≡◌, IsTrue};
-    ghost use Rattle.iol_port.specs.CorePort.{awaited};
+    ghost use Rattle.iol_port.specs.CorePort.{awaited_answer};
     ghost use Rattle.iol_master.specs.Line.{LineState, awaited_number};
 
     ghost Value = { LineState };
@@ -77,7 +77,7 @@ impl<K: Ledger, A: Allocator + Copy> Model for LinePort<K, A> {
     ghost view = { λ p. record { parts = p.port; restart_waits = p.restart_waits } };
 
     ghost invariant = { λ p. (IsTrue p.restart_waits → IsTrue p.port.sent)
-        × (p.out.total ≡ awaited_number (awaited p.port)) };
+        × (p.out.total ≡ awaited_number (awaited_answer p.port)) };
 }
 
 impl<K: Ledger, A: Allocator + Copy> LinePort<K, A> {
@@ -85,13 +85,13 @@ impl<K: Ledger, A: Allocator + Copy> LinePort<K, A> {
     fn open(port: PortCore<A>, hands: Blank) -> (LinePort<K, A>, Share<K>)
         requires { IsBlankFor hands K.name K.parts 1 }
         ensures port { result.0 ≡ record { parts = port; restart_waits = false } }
-        ensures whole { IsWhole result.1.parts K.parts }
+        ensures whole { HasWholeLedger result.1.parts K.parts }
     {
         let (mut out, mut hand) = hands.open::<K>();
         match port.awaits() {
-            Awaited::Nothing => {}
-            Awaited::Wake => out.add(&mut hand, WAKE),
-            Awaited::Reply => out.add(&mut hand, REPLY),
+            AwaitedAnswer::Nothing => {}
+            AwaitedAnswer::Wake => out.add(&mut hand, WAKE),
+            AwaitedAnswer::Reply => out.add(&mut hand, REPLY),
         }
         let port = LinePort {
             port,
@@ -188,8 +188,8 @@ impl<K: Ledger, A: Allocator + Copy> LinePort<K, A> {
         ensures { RestartsOnce self.old self.new }
     {
         match self.port.awaits() {
-            Awaited::Nothing => self.port.restart(),
-            Awaited::Wake | Awaited::Reply => self.restart_waits = true,
+            AwaitedAnswer::Nothing => self.port.restart(),
+            AwaitedAnswer::Wake | AwaitedAnswer::Reply => self.restart_waits = true,
         }
     }
 
@@ -303,28 +303,28 @@ impl<K: Ledger, A: Allocator + Copy> LinePort<K, A> {
 
     /// What goes out, which the worker's hand knows from then on.
     fn send(&mut self, hand: &mut Share<K>) -> Asked
-        requires whole { IsWhole hand.old.parts K.parts }
-        ensures sends { Sends self.old result self.new }
-        ensures whole { IsWhole hand.new.parts K.parts }
+        requires whole { HasWholeLedger hand.old.parts K.parts }
+        ensures sends { LineSends self.old result self.new }
+        ensures whole { HasWholeLedger hand.new.parts K.parts }
         ensures out { hand.new.amount ≡ awaited_number (awaited_of result) }
     {
         self.out.audit(hand);
         let before = self.port.awaits();
         let asked = self.port.send();
         match before {
-            Awaited::Nothing => self.out.add(hand, amount_of(&asked)),
-            Awaited::Wake | Awaited::Reply => {}
+            AwaitedAnswer::Nothing => self.out.add(hand, amount_of(&asked)),
+            AwaitedAnswer::Wake | AwaitedAnswer::Reply => {}
         }
         asked
     }
 
     /// Takes what came back, and makes the restart that waited.
     fn receive(&mut self, hand: &mut Share<K>, came: &Option<Message>)
-        requires whole { IsWhole hand.old.parts K.parts }
-        requires out { hand.old.amount ≡ awaited_number Awaited.Reply }
-        ensures awaits { awaited self.old.parts ≡ Awaited.Reply }
+        requires whole { HasWholeLedger hand.old.parts K.parts }
+        requires out { hand.old.amount ≡ awaited_number AwaitedAnswer.Reply }
+        ensures awaits { awaited_answer self.old.parts ≡ AwaitedAnswer.Reply }
         ensures takes { TakesReply self.old (octets_in came.now) self.new }
-        ensures whole { IsWhole hand.new.parts K.parts }
+        ensures whole { HasWholeLedger hand.new.parts K.parts }
     {
         self.out.audit(hand);
         let waited = self.restart_waits;
@@ -338,11 +338,11 @@ impl<K: Ledger, A: Allocator + Copy> LinePort<K, A> {
 
     /// Takes what came of a wake-up request, and makes the restart that waited.
     fn receive_wake(&mut self, hand: &mut Share<K>, rate: Option<Rate>)
-        requires whole { IsWhole hand.old.parts K.parts }
-        requires out { hand.old.amount ≡ awaited_number Awaited.Wake }
-        ensures awaits { awaited self.old.parts ≡ Awaited.Wake }
+        requires whole { HasWholeLedger hand.old.parts K.parts }
+        requires out { hand.old.amount ≡ awaited_number AwaitedAnswer.Wake }
+        ensures awaits { awaited_answer self.old.parts ≡ AwaitedAnswer.Wake }
         ensures takes { TakesRate self.old (is_some rate) self.new }
-        ensures whole { IsWhole hand.new.parts K.parts }
+        ensures whole { HasWholeLedger hand.new.parts K.parts }
     {
         self.out.audit(hand);
         let waited = self.restart_waits;
@@ -409,13 +409,13 @@ pub struct LineWorker<W: Wire, K: Ledger> {
 }
 
 impl<W: Wire, K: Ledger> Model for LineWorker<W, K> {
-    ghost use Rattle.iol_master.specs.Line.{IsWhole};
+    ghost use Rattle.iol_master.specs.Line.{HasWholeLedger};
 
     ghost Value = { W };
 
     ghost view = { λ w. w.wire };
 
-    ghost invariant = { λ w. IsWhole w.hand.parts K.parts };
+    ghost invariant = { λ w. HasWholeLedger w.hand.parts K.parts };
 }
 
 impl<W: Wire, K: Ledger> LineWorker<W, K> {

@@ -1,16 +1,16 @@
 //! The master: its ports and its tally, each under a lock.
 ghost use Rattle.std.specs.Prelude.{◌≡◌, ◌≤◌, ◌⊎◌, Err, All, vec_len, MatchResult, MatchOption};
 ghost use Rattle.iol_master.specs.declared.fault.MasterFault.TheVariants as fault;
-ghost use Rattle.iol_master.specs.declared.held.Urgency.TheVariants as urgency;
+ghost use Rattle.iol_master.specs.declared.held.DeskUrgency.TheVariants as urgency;
 ghost use Rattle.iol_master.specs.Tickets.{HasGiven, WasEntered, WasClosed};
-ghost use Rattle.iol_master.specs.Master.{IsPort, Desks, Submitted, SettledAs};
+ghost use Rattle.iol_master.specs.Master.{IsPortNumber, Desks, DeskCountsSubmit, SettledAs};
 ghost use Rattle.iol_master.specs.Master.{WasOpened, WasSettled};
 ghost use Rattle.iol_master.specs.Counts.{IsClosed};
 ghost use Rattle.iol_master.specs.Ledgers.{IsBlankFor};
 
 use crate::accounts::{Accounts, Desk, Settled, Tally};
 use crate::fault::MasterFault;
-use crate::held::{Held, Urgency};
+use crate::held::{DeskUrgency, Held};
 use iol_book::Ticket;
 use iol_cell::Handle;
 use iol_isdu::Request;
@@ -96,7 +96,8 @@ impl<W: Wire, L: Ledger, K: Ledger, A: Handle> Master<W, L, K, A> {
     /// The lock of a port. No clause tells two locks apart, so which one it is a test holds, as at
     /// [`Master::lock`].
     fn port(&self, port: u32) -> Option<&Mutex<Held<W, K, A>>>
-        ensures { MatchOption result (¬ IsPort self.now port) (λ _. IsPort self.now port) }
+        ensures { MatchOption result (¬ IsPortNumber self.now port)
+            (λ _. IsPortNumber self.now port) }
     {
         if port == 0 || port as usize > self.ports.len() {
             return None;
@@ -136,11 +137,11 @@ impl<W: Wire, L: Ledger, K: Ledger, A: Handle> Master<W, L, K, A> {
         desk: &mut Desk<L>,
         request: Request,
     ) -> Result<Ticket, MasterFault>
-        ensures submitted { Submitted self.now desk.old result desk.new }
+        ensures submitted { DeskCountsSubmit self.now desk.old result desk.new }
         ensures entered { (result ≡ Err fault.NoSuchPort)
             ⊎ WasEntered W.facts desk.old urgency.Ordinary request result desk.new }
     {
-        self.enter(rt, desk, Urgency::Ordinary, request)
+        self.enter(rt, desk, DeskUrgency::Ordinary, request)
     }
 
     /// Submits an urgent request at a desk's port, where it waits before all others but the urgent
@@ -153,21 +154,21 @@ impl<W: Wire, L: Ledger, K: Ledger, A: Handle> Master<W, L, K, A> {
         desk: &mut Desk<L>,
         request: Request,
     ) -> Result<Ticket, MasterFault>
-        ensures submitted { Submitted self.now desk.old result desk.new }
+        ensures submitted { DeskCountsSubmit self.now desk.old result desk.new }
         ensures entered { (result ≡ Err fault.NoSuchPort)
             ⊎ WasEntered W.facts desk.old urgency.Urgent request result desk.new }
     {
-        self.enter(rt, desk, Urgency::Urgent, request)
+        self.enter(rt, desk, DeskUrgency::Urgent, request)
     }
 
     fn enter<R: Wait>(
         &self,
         rt: &R,
         desk: &mut Desk<L>,
-        urgency: Urgency,
+        urgency: DeskUrgency,
         request: Request,
     ) -> Result<Ticket, MasterFault>
-        ensures submitted { Submitted self.now desk.old result desk.new }
+        ensures submitted { DeskCountsSubmit self.now desk.old result desk.new }
         ensures entered { (result ≡ Err fault.NoSuchPort)
             ⊎ WasEntered W.facts desk.old urgency request result desk.new }
     {
@@ -189,8 +190,8 @@ impl<W: Wire, L: Ledger, K: Ledger, A: Handle> Master<W, L, K, A> {
         rt: &R,
         port: u32,
     ) -> Result<MutexGuard<'_, Held<W, K, A>>, MasterFault>
-        ensures { MatchResult result (λ _. IsPort self.now port)
-            (λ e. (e ≡ fault.NoSuchPort) × (¬ IsPort self.now port)) }
+        ensures { MatchResult result (λ _. IsPortNumber self.now port)
+            (λ e. (e ≡ fault.NoSuchPort) × (¬ IsPortNumber self.now port)) }
     {
         match self.port(port) {
             Some(held) => Ok(held.lock(rt)),

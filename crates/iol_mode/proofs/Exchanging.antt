@@ -14,17 +14,17 @@ use Rattle.iol_mseq.specs.declared.master.MasterMsg.{MasterMsg}
 use Rattle.iol_mseq.specs.declared.reply.Reply.{Reply}
 use Rattle.iol_page.specs.declared.page.Layouts.{Layouts}
 use Rattle.iol_page.specs.declared.master_command.MasterCommand.TheVariants.{DeviceOperate}
-use Rattle.iol_far.specs.declared.mode.Mode.{Mode}
-use Rattle.iol_far.specs.declared.mode.Mode.TheVariants.{Operate as FarOperate}
+use Rattle.iol_far.specs.declared.mode.DeviceMode.{DeviceMode}
+use Rattle.iol_far.specs.declared.mode.DeviceMode.TheVariants.{Operate as FarOperate}
 use Rattle.iol_far.specs.Codec.{message_in}
 use Rattle.iol_far.specs.Far.{Far, WaitingCommand, waits_after, mode_asked, command_in, known_mode}
-use Rattle.iol_far.specs.Level.{Link, taken, turned, hearings}
+use Rattle.iol_far.specs.Level.{FarLink, accepting_link, turned_link, hearings}
 use Rattle.iol_far.specs.Linked.{IsLinked}
 use Rattle.iol_link.specs.Attempts.{Sending, good_reply, most_attempts, attempt_of}
 use Rattle.iol_link.specs.Honest.{HonestExchange}
 use Rattle.iol_mode.specs.Messages.{command_message, stays, stays_by}
 use Rattle.iol_page.specs.Page.{AreLayouts, IsPlain}
-use Rattle.iol_mode.specs.States.{operate_by, OperateFits, counted, NextMode, OutFits, StateFits, Takes, is_starting, sending_of, outcome_with}
+use Rattle.iol_mode.specs.States.{operate_by, OperateFits, sending_after_try, NextMode, OutFits, StateFits, Takes, is_starting, sending_of, outcome_with}
 use Rattle.iol_mode.specs.Stands.{entering_link, operate_link, IsOperating, IsTold, IsAccepted, OperateStands, entering_mode, entering_layout, StateStands, OutcomeStands}
 use Rattle.iol_mode.specs.Turns.{IsMet, IsEnd, IsOperateTurn, IsStartTurn, IsStartTried, IsExchange}
 use Rattle.iol_mode.specs.Laws.{Laws}
@@ -39,7 +39,7 @@ use Rattle.iol_mode.specs.declared.configuration.Devices.TheVariants.{Own}
 use Rattle.iol_mode.specs.Kinds.{IsHonestFor}
 use Rattle.iol_mode.specs.declared.states.State.{State}
 use Rattle.iol_mode.specs.declared.states.State.TheVariants.{Down as AtDown, Startup as AtStartup, Preoperate as AtPreoperate, Operate as AtOperate}
-use Rattle.iol_mode.specs.Exchanges.{IsSending, AreFew, putting, instead, putting_instead, judged, judged_out, OutGives, StateGives, ExchangeGives, StandsOn, OutAccepted, AcceptedBy, IsExchanged}
+use Rattle.iol_mode.specs.Exchanges.{IsSending, AreFew, state_with_out, instead, putting_instead, mode_after_reply, judged_out, OutGives, StateGives, ExchangeGives, StandsOn, OutAccepted, AcceptedBy, IsExchanged}
 use Rattle.iol_mode.proofs.Startups.{preoperate_risen, startup_risen}
 
 bytes_of : (xs ys : List ℕ) → bytes_eq xs ys ≡ true → xs ≡ ys
@@ -84,13 +84,14 @@ one_layout {pre = pre} {run = run} plain valid write d m =
 -- A message in OPERATE
 
 -- a message that stays asks for no mode, or for OPERATE
-staying : (P : Option Mode → Type 0) → P None → P (Some FarOperate) → (asked : Option Mode)
+staying : (P : Option DeviceMode → Type 0) → P None → P (Some FarOperate)
+    → (asked : Option DeviceMode)
     → stays_by asked ≡ true → P asked
 staying P none operate None e = none
 staying P none operate (Some FarOperate) e = operate
 staying P none operate asked e = absurd (let z : false ≡ true = e in cc)
 
-abbrev waits_in : Mode → Option WaitingCommand → Link
+abbrev waits_in : DeviceMode → Option WaitingCommand → FarLink
 waits_in mode waits = record { mode = mode; waits = waits }
 
 module _ (laws : Laws) {layouts : Layouts} {m : MasterMsg} (far : Far) (told : IsTold layouts far)
@@ -110,13 +111,14 @@ module _ (laws : Laws) {layouts : Layouts} {m : MasterMsg} (far : Far) (told : I
   command_text = master_text entry command
 
   -- the mode that it asks a device of this page for
-  asks : (P : Option Mode → Type 0) → P None → P (Some FarOperate)
+  asks : (P : Option DeviceMode → Type 0) → P None → P (Some FarOperate)
       → P (known_mode far.page (mode_asked (command_in m)))
   asks P none operate = staying (λ q. P (known_mode far.page q)) none operate
       (mode_asked (command_in m)) stay
 
   -- in OPERATE
-  run_next : {link : Link} → taken link octets ≡ operate_link → IsAccepted layouts far.page link m
+  run_next : {link : FarLink} → accepting_link link octets ≡ operate_link
+      → IsAccepted layouts far.page link m
   run_next e = record {
     out = out_text laws proper.run parts e (layout_told far told FarOperate);
     next = inr (rw e (asks
@@ -147,7 +149,8 @@ module _ (laws : Laws) {layouts : Layouts} {m : MasterMsg} (far : Far) (told : I
       let s = spelled layouts.run octets m (laws.heard layouts.run m parts) in
       let first : slice_index octets 0 ≡ 0x20 = ap (λ (ys : List ℕ). slice_index ys 0) e in
       let one = one_layout plain proper.run (omega (arith, first)) d s in
-      let taken_is : taken (entering_link layouts) octets ≡ entering_link layouts = rw same in
+      let taken_is : accepting_link (entering_link layouts) octets ≡ entering_link layouts =
+      rw same in
       record {
         out = out_text laws proper.run parts taken_is (speaks ∙ one);
         next = inl (
@@ -158,7 +161,7 @@ module _ (laws : Laws) {layouts : Layouts} {m : MasterMsg} (far : Far) (told : I
         );
       }
 
-  accepted : (link : Link) → IsOperating layouts link → IsAccepted layouts far.page link m
+  accepted : (link : FarLink) → IsOperating layouts link → IsAccepted layouts far.page link m
   accepted link (inl e) = rw e ((elim (bytes_eq octets command_text) as (λ b.
       bytes_eq octets command_text ≡ b → IsAccepted layouts far.page (entering_link layouts) m) [
         | true ↦ λ same. run_waits same
@@ -167,7 +170,7 @@ module _ (laws : Laws) {layouts : Layouts} {m : MasterMsg} (far : Far) (told : I
   accepted link (inr e) = rw e (run_next refl)
 
 -- the message that is out then is accepted
-pub put_accepted : Laws → (s new : State) (far : Far) (m : MasterMsg) → new ≡ putting m s
+pub put_accepted : Laws → (s new : State) (far : Far) (m : MasterMsg) → new ≡ state_with_out m s
     → StateFits s → Takes s m → IsTrue (stays m) → AcceptedBy new far
 put_accepted laws (AtOperate s) new far m is fits takes stay = rw is (λ told. (elim (s.out) as
     (λ out. OutFits s.layouts.run out → OutAccepted (Some (sending_of out m)) s.layouts far) [
@@ -177,9 +180,9 @@ put_accepted laws (AtOperate s) new far m is fits takes stay = rw is (λ told. (
 put_accepted laws s new far m is fits takes stay = absurd takes
 
 -- behind a message that is accepted OPERATE goes on
-operating_next : {layouts : Layouts} {page : List ℕ} {link : Link} {m : MasterMsg}
+operating_next : {layouts : Layouts} {page : List ℕ} {link : FarLink} {m : MasterMsg}
     → IsAccepted layouts page link m
-    → IsOperating layouts (turned page link (master_text layouts.run m) m)
+    → IsOperating layouts (turned_link page link (master_text layouts.run m) m)
 operating_next at = elim (at.next) [ inl k ↦ inl k.0 | inr k ↦ inr k ]
 
 -- Another message goes out in place of the one that is out
@@ -198,7 +201,7 @@ replaced_on laws (Some sent) layouts m fits far n h =
     ]
   where
     -- nothing of it was heard yet
-    stands : (link : Link) → IsOperating layouts link
+    stands : (link : FarLink) → IsOperating layouts link
         → IsLinked far.page link (master_text layouts.run m) 0 far
         → OperateStands (record { out = Some (record sent { message = m }); layouts = layouts }) n
         far
@@ -232,11 +235,11 @@ module _ {sent : Sending} {layouts : Layouts} {n n' : ℕ} {far far' : Far} {a :
   told = let e = laws.device.page _ _ _ _ _ _ x in rw e h.told
 
   operate_both : (q : Option Reply) → good_reply layouts.run sent.message a ≡ q
-      → IsMet (operate_by (counted sent q) layouts (attempt_of sent.tries q)) n' far'
+      → IsMet (operate_by (sending_after_try sent q) layouts (attempt_of sent.tries q)) n' far'
   operate_both (Some r) good =
       let met = (laws.link.met _ _ _ _ _ _ x h.link sent.message layouts.run sent.tries at.out
       h.linked r good).at in
-      let next = turned far.page h.link (master_text layouts.run sent.message) sent.message in
+      let next = turned_link far.page h.link (master_text layouts.run sent.message) sent.message in
       record {
         stands = record {
           tries = omega arith;
@@ -282,7 +285,7 @@ out_gives laws (Some sent) layouts fits few came far far' n n' h x = (
 )
 
 pub exchange_gives : Laws → (c : Configuration) (s : State) (came : Option (List ℕ))
-    (outcome : NextMode) → outcome ≡ judged c s came → StateFits s → AreFew s
+    (outcome : NextMode) → outcome ≡ mode_after_reply c s came → StateFits s → AreFew s
     → ExchangeGives s came outcome
 exchange_gives laws c (AtDown s) came outcome is fits few = λ far far' n n' h x. tt
 exchange_gives laws c (AtStartup s) came outcome is fits few = λ far far' n n' h x.
@@ -364,15 +367,16 @@ start_turn facts s called starts stood = (
 -- a turn in OPERATE, whose attempt alone says what becomes of the mode
 pub operate_turn : {W : Type 0} (facts : WireFacts W) {wire new : W} {attempt : Attempt}
     {state : State} (s : State) (m : MasterMsg)
-    → IsExchanged facts wire (putting m s) new attempt state
+    → IsExchanged facts wire (state_with_out m s) new attempt state
     → StateFits s → Takes s m
     → (IsHonestFor facts Own wire → StateStands s (facts.silence wire) (facts.far wire))
-    → StandsOn s (putting m s)
+    → StandsOn s (state_with_out m s)
     → IsOperateTurn facts wire s m (outcome_with attempt state) new
     × IsEnd attempt (outcome_with attempt state)
 operate_turn facts {wire = wire} (AtOperate s) m called before takes stood on =
     let old = sending_of s.out m in
-    let sent = counted old (good_reply s.layouts.run old.message (octets_in called.answer)) in
+    let sent = sending_after_try old
+    (good_reply s.layouts.run old.message (octets_in called.answer)) in
     let gives = given facts called (λ h. on (facts.far wire) (facts.silence wire) (stood h)) in (
       record {
         exchange = exchange_told facts called called.called called.passes called.judged.state;

@@ -8,7 +8,7 @@ use Rattle.iol_mseq.specs.declared.master.MasterMsg.{MasterMsg}
 use Rattle.iol_page.specs.declared.page.Layouts.{Layouts}
 use Rattle.iol_far.specs.Far.{Far}
 use Rattle.iol_far.specs.Octets.{octets_in}
-use Rattle.iol_far.specs.Level.{Link}
+use Rattle.iol_far.specs.Level.{FarLink}
 use Rattle.iol_link.specs.declared.handler.Attempt.{Attempt}
 use Rattle.iol_link.specs.declared.handler.Attempt.TheVariants.{Again}
 use Rattle.iol_link.specs.Attempts.{Sending, good_reply, attempt_of, most_attempts}
@@ -19,7 +19,7 @@ use Rattle.iol_mode.specs.declared.configuration.Devices.{Devices}
 use Rattle.iol_mode.specs.declared.configuration.Devices.TheVariants.{Own}
 use Rattle.iol_mode.specs.declared.states.State.{State}
 use Rattle.iol_mode.specs.declared.states.State.TheVariants.{Down as AtDown, Startup as AtStartup, Preoperate as AtPreoperate, Operate as AtOperate}
-use Rattle.iol_mode.specs.States.{NextMode, InDown, InOperate, StateFits, any_device, is_behind, counted, operate_by, outcome_with, startup_turned, preoperate_turned, sending_of, state_of, waked}
+use Rattle.iol_mode.specs.States.{NextMode, InDown, InOperate, StateFits, any_device, is_behind, sending_after_try, operate_by, outcome_with, startup_turned, preoperate_turned, sending_of, next_state, mode_after_wake}
 use Rattle.iol_mode.specs.Stands.{IsOperating, IsAccepted, IsTold, StateStands, text_in}
 use Rattle.iol_mode.specs.Turns.{IsMet, IsRisen}
 use Rattle.iol_mode.specs.Kinds.{SeesPulses, IsHonestFor}
@@ -62,10 +62,10 @@ tries_in (AtPreoperate s) = s.sent.tries
 tries_in (AtOperate s) = tries_of s.out
 
 -- in OPERATE the message that is out stays so, else this one is out from now on
-abbrev pub putting : MasterMsg → State → State
-putting message (AtOperate s) =
+abbrev pub state_with_out : MasterMsg → State → State
+state_with_out message (AtOperate s) =
     AtOperate (record { out = Some (sending_of s.out message); layouts = s.layouts })
-putting message s = s
+state_with_out message s = s
 
 -- in OPERATE this message is out in place of the one that is, whose attempts count on
 abbrev pub instead : MasterMsg → Option Sending → Option Sending
@@ -80,15 +80,17 @@ putting_instead message s = s
 abbrev pub judged_out : Option Sending → Layouts → Option (List ℕ) → NextMode
 judged_out None layouts came = InOperate (record { out = None; layouts = layouts }) None
 judged_out (Some sent) layouts came =
-    operate_by (counted sent (good_reply layouts.run sent.message came)) layouts
+    operate_by (sending_after_try sent (good_reply layouts.run sent.message came)) layouts
     (attempt_of sent.tries (good_reply layouts.run sent.message came))
 
 -- what a start-up asks of the device counts where its page becomes whole
-abbrev pub judged : Configuration → State → Option (List ℕ) → NextMode
-judged c (AtDown s) came = InDown s
-judged c (AtStartup s) came = startup_turned c s (good_reply startup_shape s.sent.message came)
-judged c (AtPreoperate s) came = preoperate_turned s (good_reply s.pre s.sent.message came)
-judged c (AtOperate s) came = judged_out s.out s.layouts came
+abbrev pub mode_after_reply : Configuration → State → Option (List ℕ) → NextMode
+mode_after_reply c (AtDown s) came = InDown s
+mode_after_reply c (AtStartup s) came =
+    startup_turned c s (good_reply startup_shape s.sent.message came)
+mode_after_reply c (AtPreoperate s) came =
+    preoperate_turned s (good_reply s.pre s.sent.message came)
+mode_after_reply c (AtOperate s) came = judged_out s.out s.layouts came
 
 -- how the attempt ends
 abbrev pub attempt_at : Option Sending → Shape → Option (List ℕ) → Attempt
@@ -96,11 +98,11 @@ attempt_at None layout came = Again
 attempt_at (Some sent) layout came =
     attempt_of sent.tries (good_reply layout sent.message came)
 
-abbrev pub attempted : State → Option (List ℕ) → Attempt
-attempted (AtDown s) came = Again
-attempted (AtStartup s) came = attempt_at (Some s.sent) startup_shape came
-attempted (AtPreoperate s) came = attempt_at (Some s.sent) s.pre came
-attempted (AtOperate s) came = attempt_at s.out s.layouts.run came
+abbrev pub attempt_result : State → Option (List ℕ) → Attempt
+attempt_result (AtDown s) came = Again
+attempt_result (AtStartup s) came = attempt_at (Some s.sent) startup_shape came
+attempt_result (AtPreoperate s) came = attempt_at (Some s.sent) s.pre came
+attempt_result (AtOperate s) came = attempt_at s.out s.layouts.run came
 
 -- the attempts at it are fewer than three
 abbrev pub AreFew : State → Type 0
@@ -112,10 +114,10 @@ AreFew (AtOperate s) = IfSome s.out (λ sent. sent.tries < most_attempts)
 -- what came back to the message that was out is judged, and this is how the attempt ends
 pub record IsJudged (c : Configuration) (old : State) (came : Option (List ℕ))
     (attempt : Attempt) (new : State) : Type 0 where
-  pub state : outcome_with attempt new ≡ judged c old came
+  pub state : outcome_with attempt new ≡ mode_after_reply c old came
   pub fits : StateFits new
   pub few : AreFew old
-  pub attempt_is : attempt ≡ attempted old came
+  pub attempt_is : attempt ≡ attempt_result old came
 
 -- Over an honest wire, whose far end and silence were and are these
 
@@ -123,7 +125,7 @@ pub record IsJudged (c : Configuration) (old : State) (came : Option (List ℕ))
 abbrev pub OutAccepted : Option Sending → Layouts → Far → Type 0
 OutAccepted None layouts far = ⊤
 OutAccepted (Some sent) layouts far =
-    (link : Link) → IsOperating layouts link → IsAccepted layouts far.page link sent.message
+    (link : FarLink) → IsOperating layouts link → IsAccepted layouts far.page link sent.message
 
 abbrev pub OutGives : Option Sending → Layouts → Far → NextMode → ℕ → Far → Type 0
 OutGives None layouts far outcome silence_new far_new = ⊤
@@ -160,7 +162,7 @@ AcceptedBy s far = ⊤
 abbrev pub WakeStands : Devices → Bool → Type 0
 WakeStands devices answered =
     (far far_new : Far) (silence : ℕ) → SeesPulses devices far → HonestWake far answered far_new
-    → StateStands (state_of (waked devices answered)) silence far_new
+    → StateStands (next_state (mode_after_wake devices answered)) silence far_new
 
 -- one exchange over this wire of the message that is out, at a link that expects any device
 pub record IsExchanged {W : Type 0} (facts : WireFacts W) (wire : W) (old : State) (new : W)

@@ -13,9 +13,9 @@ SeesPulses Own far = far.misses_pulses ≡ false
 SeesPulses Any far = ⊤
 
 -- how long an answer may be taken to be recalled: a port for any device knows nothing of its kind
-abbrev pub trusted : Devices → Recalls → Recalls
-trusted Own recalls = recalls
-trusted Any recalls = UntilSent
+abbrev pub trusted_recalls : Devices → Recalls → Recalls
+trusted_recalls Own recalls = recalls
+trusted_recalls Any recalls = UntilSent
 
 -- a wire is honest to a port for these devices
 abbrev pub IsHonestFor : {W : Type 0} → WireFacts W → Devices → W → Type 0

@@ -8,7 +8,7 @@ use Rattle.iol_mseq.specs.declared.master.MasterMsg.{MasterMsg}
 use Rattle.iol_mseq.specs.declared.reply.Reply.{Reply}
 use Rattle.iol_far.specs.Octets.{octets_in}
 use Rattle.iol_far.specs.Far.{Far}
-use Rattle.iol_far.specs.Level.{Link as FarLink}
+use Rattle.iol_far.specs.Level.{FarLink}
 use Rattle.iol_page.specs.declared.page.Layouts.{Layouts}
 use Rattle.iol_link.specs.declared.handler.Attempt.{Attempt}
 use Rattle.iol_link.specs.Attempts.{Sending, good_reply, attempt_of, most_attempts}

@@ -8,8 +8,8 @@ ghost use Rattle.iol_far.specs.Far.{Far};
 ghost use Rattle.iol_far.specs.Octets.{octets_in};
 ghost use Rattle.iol_link.specs.Attempts.{attempt_in, attempt_of, good_reply, most_attempts};
 ghost use Rattle.iol_mode.specs.Messages.{stays};
-ghost use Rattle.iol_mode.specs.States.{StateFits, Takes, IsDown, IsStartup, IsPreoperate, outcome_with, state_of, waked, counted, left_by, any_device};
-ghost use Rattle.iol_mode.specs.Exchanges.{IsSending, IsOperateSending, AreFew, text_out, layout_out, putting, putting_instead, judged, attempted, IsJudged, ExchangeGives, StandsOn, AcceptedBy, WakeStands};
+ghost use Rattle.iol_mode.specs.States.{StateFits, Takes, IsDown, IsStartup, IsPreoperate, outcome_with, next_state, mode_after_wake, sending_after_try, left_by, any_device};
+ghost use Rattle.iol_mode.specs.Exchanges.{IsSending, IsOperateSending, AreFew, text_out, layout_out, state_with_out, putting_instead, mode_after_reply, attempt_result, IsJudged, ExchangeGives, StandsOn, AcceptedBy, WakeStands};
 ghost use Rattle.iol_mode.specs.Laws.{Laws};
 
 use crate::configuration::{Configuration, Devices};
@@ -95,7 +95,7 @@ impl State {
         requires fits { StateFits self.old }
         requires takes { Takes self.old message }
         requires stays { IsTrue (stays message) }
-        ensures state { self.new ≡ putting message self.old }
+        ensures state { self.new ≡ state_with_out message self.old }
         ensures fits { StateFits self.new }
         ensures sends { IsOperateSending self.new }
         ensures stands { StandsOn self.old self.new }
@@ -139,10 +139,10 @@ impl State {
         requires fits { StateFits self.old }
         requires sends { IsSending self.old }
         ensures state { outcome_with (attempt_in result) self.new
-            ≡ judged configuration.now self.old (octets_in came.now) }
+            ≡ mode_after_reply configuration.now self.old (octets_in came.now) }
         ensures fits { StateFits self.new }
         ensures few { AreFew self.old }
-        ensures attempt { attempt_in result ≡ attempted self.old (octets_in came.now) }
+        ensures attempt { attempt_in result ≡ attempt_result self.old (octets_in came.now) }
 
         // over an honest wire
         ensures gives { ExchangeGives self.old (octets_in came.now)
@@ -164,7 +164,7 @@ impl State {
     #[tactic(auto, using(crate::proofs::Startups::wake_stands))]
     pub fn receives_wake(&mut self, rate: Option<Rate>, devices: Devices)
         requires { IsDown self.old }
-        ensures state { self.new ≡ state_of (waked devices (is_some rate)) }
+        ensures state { self.new ≡ next_state (mode_after_wake devices (is_some rate)) }
         ensures fits { StateFits self.new }
 
         // over an honest wire
@@ -195,7 +195,7 @@ fn received<'a>(
 
 fn put_out(state: &mut State, message: MasterMsg)
     requires takes { Takes state.old message }
-    ensures { state.new ≡ putting message state.old }
+    ensures { state.new ≡ state_with_out message state.old }
 {
     let State::Operate(operate) = state else {
         unreachable!()
@@ -276,7 +276,7 @@ fn judge_out<'a>(
         ≡ attempt_of sent.tries (good_reply layout.now sent.message (octets_in came.now)))
         × (out.new
         ≡ left_by (attempt_in result)
-        (counted sent (good_reply layout.now sent.message (octets_in came.now))))) }
+        (sending_after_try sent (good_reply layout.now sent.message (octets_in came.now))))) }
 {
     let Some(sent) = out else { unreachable!() };
     let attempt = sent.judge_in_place(layout, came);

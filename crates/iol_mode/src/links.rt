@@ -11,16 +11,16 @@ ghost use Rattle.iol_link.specs.WireFacts.{Wakes, Passes};
 ghost use Rattle.iol_mode.specs.declared.configuration.Devices.TheVariants.{Own};
 ghost use Rattle.iol_mode.specs.Kinds.{IsHonestFor};
 ghost use Rattle.iol_mode.specs.Messages.{stays};
-ghost use Rattle.iol_mode.specs.States.{StateFits, IsDown, Takes, is_behind, is_starting, waked, state_of, outcome_with, any_device, startup_turned, preoperate_turned};
+ghost use Rattle.iol_mode.specs.States.{StateFits, IsDown, Takes, is_behind, is_starting, mode_after_wake, next_state, outcome_with, any_device, startup_turned, preoperate_turned};
 ghost use Rattle.iol_mode.specs.Stands.{OutcomeStands, IsTold};
-ghost use Rattle.iol_mode.specs.Next.{wire_of, outcome_of, told_by, message_out};
+ghost use Rattle.iol_mode.specs.Next.{wire_of, outcome_of, step_layouts, message_out};
 ghost use Rattle.iol_mode.specs.Turns.{IsStartTurn, IsStartTried, IsOperateTurn, IsRise, IsCycle, IsEnd};
 ghost use Rattle.iol_mode.specs.Exchanges.{IsSending, text_out, IsJudged, ExchangeGives, IsExchanged};
 
 use crate::configuration::{Configuration, Devices};
 use crate::exchange::laws;
 use crate::messages::copy_of;
-use crate::states::{Down, Mode, Operate, Preoperate, Startup, State, Up};
+use crate::states::{Down, LinkMode, Operate, Preoperate, Startup, State, Up};
 use crate::why::Why;
 use iol_link::{Attempt, Rate, Wire};
 use iol_mseq::{Layout, MasterMsg, Message, Reply};
@@ -33,18 +33,18 @@ use std::marker::Model;
 /// pulse both ends are level, outside `Down`: the device sleeps, or it comes from the state
 /// before the message that is out by steps of its own and hearings of that message.
 #[derive(Drop)]
-pub struct Link<W: Wire, S: Mode> {
+pub struct Link<W: Wire, S: LinkMode> {
     wire: W,
     state: S,
 }
 
-impl<W: Wire, S: Mode> Model for Link<W, S> {
+impl<W: Wire, S: LinkMode> Model for Link<W, S> {
     ghost use Rattle.std.specs.Prelude.{IsTrue};
     ghost use Rattle.iol_mode.specs.declared.configuration.Devices.TheVariants.{Own};
     ghost use Rattle.iol_mode.specs.Kinds.{IsHonestFor};
-    ghost use Rattle.iol_mode.specs.Kept.{Kept, kept_code};
+    ghost use Rattle.iol_mode.specs.Kept.{LinkValue, kept_code};
 
-    ghost Value = { Kept W S };
+    ghost Value = { LinkValue W S };
 
     ghost coded = { kept_code W.code S.code };
 
@@ -147,11 +147,12 @@ impl<W: Wire> Link<W, State> {
         // the wire is woken once; its answer alone says what becomes of the mode
         ensures called { W.facts.wake_gives self.old.wire result self.new.wire }
         ensures passes { Wakes W.facts self.old.wire result self.new.wire }
-        ensures state { self.new.state ≡ state_of (waked Devices.Own (is_some result)) }
+        ensures state { self.new.state ≡ next_state (mode_after_wake Devices.Own (is_some result)) }
 
         // on an honest wire, where the device sees each pulse
         ensures stands { IsHonestFor W.facts Own self.old.wire
-            → OutcomeStands (waked Devices.Own (is_some result)) (W.facts.silence self.new.wire)
+            → OutcomeStands (mode_after_wake Devices.Own (is_some result))
+            (W.facts.silence self.new.wire)
             (W.facts.far self.new.wire) }
     {
         laws();
@@ -212,7 +213,7 @@ impl<W: Wire> Link<W, State> {
     }
 }
 
-impl<W: Wire, S: Mode> Link<W, S> {
+impl<W: Wire, S: LinkMode> Link<W, S> {
     /// The wire.
     pub fn wire(&self) -> &W
         ensures { result.now ≡ self.now.wire }
@@ -266,7 +267,7 @@ impl<W: Wire> Link<W, Down> {
         ensures wakes { (answer : Option Rate)
             × W.facts.wake_gives self.wire answer (wire_of result)
             × Wakes W.facts self.wire answer (wire_of result)
-            × (outcome_of result ≡ waked Devices.Own (is_some answer)) }
+            × (outcome_of result ≡ mode_after_wake Devices.Own (is_some answer)) }
 
         // on an honest wire, where the device sees each pulse
         ensures stands { IsHonestFor W.facts Own self.wire
@@ -312,7 +313,7 @@ impl<W: Wire> Link<W, Startup> {
 
     /// The layouts that the page asks for, once this start-up has checked it.
     pub fn told(&self) -> Option<&Layouts>
-        ensures told { option_copied result ≡ told_by self.now.state.step }
+        ensures told { option_copied result ≡ step_layouts self.now.state.step }
         ensures page { IsHonestFor W.facts Own self.now.wire
             → IfSome result (λ t. IsTold t.now (W.facts.far self.now.wire)) }
     {

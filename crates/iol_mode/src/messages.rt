@@ -2,7 +2,7 @@
 ghost use Rattle.std.specs.Prelude.{◌≡◌, ◌-◌, ◌≤◌, true, false};
 ghost use Rattle.iol_mseq.specs.Shape.{startup_shape};
 ghost use Rattle.iol_mseq.specs.Master.{HasMasterParts};
-ghost use Rattle.iol_mode.specs.Messages.{page_control, page_read, page_write, command_message, cycle_message, unsent};
+ghost use Rattle.iol_mode.specs.Messages.{page_control, page_read, page_write, command_message, cycle_message, new_sending};
 
 use iol_link::Handler;
 use iol_mseq::{Layout, MasterMsg, Part, first_of_zeros, part_of};
@@ -29,7 +29,7 @@ fn page_control(read: bool, address: u8) -> Mc
 #[tactic(auto, using(crate::proofs::Controls::read_parts))]
 pub(crate) fn page_read(address: u8) -> Handler
     requires { address ≤ 31 }
-    ensures value { result ≡ unsent (page_read address) }
+    ensures value { result ≡ new_sending (page_read address) }
     ensures parts { HasMasterParts startup_shape (page_read address) }
 {
     Handler::new(MasterMsg {
@@ -43,7 +43,7 @@ pub(crate) fn page_read(address: u8) -> Handler
 fn page_write(layout: &Layout, address: u8, octet: u8) -> Handler
     requires address { address ≤ 31 }
     requires plain { layout.now.pd_out ≡ 0 }
-    ensures value { result ≡ unsent (page_write layout.now address octet) }
+    ensures value { result ≡ new_sending (page_write layout.now address octet) }
     ensures parts { HasMasterParts layout.now (page_write layout.now address octet) }
 {
     Handler::new(MasterMsg {
@@ -56,7 +56,7 @@ fn page_write(layout: &Layout, address: u8, octet: u8) -> Handler
 /// A master command.
 pub(crate) fn command_message(layout: &Layout, command: MasterCommand) -> Handler
     requires { layout.now.pd_out ≡ 0 }
-    ensures value { result ≡ unsent (command_message layout.now command) }
+    ensures value { result ≡ new_sending (command_message layout.now command) }
     ensures parts { HasMasterParts layout.now (command_message layout.now command) }
 {
     page_write(layout, COMMAND, command.octet())
@@ -65,7 +65,7 @@ pub(crate) fn command_message(layout: &Layout, command: MasterCommand) -> Handle
 /// MasterCycleTime.
 pub(crate) fn cycle_message(layout: &Layout, octet: u8) -> Handler
     requires { layout.now.pd_out ≡ 0 }
-    ensures value { result ≡ unsent (cycle_message layout.now octet) }
+    ensures value { result ≡ new_sending (cycle_message layout.now octet) }
     ensures parts { HasMasterParts layout.now (cycle_message layout.now octet) }
 {
     page_write(layout, CYCLE_TIME, octet)

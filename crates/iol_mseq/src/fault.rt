@@ -24,11 +24,11 @@ pub enum MseqFault {
 }
 
 impl MseqFault {
-    ghost use Rattle.iol_mseq.specs.Fault.{fault_number};
+    ghost use Rattle.iol_mseq.specs.Fault.{mseq_fault_number};
 
     /// The number of the refusal.
     pub fn code(&self) -> u8
-        ensures { result ≡ fault_number self.now }
+        ensures { result ≡ mseq_fault_number self.now }
     {
         match self {
             MseqFault::UnsupportedCode => 2,

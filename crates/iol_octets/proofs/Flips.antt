@@ -8,7 +8,7 @@ use Rattle.std.proofs.lemmas.Nat.{and_mask}
 use Rattle.std.proofs.lemmas.List.{set_comm, set-get_or, set-set, length-set, get_or-set_other, get_or-set_same}
 use Rattle.std.specs.Int.Bits.{xor_assoc, xor_comm, xor_self, xor_lt}
 use Rattle.iol_octets.proofs.Tables.{compressed_small}
-use Rattle.iol_octets.specs.Checksum.{folded, compressed, checksum_of, cleared, has_checksum, with_flip, AreOctets, ChecksumsFit}
+use Rattle.iol_octets.specs.Checksum.{seeded_xor, six_bits_of, checksum_of, without_checksum, has_checksum, with_flip, AreOctets, ChecksumsFit}
 
 -- a test that each octet passes with each bit
 each_flip : (test : ℕ → ℕ → Bool)
@@ -22,11 +22,11 @@ each_flip test all octet bit ho hb =
 
 -- a flipped bit of the sum changes the six bits
 compressed_flip : (sum bit : ℕ) → sum < 256 → bit < 8
-    → compressed (bit_xor sum (2 ^ bit)) ≢ compressed sum
-unfolding compressed
+    → six_bits_of (bit_xor sum (2 ^ bit)) ≢ six_bits_of sum
+unfolding six_bits_of
 compressed_flip sum bit hs hb =
     eqb-false _ _ (not-true _ (each_flip
-    (λ s b. not (eqb (compressed (bit_xor s (2 ^ b))) (compressed s))) refl sum bit hs hb))
+    (λ s b. not (eqb (six_bits_of (bit_xor s (2 ^ b))) (six_bits_of s))) refl sum bit hs hb))
 
 -- a flip of a low bit leaves the high two and changes the low six
 flip_low : (octet bit : ℕ) → octet < 256 → bit < 6
@@ -74,13 +74,13 @@ fold_small seed (x ∷ xs) h a = fold_small (bit_xor seed x) xs (xor_lt 8 seed x
 
 -- the sum with one bit flipped in an octet of the list
 folded-flip : (octets : List ℕ) (place bit : ℕ) → place < length octets
-    → folded (with_flip octets place bit) ≡ bit_xor (folded octets) (2 ^ bit)
+    → seeded_xor (with_flip octets place bit) ≡ bit_xor (seeded_xor octets) (2 ^ bit)
 folded-flip octets place bit h =
-    fold-set 0x52 octets place _ h ∙ ap (bit_xor (folded octets))
+    fold-set 0x52 octets place _ h ∙ ap (bit_xor (seeded_xor octets))
     (xor_twice (get_or octets place 0) (2 ^ bit))
 
 AreOctets-cleared : (octets : List ℕ) (at : ℕ) → AreOctets octets → at < length octets
-    → AreOctets (cleared at octets)
+    → AreOctets (without_checksum at octets)
 AreOctets-cleared octets at a h = λ i. let here = a at in let there = a i in
     grind (arith, common_steps)
 
@@ -92,16 +92,17 @@ module _ (octets : List ℕ) (at place bit : ℕ) (a : AreOctets octets) (h : at
   other = with_flip octets place bit
 
   -- the flipped bit is one of the cleared octets too: the sum changes, and the checksum doesn't
-  sums_differ : cleared at other ≡ with_flip (cleared at octets) place bit
+  sums_differ : without_checksum at other ≡ with_flip (without_checksum at octets) place bit
       → get_or other at 0 % 64 ≡ get_or octets at 0 % 64 → ⊥
   unfolding has_checksum checksum_of
   sums_differ same low =
-      compressed_flip (folded (cleared at octets)) bit
-      (fold_small 0x52 (cleared at octets) (omega arith) (AreOctets-cleared octets at a h)) b
+      compressed_flip (seeded_xor (without_checksum at octets)) bit
+      (fold_small 0x52 (without_checksum at octets) (omega arith)
+      (AreOctets-cleared octets at a h)) b
       (sym (eqb-true _ _ (rw (
         same,
         low,
-        folded-flip (cleared at octets) place bit (rw length-set p),
+        folded-flip (without_checksum at octets) place bit (rw length-set p),
       ) at bad)) ∙ eqb-true _ _ good)
 
   seen_elsewhere : place ≢ at → ⊥
@@ -134,7 +135,7 @@ module _ (octets : List ℕ) (at place bit : ℕ) (a : AreOctets octets) (h : at
 -- six bits, in octets of any size, which then have them
 sum_small : (octets : List ℕ) → checksum_of octets < 64
 unfolding checksum_of
-sum_small octets = compressed_small (folded octets)
+sum_small octets = compressed_small (seeded_xor octets)
 
 pub checksums_fit : ChecksumsFit
 unfolding has_checksum
@@ -155,7 +156,7 @@ checksums_fit octets = (
 -- the test as the code makes it
 pub has_checksum-is : (octets : List ℕ) (place : ℕ) → AreOctets octets → place < length octets
     → eqb (bit_and (get_or octets place 0) 63)
-    (compressed (bit_xor (folded octets) (bit_and (get_or octets place 0) 63)))
+    (six_bits_of (bit_xor (seeded_xor octets) (bit_and (get_or octets place 0) 63)))
     ≡ has_checksum place octets
 unfolding has_checksum checksum_of
 has_checksum-is octets place a h =

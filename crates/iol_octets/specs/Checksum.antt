@@ -3,13 +3,13 @@ use Rattle.std.specs.Prelude.{◌≡◌, ℕ, ◌+◌, ◌*◌, ◌/◌, ◌%◌
 use Rattle.std.specs.Int.{bit_at}
 
 -- the XOR of 0x52 and all octets
-abbrev pub folded : List ℕ → ℕ
-folded octets = fold bit_xor 0x52 octets
+abbrev pub seeded_xor : List ℕ → ℕ
+seeded_xor octets = fold bit_xor 0x52 octets
 
 -- six bits from eight, the highest first: each is the XOR of the bits that are named
 -- CHK-1
-unfoldable pub compressed : ℕ → ℕ
-compressed sum =
+unfoldable pub six_bits_of : ℕ → ℕ
+six_bits_of sum =
     32 * ((bit_at sum 7 + bit_at sum 5 + bit_at sum 3 + bit_at sum 1) % 2)
     + 16 * ((bit_at sum 6 + bit_at sum 4 + bit_at sum 2 + bit_at sum 0) % 2)
     + 8 * ((bit_at sum 7 + bit_at sum 6) % 2)
@@ -20,17 +20,18 @@ compressed sum =
 -- the checksum of octets whose own six checksum bits are 0
 -- CHK-1
 unfoldable pub checksum_of : List ℕ → ℕ
-checksum_of octets = compressed (folded octets)
+checksum_of octets = six_bits_of (seeded_xor octets)
 
 -- the octets with the six checksum bits of the octet at a place as 0
 -- CHK-2
-abbrev pub cleared : ℕ → List ℕ → List ℕ
-cleared place octets = slice_set octets place (64 * (slice_index octets place / 64))
+abbrev pub without_checksum : ℕ → List ℕ → List ℕ
+without_checksum place octets = slice_set octets place (64 * (slice_index octets place / 64))
 
 -- whether the low six bits of the octet at a place are the checksum of the octets
 -- CHK-2
 unfoldable pub has_checksum : ℕ → List ℕ → Bool
-has_checksum place octets = slice_index octets place % 64 == checksum_of (cleared place octets)
+has_checksum place octets = slice_index octets place % 64 == checksum_of
+    (without_checksum place octets)
 
 -- the octets with their checksum put where six zeros stand
 abbrev pub with_checksum : ℕ → List ℕ → List ℕ

@@ -1,6 +1,6 @@
 //! The checksum of a message (IEC 61131-9, A.1.6).
 ghost use Rattle.std.specs.Prelude.{◌≡◌, ◌<◌, length};
-ghost use Rattle.iol_octets.specs.Checksum.{checksum_of, compressed, folded, has_checksum, ChecksumFits};
+ghost use Rattle.iol_octets.specs.Checksum.{checksum_of, six_bits_of, seeded_xor, has_checksum, ChecksumFits};
 
 /// What the fold over the octets starts with.
 const SEED: u8 = 0x52;
@@ -37,7 +37,7 @@ pub fn has_checksum6(octets: &[u8], place: usize) -> bool
 
 /// The XOR of the seed and all octets.
 fn fold(octets: &[u8]) -> u8
-    ensures { result ≡ folded octets.now }
+    ensures { result ≡ seeded_xor octets.now }
 {
     octets.iter().fold(SEED, |sum, octet| sum ^ *octet)
 }
@@ -67,7 +67,7 @@ static SIX_BITS: [u8; 256] = [
 ///
 /// Rule CHK-1.
 fn compress(sum: u8) -> u8
-    ensures value { result ≡ compressed sum }
+    ensures value { result ≡ six_bits_of sum }
     ensures small { result < 64 }
 {
     SIX_BITS[usize::from(sum)]

@@ -37,5 +37,5 @@ abbrev pub cycle_for : Option CycleTime → ℕ → ℕ
 cycle_for None least = least
 cycle_for (Some chosen) least = max chosen.octet least
 
-abbrev pub fault_number : CycleFault → ℕ
-fault_number BadCycleTime = 39
+abbrev pub cycle_fault_number : CycleFault → ℕ
+cycle_fault_number BadCycleTime = 39

@@ -13,11 +13,11 @@ pub enum CycleFault {
 }
 
 impl CycleFault {
-    ghost use Rattle.iol_page.specs.Cycle.{fault_number};
+    ghost use Rattle.iol_page.specs.Cycle.{cycle_fault_number};
 
     /// The number of the refusal.
     pub fn code(&self) -> u8
-        ensures { result ≡ fault_number self.now }
+        ensures { result ≡ cycle_fault_number self.now }
     {
         match self {
             CycleFault::BadCycleTime => 39,

@@ -5,17 +5,17 @@ use Rattle.iol_isdu.specs.declared.values.Cause.TheVariants.{Cancelled}
 use Rattle.iol_book.specs.declared.entries.Ticket.{Ticket}
 use Rattle.iol_book.specs.BookModel.{is_taken}
 use Rattle.iol_steps.specs.Kinds.{restart_steps}
-use Rattle.iol_steps.specs.Step.{Step, Unknown}
+use Rattle.iol_steps.specs.Step.{PortStep, Unknown}
 use Rattle.iol_steps.specs.Session.{Session, session_after, session_through}
 use Rattle.iol_port.specs.declared.call.Call.TheVariants as call
 use Rattle.iol_port.specs.declared.call.Answered.TheVariants as answered
-use Rattle.iol_port.specs.Run.{PortState, Whole, request_of}
+use Rattle.iol_port.specs.Run.{PortState, Whole, job_request}
 use Rattle.iol_port.proofs.PieceLemmas.{Did, Cancels, Restarts, Moves, piece_did}
-use Rattle.iol_port.specs.Promises.{CancelledWasAsked, AskedByCancel, is_asked}
+use Rattle.iol_port.specs.Promises.{CancelledWasAsked, AskedByCancel, is_cancel_asked}
 
 -- no step sets the mark
-asked_through : (steps : List Step) (s : Session)
-    → is_asked (session_through steps s).job ≡ true → is_asked s.job ≡ true
+asked_through : (steps : List PortStep) (s : Session)
+    → is_cancel_asked (session_through steps s).job ≡ true → is_cancel_asked s.job ≡ true
 asked_through [] s h = h
 asked_through (step ∷ steps) s h =
     let later = asked_through steps (session_after step s) h in grind (arith, common_steps)
@@ -30,13 +30,13 @@ cancelled_was_asked m (step ∷ steps) s may cancels =
 pub asked_by_cancel : AskedByCancel
 asked_by_cancel a b c reply is = by b (piece_did a b c reply is)
   where
-    by : (b : PortState) → Did a c reply b → is_asked b.session.job ≡ true
-        → (is_asked a.session.job ≡ true)
+    by : (b : PortState) → Did a c reply b → is_cancel_asked b.session.job ≡ true
+        → (is_cancel_asked a.session.job ≡ true)
         ⊎ ((ticket : Ticket) × (c ≡ Whole (call.Cancel ticket)) × (reply ≡ answered.Nothing)
         × (is_taken a.book.standing ticket ≡ true))
     by _ (Cancels t e (r, free)) h = inr (t, e, r, grind (arith, common_steps))
     by _ Restarts h =
-        inl (asked_through (restart_steps (request_of a.session.job)) a.session h)
+        inl (asked_through (restart_steps (job_request a.session.job)) a.session h)
     by _ (Moves m steps w) h = inl (asked_through steps a.session
-        (ap (λ s. is_asked s.job) (sym w.session) ∙ h))
+        (ap (λ s. is_cancel_asked s.job) (sym w.session) ∙ h))
     by _ _ h = inl h

@@ -5,11 +5,11 @@ use Rattle.iol_port.specs.declared.call.Call.{Call}
 use Rattle.iol_port.specs.declared.call.Answered.{Answered}
 use Rattle.iol_port.specs.Run.{PortState, Run, Whole}
 use Rattle.iol_port.specs.Claim.{Claim, Has, opened_with}
-use Rattle.iol_port.specs.View.{Parts, Opening, OpensWell, StandsFor, IsRun, Runs}
+use Rattle.iol_port.specs.View.{PortParts, Opening, OpensWell, StandsFor, IsRun, Runs}
 use Rattle.iol_port.proofs.OwnerRuns.{each_done_has_its_pair, opened_sound, runs_sound}
 use Rattle.iol_port.proofs.PieceLemmas.{runs_join}
 
-module _ {W : Type 0} (facts : WireFacts W) (o : Opening W) (p : Parts W) where
+module _ {W : Type 0} (facts : WireFacts W) (o : Opening W) (p : PortParts W) where
   has_it : (a : PortState) → StandsFor facts p a → Has facts a p
   has_it a (c, shows, same) = rw same
       record { book = refl; kept = refl; image = refl; input = refl; output = refl; carried = refl }
@@ -35,7 +35,7 @@ module _ {W : Type 0} (facts : WireFacts W) (o : Opening W) (p : Parts W) where
       let (calls, replies, b, run, stands) = is well in
       holds calls [] replies [] b (rw (append-nil calls, append-nil replies) run) stands
 
-  pub claim_grows : (old : Parts W) (calls : List Call) (replies : List Answered)
+  pub claim_grows : (old : PortParts W) (calls : List Call) (replies : List Answered)
       → IsRun facts o old → Runs facts old calls replies p → OpensWell o
       → Claim facts o calls replies p
   unfolding IsRun Runs

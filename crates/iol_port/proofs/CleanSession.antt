@@ -14,10 +14,10 @@ use Rattle.iol_isdu.specs.declared.values.Answer.{Answer}
 use Rattle.iol_far.specs.declared.carried.Carried.{Carried}
 use Rattle.iol_far.specs.Octets.{octets_in}
 use Rattle.iol_far.specs.declared.kind.Kind.{Kind}
-use Rattle.iol_far.specs.Isdu.{IsduState, Handed, Answered, handed, fits}
+use Rattle.iol_far.specs.Isdu.{IsduState, Handed, Answered, handed_request, fits}
 use Rattle.iol_far.specs.Far.{Far}
 use Rattle.iol_far.specs.Local.{Carry, local, locals, carried_by, has_room, IsWorkedOff}
-use Rattle.iol_far.specs.Level.{Link, Quiet, Stands, IsBefore, link_of}
+use Rattle.iol_far.specs.Level.{FarLink, Quiet, Stands, IsLevelBefore, link_of}
 use Rattle.iol_far.specs.Laws.{IsSized, MuchStays}
 use Rattle.iol_mode.specs.States.{InOperate as OutOperate}
 use Rattle.iol_mode.specs.Stands.{operate_link, IsAccepted}
@@ -27,14 +27,14 @@ use Rattle.iol_steps.specs.declared.said.Said.{Said}
 use Rattle.iol_app.specs.declared.event_work.EventRoom.{EventRoom}
 use Rattle.iol_app.specs.declared.event_work.EventRoom.TheVariants.{Left}
 use Rattle.iol_app.specs.declared.request.Current.{Current}
-use Rattle.iol_app.specs.declared.request.Progress.{Progress}
-use Rattle.iol_app.specs.declared.session.Exchange.{Exchange}
-use Rattle.iol_app.specs.declared.session.Exchange.TheVariants.{Request as NextMessage, Idle}
+use Rattle.iol_app.specs.declared.request.RequestProgress.{RequestProgress}
+use Rattle.iol_app.specs.declared.session.Purpose.{Purpose}
+use Rattle.iol_app.specs.declared.session.Purpose.TheVariants.{Request as NextMessage, Idle}
 use Rattle.iol_app.specs.Requests.{current_after, IsSaid}
 use Rattle.iol_app.specs.Due.{due_of, is_ready, may_follow}
 use Rattle.iol_app.specs.Messages.{Head, head_of, progress_head, head_for, progress_data, request_head, request_data}
-use Rattle.iol_app.specs.State.{SessionState, sending, sent, absorbed, IsMessageFor, IsTaken}
-use Rattle.iol_app.specs.StationState.{StationState, wire_of, IsSettled, IsTurn, IsOperateTurn}
+use Rattle.iol_app.specs.State.{SessionState, session_sending, session_after_send, session_after_exchange, IsMessageFor, IsExchangeSaid}
+use Rattle.iol_app.specs.StationState.{StationState, link_wire, IsTurnSettled, IsTurn, IsOperateExchange}
 use Rattle.iol_link.specs.Honest.{Passage, far_after, HonestExchange}
 use Rattle.iol_link.specs.WireFacts.{WireFacts}
 use Rattle.iol_port.specs.Clean.{CleanLaws, ExchangesCleanly, IsCalm, Stood}
@@ -71,18 +71,18 @@ pub begun_calm : (s : SessionState) (current : Option Current) → IsCalm s
 begun_calm s current h = grind (arith, common_steps)
 
 -- what a new message is of
-abbrev pub channel_for : Exchange → SessionState → Channel
+abbrev pub channel_for : Purpose → SessionState → Channel
 channel_for exchange s = (head_for exchange s.events.reading s.current).channel
 
 -- after the good reply to a message of the ISDU channel, without the Event flag
-absorbed_calm : (exchange : Exchange) (s : SessionState) (reply : Reply) → IsCalm s
+absorbed_calm : (exchange : Purpose) (s : SessionState) (reply : Reply) → IsCalm s
     → channel_for exchange s ≡ Isdu → reply.event ≡ false
-    → IsCalm (absorbed exchange reply (sending exchange s))
+    → IsCalm (session_after_exchange exchange reply (session_sending exchange s))
 absorbed_calm exchange s reply h channel e = grind (arith, common_steps)
 
 -- The request's messages are of the ISDU channel
 
-progress_channel : (p : Progress) → (progress_head p).channel ≡ Isdu
+progress_channel : (p : RequestProgress) → (progress_head p).channel ≡ Isdu
 progress_channel p = grind (arith, common_steps)
 
 -- What carrying out leaves as it was
@@ -156,25 +156,26 @@ module _ {W : Type 0} (facts : WireFacts W) where
       → Stood facts kind layouts operate_link station wire
       → Stands kind.hands_over layouts.run.od (far wire).carried Quiet (far wire).isdu
       (far wire).counted (far wire).carried
-      → IsBefore (far wire).page kind layouts.run.od (far wire).carried operate_link Quiet
+      → IsLevelBefore (far wire).page kind layouts.run.od (far wire).carried operate_link Quiet
       (far wire)
   level_between stood stands = grind (arith, common_steps)
 
   -- What a turn gives that sends a message of the ISDU channel
-  pub record Exchanged (kind : Kind) (layouts : Layouts) (exchange : Exchange)
+  pub record Exchanged (kind : Kind) (layouts : Layouts) (exchange : Purpose)
       (old : StationState W) (wire : W) (said : Said) (new : StationState W) : Type 0 where
     pub next : W
     pub stood : Stood facts kind layouts operate_link new next
     pub message : MasterMsg
-    pub for : IsMessageFor exchange (sending exchange old.session) message
+    pub for : IsMessageFor exchange (session_sending exchange old.session) message
     pub parts : HasMasterParts layouts.run message
     pub ready : Far
-    pub work : IsWorkedOff (handed (far wire).isdu) (far wire) ready
+    pub work : IsWorkedOff (handed_request (far wire).isdu) (far wire) ready
     pub answer : Option (List ℕ)
     pub reply : Reply
     pub heard_as : HeardWell kind layouts message ready (far next) answer reply
-    pub session : new.session ≡ absorbed exchange reply (sending exchange old.session)
-    pub said_is : IsTaken exchange reply.od.items (sending exchange old.session) said
+    pub session : new.session ≡ session_after_exchange exchange reply
+        (session_sending exchange old.session)
+    pub said_is : IsExchangeSaid exchange reply.od.items (session_sending exchange old.session) said
 
   -- and one of the request
   pub record Turned (kind : Kind) (layouts : Layouts) (old : StationState W) (wire : W)
@@ -189,26 +190,27 @@ module _ {W : Type 0} (facts : WireFacts W) where
     pub said_is : IsSaid NextMessage old.session.limit turn.reply.od.items (Some c) said
 
   module _ (cleanly : ExchangesCleanly facts) (laws : CleanLaws) {kind : Kind} {layouts : Layouts}
-      {link : Link} {old : StationState W} {wire : W} {said : Said} {new : StationState W}
+      {link : FarLink} {old : StationState W} {wire : W} {said : Said} {new : StationState W}
       (room : EventRoom) (stood : Stood facts kind layouts link old wire)
       (turn : IsTurn facts room old said new) where
-    pub exchanged : (exchange : Exchange) → due_of old.session room ≡ exchange
+    pub exchanged : (exchange : Purpose) → due_of old.session room ≡ exchange
         → channel_for exchange old.session ≡ Isdu
         → Exchanged kind layouts exchange old wire said new
     exchanged exchange due channel_is =
         let s : SessionState = old.session in
-        let sent_is : sent (due_of s room) s ≡ sending exchange s =
+        let sent_is : session_after_send (due_of s room) s ≡ session_sending exchange s =
         rw (stood.calm.exchange, due) refl in
-        let t : IsOperateTurn facts wire (record { out = None; layouts = layouts }) s room said
+        let t : IsOperateExchange facts wire (record { out = None; layouts = layouts }) s room said
         new =
         rw stood.link_is at turn in
-        let for : IsMessageFor exchange (sending exchange s) t.message = rw sent_is at t.is_for in
+        let for : IsMessageFor exchange (session_sending exchange s) t.message =
+        rw sent_is at t.is_for in
         let channel : t.message.mc.channel ≡ Isdu =
         ap (λ (h : Head). h.channel) for.head ∙ channel_is in
         let (x, clean) =
-        cleanly wire (master_text layouts.run t.message) t.exchange.answer (wire_of new.link)
+        cleanly wire (master_text layouts.run t.message) t.exchange.answer (link_wire new.link)
         stood.is_clean t.exchange.called in
-        let same = work_same (far wire) x.ready (handed (far wire).isdu) x.work in
+        let same = work_same (far wire) x.ready (handed_request (far wire).isdu) x.work in
         let accepted : IsAccepted layouts x.ready.page link t.message =
         rw same.page (t.accepted stood.is_honest link stood.operating) in
         let sized = laws.sized.hears x.ready (master_text layouts.run t.message)
@@ -217,17 +219,17 @@ module _ {W : Type 0} (facts : WireFacts W) where
         x.answer_is accepted channel (same.awake ∙ stood.awake) (same.kind ∙ stood.kind_is)
         (rw same.page stood.isdu) (same.link_is ∙ stood.at) (rw same.events stood.quiet)
         (rw x.far_is sized) in
-        let settled : IsSettled (OutOperate (record { out = None; layouts = layouts })
-        (Some reply)) (sending exchange s) said new =
+        let settled : IsTurnSettled (OutOperate (record { out = None; layouts = layouts })
+        (Some reply)) (session_sending exchange s) said new =
         rw (sent_is, well.good) at t.exchange.settled in
         record {
-          next = wire_of new.link;
+          next = link_wire new.link;
           stood = record {
             link_is = settled.link;
             is_honest = (
               rw t.exchange.both.honesty stood.is_honest.0,
               rw (turn_asks facts room old said new turn)
-                  (sees_on s.configuration.devices (far wire) (far (wire_of new.link))
+                  (sees_on s.configuration.devices (far wire) (far (link_wire new.link))
                   (exchange_misses laws.much _ _ _ _ _ _ (t.exchange.passes stood.is_honest.0))
                   stood.is_honest.1),
             );

@@ -14,30 +14,30 @@ use Rattle.iol_isdu.specs.Answers.{is_read}
 use Rattle.iol_isdu.specs.Texts.{IsRequest, FitsAnswer, request_front, request_text, answer_front}
 use Rattle.iol_segment.specs.Cut.{segment, segments, flow_at}
 use Rattle.iol_segment.specs.Join.{empty, is_last, next_count}
-use Rattle.iol_segment.specs.JoinLaws.{count_at, standing, took_at}
-use Rattle.iol_segment.specs.TextLaws.{TextLaws, HoldsLength, joined}
+use Rattle.iol_segment.specs.JoinLaws.{count_at, joiner_at, took_at}
+use Rattle.iol_segment.specs.TextLaws.{TextLaws, HoldsLength, segments_up_to}
 use Rattle.iol_far.specs.Codec.{flow_of}
 use Rattle.iol_far.specs.declared.kind.Kind.{Kind}
 use Rattle.iol_far.specs.declared.kind.HandsOver.{HandsOver}
 use Rattle.iol_far.specs.declared.kind.HandsOver.TheVariants.{FirstRead, LastSegment}
 use Rattle.iol_far.specs.declared.kind.Recalls.{Recalls}
 use Rattle.iol_far.specs.declared.kind.Recalls.TheVariants.{UntilSent}
-use Rattle.iol_far.specs.Isdu.{Receiving as TextSoFar, Whole, Handed, Answered, received, isdu_read, answer_text, fits, handed, IsduState, isdu_data, recalled, written_by}
+use Rattle.iol_far.specs.Isdu.{Receiving as TextSoFar, Whole, Handed, Answered, isdu_with_octets, isdu_read, answer_text_to, fits, handed_request, IsduState, isdu_data, remaining_isdu, written_by}
 use Rattle.iol_far.specs.SegmentLaws.{SegmentLaws}
 use Rattle.iol_app.specs.declared.event_work.EventRoom.{EventRoom}
 use Rattle.iol_app.specs.declared.request.Current.{Current}
-use Rattle.iol_app.specs.declared.request.Progress.{Progress}
-use Rattle.iol_app.specs.declared.request.Progress.TheVariants.{Sending, Asking, Receiving}
-use Rattle.iol_app.specs.Requests.{sent_on, GoesOn, HasText, joined as joined_with, asked, received as received_with, IsEffectSaid, ReplyEffect, replied, going}
+use Rattle.iol_app.specs.declared.request.RequestProgress.{RequestProgress}
+use Rattle.iol_app.specs.declared.request.RequestProgress.TheVariants.{Sending, Asking, Receiving}
+use Rattle.iol_app.specs.Requests.{current_after_segment, GoesOn, HasText, effect_of_segment, effect_of_start_read, effect_of_count_read, IsEffectSaid, ReplyEffect, effect_of_reply, current_of_effect}
 use Rattle.iol_steps.specs.declared.said.Said.{Said}
 use Rattle.iol_steps.specs.declared.said.Said.TheVariants.{Answered as SaidAnswered, Busy as SaidBusy}
-use Rattle.iol_port.specs.Turns.{under, Stage, Written, Waiting, Reading, Ended, busy_replies, turns_at, once_written, StageFits}
+use Rattle.iol_port.specs.Turns.{current_at, RequestStage, Written, Waiting, Reading, Ended, busy_replies, turns_at, once_written, StageFits}
 use Rattle.iol_page.specs.declared.page.Layouts.{Layouts}
 use Rattle.iol_far.specs.declared.carried.Carried.{Carried}
 use Rattle.iol_far.specs.Far.{Far, isdu_moved}
 use Rattle.iol_far.specs.Record.{takes_more}
 use Rattle.iol_far.specs.Local.{Carry, local, has_room, IsWorkedOff}
-use Rattle.iol_far.specs.Level.{Link, grown_by}
+use Rattle.iol_far.specs.Level.{FarLink, grown_by}
 use Rattle.iol_link.specs.WireFacts.{WireFacts}
 use Rattle.iol_app.specs.Messages.{Head, progress_head, progress_data}
 use Rattle.iol_app.specs.StationState.{StationState, IsTurn}
@@ -60,7 +60,7 @@ text_some : (request : Request) (size : ℕ) → 0 * size < length (request_text
 text_some request size = omega (arith, length-append (request_front request))
 
 answer_some : (request : Request) (answer : Answer) (size : ℕ)
-    → 0 * size < length (answer_text request answer)
+    → 0 * size < length (answer_text_to request answer)
 answer_some request answer size =
     omega (arith, length-append (answer_front (is_read request) answer))
 
@@ -85,20 +85,20 @@ flow_next i = grind (arith, nat_tests)
 
 -- the cursor at a segment that is still to be sent, and behind the last one
 abbrev sends : Request → ℕ → ℕ → Current
-sends request size i = under request size (suc i)
+sends request size i = current_at request size (suc i)
     (Sending (flow_at i) (record { items = segment size (request_text request) i }))
 
 abbrev asks : Request → ℕ → ℕ → ℕ → Current
-asks request size given busy = under request size given (Asking busy)
+asks request size given busy = current_at request size given (Asking busy)
 
 -- which of them it is
 sends_is : {current : Option Current} (request : Request) (size i : ℕ)
-    → current ≡ Some (sent_on (asks request size i 0))
+    → current ≡ Some (current_after_segment (asks request size i 0))
     → i * size < length (request_text request) → current ≡ Some (sends request size i)
 sends_is request size i is more = is ∙ grind (arith, nat_tests)
 
 asks_is : {current : Option Current} (request : Request) (size i : ℕ)
-    → current ≡ Some (sent_on (asks request size i 0))
+    → current ≡ Some (current_after_segment (asks request size i 0))
     → length (request_text request) ≤ i * size → current ≡ Some (asks request size i 0)
 asks_is request size i is ends = is ∙ grind (arith, nat_tests)
 
@@ -112,43 +112,44 @@ is_next i = grind (arith, nat_tests)
 
 -- what a device keeps that forgets an answer once it is sent, every device keeps
 same_recalled : (recalls : Recalls) (size : ℕ) (state : IsduState)
-    → recalled UntilSent size state ≡ state → recalled recalls size state ≡ state
+    → remaining_isdu UntilSent size state ≡ state → remaining_isdu recalls size state ≡ state
 same_recalled recalls size state e = grind (arith, common_steps)
 
 -- a START write, at any state
 begun : (hands_over : HandsOver) (counted : Option ℕ) (state : IsduState) (octets : List ℕ)
     → written_by hands_over counted state Start octets
-    ≡ once_written hands_over (received octets None)
+    ≡ once_written hands_over (isdu_with_octets octets None)
 begun hands_over counted state octets = grind (arith, common_steps)
 
 -- before its last segment a request's text is received
 open_text : {size : ℕ} (hands_over : HandsOver) → SegmentLaws size → (request : Request) (i : ℕ)
     → IsRequest request → suc i * size < length (request_text request)
-    → once_written hands_over (received (joined size (request_text request) i) (count_at i))
-    ≡ TextSoFar (joined size (request_text request) i) (count_at i)
+    → once_written hands_over (isdu_with_octets (segments_up_to size (request_text request) i)
+    (count_at i))
+    ≡ TextSoFar (segments_up_to size (request_text request) i) (count_at i)
 open_text hands_over laws request i valid more =
     grind (arith, common_steps, laws.grows request i (count_at i) valid more)
 
 -- the next segment of a request
 written_next : (hands_over : HandsOver) (recalls : Recalls) (counted : Option ℕ) (size i : ℕ)
     (text octets : List ℕ)
-    → written_by hands_over counted (recalled recalls size (TextSoFar text (count_at i)))
+    → written_by hands_over counted (remaining_isdu recalls size (TextSoFar text (count_at i)))
     (flow_of (flow_address (flow_at (suc i)))) octets
-    ≡ once_written hands_over (received (text ++ octets) (count_at (suc i)))
+    ≡ once_written hands_over (isdu_with_octets (text ++ octets) (count_at (suc i)))
 written_next hands_over recalls counted size i text octets =
     rw (flow_next i, flow_count (suc i))
     (grind (arith, common_steps, not_last i, is_next i, same_recalled))
 
 -- a START read at what every device keeps
 read_start : (recalls : Recalls) (size : ℕ) (state : IsduState)
-    → recalled UntilSent size state ≡ state
-    → isdu_read size (recalled recalls size state) (flow_of 0x10) ≡ isdu_read size state Start
+    → remaining_isdu UntilSent size state ≡ state
+    → isdu_read size (remaining_isdu recalls size state) (flow_of 0x10) ≡ isdu_read size state Start
 read_start recalls size state same = rw (same_recalled recalls size state same, flow_start) refl
 
 -- the answer's next segment
 read_next : (recalls : Recalls) (size : ℕ) (request : Request) (answer : Answer) (j : ℕ)
-    → suc j * size < length (answer_text request answer)
-    → isdu_read size (recalled recalls size (Answered request answer (Some j)))
+    → suc j * size < length (answer_text_to request answer)
+    → isdu_read size (remaining_isdu recalls size (Answered request answer (Some j)))
     (flow_of ((j + 1) % 16)) ≡ Answered request answer (Some (suc j))
 read_next recalls size request answer j more =
     rw (add-one j, flow_count (suc j)) (grind (arith, nat_tests, common_steps, add-one j))
@@ -157,25 +158,25 @@ read_next recalls size request answer j more =
 
 -- the cursor behind a segment of the answer
 abbrev gets : Request → ℕ → Answer → ℕ → ℕ → Current
-gets request size answer given j = under request size given
-    (Receiving (standing size (answer_text request answer) j) j)
+gets request size answer given j = current_at request size given
+    (Receiving (joiner_at size (answer_text_to request answer) j) j)
 
 -- what the reply with a segment makes of the request
-abbrev comes : ℕ → Request → Answer → ℕ → Progress → ℕ → ReplyEffect
-comes size request answer given p j = joined_with j
-    (Ok (took_at size (answer_text request answer) j))
-    (standing size (answer_text request answer) j) (under request size given p)
+abbrev comes : ℕ → Request → Answer → ℕ → RequestProgress → ℕ → ReplyEffect
+comes size request answer given p j = effect_of_segment j
+    (Ok (took_at size (answer_text_to request answer) j))
+    (joiner_at size (answer_text_to request answer) j) (current_at request size given p)
 
 -- a segment before the last is kept
-joined_more : (size : ℕ) (request : Request) (answer : Answer) (given j : ℕ) (p : Progress)
-    → suc j * size < length (answer_text request answer)
+joined_more : (size : ℕ) (request : Request) (answer : Answer) (given j : ℕ) (p : RequestProgress)
+    → suc j * size < length (answer_text_to request answer)
     → comes size request answer given p j ≡ GoesOn (gets request size answer given j)
 joined_more size request answer given j p more = grind (arith, nat_tests)
 
 module _ (laws : CleanLaws) (size : ℕ) (low : 1 ≤ size) (request : Request) (answer : Answer)
     (fitting : IsTrue (fits request answer)) where
   abbrev text : List ℕ
-  text = answer_text request answer
+  text = answer_text_to request answer
 
   fits_answer : FitsAnswer (is_read request) answer
   fits_answer = (laws.segments size low).fitting request answer fitting
@@ -184,7 +185,7 @@ module _ (laws : CleanLaws) (size : ℕ) (low : 1 ≤ size) (request : Request) 
   holds = (laws.texts size low).answers _ answer fits_answer
 
   -- with the last one the text is whole
-  joined_last : (given j : ℕ) (p : Progress) → length text ≤ suc j * size
+  joined_last : (given j : ℕ) (p : RequestProgress) → length text ≤ suc j * size
       → comes size request answer given p j ≡ HasText text
   joined_last given j p all =
       let whole = (laws.joins size low).whole text j all in
@@ -192,7 +193,7 @@ module _ (laws : CleanLaws) (size : ℕ) (low : 1 ≤ size) (request : Request) 
       grind (arith, nat_tests, common_steps, whole, fine)
 
   first_joined : (given busy limit : ℕ)
-      → asked busy limit (segment size text 0) (asks request size given busy)
+      → effect_of_start_read busy limit (segment size text 0) (asks request size given busy)
       ≡ comes size request answer given (Asking busy) 0
   first_joined given busy limit =
       rw (
@@ -202,9 +203,9 @@ module _ (laws : CleanLaws) (size : ℕ) (low : 1 ≤ size) (request : Request) 
       ) refl
 
   next_joined : (given j : ℕ) → suc j * size < length text
-      → received_with false (standing size text j) (j + 1) (segment size text (suc j))
+      → effect_of_count_read false (joiner_at size text j) (j + 1) (segment size text (suc j))
       (gets request size answer given j)
-      ≡ comes size request answer given (Receiving (standing size text j) j) (suc j)
+      ≡ comes size request answer given (Receiving (joiner_at size text j) j) (suc j)
   next_joined given j more =
       let took = rw (flow_next j) at ((laws.joins size low).next text j holds more) in
       rw (add-one j, took) refl
@@ -222,13 +223,14 @@ module _ (laws : CleanLaws) (size : ℕ) (low : 1 ≤ size) (request : Request) 
 -- One turn over a clean wire brings a request one stage on.
 
 -- what is said of a request that is there
-abbrev pub SaidAt : Stage → Said → Type 0
+abbrev pub SaidAt : RequestStage → Said → Type 0
 SaidAt (Ended answer) said = said ≡ SaidAnswered answer
 SaidAt stage said = said ≡ SaidBusy
 
 -- The work
 
-pub work_none : (f ready : Far) → handed f.isdu ≡ None → IsWorkedOff (handed f.isdu) f ready
+pub work_none : (f ready : Far) → handed_request f.isdu ≡ None
+    → IsWorkedOff (handed_request f.isdu) f ready
     → ready ≡ f
 work_none f ready e h = rw e at h
 
@@ -238,11 +240,11 @@ Worked request base ready = (answer : Answer) × IsTrue (fits request answer)
     × (ready.isdu ≡ Answered request answer None) × (ready.carried ≡ grown_by base request answer)
 
 work_done : (f ready : Far) (request : Request) (base : List Carried) → f.isdu ≡ Handed request
-    → f.carried ≡ base → takes_more f.room base ≡ true → IsWorkedOff (handed f.isdu) f ready
+    → f.carried ≡ base → takes_more f.room base ≡ true → IsWorkedOff (handed_request f.isdu) f ready
     → Worked request base ready
 work_done f ready request base is carried room h =
     by (has_room f) (rw carried room)
-    (subst (λ (q : Option Request). IsWorkedOff q f ready) (ap handed is) h)
+    (subst (λ (q : Option Request). IsWorkedOff q f ready) (ap handed_request is) h)
   where
     by : (b : Bool) → b ≡ true → MatchBool b ((answer : Answer) × IsTrue (fits request answer)
         × (ready ≡ local f (Carry answer))) (ready ≡ f) → Worked request base ready
@@ -255,7 +257,7 @@ module _ {W : Type 0} (facts : WireFacts W) where
 
   pub record Next (kind : Kind) (layouts : Layouts) (request : Request) (base : List Carried)
       (turns : ℕ) (said : Said) (new : StationState W) : Type 0 where
-    pub stage : Stage
+    pub stage : RequestStage
     pub wire : W
     pub at : At facts kind layouts request base stage new wire
     pub turns_are : turns_at kind.hands_over layouts.run.od request stage ≡ suc turns
@@ -263,7 +265,7 @@ module _ {W : Type 0} (facts : WireFacts W) where
 
   module _ (laws : CleanLaws) (cleanly : ExchangesCleanly facts) {kind : Kind} {layouts : Layouts}
       (low : 1 ≤ layouts.run.od) (request : Request) (valid : IsRequest request)
-      (base : List Carried) (room : EventRoom) {link : Link} {old : StationState W} {wire : W}
+      (base : List Carried) (room : EventRoom) {link : FarLink} {old : StationState W} {wire : W}
       (said : Said) (new : StationState W) (stood : Stood facts kind layouts link old wire)
       (turn : IsTurn facts room old said new) (some : takes_more (far wire).room base ≡ true)
       (limit : 2 ≤ old.session.limit) where
@@ -277,7 +279,7 @@ module _ {W : Type 0} (facts : WireFacts W) where
     abbrev Goes : ℕ → Type 0
     Goes n = Next kind layouts request base n said new
 
-    abbrev Fits : Stage → Type 0
+    abbrev Fits : RequestStage → Type 0
     Fits stage = StageFits kind.hands_over size request base stage old.session.current
         (far wire).isdu (far wire).carried
 
@@ -294,7 +296,7 @@ module _ {W : Type 0} (facts : WireFacts W) where
 
     module _ {c : Current} (t : Turns c) where
       same : SameBut (far wire) t.turn.ready
-      same = work_same (far wire) t.turn.ready (handed (far wire).isdu) t.turn.work
+      same = work_same (far wire) t.turn.ready (handed_request (far wire).isdu) t.turn.work
 
       state_by : (far t.turn.next).isdu ≡ after c t.turn.heard_as.counted t.turn.heard_as.before
       state_by = grind (arith, common_steps)
@@ -302,11 +304,12 @@ module _ {W : Type 0} (facts : WireFacts W) where
       state_is : {state : IsduState} → link.waits ≡ None → t.turn.ready.isdu ≡ state
           → (far t.turn.next).isdu ≡ after c t.turn.heard_as.counted state
       state_is none is = state_by ∙ ap (after c t.turn.heard_as.counted)
-          (t.turn.heard_as.before_is (ap (λ (l : Link). l.waits) (same.link_is ∙ stood.at) ∙ none)
+          (t.turn.heard_as.before_is (ap (λ (l : FarLink). l.waits) (same.link_is ∙ stood.at)
+          ∙ none)
           ∙ is)
 
       -- where nothing was handed over, nothing was worked off, and the record stays
-      stays : handed (far wire).isdu ≡ None → (t.turn.ready.isdu ≡ (far wire).isdu)
+      stays : handed_request (far wire).isdu ≡ None → (t.turn.ready.isdu ≡ (far wire).isdu)
           × ((far t.turn.next).carried ≡ (far wire).carried)
       stays none =
           let still = work_none (far wire) t.turn.ready none t.turn.work in (
@@ -316,21 +319,22 @@ module _ {W : Type 0} (facts : WireFacts W) where
 
       -- what the reply makes of the request, and what is said of it
       comes_to : {state : IsduState} → (far t.turn.next).isdu ≡ state → (o : ReplyEffect)
-          → replied old.session.limit
+          → effect_of_reply old.session.limit
           (if (progress_head c.progress).read then isdu_data size state else []) c ≡ o
-          → (new.session.current ≡ going o) × IsEffectSaid (is_read c.cutter.source) o said
+          → (new.session.current ≡ current_of_effect o)
+          × IsEffectSaid (is_read c.cutter.source) o said
       comes_to {state = state} state_now o e =
           let od : t.turn.reply.od.items
           ≡ (if (progress_head c.progress).read then isdu_data size state else []) =
           rw (t.turn.heard_as.od, ap (λ (h : Head). h.read) t.head, state_now) refl in
-          let o_is : replied old.session.limit t.turn.reply.od.items c ≡ o = rw od e in (
-            t.current ∙ ap going o_is,
+          let o_is : effect_of_reply old.session.limit t.turn.reply.od.items c ≡ o = rw od e in (
+            t.current ∙ ap current_of_effect o_is,
             subst (λ (x : ReplyEffect). IsEffectSaid (is_read c.cutter.source) x said) o_is
                 t.said_is,
           )
 
       -- the request goes on, or has its answer
-      next_is : {n : ℕ} (stage : Stage) → StageFits kind.hands_over size request base stage
+      next_is : {n : ℕ} (stage : RequestStage) → StageFits kind.hands_over size request base stage
           new.session.current (far t.turn.next).isdu (far t.turn.next).carried
           → turns_at kind.hands_over size request stage ≡ suc n → SaidAt stage said → Goes n
       next_is stage fits turns is = record {
@@ -350,27 +354,28 @@ module _ {W : Type 0} (facts : WireFacts W) where
       }
 
     -- one more segment of the answer was had
-    had_step : {n : ℕ} (given j : ℕ) (progress : Progress)
-        (t : Turns (under request size given progress)) (answer : Answer)
+    had_step : {n : ℕ} (given j : ℕ) (progress : RequestProgress)
+        (t : Turns (current_at request size given progress)) (answer : Answer)
         (fitting : IsTrue (fits request answer))
         → (far t.turn.next).isdu ≡ Answered request answer (Some j)
         → (far t.turn.next).carried ≡ grown_by base request answer
-        → j * size < length (answer_text request answer)
-        → replied old.session.limit
-        (if (progress_head progress).read then segment size (answer_text request answer) j else [])
-        (under request size given progress) ≡ comes size request answer given progress j
+        → j * size < length (answer_text_to request answer)
+        → effect_of_reply old.session.limit
+        (if (progress_head progress).read then segment size (answer_text_to request answer) j
+        else [])
+        (current_at request size given progress) ≡ comes size request answer given progress j
         → suc n ≡ delivered + suc j → Goes n
     had_step given j progress t answer fitting state carried begins outcome count =
-        elim (cases_lt (suc j * size) (length (answer_text request answer))) [
+        elim (cases_lt (suc j * size) (length (answer_text_to request answer))) [
           | inl more ↦
               let goes = comes_to t state (GoesOn (gets request size answer given j))
               (outcome ∙ joined_more size request answer given j progress more) in
               next_is t (Reading answer (suc j)) (given, goes.0, state, carried, fitting, more)
               (sym count) goes.1
           | inr all ↦
-              let goes = comes_to t state (HasText (answer_text request answer))
+              let goes = comes_to t state (HasText (answer_text_to request answer))
               (outcome ∙ joined_last laws size low request answer fitting given j progress all) in
-              let last = segments_last (laws.texts size low) (answer_text request answer) j
+              let last = segments_last (laws.texts size low) (answer_text_to request answer) j
               begins all in
               next_is t (Ended answer) (goes.0, carried, fitting, (j, state))
               (omega (arith, count, last)) (said_last laws size low request answer fitting goes.1)
@@ -394,15 +399,16 @@ module _ {W : Type 0} (facts : WireFacts W) where
       write_step : (i : ℕ) → Fits (Written (suc i)) → suc i * size < length (request_text request)
           → Goes (suc i)
       write_step i at more =
-          let text : List ℕ = joined size (request_text request) i in
+          let text : List ℕ = segments_up_to size (request_text request) i in
           let t = takes (sends_is request size (suc i) at.1 more) refl in
           let is : (far wire).isdu ≡ TextSoFar text (count_at i) = at.2
           ∙ open_text kind.hands_over (laws.segments size low) request i valid more in
-          let still = stays t (ap handed is) in
+          let still = stays t (ap handed_request is) in
           let state = state_is t calm (still.0 ∙ is)
           ∙ written_next kind.hands_over kind.recalls t.turn.heard_as.counted size i text
           (segment size (request_text request) (suc i)) in
-          let goes = comes_to t state (GoesOn (sent_on (asks request size (suc (suc i)) 0)))
+          let goes = comes_to t state (GoesOn
+          (current_after_segment (asks request size (suc (suc i)) 0)))
           refl in
           next_is t (Written (suc (suc i))) (more, goes.0, state, still.1 ∙ at.3) refl goes.1
 
@@ -414,7 +420,7 @@ module _ {W : Type 0} (facts : WireFacts W) where
           → Goes (suc i)
       asked_step i FirstRead by_read at ends whole =
           let t = takes (asks_is request size (suc i) at.1 ends) refl in
-          let still = stays t (ap handed whole) in
+          let still = stays t (ap handed_request whole) in
           let state = state_is t calm (still.0 ∙ whole)
           ∙ read_start kind.recalls size (Whole request (count_at i)) refl in
           let few : (1 == old.session.limit) ≡ false = grind (arith, nat_tests) in
@@ -430,7 +436,8 @@ module _ {W : Type 0} (facts : WireFacts W) where
           (omega (arith, count, none))
 
       -- from each stage to the next
-      pub step : (stage : Stage) → Fits stage → ((answer : Answer) → stage ≡ Ended answer → ⊥)
+      pub step : (stage : RequestStage) → Fits stage
+          → ((answer : Answer) → stage ≡ Ended answer → ⊥)
           → Goes (turns_at kind.hands_over size request stage)
       step (Written zero) at goes = absurd at
       step (Written (suc i)) at goes =
@@ -444,8 +451,8 @@ module _ {W : Type 0} (facts : WireFacts W) where
       step (Reading answer zero) at goes = absurd at
       step (Reading answer (suc j)) at goes =
           let t = takes at.1 refl in
-          let still = stays t (ap handed at.2) in
-          had_step at.0 (suc j) (Receiving (standing size (answer_text request answer) j) j)
+          let still = stays t (ap handed_request at.2) in
+          had_step at.0 (suc j) (Receiving (joiner_at size (answer_text_to request answer) j) j)
           t answer at.4
           (state_is t calm (still.0 ∙ at.2)
           ∙ read_next kind.recalls size request answer j at.5)
@@ -457,24 +464,25 @@ module _ {W : Type 0} (facts : WireFacts W) where
 
     -- it is cut in segments of the layout's size
     same_size : (other : ℕ) → old.session.current
-        ≡ Some (sent_on (asks request other 0 0)) → other ≡ size
+        ≡ Some (current_after_segment (asks request other 0 0)) → other ≡ size
     same_size other current =
         let t = takes (sends_is request other 0 current (text_some request other)) refl in
         sym (laws.pieces other (request_text request) 0) ∙ sym (ap length t.octets)
         ∙ t.turn.parts.od ∙ ap (λ (h : Head). if h.read then 0 else size) t.head
 
     pub first : (other : ℕ) → old.session.current
-        ≡ Some (sent_on (asks request other 0 0)) → handed (far wire).isdu ≡ None
+        ≡ Some (current_after_segment (asks request other 0 0))
+        → handed_request (far wire).isdu ≡ None
         → (far wire).carried ≡ base → Goes 0
     first other current unhanded carried =
         let some_text = text_some request size in
         let t = takes (sends_is request size 0 (rw (same_size other current) at current) some_text)
         refl in
         let state : (far t.turn.next).isdu ≡ once_written kind.hands_over
-        (received (joined size (request_text request) 0) (count_at 0)) =
+        (isdu_with_octets (segments_up_to size (request_text request) 0) (count_at 0)) =
         state_by t ∙ (rw flow_start (begun kind.hands_over t.turn.heard_as.counted
-        (recalled kind.recalls size t.turn.heard_as.before)
+        (remaining_isdu kind.recalls size t.turn.heard_as.before)
         (segment size (request_text request) 0))) in
-        let goes = comes_to t state (GoesOn (sent_on (asks request size 1 0))) refl in
+        let goes = comes_to t state (GoesOn (current_after_segment (asks request size 1 0))) refl in
         next_is t (Written 1)
         (some_text, goes.0, state, (stays t unhanded).1 ∙ carried) refl goes.1

@@ -14,14 +14,14 @@ use Rattle.iol_mode.specs.Exchanges.{IsSending}
 use Rattle.iol_steps.specs.declared.mode.Mode.TheVariants.{Operate}
 use Rattle.iol_steps.specs.declared.said.Said.{Said}
 use Rattle.iol_steps.specs.declared.said.Said.TheVariants.{Idle}
-use Rattle.iol_steps.specs.Step.{Step, Make, Reset, WireCall, Moment, is_clash_free, no_make, resets, book_said}
+use Rattle.iol_steps.specs.Step.{PortStep, Make, Reset, WireCall, Moment, is_clash_free, no_make, resets, book_said}
 use Rattle.iol_steps.specs.Session.{Session, MaySessionAll, session_through}
 use Rattle.iol_steps.specs.Images.{MayImagesAll, images_through}
 use Rattle.iol_app.specs.declared.event_work.EventRoom.{EventRoom}
-use Rattle.iol_app.specs.State.{expecting, pacing}
+use Rattle.iol_app.specs.State.{session_expecting, session_with_cycle}
 use Rattle.iol_app.specs.StationState.{StationState, mode_in}
-use Rattle.iol_app.specs.Core.{Core, Ghost, Stands, TermsStay, IsAttempted, ordered, session_in, frozen_in, images_in, moment_of, made_ghost}
-use Rattle.iol_app.specs.Pieces.{IsSent, SendSteps, WakeSteps, ReceiveSteps, Received}
+use Rattle.iol_app.specs.Core.{CoreState, Ghost, BothEndsStand, TermsStay, IsAttempted, ordered_output, session_in, frozen_in, images_in, moment_of, made_ghost}
+use Rattle.iol_app.specs.Pieces.{SendsMessage, SendSteps, WakeSteps, ReceiveSteps, TakeUpGives}
 use Rattle.iol_app.specs.Seen.{WantSteps, core_of, station_of}
 use Rattle.iol_port.specs.declared.call.Call.{Call}
 use Rattle.iol_port.specs.declared.call.Answered.{Answered}
@@ -33,23 +33,23 @@ use Rattle.iol_page.specs.declared.identity.Identity.{Identity}
 use Rattle.iol_port.specs.declared.call.Counting.{Counting}
 use Rattle.iol_port.specs.declared.call.Call.TheVariants as call
 use Rattle.iol_port.specs.EveryWire.{page_shown}
-use Rattle.iol_port.specs.Run.{counting, PortState, Pending, PieceOf, Send, Receive, opened, is_sending, is_take, moment_by}
-use Rattle.iol_port.specs.declared.awaited.Awaited.TheVariants.{Nothing, Wake, Reply}
+use Rattle.iol_port.specs.Run.{counting_of, PortState, Pending, PieceOf, Send, Receive, port_at_opening, is_sending_step, is_take, moment_by}
+use Rattle.iol_port.specs.declared.awaited.AwaitedAnswer.TheVariants.{Nothing, Wake, Reply}
 use Rattle.iol_port.specs.Owners.{owners_through}
-use Rattle.iol_port.specs.View.{Parts, Choice, IsOut, IsTied, PendingAt, StandsFor, OpensWell, IsOpened, opening_for, Follows, Does, BeginsNext, TakesNext, state_of}
+use Rattle.iol_port.specs.View.{PortParts, Choice, IsOutInOperate, IsTied, PendingAt, StandsFor, OpensWell, IsOpened, opening_for, IsAbstractCall, Does, BeginsNext, TakesNext, abstract_port}
 use Rattle.iol_book.specs.declared.limits.Limits.{Limits}
-use Rattle.iol_port.specs.CorePort.{IsNewFor, CoreOpensFor, bare, awaited, at_end, parts_over, CoreDoes, PieceDoes, SendDoes, ReceiveDoes, WakeDoes}
+use Rattle.iol_port.specs.CorePort.{IsNewFor, CoreOpensFor, station_without_wire, awaited_answer, at_end, parts_over, CoreDoes, PieceDoes, SendDoes, ReceiveDoes, WakeDoes}
 use Rattle.iol_port.proofs.Filters.{book_through-filter, MayBookAll-filter, kept_through-filter, clash_free-deny, is_beside, may_book_said}
 use Rattle.iol_port.proofs.TurnLemmas.{First, Begun, Settles, ahead, images_ahead, under, begun, none_down, terms_of}
 use Rattle.iol_port.proofs.CallLemmas.{none_pending, expect_does, set_cycle_does}
 
 abbrev Bare : Type 0
-Bare = Parts (Unit {0})
+Bare = PortParts (Unit {0})
 
 -- the parts that the fields of a port show
 abbrev pub parts_in : {A : Type 0} → Inside A → Bare
 parts_in inside = record {
-  station = bare inside.core;
+  station = station_without_wire inside.core;
   book = inside.book;
   kept = inside.kept.items;
   sent = inside.sent;
@@ -58,20 +58,20 @@ parts_in inside = record {
 
 -- What waits for its answer
 
-pub nothing_out : (p : Bare) → awaited p ≡ Nothing → p.sent ≡ false
+pub nothing_out : (p : Bare) → awaited_answer p ≡ Nothing → p.sent ≡ false
 nothing_out p e = grind (arith, common_steps)
 
-pub reply_out : (p : Bare) → IsTied p → awaited p ≡ Reply
+pub reply_out : (p : Bare) → IsTied p → awaited_answer p ≡ Reply
     → (p.sent ≡ true) × IsSending p.station.link.state
 reply_out p tied e = grind (arith, common_steps, tied.out)
 
-pub wake_out : (p : Bare) → awaited p ≡ Wake → (p.sent ≡ true) × IsDown p.station.link.state
+pub wake_out : (p : Bare) → awaited_answer p ≡ Wake → (p.sent ≡ true) × IsDown p.station.link.state
 wake_out p e = grind (arith, common_steps)
 
 -- What goes out
 
 -- a message is made, or none is
-abbrev make_of : Bool → List Step
+abbrev make_of : Bool → List PortStep
 make_of made = cond made (Make ∷ []) []
 
 -- it is no business of the book or the session
@@ -85,8 +85,8 @@ made_may made m s = grind (arith, common_steps)
 made_session : (made : Bool) (s : Session) → s ≡ session_through (make_of made) s
 made_session made s = grind (arith, common_steps)
 
-record Sent (mid k : Core) (g after : Ghost) (far : Far) (n : ℕ) (made : Bool) : Type 0 where
-  stands : Stands k after far n
+record Sent (mid k : CoreState) (g after : Ghost) (far : Far) (n : ℕ) (made : Bool) : Type 0 where
+  stands : BothEndsStand k after far n
   session : session_in k after far ≡ session_in mid g far
   frozen : frozen_in after far ≡ frozen_in g far
   may : (call : WireCall) → MayImagesAll (moment_of mid g n call) (make_of made)
@@ -95,10 +95,11 @@ record Sent (mid k : Core) (g after : Ghost) (far : Far) (n : ℕ) (made : Bool)
       ≡ images_through (moment_of mid g n call) (make_of made) (images_in mid g far)
   fresh : IsTrue g.fresh → IsTrue after.fresh
   terms : TermsStay mid k g after
-  asks : mode_in k.state ≡ Operate → n ≡ 0 → ordered k.state k.session ≡ mid.session.output.wanted
+  asks : mode_in k.state ≡ Operate → n ≡ 0
+      → ordered_output k.state k.session ≡ mid.session.output.wanted
 
-is_sent : {mid k : Core} {g : Ghost} {far : Far} {n : ℕ} → SendSteps mid k
-    → IsAttempted mid.state → Stands mid g far n
+is_sent : {mid k : CoreState} {g : Ghost} {far : Far} {n : ℕ} → SendSteps mid k
+    → IsAttempted mid.state → BothEndsStand mid g far n
     → (after : Ghost) × (made : Bool) × Sent mid k g after far n made
 unfolding SendSteps
 is_sent {mid = mid} {g = g} {far = far} {n = n} sends tried stands =
@@ -122,7 +123,7 @@ is_sent {mid = mid} {g = g} {far = far} {n = n} sends tried stands =
 
 -- what comes first is of the sending too, and clashes with nothing
 ahead_sends : (first : First) (made : Bool)
-    → IsTrue (list_all is_sending (ahead first (make_of made)))
+    → IsTrue (list_all is_sending_step (ahead first (make_of made)))
 ahead_sends first made = grind (arith, common_steps)
 
 ahead_free : (first : First) (made : Bool) → IsTrue (is_clash_free (ahead first (make_of made)))
@@ -139,11 +140,11 @@ goes_out : {s : StationState (Unit {0})} {start : BookState} {after : Ghost} {ma
     → (b : Begun p.station p.book.state s start u.ghost far n)
     → Sent (core_of (under b.current p.station)) (core_of next.station)
     (record u.ghost { request = b.request; fresh = b.fresh }) after far n made
-    → (m : PortState) × PieceOf (state_of (at_end far n) p u) Send answered.Nothing m
+    → (m : PortState) × PieceOf (abstract_port (at_end far n) p u) Send answered.Nothing m
     × StandsFor (at_end far n) next m
 goes_out {start = start} {after = after} {made = made} p next far n u none kept sent book_is b s =
-    let before : PortState = state_of (at_end far n) p u in
-    let steps : List Step = ahead b.first (make_of made) in
+    let before : PortState = abstract_port (at_end far n) p u in
+    let steps : List PortStep = ahead b.first (make_of made) in
     let book = b.book (make_of made) (made_book made start).0 in
     let images = λ (call : WireCall). images_ahead b.first (moment_by before call) (make_of made)
     before.images (s.may call) in
@@ -155,7 +156,7 @@ goes_out {start = start} {after = after} {made = made} p next far n u none kept 
         wanted = p.station.session.output.wanted;
       });
     } in (
-      state_of (at_end far n) next c,
+      abstract_port (at_end far n) next c,
       (
         refl,
         inl (record {
@@ -211,8 +212,8 @@ again_does p sent = λ far n a for_a.
 
 -- What comes back
 
-unsent_all : (t : ℕ) (steps : List Step) → IsTrue (list_all (is_beside t) steps)
-    → no_make steps ≡ true → IsTrue (list_all (λ step. not (is_sending step)) steps)
+unsent_all : (t : ℕ) (steps : List PortStep) → IsTrue (list_all (is_beside t) steps)
+    → no_make steps ≡ true → IsTrue (list_all (λ step. not (is_sending_step step)) steps)
 unsent_all t [] h k = refl
 unsent_all t (step ∷ steps) h k = grind (arith, common_steps, unsent_all t steps)
 
@@ -225,8 +226,8 @@ module _ (p next : Bare) (far far' : Far) (n n' : ℕ) (said : Said) (free : nex
 
   receives : (u : Choice) (out : Pending) → u.pending ≡ Some out
       → PendingAt (Some out) p.sent (core_of p.station) u.ghost n
-      → Received (core_of p.station) u.ghost far n said (core_of next.station) far' n'
-      → Receives (state_of (at_end far n) p u)
+      → TakeUpGives (core_of p.station) u.ghost far n said (core_of next.station) far' n'
+      → Receives (abstract_port (at_end far n) p u)
   receives u out was shown r =
       let x = r.given in
       let began : Bool = is_reset p.station.link.state in
@@ -236,7 +237,7 @@ module _ (p next : Bare) (far far' : Far) (n n' : ℕ) (said : Said) (free : nex
         ghost = x.after;
         pending = None;
       } in (
-        state_of (at_end far' n') next c,
+        abstract_port (at_end far' n') next c,
         (
           refl,
           record {
@@ -280,8 +281,8 @@ module _ (p next : Bare) (far far' : Far) (n n' : ℕ) (said : Said) (free : nex
       )
 
   -- with whatever was out
-  taken_up : p.sent ≡ true → ((g : Ghost) → Stands (core_of p.station) g far n
-      → Received (core_of p.station) g far n said (core_of next.station) far' n')
+  taken_up : p.sent ≡ true → ((g : Ghost) → BothEndsStand (core_of p.station) g far n
+      → TakeUpGives (core_of p.station) g far n said (core_of next.station) far' n')
       → PieceDoes p far n Receive next far' n'
   taken_up sent gives = λ a for_a.
       let (u, shows, is) = for_a in
@@ -289,8 +290,8 @@ module _ (p next : Bare) (far far' : Far) (n n' : ℕ) (said : Said) (free : nex
     where
       by : (u : Choice) (x : Option Pending) → u.pending ≡ x
           → PendingAt x p.sent (core_of p.station) u.ghost n
-          → Received (core_of p.station) u.ghost far n said (core_of next.station) far' n'
-          → Receives (state_of (at_end far n) p u)
+          → TakeUpGives (core_of p.station) u.ghost far n said (core_of next.station) far' n'
+          → Receives (abstract_port (at_end far n) p u)
       by u None was shown r = absurd (let k : true ≡ false = sym sent ∙ shown.0 in cc)
       by u (Some out) was shown r = receives u out was shown r
 
@@ -318,30 +319,35 @@ wake_does p next answered sent steps free settles = λ far far' n x.
     taken_up p next far far' n n Idle free settles sent (λ g stands. steps g far far' n stands x)
 
 -- what goes out a second time changes nothing
-pub sent_same : (room : EventRoom) (old new : Core) → IsOut old.state → IsSent room old new
+pub sent_same : (room : EventRoom) (old new : CoreState) → IsOutInOperate old.state
+    → SendsMessage room old new
     → new ≡ old
 sent_same room old new is_out sent = grind (arith, common_steps)
 
 -- What start-ups are to ask is changed
 
-module _ {p q : Bare} {r : Counting} {k : Core} (same : p ≡ q)
-    (counts : r ≡ counting (page_shown q))
+module _ {p q : Bare} {r : Counting} {k : CoreState} (same : p ≡ q)
+    (counts : r ≡ counting_of (page_shown q))
   where
     pub expect_core : {identity : Option Identity}
-        → k ≡ record (core_of p.station) { session = expecting identity p.station.session }
+        → k ≡ record (core_of p.station) { session = session_expecting identity p.station.session }
         → WantSteps (core_of p.station) k
-        → CoreDoes p (call.Expect identity) (answered.Counts r) (record p { station = bare k })
+        → CoreDoes p (call.Expect identity) (answered.Counts r)
+        (record p { station = station_without_wire k })
     expect_core is gives = λ far n. record {
-      follows = expect_does (at_end far n) p _ r (bare k) (rw same counts) (ap bare is) gives;
+      follows = expect_does (at_end far n) p _ r (station_without_wire k) (rw same counts)
+          (ap station_without_wire is) gives;
       book = refl;
     }
 
     pub set_cycle_core : {cycle : Option CycleTime}
-        → k ≡ record (core_of p.station) { session = pacing cycle p.station.session }
+        → k ≡ record (core_of p.station) { session = session_with_cycle cycle p.station.session }
         → WantSteps (core_of p.station) k
-        → CoreDoes p (call.Cycle cycle) (answered.Counts r) (record p { station = bare k })
+        → CoreDoes p (call.Cycle cycle) (answered.Counts r)
+        (record p { station = station_without_wire k })
     set_cycle_core is gives = λ far n. record {
-      follows = set_cycle_does (at_end far n) p _ r (bare k) (rw same counts) (ap bare is) gives;
+      follows = set_cycle_does (at_end far n) p _ r (station_without_wire k) (rw same counts)
+          (ap station_without_wire is) gives;
       book = refl;
     }
 
@@ -352,12 +358,13 @@ module _ {W : Type 0} (wire : W) where
   over s = station_of wire (core_of s)
 
   -- what is begun without a wire is begun over it
-  pub begins_over : (c d : Core) (b after : BookState) → BeginsNext (bare c) b (bare d) after
+  pub begins_over : (c d : CoreState) (b after : BookState)
+      → BeginsNext (station_without_wire c) b (station_without_wire d) after
       → BeginsNext (station_of wire c) b (station_of wire d) after
   begins_over c d b after begins = grind (arith, common_steps)
 
-  pub takes_over : (room : EventRoom) (c d : Core) (b after : BookState)
-      → TakesNext room (bare c) b (bare d) after
+  pub takes_over : (room : EventRoom) (c d : CoreState) (b after : BookState)
+      → TakesNext room (station_without_wire c) b (station_without_wire d) after
       → TakesNext room (station_of wire c) b (station_of wire d) after
   takes_over room c d b after takes t q ready told head =
       let taken = takes t q ready told head in (ap over taken.0, taken.1, taken.2)
@@ -380,13 +387,14 @@ module _ {W : Type 0} (facts : WireFacts W) (wire : W) where
 
   pub opens_over : (devices : Devices) (limits : Limits) (p : Bare) → CoreOpensFor devices limits p
       → OpensWell (opening_for facts devices limits wire)
-      → StandsFor facts (parts_over wire p) (opened devices limits (far wire) (silence wire))
+      → StandsFor facts (parts_over wire p)
+      (port_at_opening devices limits (far wire) (silence wire))
   opens_over devices limits p opens (is_honest, quiet, sees) =
       over_wire p _ is_honest (opens (far wire) (silence wire) (refl, quiet, sees))
 
   pub call_over : (p next : Bare) (c : Call) (reply : Answered) → CoreDoes p c reply next
       → Does facts (parts_over wire p) c reply (parts_over wire next)
-  unfolding Follows
+  unfolding IsAbstractCall
   call_over p next c reply does =
       let here_does = does (far wire) (silence wire) in
       record {

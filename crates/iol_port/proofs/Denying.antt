@@ -9,13 +9,13 @@ use Rattle.iol_book.specs.declared.entries.Ticket.{Ticket}
 use Rattle.iol_book.specs.declared.entries.Outcome.{Outcome}
 use Rattle.iol_book.specs.declared.entries.Outcome.TheVariants.{NoIsdu}
 use Rattle.iol_book.specs.Replay.{same_ticket}
-use Rattle.iol_book.specs.BookModel.{BookState, next_taken, denied, posted}
+use Rattle.iol_book.specs.BookModel.{BookState, next_taken, book_after_denial, book_after_post}
 use Rattle.iol_steps.specs.declared.said.Said.{Said}
 use Rattle.iol_steps.specs.Step.{Reset, book_said}
 use Rattle.iol_port.specs.Steps.{book_through}
 use Rattle.iol_port.specs.Asks.{lacks_isdu}
-use Rattle.iol_port.specs.EveryWire.{taken_where, HasNoIsdu, IsDenied}
-use Rattle.iol_port.specs.View.{Parts, Asks}
+use Rattle.iol_port.specs.EveryWire.{book_after_taking, HasNoIsdu, IsDenied}
+use Rattle.iol_port.specs.View.{PortParts, Asks}
 use Rattle.iol_port.proofs.OwnerSteps.{ticket_is}
 use Rattle.iol_port.proofs.Replaying.{next_is}
 
@@ -29,14 +29,14 @@ lookup-entered (e ∷ es) t k o = grind (arith, common_steps, lookup-entered es 
 -- What a turn says enters none
 
 posted_none : (b : BookState) (o : Outcome) (k : Ticket) → (o ≡ NoIsdu → ⊥)
-    → HasNoIsdu (posted b o) k → HasNoIsdu b k
+    → HasNoIsdu (book_after_post b o) k → HasNoIsdu b k
 posted_none b o k differs given = grind (arith, common_steps, lookup-entered)
 
 said_none : (said : Said) (b : BookState) (k : Ticket)
     → HasNoIsdu (book_through (book_said said) b) k → HasNoIsdu b k
 said_none said b k given = grind (arith, common_steps, posted_none)
 
-module _ {W : Type 0} (old next : Parts W) (mid : BookState) (reset : Bool) (said : Said)
+module _ {W : Type 0} (old next : PortParts W) (mid : BookState) (reset : Bool) (said : Said)
     (asks : Asks said mid.standing.taken)
     (book : next.book.state ≡ book_through (cond reset (Reset ∷ []) [] ++ book_said said) mid)
     (k : Ticket) (has : HasNoIsdu next.book.state k) where
@@ -48,7 +48,7 @@ module _ {W : Type 0} (old next : Parts W) (mid : BookState) (reset : Bool) (sai
 
   -- where this turn denied one, it is that of the ticket, or another
   denied_one : (t : Ticket) (q : Request) → next_taken b.standing ≡ Some (t, q)
-      → old.station.session.isdu ≡ Some false → reset ≡ false → mid ≡ denied b t
+      → old.station.session.isdu ≡ Some false → reset ≡ false → mid ≡ book_after_denial b t
       → HasNoIsdu b k ⊎ IsDenied old next k
   denied_one t q head told asleep is = by (same_ticket t k) refl
     where
@@ -69,14 +69,15 @@ module _ {W : Type 0} (old next : Parts W) (mid : BookState) (reset : Bool) (sai
           inl (rw (lookup-entered b.standing.outcomes t k NoIsdu, apart) at (rw is at had))
 
   pub turn_denies : (ready : Bool)
-      → mid ≡ taken_where ready (lacks_isdu old.station.session.isdu) (next_taken b.standing) b
+      → mid ≡ book_after_taking ready (lacks_isdu old.station.session.isdu)
+      (next_taken b.standing) b
       → (ready ≡ true → reset ≡ false) → HasNoIsdu b k ⊎ IsDenied old next k
   turn_denies ready mid_is asleep =
       by (next_taken b.standing) ready (lacks_isdu old.station.session.isdu) refl refl refl mid_is
     where
       by : (head : Option (Ticket × Request)) (r lacks : Bool) → next_taken b.standing ≡ head
           → ready ≡ r → lacks_isdu old.station.session.isdu ≡ lacks
-          → mid ≡ taken_where r lacks head b → HasNoIsdu b k ⊎ IsDenied old next k
+          → mid ≡ book_after_taking r lacks head b → HasNoIsdu b k ⊎ IsDenied old next k
       by (Some (t, q)) true true head is_ready told is =
           denied_one t q head (grind arith) (asleep is_ready) is
       by _ _ _ head is_ready told is = inl (rw is at had)

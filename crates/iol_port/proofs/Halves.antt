@@ -5,40 +5,40 @@ use Rattle.std.proofs.lemmas.Grind.{common_steps}
 use Rattle.std.proofs.lemmas.List.Folds.{list_all-append}
 use Rattle.iol_event.specs.declared.event.Event.{Event}
 use Rattle.iol_book.specs.BookModel.{BookState}
-use Rattle.iol_steps.specs.Step.{Step, WireCall, Moment, clash, is_clash_free}
+use Rattle.iol_steps.specs.Step.{PortStep, WireCall, Moment, clash, is_clash_free}
 use Rattle.iol_steps.specs.Session.{Session, MaySessionAll, session_after, session_through}
 use Rattle.iol_steps.specs.FrozenEvents.{Frozen, MayFrozenAll, frozen_through}
 use Rattle.iol_steps.specs.Images.{Images, MayImagesAll, images_after, images_through}
 use Rattle.iol_steps.specs.Turn.{is_calm}
 use Rattle.iol_port.specs.Steps.{MayBookAll, book_after, book_through, kept_through}
 use Rattle.iol_port.specs.Owners.{Owners, owners_after, owners_through}
-use Rattle.iol_port.specs.Run.{Pending, is_sending, is_take, moment_by}
+use Rattle.iol_port.specs.Run.{Pending, is_sending_step, is_take, moment_by}
 use Rattle.iol_port.specs.Promises.{HalvesAreTurns}
 
 -- Steps of the sending, and others behind them
 
-module _ (m : Moment) (ys : List Step) where
-  book_both : (xs : List Step) (b : BookState) → MayBookAll xs b
+module _ (m : Moment) (ys : List PortStep) where
+  book_both : (xs : List PortStep) (b : BookState) → MayBookAll xs b
       → MayBookAll ys (book_through xs b)
       → MayBookAll (xs ++ ys) b × (book_through (xs ++ ys) b ≡ book_through ys (book_through xs b))
   book_both [] b h k = (k, refl)
   book_both (x ∷ xs) b h k = grind (arith, book_both xs (book_after x b) h.1 k)
 
-  session_both : (xs : List Step) (s : Session) → MaySessionAll m xs s
+  session_both : (xs : List PortStep) (s : Session) → MaySessionAll m xs s
       → MaySessionAll m ys (session_through xs s) → MaySessionAll m (xs ++ ys) s
       × (session_through (xs ++ ys) s ≡ session_through ys (session_through xs s))
   session_both [] s h k = (k, refl)
   session_both (x ∷ xs) s h k = grind (arith, session_both xs (session_after x s) h.1 k)
 
-  images_both : (xs : List Step) (i : Images) → MayImagesAll m xs i
+  images_both : (xs : List PortStep) (i : Images) → MayImagesAll m xs i
       → MayImagesAll m ys (images_through m xs i) → MayImagesAll m (xs ++ ys) i
       × (images_through m (xs ++ ys) i ≡ images_through m ys (images_through m xs i))
   images_both [] i h k = (k, refl)
   images_both (x ∷ xs) i h k = grind (arith, images_both xs (images_after m x i) h.1 k)
 
   -- the first leave the mode, the image, the frozen events and the kept ones
-  rest_stays : (xs : List Step) (s : Session) (i : Images) (f : Option Frozen)
-      (kept : List Event) → IsTrue (list_all is_sending xs)
+  rest_stays : (xs : List PortStep) (s : Session) (i : Images) (f : Option Frozen)
+      (kept : List Event) → IsTrue (list_all is_sending_step xs)
       → ((session_through xs s).mode ≡ s.mode) × ((images_through m xs i).image ≡ i.image)
       × (MayFrozenAll ys f → MayFrozenAll (xs ++ ys) f)
       × (frozen_through (xs ++ ys) f ≡ frozen_through ys f)
@@ -47,23 +47,24 @@ module _ (m : Moment) (ys : List Step) where
   rest_stays (x ∷ xs) s i f kept only =
       grind (arith, common_steps, rest_stays xs (session_after x s) (images_after m x i) f kept)
 
-owners_both : (xs ys : List Step) (l : Owners)
+owners_both : (xs ys : List PortStep) (l : Owners)
     → owners_through (xs ++ ys) l ≡ owners_through ys (owners_through xs l)
 owners_both [] ys l = refl
 owners_both (x ∷ xs) ys l = owners_both xs ys (owners_after x l)
 
 -- No step of the one clashes with a step of the other
 
-abbrev unsent : Step → Bool
-unsent step = not (is_sending step)
+abbrev unsent : PortStep → Bool
+unsent step = not (is_sending_step step)
 
-beside_all : (x : Step) (ys : List Step) → IsTrue (is_sending x) → IsTrue (list_all unsent ys)
+beside_all : (x : PortStep) (ys : List PortStep) → IsTrue (is_sending_step x)
+    → IsTrue (list_all unsent ys)
     → (IsTrue (is_take x) → IsTrue (list_all is_calm ys))
     → IsTrue (list_all (λ y. not (clash x y)) ys)
 beside_all x [] h k c = refl
 beside_all x (y ∷ ys) h k c = grind (arith, common_steps, beside_all x ys)
 
-clash_free_both : (xs ys : List Step) → IsTrue (list_all is_sending xs)
+clash_free_both : (xs ys : List PortStep) → IsTrue (list_all is_sending_step xs)
     → IsTrue (is_clash_free xs) → IsTrue (list_all unsent ys)
     → (IsTrue (list_any is_take xs) → IsTrue (list_all is_calm ys)) → IsTrue (is_clash_free ys)
     → IsTrue (is_clash_free (xs ++ ys))
@@ -83,7 +84,7 @@ clash_free_both (x ∷ xs) ys only h k c free =
 pub halves_are_turns : HalvesAreTurns
 halves_are_turns a m b s r =
     let call : WireCall = r.turn.call in
-    let got : List Step = r.turn.steps in
+    let got : List PortStep = r.turn.steps in
     let first : Moment = moment_by a call in
     let same = rest_stays first got s.steps a.session a.images a.frozen a.kept s.only in
     let mode : m.session.mode ≡ a.session.mode = ap (λ (x : Session). x.mode) s.session ∙ same.0 in

@@ -8,15 +8,15 @@ use Rattle.iol_book.specs.declared.entries.Ticket.{Ticket}
 use Rattle.iol_book.specs.declared.entries.Entry.{Entry}
 use Rattle.iol_book.specs.declared.entries.Outcome.{Outcome}
 use Rattle.iol_book.specs.BookModel.{BookState}
-use Rattle.iol_steps.specs.Step.{Image}
+use Rattle.iol_steps.specs.Step.{ImageOctets}
 use Rattle.iol_port.specs.declared.call.Counting.{Counting}
 use Rattle.iol_port.specs.declared.fault.PortFault.{PortFault}
-use Rattle.iol_port.specs.View.{Parts}
+use Rattle.iol_port.specs.View.{PortParts}
 use Rattle.iol_port.specs.CorePort.{parts_over}
 use Rattle.iol_port.specs.EveryWire.{SubmitGives, CollectGives, WithdrawGives, CancelGives, ArchiveGives, TakeEventGives, SetOutputGives, ClearOutputGives, ExpectGives, SetCycleGives, RestartGives}
 
-module _ {W : Type 0} (wire : W) (p next : Parts (Unit {0})) where
-  abbrev over : Parts (Unit {0}) → Parts W
+module _ {W : Type 0} (wire : W) (p next : PortParts (Unit {0})) where
+  abbrev over : PortParts (Unit {0}) → PortParts W
   over q = parts_over wire q
 
   pub submit_over : {b : BookState} {r : Result Ticket PortFault} → SubmitGives p b r next
@@ -43,7 +43,7 @@ module _ {W : Type 0} (wire : W) (p next : Parts (Unit {0})) where
       → TakeEventGives (over p) r (over next)
   take_event_over h = record { answer = h.answer; rest = ap over h.rest }
 
-  pub set_output_over : {image : Image} {r : Result (Unit {0}) PortFault}
+  pub set_output_over : {image : ImageOctets} {r : Result (Unit {0}) PortFault}
       → SetOutputGives p image r next → SetOutputGives (over p) image r (over next)
   set_output_over h = grind (arith, common_steps)
 

@@ -14,18 +14,18 @@ use Rattle.iol_book.specs.declared.entries.Entry.TheVariants.{Submitted, Collect
 use Rattle.iol_book.specs.declared.entries.Outcome.{Outcome}
 use Rattle.iol_book.specs.declared.entries.Outcome.TheVariants as outcome
 use Rattle.iol_book.specs.Replay.{Standing, same_ticket, request_waiting, without, others_without}
-use Rattle.iol_book.specs.BookModel.{BookState, entered, next_ticket, next_taken, posted}
+use Rattle.iol_book.specs.BookModel.{BookState, book_with_entry, next_ticket, next_taken, book_after_post}
 use Rattle.iol_book.specs.Takings.{takings, takings_after, first_with}
-use Rattle.iol_steps.specs.Step.{Step, Take, Deny, Carry, Done, Unknown, LateCarry, Moment}
+use Rattle.iol_steps.specs.Step.{PortStep, Take, Deny, Carry, Done, Unknown, LateCarry, Moment}
 use Rattle.iol_steps.specs.Session.{Job, Session, MaySession, session_after}
 use Rattle.iol_steps.specs.Kinds.{restart_steps}
 use Rattle.iol_port.specs.declared.call.Call.TheVariants as call
 use Rattle.iol_port.specs.declared.call.Answered.{Answered}
 use Rattle.iol_port.specs.declared.call.Answered.TheVariants as answered
-use Rattle.iol_port.specs.Owners.{Owner, Owners, all, pairs_of, answered as answer_more, settled, owners_after, owners_through, IsOneOf, Fits, HasEnded, allowance_of, times_of}
+use Rattle.iol_port.specs.Owners.{Owner, Owners, all, pairs_of, owner_with_answer, owner_with_outcome, owners_after, owners_through, IsOneOf, Fits, HasEnded, allowance_of, times_of}
 use Rattle.iol_port.specs.Steps.{ticket_of, MayBook, book_after, book_through}
-use Rattle.iol_port.specs.Run.{PortState, Piece, Whole, PieceOf, Pieces, opened, request_of}
-use Rattle.iol_port.specs.Sound.{Each, IsOutcome, IsSound, times_ever}
+use Rattle.iol_port.specs.Run.{PortState, Piece, Whole, PieceOf, Pieces, port_at_opening, job_request}
+use Rattle.iol_port.specs.Sound.{Each, IsOutcome, PortIsSound, times_ever}
 use Rattle.iol_port.specs.CarriesOut.{CarriesOut, IsSubmitted, IsCutOff, Happens, EachDoneHasItsPair, LeavesOut, IsBelow, LateEnds, CutForGoodStaysOut}
 use Rattle.iol_port.specs.Denials.{CarriesNone, IsDeniedWithoutIsdu}
 use Rattle.iol_port.specs.Promises.{OpensSound, PiecesSound, RunsSound}
@@ -46,24 +46,25 @@ leads_then one two = record {
   goes = goes_then one.goes (rw one.terms_are at two.goes);
 }
 
-leads_sound : {a b : PortState} → Leads a b → IsSound b
+leads_sound : {a b : PortState} → Leads a b → PortIsSound b
 leads_sound leads = rw leads.terms_are leads.goes.sound
 
 -- one more entry, which takes none
 entry_goes : (a : PortState) (e : Entry) {last : ℕ}
     → takings_after a.book.standing e (takings a.book.journal) ≡ takings a.book.journal
-    → (entered a.book e).standing.taken ≡ a.book.standing.taken
-    → ((n : ℕ) → times_ever n (record (entered a.book e) { last = last }) a.owners
+    → (book_with_entry a.book e).standing.taken ≡ a.book.standing.taken
+    → ((n : ℕ) → times_ever n (record (book_with_entry a.book e) { last = last }) a.owners
     ≤ times_ever n a.book a.owners)
     → Each (IsOutcome (allowance_of a.terms).isdu (all a.owners))
-    (entered a.book e).standing.outcomes → IsSound a
-    → Goes (allowance_of a.terms) a.session a.owners (record (entered a.book e) { last = last })
+    (book_with_entry a.book e).standing.outcomes → PortIsSound a
+    → Goes (allowance_of a.terms) a.session a.owners
+    (record (book_with_entry a.book e) { last = last })
     a.session a.owners
 entry_goes a e none taken fewer outcomes sound =
     goes_book (entered_replayed a.book e sound.replayed) taken refl
     (entered_takings a.book e sound.replayed ∙ none) fewer outcomes sound
 
-piece_leads : (a b : PortState) (c : Piece) (reply : Answered) → PieceOf a c reply b → IsSound a
+piece_leads : (a b : PortState) (c : Piece) (reply : Answered) → PieceOf a c reply b → PortIsSound a
     → Leads a b
 piece_leads a b c reply is sound = by b (piece_did a b c reply is)
   where
@@ -119,7 +120,7 @@ piece_leads a b c reply is sound = by b (piece_did a b c reply is)
 -- A run, and what was told in it
 
 run_leads : (a b : PortState) (pieces : List Piece) (replies : List Answered)
-    → Pieces a pieces replies b → IsSound a
+    → Pieces a pieces replies b → PortIsSound a
     → Leads a b × ((t : Ticket) (out : Outcome)
     → Happens pieces replies (Whole (call.Collect t)) (answered.Outcome out)
     → IsOutcome (allowance_of a.terms).isdu (all b.owners) t out)
@@ -193,14 +194,15 @@ module _ (P : Ticket → Request → Type 0) where
   asked_first change same (y ∷ xs) ys asked x (inr i) = asked x (inr i)
 
   asked_ended : (out : Outcome) (b : BookState) (l : Owners) → Asked P b l
-      → Asked P (posted b out) (record l { current = first_with (settled out) l.current })
+      → Asked P (book_after_post b out)
+      (record l { current = first_with (owner_with_outcome out) l.current })
   asked_ended out b l (urgent, waiting, taken) = (
     grind (arith, common_steps),
     grind (arith, common_steps),
-    asked_first (settled out) (λ x. (refl, refl)) l.current l.archived taken,
+    asked_first (owner_with_outcome out) (λ x. (refl, refl)) l.current l.archived taken,
   )
 
-  asked_step : (m : Moment) (step : Step) (b : BookState) (s : Session) (l : Owners)
+  asked_step : (m : Moment) (step : PortStep) (b : BookState) (s : Session) (l : Owners)
       → MayBook step b → MaySession m step s → Asked P b l
       → Asked P (book_after step b) (owners_after step l)
   asked_step m (Take t q) b s l next may (urgent, waiting, taken) =
@@ -220,10 +222,18 @@ module _ (P : Ticket → Request → Type 0) where
       let is = next_is b.standing (ticket_of t) q next in
       let left = asked_left (ticket_of t) b.standing (urgent, waiting) in
       rw (is.urgent, is.others) (left.0, left.1, taken)
-  asked_step m (Carry a) b s l next may (urgent, waiting, taken) =
-      (urgent, waiting, asked_first (answer_more a) (λ x. (refl, refl)) l.current l.archived taken)
-  asked_step m (LateCarry a) b s l next may (urgent, waiting, taken) =
-      (urgent, waiting, asked_first (answer_more a) (λ x. (refl, refl)) l.current l.archived taken)
+  asked_step m (Carry a) b s l next may (urgent, waiting, taken) = (
+    urgent,
+    waiting,
+    asked_first (owner_with_answer a) (λ x. (refl, refl)) l.current
+        l.archived taken,
+  )
+  asked_step m (LateCarry a) b s l next may (urgent, waiting, taken) = (
+    urgent,
+    waiting,
+    asked_first (owner_with_answer a) (λ x. (refl, refl)) l.current
+        l.archived taken,
+  )
   asked_step m (Done a) b s l next may asked = asked_ended (outcome.Done a) b l asked
   asked_step m (Unknown cause) b s l next may asked =
       asked_ended (outcome.Unknown cause) b l asked
@@ -242,8 +252,8 @@ module _ (P : Ticket → Request → Type 0) where
       t = next_ticket a.book
 
       cut : (job : Option Job)
-          → Asked P (book_through (restart_steps (request_of job)) a.book)
-          (owners_through (restart_steps (request_of job)) a.owners)
+          → Asked P (book_through (restart_steps (job_request job)) a.book)
+          (owners_through (restart_steps (job_request job)) a.owners)
       cut None = (asked_urgent, asked_waiting, taken)
       cut (Some job) = asked_ended (outcome.Unknown Restarted) a.book a.owners
           (asked_urgent, asked_waiting, taken)
@@ -281,7 +291,7 @@ asked_run pieces _ replies _ a b run are asked = absurd run
 
 pub each_done_has_its_pair : EachDoneHasItsPair
 each_done_has_its_pair devices limits far silence pieces replies b run =
-    let from = opened devices limits far silence in
+    let from = port_at_opening devices limits far silence in
     let sound = opened_sound devices limits far silence in
     let (leads, told) = run_leads from b pieces replies run sound in
     let goes = leads.goes in
@@ -351,7 +361,7 @@ leaves_out IsOut a c leads find = record {
 
 -- what was cut off by the end of a run has ended so
 cut_ended : (a b : PortState) (pieces : List Piece) (replies : List Answered)
-    → Pieces a pieces replies b → IsSound a → (t : Ticket) (cause : Cause)
+    → Pieces a pieces replies b → PortIsSound a → (t : Ticket) (cause : Cause)
     → IsCutOff pieces replies b t cause → HasEnded (all b.owners) t (outcome.Unknown cause)
 cut_ended a b pieces replies run sound t cause (inl happens) =
     (run_leads a b pieces replies run sound).1 t (outcome.Unknown cause) happens
@@ -362,7 +372,7 @@ cut_ended a b pieces replies run sound t cause (inr is) =
 
 pub cut_for_good_stays_out : CutForGoodStaysOut
 cut_for_good_stays_out devices limits far silence pieces more replies others a c run rest =
-    let from = opened devices limits far silence in
+    let from = port_at_opening devices limits far silence in
     let start = opened_sound devices limits far silence in
     let sound = pieces_sound from a pieces replies run start in (
       each_done_has_its_pair devices limits far silence (pieces ++ more) (replies ++ others) c
@@ -378,7 +388,7 @@ cut_for_good_stays_out devices limits far silence pieces more replies others a c
 
 -- Below the reset of the device, until nothing is late
 
-below_stays : (m : Moment) (step : Step) (s : Session) → IsBelow m.terms.devices s.mode
+below_stays : (m : Moment) (step : PortStep) (s : Session) → IsBelow m.terms.devices s.mode
     → MaySession m step s
     → ((session_after step s).late ≡ None) ⊎ IsBelow m.terms.devices (session_after step s).mode
 below_stays m step s below may = grind (arith, common_steps)
@@ -394,7 +404,7 @@ module _ (a : PortState) (m : Moment) where
   Wakes d s l = Goes (allowance_of m.terms) a.session a.owners d s l
       × (IsBelow m.terms.devices s.mode ⊎ IsPast a s l)
 
-  wake_step : (step : Step) (d : BookState) (s : Session) (l : Owners) → MayBook step d
+  wake_step : (step : PortStep) (d : BookState) (s : Session) (l : Owners) → MayBook step d
       → MaySession m step s → Wakes d s l
       → Wakes (book_after step d) (session_after step s) (owners_after step l)
   wake_step step d s l next may (g, left) = (all_goes, by left)
@@ -428,7 +438,7 @@ module _ (a : PortState) (m : Moment) where
 -- one that leads on from below the reset had one
 piece_wakes : (a b : PortState) (c : Piece) (reply : Answered) → PieceOf a c reply b
     → IsBelow a.terms.devices a.session.mode → (IsBelow b.terms.devices b.session.mode → ⊥)
-    → IsSound a → IsPast a b.session b.owners
+    → PortIsSound a → IsPast a b.session b.owners
 piece_wakes a b c reply is below left sound = by b (piece_did a b c reply is) left
   where
     by : (b : PortState) → Did a c reply b → (IsBelow b.terms.devices b.session.mode → ⊥)
@@ -445,7 +455,7 @@ piece_wakes a b c reply is below left sound = by b (piece_did a b c reply is) le
 
 pub late_ends : LateEnds
 late_ends devices limits far silence pieces more piece replies others a b c run resets rest =
-    let from = opened devices limits far silence in
+    let from = port_at_opening devices limits far silence in
     let start = opened_sound devices limits far silence in
     let sound = pieces_sound from a pieces replies run start in
     let one = piece_leads a b piece answered.Nothing resets.is sound in
@@ -464,12 +474,12 @@ pub carries_none : CarriesNone
 carries_none devices limits far silence pieces replies b run none =
     by (all b.owners) done.fits done.record_is
   where
-    done : CarriesOut (opened devices limits far silence) pieces replies b
+    done : CarriesOut (port_at_opening devices limits far silence) pieces replies b
     done = each_done_has_its_pair devices limits far silence pieces replies b run
 
     by : (owners : List Owner)
         → ((x : Owner) → IsOneOf x owners
-        → Fits (allowance_of (opened devices limits far silence).terms) x)
+        → Fits (allowance_of (port_at_opening devices limits far silence).terms) x)
         → b.session.carried ≡ far.carried ++ pairs_of owners → b.session.carried ≡ far.carried
     by [] fits is = is ∙ append-nil far.carried
     by (x ∷ owners) fits is =
@@ -478,5 +488,5 @@ carries_none devices limits far silence pieces replies b run none =
 
 pub denied_without_isdu : IsDeniedWithoutIsdu
 denied_without_isdu devices limits far silence pieces replies b run ticket happens =
-    (run_leads (opened devices limits far silence) b pieces replies run
+    (run_leads (port_at_opening devices limits far silence) b pieces replies run
     (opened_sound devices limits far silence)).1 ticket outcome.NoIsdu happens

@@ -14,19 +14,19 @@ use Rattle.iol_book.specs.declared.entries.Outcome.{Outcome}
 use Rattle.iol_book.specs.declared.entries.Outcome.TheVariants as outcome
 use Rattle.iol_book.specs.Numbers.{times_in}
 use Rattle.iol_book.specs.Replay.{Standing, nothing, same_ticket, without, without_waiting}
-use Rattle.iol_book.specs.BookModel.{BookState, IsReplayed, next_taken, took, posted, leaves_unsure}
-use Rattle.iol_book.specs.Takings.{takings, taking_of, first_with, ended}
-use Rattle.iol_steps.specs.Step.{Step, Take, Deny, Carry, Again, Done, Unknown, LateCarry, Start, Reset, Busy, Move, Moment, may_repeat, may_misread}
-use Rattle.iol_steps.specs.Session.{Job, Session, MaySession, session_after, session_through, cut_for, unanswered, marked}
+use Rattle.iol_book.specs.BookModel.{BookState, IsReplayed, next_taken, book_after_take, book_after_post, leaves_unsure}
+use Rattle.iol_book.specs.Takings.{takings, taking_of, first_with, taking_with_outcome}
+use Rattle.iol_steps.specs.Step.{PortStep, Take, Deny, Carry, Again, Done, Unknown, LateCarry, Start, Reset, Busy, Move, Moment, may_repeat, may_misread}
+use Rattle.iol_steps.specs.Session.{Job, Session, MaySession, session_after, session_through, cut_for, unanswered_request, job_to_cancel}
 use Rattle.iol_steps.specs.Kinds.{restart_steps}
 use Rattle.iol_steps.specs.declared.mode.Mode.{Mode}
 use Rattle.iol_steps.specs.declared.mode.Mode.TheVariants.{Down, Startup}
 use Rattle.iol_mode.specs.declared.why.Why.{Why}
-use Rattle.iol_port.specs.Owners.{Owner, Owners, all, pairs_of, answered, settled, owners_after, owners_through, archiving, Allowance, IsOneOf, IsToldAs, EndsAs, Fits, HasEnded, allowance_of}
+use Rattle.iol_port.specs.Owners.{Owner, Owners, all, pairs_of, owner_with_answer, owner_with_outcome, owners_after, owners_through, owners_after_archive, Allowance, IsOneOf, IsToldAs, EndsAs, Fits, HasEnded, allowance_of}
 use Rattle.iol_port.specs.Steps.{ticket_of, MayBook, book_after, book_through}
-use Rattle.iol_port.specs.Run.{request_of}
-use Rattle.iol_port.specs.Sound.{not_under_way, Each, AnswersFit, IsOpen, IsOutcome, times_ever, Sound}
-use Rattle.iol_port.specs.CarriesOut.{GoesOn, LastGoesOn, GoOn}
+use Rattle.iol_port.specs.Run.{job_request}
+use Rattle.iol_port.specs.Sound.{not_under_way, Each, AnswersFitJob, LastTakenIsOpen, IsOutcome, times_ever, Sound}
+use Rattle.iol_port.specs.CarriesOut.{OwnerGoesOn, LastGoesOn, GoOn}
 use Rattle.iol_port.proofs.Replaying.{told_for, LeavesWaiting, next_is, next_ticket_is, took_replayed, took_takings, denied_replayed, denied_takings, posted_replayed, posted_takings}
 
 -- What is said of each pair of a list
@@ -92,7 +92,7 @@ waiting_next n s t q next =
 
 -- Owners that go on
 
-goes_on_itself : {x : Owner} → GoesOn x x
+goes_on_itself : {x : Owner} → OwnerGoesOn x x
 goes_on_itself = record {
   ticket_is = refl;
   request_is = refl;
@@ -101,7 +101,7 @@ goes_on_itself = record {
   answers_are = refl;
 }
 
-goes_on_then : {x y z : Owner} → GoesOn x y → GoesOn y z → GoesOn x z
+goes_on_then : {x y z : Owner} → OwnerGoesOn x y → OwnerGoesOn y z → OwnerGoesOn x z
 goes_on_then {x} one two = record {
   ticket_is = two.ticket_is ∙ one.ticket_is;
   request_is = two.request_is ∙ one.request_is;
@@ -124,7 +124,7 @@ pub go_on_itself : {xs : List Owner} → GoOn xs xs
 go_on_itself {xs} = go_on_behind [] xs
 
 -- the first goes on as another
-go_on_first : {x y : Owner} {zs : List Owner} → GoesOn x y → GoOn (x ∷ zs) (y ∷ zs)
+go_on_first : {x y : Owner} {zs : List Owner} → OwnerGoesOn x y → GoOn (x ∷ zs) (y ∷ zs)
 go_on_first {y = y} {zs = zs} goes =
     record { more = []; others = y ∷ zs; owners_are = refl; last = (goes, refl) }
 
@@ -165,14 +165,14 @@ one_behind x [] xs i = i
 one_behind x (y ∷ more) xs i = inr (one_behind x more xs i)
 
 pub go_on_each : {xs ys : List Owner} → GoOn xs ys → (x : Owner) → IsOneOf x xs
-    → (y : Owner) × IsOneOf y ys × GoesOn x y
+    → (y : Owner) × IsOneOf y ys × OwnerGoesOn x y
 go_on_each {xs} goes x i = rw goes.owners_are (
     let (y, j, one) = by xs goes.others goes.last i in
     (y, one_behind y goes.more goes.others j, one))
   where
     by : (xs others : List Owner) → LastGoesOn xs others → IsOneOf x xs
-        → (y : Owner) × IsOneOf y others × GoesOn x y
-    by (z ∷ xs) (y ∷ others) last (inl is) = (y, inl refl, subst (λ w. GoesOn w y) is last.0)
+        → (y : Owner) × IsOneOf y others × OwnerGoesOn x y
+    by (z ∷ xs) (y ∷ others) last (inl is) = (y, inl refl, subst (λ w. OwnerGoesOn w y) is last.0)
     by (z ∷ xs) (y ∷ others) last (inr i) = (x, inr (rw last.1 i), goes_on_itself)
     by [] others last i = absurd i
     by (z ∷ xs) [] last i = absurd last
@@ -213,7 +213,7 @@ closed_of s l x i = by s.job s.late l.current i
 -- one that ended is closed, unless it is late
 pub closed_has : (repeats : Request → Bool) (job : Option Job) (late : Option Request)
     (taken : Option (Ticket × Request)) (l : Owners) (xs : List Owner)
-    → IsOpen repeats job late taken xs
+    → LastTakenIsOpen repeats job late taken xs
     → (x : Owner) → IsOneOf x (xs ++ l.archived) → (out : Outcome)
     → x.taking.outcome ≡ Some out → (leaves_unsure out ≡ false) ⊎ (late ≡ None)
     → IsOneOf x (closed_by job late (record l { current = xs }))
@@ -296,12 +296,12 @@ module _ {allowance : Allowance} {b : BookState} {s : Session} (l : Owners) (x :
   fits_x = sound.fits.fit x (inl refl)
 
   -- the owner goes on as another
-  first_goes : {next : BookState} {t : Session} {y : Owner} → GoesOn x y
+  first_goes : {next : BookState} {t : Session} {y : Owner} → OwnerGoesOn x y
       → IsReplayed next → takings next.journal ≡ y.taking ∷ map (λ a. a.taking) xs
       → t.carried ≡ l.before ++ pairs_of (y ∷ xs ++ l.archived) → Fits allowance y
       → ((z : Owner) → IsOneOf z (not_under_way t.job (y ∷ xs ++ l.archived))
       → IsSome z.taking.outcome)
-      → IsOpen allowance.repeats t.job t.late next.standing.taken (y ∷ xs)
+      → LastTakenIsOpen allowance.repeats t.job t.late next.standing.taken (y ∷ xs)
       → (next.unsure ≡ false → t.late ≡ None)
       → ((n : ℕ) → times_ever n next (record l { current = y ∷ xs })
       ≤ times_ever n b (record l { current = x ∷ xs }))
@@ -331,18 +331,18 @@ module _ {allowance : Allowance} {b : BookState} {s : Session} (l : Owners) (x :
 
   -- it was carried out once more
   answers_goes : (a : Answer) {t : Session}
-      → AnswersFit (allowance.repeats x.taking.request) None x.answers
+      → AnswersFitJob (allowance.repeats x.taking.request) None x.answers
       → (out : Option Outcome) → x.taking.outcome ≡ out
       → ((answer : Answer) → out ≡ Some (outcome.Done answer) → ⊥) → (out ≡ Some outcome.NoIsdu → ⊥)
       → t.carried ≡ grown_by s.carried x.taking.request a
-      → ((z : Owner) → IsOneOf z (not_under_way t.job (answered a x ∷ xs ++ l.archived))
+      → ((z : Owner) → IsOneOf z (not_under_way t.job (owner_with_answer a x ∷ xs ++ l.archived))
       → IsSome z.taking.outcome)
-      → IsOpen allowance.repeats t.job t.late b.standing.taken (answered a x ∷ xs)
+      → LastTakenIsOpen allowance.repeats t.job t.late b.standing.taken (owner_with_answer a x ∷ xs)
       → (b.unsure ≡ false → t.late ≡ None)
       → ((z : Owner) → IsOneOf z (closed s (record l { current = x ∷ xs }))
-      → IsOneOf z (closed t (record l { current = answered a x ∷ xs })))
+      → IsOneOf z (closed t (record l { current = owner_with_answer a x ∷ xs })))
       → Goes allowance s (record l { current = x ∷ xs }) b t
-      (record l { current = answered a x ∷ xs })
+      (record l { current = owner_with_answer a x ∷ xs })
   answers_goes a may out is none never grown ended_are opens sure stays =
       first_goes goes sound.replayed sound.fits.takings_are
       (grown ∙ simp (sound.fits.record_is, append_assoc))
@@ -351,7 +351,7 @@ module _ {allowance : Allowance} {b : BookState} {s : Session} (l : Owners) (x :
       (each_more b.standing.outcomes (outcome_on allowance.isdu (go_on_first goes))
       sound.outcomes) stays
     where
-      goes : GoesOn x (answered a x)
+      goes : OwnerGoesOn x (owner_with_answer a x)
       goes = record {
         ticket_is = refl;
         request_is = refl;
@@ -360,7 +360,7 @@ module _ {allowance : Allowance} {b : BookState} {s : Session} (l : Owners) (x :
         answers_are = refl;
       }
 
-      once : AnswersFit (allowance.repeats x.taking.request) None x.answers
+      once : AnswersFitJob (allowance.repeats x.taking.request) None x.answers
           → (length (a ∷ x.answers) ≤ 1) ⊎ IsTrue (allowance.repeats x.taking.request)
       once (inl first) = inl (rw first (omega arith))
       once (inr again) = inr again
@@ -377,18 +377,18 @@ module _ {allowance : Allowance} {b : BookState} {s : Session} (l : Owners) (x :
   ends_goes : (out : Outcome) {q : Request} {t : Session}
       → b.standing.taken ≡ Some (x.taking.ticket, q) → x.taking.outcome ≡ None
       → LeavesWaiting out → EndsAs allowance.misreads (Some out) x.answers
-      → IsOutcome allowance.isdu (settled out x ∷ xs ++ l.archived) x.taking.ticket out
+      → IsOutcome allowance.isdu (owner_with_outcome out x ∷ xs ++ l.archived) x.taking.ticket out
       → t.carried ≡ s.carried
-      → IsOpen allowance.repeats t.job t.late None (settled out x ∷ xs)
-      → ((posted b out).unsure ≡ false → t.late ≡ None)
+      → LastTakenIsOpen allowance.repeats t.job t.late None (owner_with_outcome out x ∷ xs)
+      → ((book_after_post b out).unsure ≡ false → t.late ≡ None)
       → ((z : Owner) → IsOneOf z (closed s (record l { current = x ∷ xs }))
-      → IsOneOf z (closed t (record l { current = settled out x ∷ xs })))
-      → Goes allowance s (record l { current = x ∷ xs }) (posted b out) t
-      (record l { current = settled out x ∷ xs })
+      → IsOneOf z (closed t (record l { current = owner_with_outcome out x ∷ xs })))
+      → Goes allowance s (record l { current = x ∷ xs }) (book_after_post b out) t
+      (record l { current = owner_with_outcome out x ∷ xs })
   ends_goes out {q} {t} taken none leaves ends new same opens sure stays =
       first_goes goes (posted_replayed b out leaves sound.replayed)
       (posted_takings b (x.taking.ticket, q) out sound.replayed taken
-      ∙ ap (first_with (ended out)) sound.fits.takings_are)
+      ∙ ap (first_with (taking_with_outcome out)) sound.fits.takings_are)
       (same ∙ sound.fits.record_is) (record
       { once = fits_x.once; ends = ends; isdu = fits_x.isdu })
       (λ z i. ended_are z (others_all t.job _ z i)) (rw taken opens) sure
@@ -397,12 +397,12 @@ module _ {allowance : Allowance} {b : BookState} {s : Session} (l : Owners) (x :
       (each_more b.standing.outcomes (outcome_on allowance.isdu (go_on_first goes))
       sound.outcomes))) stays
     where
-      ended_are : (z : Owner) → IsOneOf z (settled out x ∷ xs ++ l.archived)
+      ended_are : (z : Owner) → IsOneOf z (owner_with_outcome out x ∷ xs ++ l.archived)
           → IsSome z.taking.outcome
       ended_are z (inl is) = subst (λ y. IsSome y.taking.outcome) is refl
       ended_are z (inr i) = sound.fits.ended z (others_rest s.job x (xs ++ l.archived) z i)
 
-      goes : GoesOn x (settled out x)
+      goes : OwnerGoesOn x (owner_with_outcome out x)
       goes = record {
         ticket_is = refl;
         request_is = refl;
@@ -415,7 +415,7 @@ module _ {allowance : Allowance} {b : BookState} {s : Session} (l : Owners) (x :
 session_goes : {allowance : Allowance} {b : BookState} {s t : Session} {l : Owners} {unsure : Bool}
     → Sound allowance b s l → t.carried ≡ s.carried
     → ((z : Owner) → IsOneOf z (not_under_way t.job (all l)) → IsSome z.taking.outcome)
-    → IsOpen allowance.repeats t.job t.late b.standing.taken l.current
+    → LastTakenIsOpen allowance.repeats t.job t.late b.standing.taken l.current
     → (unsure ≡ false → t.late ≡ None)
     → ((z : Owner) → IsOneOf z (closed s l) → IsOneOf z (closed t l))
     → Goes allowance s l (record b { unsure = unsure }) t l
@@ -442,8 +442,8 @@ session_goes sound same ended_are opens sure stays = record {
 -- the same request is under way, with the answers that it had
 job_goes : {allowance : Allowance} {b : BookState} (s : Session) (l : Owners) (x : Owner)
     (xs : List Owner) (job next : Job) → next.request ≡ job.request
-    → (AnswersFit (allowance.repeats job.request) job.answer x.answers
-    → AnswersFit (allowance.repeats job.request) next.answer x.answers)
+    → (AnswersFitJob (allowance.repeats job.request) job.answer x.answers
+    → AnswersFitJob (allowance.repeats job.request) next.answer x.answers)
     → Sound allowance b (record s { job = Some job; late = None }) (record l { current = x ∷ xs })
     → Goes allowance (record s { job = Some job; late = None }) (record l { current = x ∷ xs }) b
     (record s { job = Some next; late = None }) (record l { current = x ∷ xs })
@@ -461,24 +461,34 @@ module _ {allowance : Allowance} {b : BookState} (s : Session) (l : Owners) (x :
 
   -- a request that is cut off, of which nothing is late
   cut_goes : (cause : Cause) → Goes allowance (record s { job = Some job; late = None })
-      (record l { current = x ∷ xs }) (posted b (outcome.Unknown cause))
+      (record l { current = x ∷ xs }) (book_after_post b (outcome.Unknown cause))
       (record s { job = None; late = None })
-      (record l { current = settled (outcome.Unknown cause) x ∷ xs })
+      (record l { current = owner_with_outcome (outcome.Unknown cause) x ∷ xs })
   cut_goes cause = ends_goes l x xs sound (outcome.Unknown cause) opens.taken_is opens.none
-      (λ t standing. refl) tt (settled (outcome.Unknown cause) x, inl refl, refl, refl) refl refl
+      (λ t standing. refl) tt (
+        owner_with_outcome (outcome.Unknown cause) x,
+        inl refl,
+        refl,
+        refl,
+      ) refl refl
       (λ _. refl) (λ z i. inr i)
 
   -- it may be carried out yet where it has no answer
   lost_goes : (cause : Cause) (answer : Option Answer) → job.answer ≡ answer
       → leaves_unsure (outcome.Unknown cause) ≡ true
       → Goes allowance (record s { job = Some job; late = None })
-      (record l { current = x ∷ xs }) (posted b (outcome.Unknown cause))
-      (record s { job = None; late = unanswered answer job.request })
-      (record l { current = settled (outcome.Unknown cause) x ∷ xs })
+      (record l { current = x ∷ xs }) (book_after_post b (outcome.Unknown cause))
+      (record s { job = None; late = unanswered_request answer job.request })
+      (record l { current = owner_with_outcome (outcome.Unknown cause) x ∷ xs })
   lost_goes cause (Some a) is unsure = cut_goes cause
   lost_goes cause None is unsure =
       ends_goes l x xs sound (outcome.Unknown cause) opens.taken_is opens.none
-      (λ t standing. refl) tt (settled (outcome.Unknown cause) x, inl refl, refl, refl) refl (
+      (λ t standing. refl) tt (
+        owner_with_outcome (outcome.Unknown cause) x,
+        inl refl,
+        refl,
+        refl,
+      ) refl (
         refl,
         record {
           request_is = opens.request_is;
@@ -494,9 +504,9 @@ module _ {allowance : Allowance} {b : BookState} (s : Session) (l : Owners) (x :
       never u v unsure sure = grind arith
 
   pub unknown_goes : (cause : Cause) → Goes allowance (record s { job = Some job; late = None })
-      (record l { current = x ∷ xs }) (posted b (outcome.Unknown cause))
+      (record l { current = x ∷ xs }) (book_after_post b (outcome.Unknown cause))
       (cut_for cause (record s { job = Some job; late = None }))
-      (record l { current = settled (outcome.Unknown cause) x ∷ xs })
+      (record l { current = owner_with_outcome (outcome.Unknown cause) x ∷ xs })
   unknown_goes LinkLost = lost_goes LinkLost job.answer refl refl
   unknown_goes Restarted = lost_goes Restarted job.answer refl refl
   unknown_goes cause = cut_goes cause
@@ -513,7 +523,7 @@ pub marked_goes : {allowance : Allowance} {b : BookState} (s : Session) (job : O
     (late : Option Request) (l : Owners) (xs : List Owner)
     → Sound allowance b (record s { job = job; late = late }) (record l { current = xs })
     → Goes allowance (record s { job = job; late = late }) (record l { current = xs }) b
-    (record s { job = marked job; late = late }) (record l { current = xs })
+    (record s { job = job_to_cancel job; late = late }) (record l { current = xs })
 marked_goes s None late l xs sound = goes_itself sound
 marked_goes s (Some job) None l (x ∷ xs) sound =
     job_goes s l x xs job (record job { asked = true }) refl (λ is. is) sound
@@ -524,9 +534,9 @@ pub restart_goes : {allowance : Allowance} {b : BookState} (s : Session) (job : 
     (late : Option Request) (l : Owners) (xs : List Owner)
     → Sound allowance b (record s { job = job; late = late }) (record l { current = xs })
     → Goes allowance (record s { job = job; late = late }) (record l { current = xs })
-    (book_through (restart_steps (request_of job)) b)
-    (session_through (restart_steps (request_of job)) (record s { job = job; late = late }))
-    (owners_through (restart_steps (request_of job)) (record l { current = xs }))
+    (book_through (restart_steps (job_request job)) b)
+    (session_through (restart_steps (job_request job)) (record s { job = job; late = late }))
+    (owners_through (restart_steps (job_request job)) (record l { current = xs }))
 restart_goes s None late l xs sound = moved_goes Down None sound
 restart_goes s (Some job) None l (x ∷ xs) sound =
     let cut = unknown_goes s l x xs job sound Restarted in
@@ -541,7 +551,7 @@ pub archive_goes : {allowance : Allowance} {b : BookState} (s : Session) (job : 
     → Sound allowance b (record s { job = job; late = late }) (record l { current = xs })
     → Goes allowance (record s { job = job; late = late }) (record l { current = xs })
     (record b { journal = [] }) (record s { job = job; late = late })
-    (archiving (record l { current = xs }))
+    (owners_after_archive (record l { current = xs }))
 archive_goes s None None l xs (free, sure) sound = record {
   sound = record {
     replayed = free;
@@ -572,7 +582,7 @@ archive_goes s (Some job) (Some q) l xs free sound = absurd sound.opens
 take_goes : {allowance : Allowance} {b : BookState} (s : Session) (l : Owners) (t : Ticket)
     (q : Request) → next_taken b.standing ≡ Some (t, q) → allowance.isdu ≡ true
     → Sound allowance b (record s { job = None; late = None }) l
-    → Goes allowance (record s { job = None; late = None }) l (took b (t, q)) (record s {
+    → Goes allowance (record s { job = None; late = None }) l (book_after_take b (t, q)) (record s {
       job = Some (record { request = q; answer = None; busy = 0; asked = false });
       late = None;
     }) (record l { current = record { taking = taking_of t q; answers = [] } ∷ l.current })
@@ -608,12 +618,12 @@ take_goes {allowance} {b} s l t q next isdu sound = record {
         (record { once = inl (omega arith); ends = tt; isdu = isdu })
     fit a (inr i) = sound.fits.fit a i
 
-    fewer : (n : ℕ) → times_ever n (took b (t, q)) (record l { current = x ∷ l.current })
+    fewer : (n : ℕ) → times_ever n (book_after_take b (t, q)) (record l { current = x ∷ l.current })
         ≤ times_ever n b l
     fewer n = let is = next_is b.standing t q next in rw (is.urgent, is.others)
         (grind (arith, common_steps, waiting_next n b.standing t q next))
 
-pub step_goes : (m : Moment) (step : Step) (b : BookState) (s : Session)
+pub step_goes : (m : Moment) (step : PortStep) (b : BookState) (s : Session)
     (job : Option Job) (late : Option Request) (l : Owners) (xs : List Owner)
     → MayBook step b
     → MaySession m step (record s { job = job; late = late })
@@ -649,10 +659,11 @@ step_goes m (Done a) b s (Some job) None l (x ∷ xs) next may sound =
     ends_goes l x xs sound (outcome.Done a) sound.opens.taken_is sound.opens.none
     (λ t standing. refl)
     (told_by x.answers carried (rw given at sound.opens.answers) told)
-    (settled (outcome.Done a) x, inl refl, refl, refl) refl refl (λ _. refl) (λ z i. inr i)
+    (owner_with_outcome (outcome.Done a) x, inl refl, refl, refl) refl refl (λ _. refl)
+    (λ z i. inr i)
   where
     told_by : (answers : List Answer) (carried : Answer)
-        → AnswersFit (may_repeat m.terms job.request) (Some carried) answers
+        → AnswersFitJob (may_repeat m.terms job.request) (Some carried) answers
         → IsToldAs (may_misread m.terms) a carried
         → EndsAs (may_misread m.terms) (Some (outcome.Done a)) answers
     told_by (last ∷ earlier) carried is told = rw is told
@@ -667,7 +678,7 @@ step_goes m (LateCarry a) b s None (Some q) l (x ∷ xs) next may sound =
     (ap (λ r. grown_by s.carried r a) (sym late.request_is)) ended_are sound.opens.0 (λ _. refl)
     (λ z i. inr i)
   where
-    ended_are : (z : Owner) → IsOneOf z (answered a x ∷ xs ++ l.archived)
+    ended_are : (z : Owner) → IsOneOf z (owner_with_answer a x ∷ xs ++ l.archived)
         → IsSome z.taking.outcome
     ended_are z (inl is) = subst (λ y. IsSome y.taking.outcome) is (sound.fits.ended x (inl refl))
     ended_are z (inr i) = sound.fits.ended z (inr i)

@@ -8,22 +8,22 @@ use Rattle.iol_book.specs.declared.entries.Ticket.{Ticket}
 use Rattle.iol_book.specs.declared.entries.Outcome.{Outcome}
 use Rattle.iol_book.specs.declared.entries.Entry.TheVariants.{Collected, Withdrawn}
 use Rattle.iol_book.specs.Replay.{same_ticket}
-use Rattle.iol_book.specs.BookModel.{entered, submitted, next_ticket, collected, withdrawn, may_archive, submitted_urgent, flight_refusal}
-use Rattle.iol_steps.specs.Session.{MaySessionAll, cancelling, session_through}
+use Rattle.iol_book.specs.BookModel.{book_with_entry, book_after_submit, next_ticket, book_after_collect, book_after_withdrawal, may_archive, book_after_urgent, flight_refusal}
+use Rattle.iol_steps.specs.Session.{MaySessionAll, session_cancelling, session_through}
 use Rattle.iol_steps.specs.Images.{Images}
-use Rattle.iol_steps.specs.Step.{Step, Moment, Exchanged}
+use Rattle.iol_steps.specs.Step.{PortStep, Moment, Exchanged}
 use Rattle.iol_event.specs.declared.event.Event.{Event}
 use Rattle.iol_page.specs.declared.identity.Identity.{Identity}
 use Rattle.iol_port.specs.Steps.{MayBookAll, book_through}
-use Rattle.iol_port.specs.Owners.{owners_through, archiving}
+use Rattle.iol_port.specs.Owners.{owners_through, owners_after_archive}
 use Rattle.iol_port.specs.declared.call.Call.TheVariants as call
 use Rattle.iol_port.specs.declared.call.Answered.{Answered}
 use Rattle.iol_port.specs.declared.call.Answered.TheVariants as answered
-use Rattle.iol_port.specs.Run.{PortState, CallOf, Piece, Whole, Send, Receive, PieceOf, moment_in, moment_by, restarted}
+use Rattle.iol_port.specs.Run.{PortState, CallOf, Piece, Whole, Send, Receive, PieceOf, moment_in, moment_by, port_after_restart}
 use Rattle.iol_port.specs.Promises.{RunsJoin, PiecesJoin}
 
 -- some steps in the book, the session and the owners, whatever becomes of the events and the images
-pub record IsMoved (m : Moment) (steps : List Step) (a b : PortState) : Type 0 where
+pub record IsMoved (m : Moment) (steps : List PortStep) (a b : PortState) : Type 0 where
   pub may_book : MayBookAll steps a.book
   pub book : b.book ≡ book_through steps a.book
   pub may_session : MaySessionAll m steps a.session
@@ -39,21 +39,22 @@ pub data Did (a : PortState) (c : Piece) (reply : Answered) : PortState → Type
       (record a { kept = kept; images = images; terms = record a.terms { expected = expected } })
   Submits : (q : Request) → c ≡ Whole (call.Submit q)
       → reply ≡ answered.Ticket (next_ticket a.book)
-      → Did a c reply (record a { book = submitted a.book q })
+      → Did a c reply (record a { book = book_after_submit a.book q })
   Urges : (q : Request) → c ≡ Whole (call.SubmitUrgent q)
       → reply ≡ answered.Ticket (next_ticket a.book)
-      → Did a c reply (record a { book = submitted_urgent a.book q })
-  Collects : (t : Ticket) → collected a.book t ≡ entered a.book (Collected t)
-      → Did a c reply (record a { book = collected a.book t })
-  Withdraws : (t : Ticket) → withdrawn a.book t ≡ entered a.book (Withdrawn t)
-      → Did a c reply (record a { book = withdrawn a.book t })
+      → Did a c reply (record a { book = book_after_urgent a.book q })
+  Collects : (t : Ticket) → book_after_collect a.book t ≡ book_with_entry a.book (Collected t)
+      → Did a c reply (record a { book = book_after_collect a.book t })
+  Withdraws : (t : Ticket) → book_after_withdrawal a.book t ≡ book_with_entry a.book (Withdrawn t)
+      → Did a c reply (record a { book = book_after_withdrawal a.book t })
   Cancels : (t : Ticket) → c ≡ Whole (call.Cancel t)
       → (reply ≡ answered.Nothing) × (flight_refusal a.book.standing t ≡ None)
-      → Did a c reply (record a { session = cancelling a.session })
-  Restarts : Did a c reply (restarted a)
+      → Did a c reply (record a { session = session_cancelling a.session })
+  Restarts : Did a c reply (port_after_restart a)
   Archives : may_archive a.book ≡ true → Did a c reply
-      (record a { book = record a.book { journal = [] }; owners = archiving a.owners })
-  Moves : (m : Moment) (steps : List Step) {b : PortState} → IsMoved m steps a b → Did a c reply b
+      (record a { book = record a.book { journal = [] }; owners = owners_after_archive a.owners })
+  Moves : (m : Moment) (steps : List PortStep) {b : PortState} → IsMoved m steps a b
+      → Did a c reply b
 
 -- an outcome that a collect hands out was there
 pub told_outcome : (a b : PortState) (t : Ticket) (out : Outcome)

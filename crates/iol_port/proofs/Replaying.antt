@@ -11,22 +11,22 @@ use Rattle.iol_book.specs.declared.entries.Outcome.{Outcome}
 use Rattle.iol_book.specs.declared.entries.Outcome.TheVariants.{NoIsdu}
 use Rattle.iol_book.specs.declared.entries.Entry.{Entry}
 use Rattle.iol_book.specs.declared.entries.Entry.TheVariants.{Taken, Answered}
-use Rattle.iol_book.specs.Replay.{Standing, nothing, same_ticket, request_waiting, without, others_without, waiting_after, step, replay_from}
-use Rattle.iol_book.specs.BookModel.{BookState, IsReplayed, entered, leaves_unsure, took, denied, ended_with, posted, next_taken, may_archive, others_behind, waits}
-use Rattle.iol_book.specs.Takings.{Taking, taking_of, ended, first_with, takings, takings_after, takings_from}
-use Rattle.iol_steps.specs.Step.{Step, Moment, Terms, may_misread}
+use Rattle.iol_book.specs.Replay.{Standing, nothing, same_ticket, request_waiting, without, others_without, waiting_after, standing_after, replay_from}
+use Rattle.iol_book.specs.BookModel.{BookState, IsReplayed, book_with_entry, leaves_unsure, book_after_take, book_after_denial, ended_with, book_after_post, next_taken, may_archive, others_behind, waits}
+use Rattle.iol_book.specs.Takings.{Taking, taking_of, taking_with_outcome, first_with, takings, takings_after, takings_from}
+use Rattle.iol_steps.specs.Step.{PortStep, Moment, Terms, may_misread}
 use Rattle.iol_steps.specs.Session.{Session, MayTell, MaySession, MaySessionAll, session_after, session_through}
 use Rattle.iol_port.specs.Owners.{Owners, owners_after, owners_through, IsToldAs}
 use Rattle.iol_port.specs.Steps.{MayBook, MayBookAll, book_after, book_through}
 
 replay_from-push : (s : Standing) (entries : List Entry) (entry : Entry)
-    → replay_from s (entries ++ entry ∷ []) ≡ step (replay_from s entries) entry
+    → replay_from s (entries ++ entry ∷ []) ≡ standing_after (replay_from s entries) entry
 replay_from-push s [] entry = refl
-replay_from-push s (e ∷ entries) entry = replay_from-push (step s e) entries entry
+replay_from-push s (e ∷ entries) entry = replay_from-push (standing_after s e) entries entry
 
 pub entered_replayed : (book : BookState) (entry : Entry) → IsReplayed book
-    → IsReplayed (entered book entry)
-entered_replayed book entry h = rw replay_from-push (ap (λ s. step s entry) h)
+    → IsReplayed (book_with_entry book entry)
+entered_replayed book entry h = rw replay_from-push (ap (λ s. standing_after s entry) h)
 
 -- where one is taken next, none is taken; it is the one that waits under its ticket, and leaves
 -- its list as its entry says
@@ -49,7 +49,8 @@ next_is s t q h = by_lists s.taken s.urgent s.waiting (eq-eqb t.0 t.0 refl) h
     by_lists _ _ _ same h = absurd (cc)
 
 pub took_replayed : (book : BookState) (t : Ticket) (q : Request)
-    → next_taken book.standing ≡ Some (t, q) → IsReplayed book → IsReplayed (took book (t, q))
+    → next_taken book.standing ≡ Some (t, q) → IsReplayed book
+    → IsReplayed (book_after_take book (t, q))
 took_replayed book t q next h =
     let is = next_is book.standing t q next in
     rw (is.urgent, is.others) (rw is.found at (entered_replayed book (Taken t) h))
@@ -59,7 +60,7 @@ abbrev pub LeavesWaiting : Outcome → Type 0
 LeavesWaiting o = (t : Ticket) (s : Standing) → waiting_after t o s ≡ s
 
 pub posted_replayed : (book : BookState) (o : Outcome) → LeavesWaiting o → IsReplayed book
-    → IsReplayed (posted book o)
+    → IsReplayed (book_after_post book o)
 posted_replayed book o leaves h = by_taken book.standing.taken
   where
     by_taken : (taken : Option (Ticket × Request))
@@ -75,7 +76,8 @@ next_ticket_is (Some p) t h = (p.1, grind (arith, common_steps))
 
 -- a denied request was the next one
 pub denied_replayed : (book : BookState) (t : Ticket) (q : Request)
-    → next_taken book.standing ≡ Some (t, q) → IsReplayed book → IsReplayed (denied book t)
+    → next_taken book.standing ≡ Some (t, q) → IsReplayed book
+    → IsReplayed (book_after_denial book t)
 denied_replayed book t q next h =
     let is = next_is book.standing t q next in
     rw (is.urgent, is.others, is.free) (entered_replayed book (Answered t NoIsdu) h)
@@ -91,7 +93,7 @@ takings_from-push : (s : Standing) (ts : List Taking) (es : List Entry) (e : Ent
     → takings_from s ts (es ++ e ∷ []) ≡ takings_after (replay_from s es) e (takings_from s ts es)
 takings_from-push s ts [] e = refl
 takings_from-push s ts (x ∷ es) e =
-    takings_from-push (step s x) (takings_after s x ts) es e
+    takings_from-push (standing_after s x) (takings_after s x ts) es e
 
 pub entered_takings : (b : BookState) (e : Entry) → IsReplayed b
     → takings (b.journal ++ e ∷ []) ≡ takings_after b.standing e (takings b.journal)
@@ -99,17 +101,17 @@ entered_takings b e is = rw is (takings_from-push nothing [] b.journal e)
 
 pub took_takings : (b : BookState) (t : Ticket) (q : Request) → IsReplayed b
     → next_taken b.standing ≡ Some (t, q)
-    → takings (took b (t, q)).journal ≡ taking_of t q ∷ takings b.journal
+    → takings (book_after_take b (t, q)).journal ≡ taking_of t q ∷ takings b.journal
 took_takings b t q is next =
     rw (next_is b.standing t q next).found at (entered_takings b (Taken t) is)
 
 pub denied_takings : (b : BookState) (t : Ticket) → IsReplayed b → b.standing.taken ≡ None
-    → takings (denied b t).journal ≡ takings b.journal
+    → takings (book_after_denial b t).journal ≡ takings b.journal
 denied_takings b t is free = rw free at (entered_takings b (Answered t NoIsdu) is)
 
 pub posted_takings : (b : BookState) (p : Ticket × Request) (o : Outcome) → IsReplayed b
     → b.standing.taken ≡ Some p
-    → takings (posted b o).journal ≡ first_with (ended o) (takings b.journal)
+    → takings (book_after_post b o).journal ≡ first_with (taking_with_outcome o) (takings b.journal)
 posted_takings b p o is taken = rw taken (rw taken at (entered_takings b (Answered p.0 o) is))
 
 told_as : (misreads : Bool) (told a : Answer) → IsTrue misreads ⊎ (a ≡ told)
@@ -126,10 +128,10 @@ told_for terms told (Some a) (inr (misreads, some)) =
 
 -- what each step keeps, a list of steps keeps
 pub steps_keep : (P : BookState → Session → Owners → Type 0) (m : Moment)
-    → ((step : Step) (b : BookState) (s : Session) (l : Owners) → MayBook step b
+    → ((step : PortStep) (b : BookState) (s : Session) (l : Owners) → MayBook step b
     → MaySession m step s → P b s l → P (book_after step b) (session_after step s)
     (owners_after step l))
-    → (steps : List Step) (b : BookState) (s : Session) (l : Owners) → MayBookAll steps b
+    → (steps : List PortStep) (b : BookState) (s : Session) (l : Owners) → MayBookAll steps b
     → MaySessionAll m steps s → P b s l
     → P (book_through steps b) (session_through steps s) (owners_through steps l)
 steps_keep P m keeps [] b s l next may holds = holds

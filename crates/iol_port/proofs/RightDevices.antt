@@ -4,13 +4,13 @@ use Rattle.std.specs.Prelude.{IsTrue}
 use Rattle.iol_page.specs.declared.page.Layouts.{Layouts}
 use Rattle.iol_mode.specs.declared.states.State.{State}
 use Rattle.iol_mode.specs.declared.states.State.TheVariants.{Operate as AtOperate}
-use Rattle.iol_mode.specs.declared.states.Told.{Told}
+use Rattle.iol_mode.specs.declared.states.PageFacts.{PageFacts}
 use Rattle.iol_app.specs.State.{SessionState}
 use Rattle.iol_app.specs.StationState.{IsPresent, operates}
 use Rattle.iol_app.specs.Core.{IsRightIn}
 use Rattle.iol_port.specs.RightDevice.{IsOfRightDevice}
 
-of_present : (layouts : Layouts) (present : Option Told) → IsPresent layouts present
+of_present : (layouts : Layouts) (present : Option PageFacts) → IsPresent layouts present
     → IsOfRightDevice present
 unfolding IsPresent
 of_present layouts None right = right

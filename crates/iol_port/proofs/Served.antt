@@ -12,21 +12,21 @@ use Rattle.iol_far.specs.declared.carried.Carried.{Carried}
 use Rattle.iol_far.specs.Far.{Far}
 use Rattle.iol_far.specs.Local.{has_room}
 use Rattle.iol_far.specs.Record.{takes_more}
-use Rattle.iol_far.specs.Level.{Link, Quiet, IsBefore, grown_by}
+use Rattle.iol_far.specs.Level.{FarLink, Quiet, IsLevelBefore, grown_by}
 use Rattle.iol_link.specs.WireFacts.{WireFacts}
 use Rattle.iol_mode.specs.Stands.{operate_link}
-use Rattle.iol_mode.specs.Next.{AnyLink}
+use Rattle.iol_mode.specs.Next.{AnyLinkValue}
 use Rattle.iol_book.specs.declared.entries.Ticket.{Ticket}
 use Rattle.iol_book.specs.declared.entries.Outcome.TheVariants.{Done}
 use Rattle.iol_book.specs.Replay.{Standing}
-use Rattle.iol_book.specs.BookModel.{BookState, next_taken, others_behind, took, posted}
+use Rattle.iol_book.specs.BookModel.{BookState, next_taken, others_behind, book_after_take, book_after_post}
 use Rattle.iol_app.specs.declared.event_work.EventRoom.TheVariants.{Left}
-use Rattle.iol_app.specs.StationState.{StationState, wire_of}
+use Rattle.iol_app.specs.StationState.{StationState, link_wire}
 use Rattle.iol_port.specs.declared.call.Call.{Call}
 use Rattle.iol_port.specs.declared.call.Call.TheVariants as call
-use Rattle.iol_port.specs.View.{Parts}
-use Rattle.iol_port.specs.Turns.{Stage, Ended, turns_at, turns_needed}
-use Rattle.iol_port.specs.Clean.{CleanLaws, Stood, IsAt, IsBetween, MayStart, MayServe, IsAfter, CleanTurn, takes_all, turns_between, record_of, kind_of, IsOnTime, IsOnItsWay, AreServed, CleanRuns, CleanServes}
+use Rattle.iol_port.specs.View.{PortParts}
+use Rattle.iol_port.specs.Turns.{RequestStage, Ended, turns_at, turns_needed}
+use Rattle.iol_port.specs.Clean.{CleanLaws, Stood, IsAtStage, IsBetween, MayStart, MayServe, IsAfter, CleanTurn, takes_all, turns_between, record_of, kind_of_device, IsOnTime, IsOnItsWay, AreServed, CleanRuns, CleanServes}
 use Rattle.iol_port.proofs.CleanStages.{segment_within}
 use Rattle.iol_mode.specs.declared.configuration.Configuration.{Configuration}
 use Rattle.iol_mode.specs.declared.configuration.Devices.{Devices}
@@ -70,7 +70,7 @@ behind urgent waiting first rest given = grind (arith, common_steps)
 
 -- the book once the request that is next was taken, and has this answer
 abbrev served : BookState → Ticket × Request → Answer → BookState
-served book next answer = posted (took book next) (Done answer)
+served book next answer = book_after_post (book_after_take book next) (Done answer)
 
 queue_rest : {room : Option ℕ} {base : List Carried} {book : BookState}
     {first : Ticket × Request} {rest : List (Ticket × Request)} (answer : Answer)
@@ -129,22 +129,23 @@ between Any (next ∷ rest) = inr (refl, refl)
 module _ {W : Type 0} (facts : WireFacts W) where
   open facts use {honest, far}
 
-  far_at : {kind : Kind} {layouts : Layouts} {link : Link} {station : StationState W} {wire : W}
-      → Stood facts kind layouts link station wire → far (wire_of station.link) ≡ far wire
-  far_at stood = ap (λ (l : AnyLink W). far (wire_of l)) stood.link_is
+  far_at : {kind : Kind} {layouts : Layouts} {link : FarLink} {station : StationState W} {wire : W}
+      → Stood facts kind layouts link station wire → far (link_wire station.link) ≡ far wire
+  far_at stood = ap (λ (l : AnyLinkValue W). far (link_wire l)) stood.link_is
 
-  record_at : {kind : Kind} {layouts : Layouts} {link : Link} {station : StationState W} {wire : W}
+  record_at : {kind : Kind} {layouts : Layouts} {link : FarLink} {station : StationState W}
+      {wire : W}
       → Stood facts kind layouts link station wire
-      → (far (wire_of station.link)).carried ≡ (far wire).carried
+      → (far (link_wire station.link)).carried ≡ (far wire).carried
   record_at stood = ap (λ (f : Far). f.carried) (far_at stood)
 
   -- the wire is honest, the device's record has this room, and start-ups ask this
-  pub record Steady (room : Option ℕ) (asks : Configuration) (now : Parts W) : Type 0 where
-    pub is_honest : IsTrue (honest (wire_of now.station.link))
-    pub room_is : (far (wire_of now.station.link)).room ≡ room
+  pub record Steady (room : Option ℕ) (asks : Configuration) (now : PortParts W) : Type 0 where
+    pub is_honest : IsTrue (honest (link_wire now.station.link))
+    pub room_is : (far (link_wire now.station.link)).room ≡ room
     pub asks_is : now.station.session.configuration ≡ asks
 
-  steady_more : {room : Option ℕ} {asks : Configuration} {mid next : Parts W}
+  steady_more : {room : Option ℕ} {asks : Configuration} {mid next : PortParts W}
       → Steady room asks mid → CleanTurn facts mid next → Steady room asks next
   steady_more steady turn = grind (arith, common_steps)
 
@@ -158,18 +159,18 @@ module _ {W : Type 0} (facts : WireFacts W) where
 
     -- between requests: the next one may start, if there is one and the record has room
     pub record Idle (rest : List (Ticket × Request)) (base : List Carried) (book : BookState)
-        (now : Parts W) : Type 0 where
-      pub kind_is : kind_of facts now ≡ kind
+        (now : PortParts W) : Type 0 where
+      pub kind_is : kind_of_device facts now ≡ kind
       pub record_is : record_of facts now ≡ base
       pub book_is : now.book.state ≡ book
       pub may : 1 ≤ length rest → (ticket : Ticket) (request : Request)
           → next_taken now.book.state.standing ≡ Some (ticket, request)
-          → IsTrue (has_room (far (wire_of now.station.link)))
+          → IsTrue (has_room (far (link_wire now.station.link)))
           → MayStart facts layouts ticket request now
 
     -- where the port stands after so many turns. Right behind a request IDLE 1 may come before
     -- those behind it
-    abbrev Going : ℕ → List (Ticket × Request) → List Carried → BookState → Parts W → Type 0
+    abbrev Going : ℕ → List (Ticket × Request) → List Carried → BookState → PortParts W → Type 0
     Going zero requests base book now = Idle requests base book now
     Going (suc n) [] base book now = (more : List Carried) × (record_of facts now ≡ base ++ more)
     Going (suc n) (next ∷ rest) base book now =
@@ -187,8 +188,8 @@ module _ {W : Type 0} (facts : WireFacts W) where
 
     -- a request has its answer
     between_at : {ticket : Ticket} {request : Request} {base : List Carried} {book : BookState}
-        {answer : Answer} {now : Parts W}
-        → IsAt facts kind layouts ticket request base book (Ended answer) now
+        {answer : Answer} {now : PortParts W}
+        → IsAtStage facts kind layouts ticket request base book (Ended answer) now
         → IsBetween facts kind layouts (grown_by base request answer)
         (served book (ticket, request) answer) false now
     between_at is = record {
@@ -203,7 +204,7 @@ module _ {W : Type 0} (facts : WireFacts W) where
 
     -- where a request may follow the next one may start
     idle_between : {rest : List (Ticket × Request)} {base : List Carried} {book : BookState}
-        {clear : Bool} {now : Parts W} → now.station.session.configuration ≡ asks
+        {clear : Bool} {now : PortParts W} → now.station.session.configuration ≡ asks
         → (1 ≤ length rest → may_follow asks.devices clear ≡ true)
         → IsBetween facts kind layouts base book clear now → Idle rest base book now
     idle_between {now = now} asks_is follows is = record {
@@ -219,7 +220,7 @@ module _ {W : Type 0} (facts : WireFacts W) where
             (rw (asks_is, is.clear_is) (follows more));
         link = operate_link;
         operating = is.stood.operating;
-        level = subst (λ (k : Kind). IsBefore (far is.wire).page k layouts.run.od
+        level = subst (λ (k : Kind). IsLevelBefore (far is.wire).page k layouts.run.od
             (far is.wire).carried operate_link Quiet (far is.wire)) (sym is.stood.kind_is) is.level;
         isdu = is.stood.isdu;
         told = is.stood.told;
@@ -231,9 +232,9 @@ module _ {W : Type 0} (facts : WireFacts W) where
 
     -- a request after one more turn
     went : (n : ℕ) (next : Ticket × Request) (rest : List (Ticket × Request))
-        (base : List Carried) (book : BookState) (now : Parts W)
-        → now.station.session.configuration ≡ asks → (stage : Stage)
-        → IsAt facts kind layouts next.0 next.1 base book stage now
+        (base : List Carried) (book : BookState) (now : PortParts W)
+        → now.station.session.configuration ≡ asks → (stage : RequestStage)
+        → IsAtStage facts kind layouts next.0 next.1 base book stage now
         → turns_at kind.hands_over layouts.run.od next.1 stage ≡ suc n
         → Going (suc n) (next ∷ rest) base book now
     went n next rest base book now asks_is (Ended answer) is turns = inr (
@@ -248,7 +249,7 @@ module _ {W : Type 0} (facts : WireFacts W) where
     went n next rest base book now asks_is stage is turns =
         inl (record { stage = stage; is_at = is; turns_are = turns }, λ answer e. cc)
 
-    module _ {room : Option ℕ} {mid next : Parts W} (steady : Steady room asks mid)
+    module _ {room : Option ℕ} {mid next : PortParts W} (steady : Steady room asks mid)
         (turn : CleanTurn facts mid next) where
       -- one turn more
       going_more : (n : ℕ) (requests : List (Ticket × Request)) (base : List Carried)
@@ -261,7 +262,7 @@ module _ {W : Type 0} (facts : WireFacts W) where
           let grown = turn.grows steady.is_honest in
           (more ++ grown.0, grown.1 ∙ (rw (is, append_assoc) refl))
       going_more zero (first ∷ rest) base book queue idle =
-          let some : has_room (far (wire_of mid.station.link)) ≡ true =
+          let some : has_room (far (link_wire mid.station.link)) ≡ true =
           rw (steady.room_is, idle.record_is) (takes_first room base (length rest) queue.fits) in
           let is_next : next_taken mid.book.state.standing ≡ Some first =
           rw (idle.book_is, queue.free, queue.order) refl in
@@ -299,8 +300,8 @@ module _ {W : Type 0} (facts : WireFacts W) where
     module _ (laws : CleanLaws) where
       -- what that says of the record and of the book
       on_its_way : (n : ℕ) (next : Ticket × Request) (base : List Carried) (book : BookState)
-          (now : Parts W) (stage : Stage)
-          → IsAt facts kind layouts next.0 next.1 base book stage now
+          (now : PortParts W) (stage : RequestStage)
+          → IsAtStage facts kind layouts next.0 next.1 base book stage now
           → turns_at kind.hands_over layouts.run.od next.1 stage ≡ n
           → ((answer : Answer) → stage ≡ Ended answer → ⊥)
           → IsOnItsWay facts kind.hands_over layouts n next base book now
@@ -313,7 +314,7 @@ module _ {W : Type 0} (facts : WireFacts W) where
       )
 
       are_served : (n : ℕ) (requests : List (Ticket × Request)) (base : List Carried)
-          (book : BookState) (now : Parts W) → Going n requests base book now
+          (book : BookState) (now : PortParts W) → Going n requests base book now
           → AreServed facts asks.devices kind.hands_over layouts n requests base book now
       are_served zero requests base book now idle = (idle.record_is, idle.book_is)
       are_served (suc n) [] base book now grown = grown
@@ -334,8 +335,8 @@ module _ {W : Type 0} (facts : WireFacts W) where
 
   -- of one request alone
   on_time : (layouts : Layouts) (devices : Devices) (ticket : Ticket) (request : Request)
-      (p : Parts W) (n : ℕ) (now : Parts W)
-      → AreServed facts devices (kind_of facts p).hands_over layouts (suc n)
+      (p : PortParts W) (n : ℕ) (now : PortParts W)
+      → AreServed facts devices (kind_of_device facts p).hands_over layouts (suc n)
       ((ticket, request) ∷ []) (record_of facts p) p.book.state now
       → IsOnTime facts layouts ticket request p (suc n) now
   on_time layouts devices ticket request p n now (inl given) = grind (arith, common_steps)
@@ -343,11 +344,11 @@ module _ {W : Type 0} (facts : WireFacts W) where
       by (suc n - (needed + turns_between devices [])) (none_behind devices) refl rest
     where
       needed : ℕ
-      needed = turns_needed (kind_of facts p).hands_over layouts.run.od request answer
+      needed = turns_needed (kind_of_device facts p).hands_over layouts.run.od request answer
 
       by : (left : ℕ) → turns_between devices [] ≡ 0
           → suc n - (needed + turns_between devices []) ≡ left
-          → AreServed facts devices (kind_of facts p).hands_over layouts left []
+          → AreServed facts devices (kind_of_device facts p).hands_over layouts left []
           (grown_by (record_of facts p) request answer)
           (served p.book.state (ticket, request) answer) now
           → IsOnTime facts layouts ticket request p (suc n) now
@@ -356,20 +357,21 @@ module _ {W : Type 0} (facts : WireFacts W) where
 
   -- Whole runs
 
-  module _ (p : Parts W) where
+  module _ (p : PortParts W) where
     abbrev asked : Configuration
     asked = p.station.session.configuration
 
     abbrev ready : Option ℕ
-    ready = (far (wire_of p.station.link)).room
+    ready = (far (link_wire p.station.link)).room
 
     -- where the port stands after so many turns and no other call
-    abbrev pub SoFar : List Call → Parts W → Type 0
+    abbrev pub SoFar : List Call → PortParts W → Type 0
     SoFar calls now =
         (n : ℕ) → calls ≡ replicate n call.Turn
         → (layouts : Layouts) (first : Ticket × Request) (rest : List (Ticket × Request))
         → MayServe facts layouts first rest p → Steady ready asked now
-        × Going (kind_of facts p) layouts asked n (first ∷ rest) (record_of facts p) p.book.state
+        × Going (kind_of_device facts p) layouts asked n (first ∷ rest) (record_of facts p)
+        p.book.state
         now
 
     pub so_far_none : SoFar [] p
@@ -387,7 +389,7 @@ module _ {W : Type 0} (facts : WireFacts W) where
     )
     so_far_none (suc n) e layouts first rest may = absurd (cc)
 
-    pub so_far_more : (mid next : Parts W) (calls : List Call) (i : ℕ) (d : Call)
+    pub so_far_more : (mid next : PortParts W) (calls : List Call) (i : ℕ) (d : Call)
         → i < length calls → SoFar (take i calls) mid
         → (get_or calls i d ≡ call.Turn → CleanTurn facts mid next)
         → SoFar (take (i + 1) calls) next
@@ -403,22 +405,23 @@ module _ {W : Type 0} (facts : WireFacts W) where
           fits = may.room;
         } in (
           steady_more steady t,
-          rw found.0 (going_more (kind_of facts p) layouts asked steady t (length (take i calls))
+          rw found.0 (going_more (kind_of_device facts p) layouts asked steady t
+              (length (take i calls))
               (first ∷ rest) (record_of facts p) p.book.state queue going),
         ))
 
-    pub clean_serves : CleanLaws → (next : Parts W) (calls : List Call) (i : ℕ)
+    pub clean_serves : CleanLaws → (next : PortParts W) (calls : List Call) (i : ℕ)
         → length calls ≤ i → SoFar (take i calls) next → CleanServes facts p calls next
     clean_serves laws next calls i all so_far n e layouts first rest may =
-        are_served (kind_of facts p) layouts asked laws n (first ∷ rest) (record_of facts p)
+        are_served (kind_of_device facts p) layouts asked laws n (first ∷ rest) (record_of facts p)
         p.book.state next (so_far n (take_all i calls all ∙ e) layouts first rest may).1
 
     -- one request may be served where it may start
-    pub clean_runs : (next : Parts W) (calls : List Call) → CleanServes facts p calls next
+    pub clean_runs : (next : PortParts W) (calls : List Call) → CleanServes facts p calls next
         → CleanRuns facts p calls next
     clean_runs next calls serves n e layouts ticket request may =
         let s = p.book.state.standing in
-        let some : has_room (far (wire_of p.station.link)) ≡ true = rw may.link_is may.room in
+        let some : has_room (far (link_wire p.station.link)) ≡ true = rw may.link_is may.room in
         on_time layouts asked.devices ticket request p n next
         (serves (suc n) e layouts (ticket, request) [] (record {
           starts = may;

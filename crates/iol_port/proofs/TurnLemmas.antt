@@ -15,18 +15,18 @@ use Rattle.iol_far.specs.Far.{Far}
 use Rattle.iol_steps.specs.FrozenEvents.{Frozen, MayFrozenAll, frozen_through}
 use Rattle.iol_steps.specs.Images.{Images, MayImagesAll, images_through}
 use Rattle.iol_app.specs.declared.request.Current.{Current}
-use Rattle.iol_steps.specs.Step.{Step, Take, Deny, Moment, is_clash_free, Terms, resets, book_said, reports_said}
+use Rattle.iol_steps.specs.Step.{PortStep, Take, Deny, Moment, is_clash_free, Terms, resets, book_said, reports_said}
 use Rattle.iol_steps.specs.Session.{MaySessionAll, session_through}
 use Rattle.iol_steps.specs.Station.{job_of}
 use Rattle.iol_link.specs.WireFacts.{WireFacts}
 use Rattle.iol_mode.specs.declared.states.State.{State}
 use Rattle.iol_mode.specs.States.{is_reset}
-use Rattle.iol_app.specs.Requests.{request_in}
-use Rattle.iol_app.specs.State.{SessionState, begun_in}
-use Rattle.iol_app.specs.StationState.{StationState, StateFits as Joined, mode_in}
+use Rattle.iol_app.specs.Requests.{request_under_way}
+use Rattle.iol_app.specs.State.{SessionState, session_after_begin}
+use Rattle.iol_app.specs.StationState.{StationState, SessionFits, mode_in}
 use Rattle.iol_app.specs.Core as core
-use Rattle.iol_app.specs.Core.{Ghost, OfRequest, Stands, BeginGives, begun_ghost, moment_of}
-use Rattle.iol_app.specs.Seen.{TurnGives, TurnSteps, BeginSteps, DenySteps, core_of, far_of, silence_of}
+use Rattle.iol_app.specs.Core.{Ghost, OfRequest, BothEndsStand, BeginGives, begun_ghost, moment_of}
+use Rattle.iol_app.specs.Seen.{TurnGives, TurnSteps, BeginSteps, DenySteps, core_of, far_end_of, silence_of}
 use Rattle.iol_port.specs.declared.call.Call.{Call}
 use Rattle.iol_port.specs.declared.call.Call.TheVariants as call
 use Rattle.iol_port.specs.declared.call.Answered.{Answered}
@@ -34,7 +34,7 @@ use Rattle.iol_port.specs.declared.call.Answered.TheVariants as answered
 use Rattle.iol_port.specs.Steps.{MayBookAll, book_after, book_through, kept_through}
 use Rattle.iol_port.specs.Run.{PortState, TurnOf, is_take}
 use Rattle.iol_port.specs.Owners.{owners_through}
-use Rattle.iol_port.specs.View.{Parts, Choice, state_of, Follows, BeginsNext, BookDoes, KeepsLimits}
+use Rattle.iol_port.specs.View.{PortParts, Choice, abstract_port, IsAbstractCall, BeginsNext, BookDoes, KeepsLimits}
 use Rattle.iol_port.proofs.Filters.{book_through-filter, MayBookAll-filter, kept_through-filter, clash_free-take, clash_free-deny, is_beside, may_book_said}
 use Rattle.iol_far.specs.declared.kind.Kind.{Kind}
 use Rattle.iol_mode.specs.declared.configuration.Configuration.{Configuration}
@@ -42,8 +42,8 @@ use Rattle.iol_port.proofs.CallLemmas.{does_by_choice, none_pending}
 
 -- down leaves no request under way
 pub none_down : (state : State) (session : SessionState) (g : Ghost) (answer : Option Answer)
-    → Joined state session → mode_in state ≡ Down
-    → job_of (request_in session.current) answer g.request.busy g.request.asked ≡ None
+    → SessionFits state session → mode_in state ≡ Down
+    → job_of (request_under_way session.current) answer g.request.busy g.request.asked ≡ None
 none_down state session g answer fits down = grind (arith, common_steps)
 
 pub terms_of : {limit was : ℕ} {page old : List ℕ} {asks asked : Configuration} {kind first : Kind}
@@ -66,7 +66,7 @@ terms_of same = cc
 
 module _ {W : Type 0} where
   -- what the words of a turn leave in the book and in the kept events
-  pub record Settles (p next : Parts W) (said : Said) (began : Bool) (start : BookState) :
+  pub record Settles (p next : PortParts W) (said : Said) (began : Bool) (start : BookState) :
       Type 0 where
     pub posts : next.book.state ≡ book_through
         (resets began (is_reset next.station.link.state) ++ book_said said) start
@@ -79,27 +79,27 @@ pub data First : Type 0 where
   Denies : Ticket → First
 
 -- the steps, with that before these
-abbrev pub ahead : First → List Step → List Step
+abbrev pub ahead : First → List PortStep → List PortStep
 ahead Neither steps = steps
 ahead (Takes ticket request) steps = Take ticket.0 request ∷ steps
 ahead (Denies ticket) steps = Deny ticket.0 ∷ steps
 
 -- it is no business of the events or the images
-frozen_ahead : (first : First) (steps : List Step) (f : Option Frozen) → MayFrozenAll steps f
+frozen_ahead : (first : First) (steps : List PortStep) (f : Option Frozen) → MayFrozenAll steps f
     → MayFrozenAll (ahead first steps) f
     × (frozen_through steps f ≡ frozen_through (ahead first steps) f)
 frozen_ahead first steps f may = grind (arith, common_steps)
 
-kept_ahead : (first : First) (steps : List Step) (kept : List Event)
+kept_ahead : (first : First) (steps : List PortStep) (kept : List Event)
     → kept_through steps kept ≡ kept_through (ahead first steps) kept
 kept_ahead first steps kept = grind (arith, common_steps)
 
-pub images_ahead : (first : First) (m : Moment) (steps : List Step) (i : Images)
+pub images_ahead : (first : First) (m : Moment) (steps : List PortStep) (i : Images)
     → MayImagesAll m steps i → MayImagesAll m (ahead first steps) i
     × (images_through m steps i ≡ images_through m (ahead first steps) i)
 images_ahead first m steps i may = grind (arith, common_steps)
 
-clash_ahead : (first : First) (steps : List Step)
+clash_ahead : (first : First) (steps : List PortStep)
     → (IsTrue (list_any is_take (ahead first [])) → IsTrue (list_all is_calm steps))
     → ((t : ℕ) → IsTrue (list_all (is_beside t) steps)) → IsTrue (is_clash_free steps)
     → IsTrue (is_clash_free (ahead first steps))
@@ -120,22 +120,22 @@ module _ {W : Type 0} where
     pub request : OfRequest
     pub fresh : Bool
     pub is : mid ≡ under current s
-    pub stands : Stands (core_of (under current s))
+    pub stands : BothEndsStand (core_of (under current s))
         (record g { request = request; fresh = fresh }) far n
     pub takes : IsTrue (list_any is_take (ahead first [])) → IsTrue fresh
-    pub book : (steps : List Step) → MayBookAll steps after → MayBookAll (ahead first steps) b
+    pub book : (steps : List PortStep) → MayBookAll steps after → MayBookAll (ahead first steps) b
         × (book_through steps after ≡ book_through (ahead first steps) b)
-    pub may_session : (m : Moment) → m.terms.page ≡ g.page → (steps : List Step)
+    pub may_session : (m : Moment) → m.terms.page ≡ g.page → (steps : List PortStep)
         → MaySessionAll m steps (core.session_in (core_of (under current s))
         (record g { request = request; fresh = fresh }) far)
         → MaySessionAll m (ahead first steps) (core.session_in (core_of s) g far)
-    pub session : (steps : List Step)
+    pub session : (steps : List PortStep)
         → session_through steps (core.session_in (core_of (under current s))
         (record g { request = request; fresh = fresh }) far)
         ≡ session_through (ahead first steps) (core.session_in (core_of s) g far)
 
   pub begun : {s mid : StationState W} {b after : BookState} {g : Ghost} {far : Far} {n : ℕ}
-      → BeginsNext s b mid after → Stands (core_of s) g far n → Begun s b mid after g far n
+      → BeginsNext s b mid after → BothEndsStand (core_of s) g far n → Begun s b mid after g far n
   unfolding BeginSteps DenySteps
   begun {s = s} {g = g} (inl (is, b_is)) stands = record {
     first = Neither;
@@ -156,7 +156,7 @@ module _ {W : Type 0} where
       (begins follows g far n stands) in
       record {
         first = Takes t q;
-        current = (begun_in q s.session).current;
+        current = (session_after_begin q s.session).current;
         request = (begun_ghost g).request;
         fresh = true;
         is = is;
@@ -182,14 +182,15 @@ module _ {W : Type 0} where
 
 module _ {W : Type 0} (facts : WireFacts W) where
   -- these steps first, behind which the call of the wire goes on
-  turn_from : (p next : Parts W) (u : Choice) (said : Said) {s : StationState W} {start : BookState}
+  turn_from : (p next : PortParts W) (u : Choice) (said : Said) {s : StationState W}
+      {start : BookState}
       → u.pending ≡ None
-      → (b : Begun p.station p.book.state s start u.ghost (far_of facts p.station)
+      → (b : Begun p.station p.book.state s start u.ghost (far_end_of facts p.station)
       (silence_of facts p.station)) → Settles p next said (is_reset p.station.link.state) start
       → (t : TurnGives facts (under b.current p.station)
       (record u.ghost { request = b.request; fresh = b.fresh }) said next.station)
-      → TurnOf (state_of facts p u)
-      (state_of facts next (record {
+      → TurnOf (abstract_port facts p u)
+      (abstract_port facts next (record {
         owners = owners_through (ahead b.first t.given.steps) u.owners;
         ghost = t.given.after;
         pending = None;
@@ -198,7 +199,7 @@ module _ {W : Type 0} (facts : WireFacts W) where
       let x = t.given in
       let began : Bool = is_reset p.station.link.state in
       let ended : Bool = is_reset next.station.link.state in
-      let before : PortState = state_of facts p u in
+      let before : PortState = abstract_port facts p u in
       let m : Moment = moment_of (core_of p.station) u.ghost (silence_of facts p.station) x.call in
       let book = b.book x.steps (MayBookAll-filter x.steps start
       (rw x.said_book (may_book_said began ended said start))) in
@@ -238,10 +239,10 @@ module _ {W : Type 0} (facts : WireFacts W) where
         (none, refl),
       )
 
-  pub turn_does : (p next : Parts W) (said : Said) (s : StationState W) (b : BookState)
+  pub turn_does : (p next : PortParts W) (said : Said) (s : StationState W) (b : BookState)
       → p.sent ≡ false → next.sent ≡ false → BeginsNext p.station p.book.state s b
       → TurnSteps facts s said next.station → Settles p next said (is_reset s.link.state) b
-      → Follows facts p call.Turn answered.Nothing next
+      → IsAbstractCall facts p call.Turn answered.Nothing next
   unfolding TurnSteps
   turn_does p next said s b free after begins gives settles =
       does_by_choice facts p call.Turn answered.Nothing next
@@ -273,15 +274,15 @@ module _ {W : Type 0} (facts : WireFacts W) where
 abbrev GivesNone : BookState → BookState → Type 0
 GivesNone b next = (next.last ≡ b.last) × KeepsLimits b next
 
-none_after : (step : Step) (b : BookState) → GivesNone b (book_after step b)
+none_after : (step : PortStep) (b : BookState) → GivesNone b (book_after step b)
 none_after step b = grind (arith, common_steps)
 
-none_through : (steps : List Step) (b : BookState) → GivesNone b (book_through steps b)
+none_through : (steps : List PortStep) (b : BookState) → GivesNone b (book_through steps b)
 none_through [] b = (refl, (refl, refl))
 none_through (step ∷ steps) b = grind (arith, common_steps, none_after, none_through steps)
 
 module _ {W : Type 0} where
-  pub turn_gives_none : (s next : StationState W) (b mid after : BookState) (steps : List Step)
+  pub turn_gives_none : (s next : StationState W) (b mid after : BookState) (steps : List PortStep)
       → BeginsNext s b next mid → after ≡ book_through steps mid → GivesNone b after
   turn_gives_none s next b mid after steps given given2 = grind (arith, common_steps, none_through)
 

@@ -9,8 +9,8 @@ use Rattle.iol_book.specs.BookModel.{next_taken}
 use Rattle.iol_app.specs.declared.asked.Asked.{Asked}
 use Rattle.iol_app.specs.declared.event_work.EventRoom.{EventRoom}
 use Rattle.iol_app.specs.declared.event_work.EventRoom.TheVariants.{Left, Full}
-use Rattle.iol_app.specs.Asking.{asked_of, prepared, IsCall}
-use Rattle.iol_port.specs.View.{Parts}
+use Rattle.iol_app.specs.Asking.{asked_of, station_with_request, IsCall}
+use Rattle.iol_port.specs.View.{PortParts}
 use Rattle.iol_port.specs.declared.call.Call.{Call}
 use Rattle.iol_port.specs.declared.call.Call.TheVariants.{Turn}
 
@@ -30,14 +30,15 @@ to_begin lacks next = if lacks then None else option_map (λ t. t.1) next
 
 module _ {W : Type 0} where
   -- that of a port
-  abbrev pub begun_next : Parts W → Option Request
+  abbrev pub begun_next : PortParts W → Option Request
   begun_next p = to_begin (lacks_isdu p.station.session.isdu) (next_taken p.book.state.standing)
 
   -- the one call of the wire in the next turn: that request is begun first, where
   -- nothing else is due
   -- PORT-2
-  abbrev pub asks_of : Parts W → Asked
-  asks_of p = asked_of (prepared (begun_next p) p.station (event_room p.kept)) (event_room p.kept)
+  abbrev pub asks_of : PortParts W → Asked
+  asks_of p = asked_of (station_with_request (begun_next p) p.station (event_room p.kept))
+      (event_room p.kept)
 
   -- a turn makes the call of the wire that was asked, and no other call of the port
   -- touches the wire

@@ -9,10 +9,10 @@ use Rattle.iol_page.specs.declared.identity.Identity.{Identity}
 use Rattle.iol_book.specs.declared.entries.Ticket.{Ticket}
 use Rattle.iol_book.specs.declared.entries.Entry.{Entry}
 use Rattle.iol_book.specs.declared.entries.Outcome.{Outcome}
-use Rattle.iol_book.specs.BookModel.{submitted, submitted_urgent}
+use Rattle.iol_book.specs.BookModel.{book_after_submit, book_after_urgent}
 use Rattle.iol_link.specs.WireFacts.{WireFacts}
-use Rattle.iol_steps.specs.Step.{Image}
-use Rattle.iol_app.specs.StationState.{wire_of}
+use Rattle.iol_steps.specs.Step.{ImageOctets}
+use Rattle.iol_app.specs.StationState.{link_wire}
 use Rattle.iol_app.specs.Asking.{IsCall}
 use Rattle.iol_port.specs.declared.call.Call.{Call}
 use Rattle.iol_port.specs.declared.call.Call.TheVariants as call
@@ -23,25 +23,25 @@ use Rattle.iol_port.specs.declared.call.Counting.{Counting}
 use Rattle.iol_port.specs.declared.counters.Counters.{Counters}
 use Rattle.iol_port.specs.declared.fault.PortFault.{PortFault}
 use Rattle.iol_port.specs.Asks.{asks_of}
-use Rattle.iol_port.specs.Replies.{ticket_reply, outcome_reply, nothing_reply, event_reply, reply_of}
-use Rattle.iol_port.specs.View.{Parts, Port, Does, shown_in, status_of}
+use Rattle.iol_port.specs.Replies.{ticket_reply, outcome_reply, nothing_reply, event_reply, result_reply}
+use Rattle.iol_port.specs.View.{PortParts, PortValue, Does, writer_after_publish, status_of}
 use Rattle.iol_port.specs.Clean.{CleanTurn}
 use Rattle.iol_port.specs.CorePort.{CoreDoes}
-use Rattle.iol_port.specs.EveryWire.{SubmitGives, CollectGives, WithdrawGives, CancelGives, ArchiveGives, TakeEventGives, SetOutputGives, ClearOutputGives, ExpectGives, SetCycleGives, RestartGives, TurnGives, page_shown}
+use Rattle.iol_port.specs.EveryWire.{SubmitGives, CollectGives, WithdrawGives, CancelGives, ArchiveGives, TakeEventGives, SetOutputGives, ClearOutputGives, ExpectGives, SetCycleGives, RestartGives, PortTurnGives, page_shown}
 
 -- what is said of a call with its reply, and of what else it gives, at who has the parts
 abbrev pub Carrier : Type 1
 Carrier = Call → Answered → Type 0 → Type 0
 
 -- The calls, between these parts
-module _ {V : Type 0} (Carries : Carrier) (p next : Parts V) where
+module _ {V : Type 0} (Carries : Carrier) (p next : PortParts V) where
   abbrev pub Submits : Request → Result Ticket PortFault → Type 0
   Submits request result = Carries (call.Submit request) (ticket_reply result)
-      (SubmitGives p (submitted p.book.state request) result next)
+      (SubmitGives p (book_after_submit p.book.state request) result next)
 
   abbrev pub SubmitsUrgent : Request → Result Ticket PortFault → Type 0
   SubmitsUrgent request result = Carries (call.SubmitUrgent request) (ticket_reply result)
-      (SubmitGives p (submitted_urgent p.book.state request) result next)
+      (SubmitGives p (book_after_urgent p.book.state request) result next)
 
   abbrev pub Collects : Ticket → Result Outcome PortFault → Type 0
   Collects ticket result = Carries (call.Collect ticket) (outcome_reply result)
@@ -58,7 +58,7 @@ module _ {V : Type 0} (Carries : Carrier) (p next : Parts V) where
   abbrev pub Restarts : Type 0
   Restarts = Carries call.Restart answered.Nothing (RestartGives p next)
 
-  abbrev pub SetsOutput : Image → Result (Unit {0}) PortFault → Type 0
+  abbrev pub SetsOutput : ImageOctets → Result (Unit {0}) PortFault → Type 0
   SetsOutput image result = Carries (call.SetOutput image) (nothing_reply result)
       (SetOutputGives p image result next)
 
@@ -79,11 +79,11 @@ module _ {V : Type 0} (Carries : Carrier) (p next : Parts V) where
   -- with the entries of what is handed out
   abbrev pub Archives : {X : Type 0} → (X → List Entry) → Result X PortFault → Type 0
   Archives entries result = Carries call.Archive
-      (reply_of (λ x. answered.Archived (length (entries x))) result)
+      (result_reply (λ x. answered.Archived (length (entries x))) result)
       (ArchiveGives p (result_map_both entries (λ why. why) result) next)
 
 -- and those that only look
-module _ {V : Type 0} (Carries : Carrier) (p : Parts V) where
+module _ {V : Type 0} (Carries : Carrier) (p : PortParts V) where
   abbrev pub ShowsPage : Option (List ℕ) → Type 0
   ShowsPage page = Carries call.Page (answered.Page page) (page ≡ page_shown p)
 
@@ -91,7 +91,7 @@ module _ {V : Type 0} (Carries : Carrier) (p : Parts V) where
   ShowsCounters counters = Carries call.Counters (answered.Counters counters)
       (counters ≡ p.counters)
 
-  abbrev pub ShowsImage : Option Image → Type 0
+  abbrev pub ShowsImage : Option ImageOctets → Type 0
   ShowsImage image = Carries call.Look (answered.Image image) (image ≡ p.station.session.image)
 
   abbrev pub ShowsStatus : Status → Type 0
@@ -99,34 +99,37 @@ module _ {V : Type 0} (Carries : Carrier) (p : Parts V) where
       (status ≡ status_of p.station)
 
 -- A core's call, with whatever far end
-pub record CoreCalled (old new : Parts (Unit {0})) (c : Call) (reply : Answered) (given : Type 0) :
+pub record CoreCalled (old new : PortParts (Unit {0})) (c : Call) (reply : Answered)
+    (given : Type 0) :
     Type 0 where
   pub does : CoreDoes old c reply new
   pub gives : given
 
 module _ {W : Type 0} (facts : WireFacts W) where
   -- a port's call changes nothing but its parts
-  pub record Called (old new : Port W) (c : Call) (reply : Answered) (given : Type 0) :
+  pub record MakesCall (old new : PortValue W) (c : Call) (reply : Answered) (given : Type 0) :
       Type 0 where
     pub does : Does facts old.parts c reply new.parts
     pub gives : given
     pub rest : new ≡ record old { parts = new.parts }
 
   -- and one that only looks nothing
-  pub record Looked (p : Port W) (c : Call) (reply : Answered) (shown : Type 0) : Type 0 where
+  pub record PortOnlyLooks (p : PortValue W) (c : Call) (reply : Answered)
+      (shown : Type 0) : Type 0 where
     pub does : Does facts p.parts c reply p.parts
     pub value : shown
 
   -- a turn makes the one call of the wire that the port asks for
-  pub record Turns (old new : Port W) : Type 0 where
+  pub record Turns (old new : PortValue W) : Type 0 where
     pub does : Does facts old.parts call.Turn answered.Nothing new.parts
     pub clean : CleanTurn facts old.parts new.parts
-    pub gives : TurnGives facts old.parts new.parts
-    pub asked : IsCall facts (asks_of old.parts) (wire_of old.parts.station.link)
-        (wire_of new.parts.station.link)
+    pub gives : PortTurnGives facts old.parts new.parts
+    pub asked : IsCall facts (asks_of old.parts) (link_wire old.parts.station.link)
+        (link_wire new.parts.station.link)
     pub rest : new ≡ record old { parts = new.parts }
 
 -- a call behind which the image is published, once, where a writer was given
-pub record Shown {W : Type 0} (Does : Port W → Type 0) (old new : Port W) : Type 0 where
+pub record PublishesAfter {W : Type 0} (Does : PortValue W → Type 0)
+    (old new : PortValue W) : Type 0 where
   pub call : Does (record new { writer = old.writer })
-  pub shown : new.writer ≡ shown_in new.parts.station.session.image old.writer
+  pub shown : new.writer ≡ writer_after_publish new.parts.station.session.image old.writer

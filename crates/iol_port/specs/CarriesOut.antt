@@ -18,7 +18,7 @@ use Rattle.iol_port.specs.declared.call.Call.TheVariants as call
 use Rattle.iol_port.specs.declared.call.Answered.{Answered}
 use Rattle.iol_port.specs.declared.call.Answered.TheVariants as answered
 use Rattle.iol_port.specs.Owners.{Owner, all, pairs_of, Fits, IsOneOf, HasEnded, allowance_of, times_of}
-use Rattle.iol_port.specs.Run.{PortState, Piece, Whole, PieceOf, Pieces, opened}
+use Rattle.iol_port.specs.Run.{PortState, Piece, Whole, PieceOf, Pieces, port_at_opening}
 use Rattle.iol_mode.specs.declared.configuration.Devices.{Devices}
 use Rattle.iol_mode.specs.declared.configuration.Devices.TheVariants.{Any}
 
@@ -58,8 +58,8 @@ abbrev pub EachDoneHasItsPair : Type 0
 EachDoneHasItsPair =
     (devices : Devices) (limits : Limits) (far : Far) (silence : ℕ) (pieces : List Piece)
     (replies : List Answered) (b : PortState)
-    → Pieces (opened devices limits far silence) pieces replies b
-    → CarriesOut (opened devices limits far silence) pieces replies b
+    → Pieces (port_at_opening devices limits far silence) pieces replies b
+    → CarriesOut (port_at_opening devices limits far silence) pieces replies b
 
 -- the request of a ticket was cut off: that is its outcome, which was collected in
 -- the run, or may still be
@@ -69,7 +69,7 @@ IsCutOff pieces replies a ticket cause =
     ⊎ (lookup (same_ticket ticket) a.book.standing.outcomes ≡ Some (Unknown cause))
 
 -- the owner has the answers that it had, maybe more before them, and ended as it had
-pub record GoesOn (earlier later : Owner) : Type 0 where
+pub record OwnerGoesOn (earlier later : Owner) : Type 0 where
   pub ticket_is : later.taking.ticket ≡ earlier.taking.ticket
   pub request_is : later.taking.request ≡ earlier.taking.request
   pub ends : (outcome : Outcome) → earlier.taking.outcome ≡ Some outcome
@@ -80,7 +80,7 @@ pub record GoesOn (earlier later : Owner) : Type 0 where
 -- these are the same owners, but that the last one goes on
 abbrev pub LastGoesOn : List Owner → List Owner → Type 0
 LastGoesOn [] [] = Unit {0}
-LastGoesOn (x ∷ earlier) (y ∷ later) = GoesOn x y × (later ≡ earlier)
+LastGoesOn (x ∷ earlier) (y ∷ later) = OwnerGoesOn x y × (later ≡ earlier)
 LastGoesOn earlier later = ⊥
 
 -- so they are, below those that were taken since
@@ -104,8 +104,8 @@ abbrev pub CutForGoodStaysOut : Type 0
 CutForGoodStaysOut =
     (devices : Devices) (limits : Limits) (far : Far) (silence : ℕ) (pieces more : List Piece)
     (replies others : List Answered) (a c : PortState)
-    → Pieces (opened devices limits far silence) pieces replies a → Pieces a more others c
-    → CarriesOut (opened devices limits far silence) (pieces ++ more) (replies ++ others) c
+    → Pieces (port_at_opening devices limits far silence) pieces replies a → Pieces a more others c
+    → CarriesOut (port_at_opening devices limits far silence) (pieces ++ more) (replies ++ others) c
     × LeavesOut a c (λ ticket. (cause : Cause) × (leaves_unsure (Unknown cause) ≡ false)
     × IsCutOff pieces replies a ticket cause)
 
@@ -131,8 +131,8 @@ LateEnds =
     (devices : Devices) (limits : Limits) (far : Far) (silence : ℕ) (pieces more : List Piece)
     (piece : Piece)
     (replies others : List Answered) (a b c : PortState)
-    → Pieces (opened devices limits far silence) pieces replies a → Resets piece a b
+    → Pieces (port_at_opening devices limits far silence) pieces replies a → Resets piece a b
     → Pieces b more others c
-    → CarriesOut (opened devices limits far silence) (pieces ++ piece ∷ more)
+    → CarriesOut (port_at_opening devices limits far silence) (pieces ++ piece ∷ more)
     (replies ++ answered.Nothing ∷ others) c
     × LeavesOut b c (λ ticket. (cause : Cause) × IsCutOff pieces replies a ticket cause)

@@ -2,38 +2,38 @@
 use Rattle.std.specs.Prelude.{◌≡◌, List, ◌++◌, map}
 use Rattle.iol_far.specs.Far.{output_of}
 use Rattle.iol_link.specs.WireFacts.{WireFacts}
-use Rattle.iol_app.specs.StationState.{wire_of}
+use Rattle.iol_app.specs.StationState.{link_wire}
 use Rattle.iol_port.specs.declared.call.Call.{Call}
 use Rattle.iol_port.specs.declared.call.Answered.{Answered}
-use Rattle.iol_port.specs.Run.{PortState, Whole, Run, opened}
+use Rattle.iol_port.specs.Run.{PortState, Whole, Run, port_at_opening}
 use Rattle.iol_port.specs.Owners.{allowance_of}
 use Rattle.iol_port.specs.Sound.{RecordFits}
 use Rattle.iol_port.specs.CarriesOut.{CarriesOut}
-use Rattle.iol_port.specs.View.{Parts, Opening}
+use Rattle.iol_port.specs.View.{PortParts, Opening}
 
 -- the abstract port with which a port begins
 abbrev pub opened_with : {W : Type 0} → Opening W → PortState
-opened_with o = opened o.devices o.limits o.far o.silence
+opened_with o = port_at_opening o.devices o.limits o.far o.silence
 
 module _ {W : Type 0} (facts : WireFacts W) where
   open facts use {far}
 
   -- what an abstract port has of this is what is there: the book, the events that are kept, the
   -- images, and what the device carried out
-  pub record Has (a : PortState) (p : Parts W) : Type 0 where
+  pub record Has (a : PortState) (p : PortParts W) : Type 0 where
     pub book : p.book.state ≡ a.book
     pub kept : p.kept ≡ a.kept
     pub image : p.station.session.image ≡ a.images.image
-    pub input : (far (wire_of p.station.link)).input ≡ a.images.input
-    pub output : output_of (far (wire_of p.station.link)) ≡ a.images.output
-    pub carried : (far (wire_of p.station.link)).carried ≡ a.session.carried
+    pub input : (far (link_wire p.station.link)).input ≡ a.images.input
+    pub output : output_of (far (link_wire p.station.link)) ≡ a.images.output
+    pub carried : (far (link_wire p.station.link)).carried ≡ a.session.carried
 
   -- All calls since the opening, these the last of them, with what each answered are a run of an
   -- abstract port, which has what is there. The device carried out only whole requests of these
   -- calls, each at most once, in the order taken; and each Done tells its answer to that very
   -- request. Otherwise is only what the allowance says, which is none at a port for any device. The
   -- journal has the requests that were taken since it began, which all ended but the one under way.
-  pub record Claim (o : Opening W) (calls : List Call) (replies : List Answered) (p : Parts W) :
+  pub record Claim (o : Opening W) (calls : List Call) (replies : List Answered) (p : PortParts W) :
       Type 0 where
     pub earlier : List Call
     pub answered : List Answered

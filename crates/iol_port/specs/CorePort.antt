@@ -13,26 +13,26 @@ use Rattle.iol_book.specs.declared.limits.Limits.{Limits}
 use Rattle.iol_steps.specs.declared.said.Said.{Said}
 use Rattle.iol_steps.specs.Step.{resets, book_said, reports_said}
 use Rattle.iol_app.specs.StationState.{StationState, IsSettledSaid}
-use Rattle.iol_app.specs.Core.{Core, after_exchange, after_wake, came_of}
+use Rattle.iol_app.specs.Core.{CoreState, after_exchange, after_wake, came_of}
 use Rattle.iol_app.specs.Brought.{brought_in, woken_by}
-use Rattle.iol_app.specs.Pieces.{IsSent}
+use Rattle.iol_app.specs.Pieces.{SendsMessage}
 use Rattle.iol_app.specs.Seen.{core_of, station_of}
-use Rattle.iol_port.specs.declared.awaited.Awaited.{Awaited}
-use Rattle.iol_port.specs.declared.awaited.Awaited.TheVariants.{Nothing, Wake, Reply}
+use Rattle.iol_port.specs.declared.awaited.AwaitedAnswer.{AwaitedAnswer}
+use Rattle.iol_port.specs.declared.awaited.AwaitedAnswer.TheVariants.{Nothing, Wake, Reply}
 use Rattle.iol_port.specs.declared.call.Call.{Call}
 use Rattle.iol_port.specs.declared.call.Answered.{Answered}
 use Rattle.iol_port.specs.declared.call.Answered.TheVariants as answered
 use Rattle.iol_port.specs.Asks.{event_room}
 use Rattle.iol_port.specs.EveryWire.{KeepsMemory, station_begun, book_begun}
-use Rattle.iol_port.specs.Run.{PortState, Piece, Send, Receive, PieceOf, opened}
+use Rattle.iol_port.specs.Run.{PortState, Piece, Send, Receive, PieceOf, port_at_opening}
 use Rattle.iol_port.specs.Counters.{call_counted, said_counted}
 use Rattle.iol_port.specs.Steps.{book_through, kept_through}
 use Rattle.iol_port.specs.Clean.{IsLevelBetween}
-use Rattle.iol_port.specs.Sound.{IsSound}
-use Rattle.iol_port.specs.View.{Parts, Opening, OpensWell, IsOpened, StandsFor, Does, KeepsRecord, opening_for}
+use Rattle.iol_port.specs.Sound.{PortIsSound}
+use Rattle.iol_port.specs.View.{PortParts, Opening, OpensWell, IsOpened, StandsFor, Does, KeepsRecord, opening_for}
 
 -- its parts over a wire
-abbrev pub parts_over : {W : Type 0} → W → Parts (Unit {0}) → Parts W
+abbrev pub parts_over : {W : Type 0} → W → PortParts (Unit {0}) → PortParts W
 parts_over wire p = record {
   station = station_of wire (core_of p.station);
   book = p.book;
@@ -42,16 +42,16 @@ parts_over wire p = record {
 }
 
 -- a core as a station over no wire
-abbrev pub bare : Core → StationState (Unit {0})
-bare c = let none : Unit {0} = tt in station_of none c
+abbrev pub station_without_wire : CoreState → StationState (Unit {0})
+station_without_wire c = let none : Unit {0} = tt in station_of none c
 
 -- what waits for its answer
-abbrev pub awaited_in : State → Awaited
+abbrev pub awaited_in : State → AwaitedAnswer
 awaited_in (AtDown s) = Wake
 awaited_in s = Reply
 
-abbrev pub awaited : Parts (Unit {0}) → Awaited
-awaited p = cond p.sent (awaited_in p.station.link.state) Nothing
+abbrev pub awaited_answer : PortParts (Unit {0}) → AwaitedAnswer
+awaited_answer p = cond p.sent (awaited_in p.station.link.state) Nothing
 
 -- The line, as whoever has it knows it: an honest one to this far end, silent for so long
 
@@ -70,55 +70,56 @@ opened_at devices limits far silence =
     let none : Unit {0} = tt in opening_for (at_end far silence) devices limits none
 
 -- a call is one of each abstract port that the port stands for, with whatever far end
-abbrev pub CoreDoes : Parts (Unit {0}) → Call → Answered → Parts (Unit {0}) → Type 0
+abbrev pub CoreDoes : PortParts (Unit {0}) → Call → Answered → PortParts (Unit {0}) → Type 0
 CoreDoes p c reply next = (far : Far) (silence : ℕ) → Does (at_end far silence) p c reply next
 
 -- a port that is new, for these devices
-abbrev pub IsNewFor : Devices → Limits → Parts (Unit {0}) → Type 0
+abbrev pub IsNewFor : Devices → Limits → PortParts (Unit {0}) → Type 0
 IsNewFor devices limits p =
     (far : Far) (silence : ℕ) → IsOpened (opened_at devices limits far silence) p
 
 -- a port that is new, for devices of our own kind
-abbrev pub IsNew : Limits → Parts (Unit {0}) → Type 0
+abbrev pub IsNew : Limits → PortParts (Unit {0}) → Type 0
 IsNew limits p = IsNewFor Own limits p
 
 -- it stands for the abstract port that is opened, with each far end of its devices that was handed
 -- no request
-abbrev pub CoreOpensFor : Devices → Limits → Parts (Unit {0}) → Type 0
+abbrev pub CoreOpensFor : Devices → Limits → PortParts (Unit {0}) → Type 0
 CoreOpensFor devices limits p = (far : Far) (silence : ℕ)
     → OpensWell (opened_at devices limits far silence)
-    → StandsFor (at_end far silence) p (opened devices limits far silence)
+    → StandsFor (at_end far silence) p (port_at_opening devices limits far silence)
 
-abbrev pub CoreOpens : Limits → Parts (Unit {0}) → Type 0
+abbrev pub CoreOpens : Limits → PortParts (Unit {0}) → Type 0
 CoreOpens limits p = CoreOpensFor Own limits p
 
 -- with each far end of which it stands for a sound abstract port, the record fits the journal,
 -- and between requests both ends are level
-abbrev pub CoreKeeps : Parts (Unit {0}) → Type 0
+abbrev pub CoreKeeps : PortParts (Unit {0}) → Type 0
 CoreKeeps p =
-    (far : Far) (silence : ℕ) (a : PortState) → StandsFor (at_end far silence) p a → IsSound a
+    (far : Far) (silence : ℕ) (a : PortState) → StandsFor (at_end far silence) p a → PortIsSound a
     → KeepsRecord (at_end far silence) p × IsLevelBetween (at_end far silence) p
 
 -- one piece, after which the far end and the silence are these
-abbrev pub PieceDoes : Parts (Unit {0}) → Far → ℕ → Piece → Parts (Unit {0}) → Far → ℕ → Type 0
+abbrev pub PieceDoes : PortParts (Unit {0}) → Far → ℕ → Piece → PortParts (Unit {0}) → Far → ℕ
+    → Type 0
 PieceDoes p far silence piece next far_new silence_new =
     (a : PortState) → StandsFor (at_end far silence) p a
     → (b : PortState) × PieceOf a piece answered.Nothing b
     × StandsFor (at_end far_new silence_new) next b
 
 -- what goes out
-unfoldable pub SendDoes : Parts (Unit {0}) → Parts (Unit {0}) → Type 0
+unfoldable pub SendDoes : PortParts (Unit {0}) → PortParts (Unit {0}) → Type 0
 SendDoes p next = (far : Far) (silence : ℕ) → PieceDoes p far silence Send next far silence
 
 -- what came back, where an honest exchange with that far end could bring it
-unfoldable pub ReceiveDoes : Parts (Unit {0}) → Option (List ℕ) → Parts (Unit {0}) → Type 0
+unfoldable pub ReceiveDoes : PortParts (Unit {0}) → Option (List ℕ) → PortParts (Unit {0}) → Type 0
 ReceiveDoes p came next =
     (far far_new : Far) (silence silence_new : ℕ)
     → HonestExchange far silence (text_out p.station.link.state) came far_new silence_new
     → PieceDoes p far silence Receive next far_new silence_new
 
 -- what came of a wake, where an honest one could bring it
-unfoldable pub WakeDoes : Parts (Unit {0}) → Bool → Parts (Unit {0}) → Type 0
+unfoldable pub WakeDoes : PortParts (Unit {0}) → Bool → PortParts (Unit {0}) → Type 0
 WakeDoes p answered next =
     (far far_new : Far) (silence : ℕ) → HonestWake far answered far_new
     → PieceDoes p far silence Receive next far_new silence
@@ -128,9 +129,9 @@ WakeDoes p answered next =
 -- the next request is begun or denied where nothing was out, and a message is out: the one
 -- that was, or a new one for what is due
 -- PORT-8
-pub record SendGives (old new : Parts (Unit {0})) : Type 0 where
+pub record PortSendGives (old new : PortParts (Unit {0})) : Type 0 where
   pub core : old.sent ≡ false
-      → IsSent (event_room old.kept) (core_of (station_begun old)) (core_of new.station)
+      → SendsMessage (event_room old.kept) (core_of (station_begun old)) (core_of new.station)
   pub book : old.sent ≡ false → new.book.state ≡ book_begun old
   pub memory : KeepsMemory old new
   pub kept : new.kept ≡ old.kept
@@ -142,7 +143,8 @@ pub record SendGives (old new : Parts (Unit {0})) : Type 0 where
 -- to the book and to the kept events; both are counted. A reset of the device ends what a request
 -- that was cut off may still do
 -- PORT-9
-pub record ReceiveGives (old : Parts (Unit {0})) (came : Option (List ℕ)) (new : Parts (Unit {0})) :
+pub record PortReceiveGives (old : PortParts (Unit {0})) (came : Option (List ℕ))
+    (new : PortParts (Unit {0})) :
     Type 0 where
   pub said : Said
   pub core : core_of new.station
@@ -161,7 +163,7 @@ pub record ReceiveGives (old : Parts (Unit {0})) (came : Option (List ℕ)) (new
 
 -- a start-up begins where the wake was answered, which ends what a request that was cut off
 -- may still do where that has reset the device; else the link is still down
-pub record WakeGives (old : Parts (Unit {0})) (answered : Bool) (new : Parts (Unit {0})) :
+pub record WakeGives (old : PortParts (Unit {0})) (answered : Bool) (new : PortParts (Unit {0})) :
     Type 0 where
   pub core : core_of new.station ≡ after_wake answered old.station.session
   pub book : new.book.state

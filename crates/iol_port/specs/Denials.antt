@@ -9,7 +9,7 @@ use Rattle.iol_book.specs.declared.entries.Ticket.{Ticket}
 use Rattle.iol_port.specs.declared.call.Call.TheVariants as call
 use Rattle.iol_port.specs.declared.call.Answered.{Answered}
 use Rattle.iol_port.specs.declared.call.Answered.TheVariants as answered
-use Rattle.iol_port.specs.Run.{PortState, Piece, Whole, Pieces, opened}
+use Rattle.iol_port.specs.Run.{PortState, Piece, Whole, Pieces, port_at_opening}
 use Rattle.iol_port.specs.CarriesOut.{Happens}
 use Rattle.iol_mode.specs.declared.configuration.Devices.{Devices}
 
@@ -19,7 +19,7 @@ abbrev pub CarriesNone : Type 0
 CarriesNone =
     (devices : Devices) (limits : Limits) (far : Far) (silence : ℕ) (pieces : List Piece)
     (replies : List Answered)
-    (b : PortState) → Pieces (opened devices limits far silence) pieces replies b
+    (b : PortState) → Pieces (port_at_opening devices limits far silence) pieces replies b
     → knows_isdu far.page ≡ false → b.session.carried ≡ far.carried
 
 -- and each outcome NoIsdu that was collected is that of such a device
@@ -27,7 +27,7 @@ abbrev pub IsDeniedWithoutIsdu : Type 0
 IsDeniedWithoutIsdu =
     (devices : Devices) (limits : Limits) (far : Far) (silence : ℕ) (pieces : List Piece)
     (replies : List Answered)
-    (b : PortState) → Pieces (opened devices limits far silence) pieces replies b
+    (b : PortState) → Pieces (port_at_opening devices limits far silence) pieces replies b
     → (ticket : Ticket)
     → Happens pieces replies (Whole (call.Collect ticket)) (answered.Outcome NoIsdu)
     → knows_isdu far.page ≡ false

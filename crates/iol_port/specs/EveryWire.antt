@@ -16,19 +16,19 @@ use Rattle.iol_book.specs.declared.entries.Ticket.{Ticket}
 use Rattle.iol_book.specs.declared.fault.BookFault.TheVariants.{Outstanding}
 use Rattle.iol_book.specs.declared.entries.Outcome.TheVariants.{NoIsdu}
 use Rattle.iol_book.specs.Replay.{same_ticket}
-use Rattle.iol_book.specs.BookModel.{BookState, BookValue, MemoryGrows, memory_archived, RefusesFor, submit_refusal, submitted, submitted_urgent, next_ticket, next_taken, took, denied, waits, collect_answer, collected, withdraw_refusal, withdrawn, flight_refusal, may_archive, archived}
+use Rattle.iol_book.specs.BookModel.{BookState, BookValue, MemoryGrows, memory_archived, RefusesFor, submit_refusal, book_after_submit, book_after_urgent, next_ticket, next_taken, book_after_take, book_after_denial, waits, collect_answer, book_after_collect, withdraw_refusal, book_after_withdrawal, flight_refusal, may_archive, book_after_archive}
 use Rattle.iol_mode.specs.Exchanges.{tries_in}
 use Rattle.iol_mode.specs.States.{is_reset}
 use Rattle.iol_steps.specs.declared.mode.Mode.TheVariants.{Down}
 use Rattle.iol_steps.specs.declared.said.Said.{Said}
-use Rattle.iol_steps.specs.Step.{Image, resets, book_said, reports_said}
+use Rattle.iol_steps.specs.Step.{ImageOctets, resets, book_said, reports_said}
 use Rattle.iol_steps.specs.Kinds.{restart_steps}
 use Rattle.iol_app.specs.State as session
 use Rattle.iol_app.specs.Due.{is_ready}
-use Rattle.iol_app.specs.Asking.{prepared, IsCall}
-use Rattle.iol_app.specs.declared.brought.Brought.{Brought}
+use Rattle.iol_app.specs.Asking.{station_with_request, IsCall}
+use Rattle.iol_app.specs.declared.brought.WireResult.{WireResult}
 use Rattle.iol_app.specs.Brought.{brought_facts}
-use Rattle.iol_app.specs.StationState.{StationState, wire_of, mode_of, why_of, page_in, is_operating, IsTurn}
+use Rattle.iol_app.specs.StationState.{StationState, link_wire, mode_of, why_down, page_in, is_operating, IsTurn}
 use Rattle.iol_port.specs.declared.fault.PortFault.{PortFault}
 use Rattle.iol_port.specs.declared.fault.PortFault.TheVariants as fault
 use Rattle.iol_port.specs.declared.call.Call.{Call}
@@ -38,11 +38,11 @@ use Rattle.iol_port.specs.declared.call.Answered.TheVariants as answered
 use Rattle.iol_port.specs.declared.call.Counting.{Counting}
 use Rattle.iol_port.specs.Asks.{event_room, asks_of, lacks_isdu, begun_next}
 use Rattle.iol_port.specs.Replies.{by_book, ticket_reply, outcome_reply, nothing_reply, event_reply, archive_reply}
-use Rattle.iol_port.specs.Run.{counting}
+use Rattle.iol_port.specs.Run.{counting_of}
 use Rattle.iol_port.specs.Sound.{request_taken}
 use Rattle.iol_port.specs.Counters.{call_counted, said_counted, restart_counted}
 use Rattle.iol_port.specs.Steps.{book_through, kept_through}
-use Rattle.iol_port.specs.View.{Parts, status_of}
+use Rattle.iol_port.specs.View.{PortParts, status_of}
 
 -- the first refusal that holds, or want of memory where a growth was needed
 abbrev pub RefusesSubmit : BookValue → PortFault → Type 0
@@ -52,10 +52,10 @@ RefusesSubmit b other = ⊥
 -- the book once the next request is taken, or denied where the device has no ISDU:
 -- where the station is ready for one, and one waits
 -- REQ-3
-abbrev pub taken_where : Bool → Bool → Option (Ticket × Request) → BookState → BookState
-taken_where ready lacks None b = b
-taken_where ready lacks (Some next) b =
-    if ready then (if lacks then denied b next.0 else took b next) else b
+abbrev pub book_after_taking : Bool → Bool → Option (Ticket × Request) → BookState → BookState
+book_after_taking ready lacks None b = b
+book_after_taking ready lacks (Some next) b =
+    if ready then (if lacks then book_after_denial b next.0 else book_after_take b next) else b
 
 -- the outcome of a ticket is that the device has no ISDU
 abbrev pub HasNoIsdu : BookState → Ticket → Type 0
@@ -64,17 +64,17 @@ HasNoIsdu b ticket = lookup (same_ticket ticket) b.standing.outcomes ≡ Some No
 module _ {W : Type 0} where
   -- Only the book changes: the station with its wire, and the events that are kept,
   -- are what they were
-  abbrev pub IsBookCall : Parts W → Parts W → Type 0
+  abbrev pub IsBookCall : PortParts W → PortParts W → Type 0
   IsBookCall old new = new ≡ record old { book = new.book }
 
   -- No memory is taken, and none is given back
   -- BOOK-12
-  abbrev pub KeepsMemory : Parts W → Parts W → Type 0
+  abbrev pub KeepsMemory : PortParts W → PortParts W → Type 0
   KeepsMemory old new = new.book.memory ≡ old.book.memory
 
   -- a request is entered, which leaves this book
-  pub record SubmitGives (old : Parts W) (book : BookState) (result : Result Ticket PortFault)
-      (new : Parts W) : Type 0 where
+  pub record SubmitGives (old : PortParts W) (book : BookState) (result : Result Ticket PortFault)
+      (new : PortParts W) : Type 0 where
     pub allowed : OnOk result (submit_refusal old.book.state ≡ None)
     pub ticket : IfOk result (λ t. t ≡ next_ticket old.book.state)
     pub entered : OnOk result (new.book.state ≡ book)
@@ -84,26 +84,28 @@ module _ {W : Type 0} where
     pub rest : IsBookCall old new
 
   -- the outcome that was posted for the ticket, or why there is none
-  pub record CollectGives (old : Parts W) (ticket : Ticket) (result : Result Outcome PortFault)
-      (new : Parts W) : Type 0 where
+  pub record CollectGives (old : PortParts W) (ticket : Ticket) (result : Result Outcome PortFault)
+      (new : PortParts W) : Type 0 where
     pub answer : result ≡ by_book (collect_answer old.book.state.standing ticket)
-    pub book : new.book.state ≡ collected old.book.state ticket
+    pub book : new.book.state ≡ book_after_collect old.book.state ticket
     pub memory : KeepsMemory old new
     pub rest : IsBookCall old new
 
-  pub record WithdrawGives (old : Parts W) (ticket : Ticket) (result : Result (Unit {0}) PortFault)
-      (new : Parts W) : Type 0 where
+  pub record WithdrawGives (old : PortParts W) (ticket : Ticket)
+      (result : Result (Unit {0}) PortFault)
+      (new : PortParts W) : Type 0 where
     pub answer : result_err result
         ≡ option_map (λ why. fault.Book why) (withdraw_refusal old.book.state.standing ticket)
-    pub book : new.book.state ≡ withdrawn old.book.state ticket
+    pub book : new.book.state ≡ book_after_withdrawal old.book.state ticket
     pub memory : KeepsMemory old new
     pub rest : IsBookCall old new
 
   -- refused as long as it isn't the request under way; else an abort waits, for
   -- this cause unless one waits already
   -- REQ-8
-  pub record CancelGives (old : Parts W) (ticket : Ticket) (result : Result (Unit {0}) PortFault)
-      (new : Parts W) : Type 0 where
+  pub record CancelGives (old : PortParts W) (ticket : Ticket)
+      (result : Result (Unit {0}) PortFault)
+      (new : PortParts W) : Type 0 where
     pub answer : result_err result
         ≡ option_map (λ why. fault.Book why) (flight_refusal old.book.state.standing ticket)
     pub waits : OnOk result
@@ -114,77 +116,84 @@ module _ {W : Type 0} where
     pub unchanged : OnErr result (new ≡ old)
 
   -- these entries are the journal as it was, and the new one is empty
-  pub record ArchiveGives (old : Parts W) (result : Result (List Entry) PortFault)
-      (new : Parts W) : Type 0 where
+  pub record ArchiveGives (old : PortParts W) (result : Result (List Entry) PortFault)
+      (new : PortParts W) : Type 0 where
     pub allowed : is_ok result ≡ may_archive old.book.state
     pub journal : IfOk result (λ entries. entries ≡ old.book.state.journal)
     pub refused : IfErr result (λ why. why ≡ fault.Book Outstanding)
-    pub book : new.book.state ≡ archived old.book.state
+    pub book : new.book.state ≡ book_after_archive old.book.state
     pub memory : new.book.memory ≡ memory_archived old.book
     pub rest : IsBookCall old new
 
   -- the event kept longest
   -- PORT-5
-  pub record TakeEventGives (old : Parts W) (result : Result Event PortFault)
-      (new : Parts W) : Type 0 where
+  pub record TakeEventGives (old : PortParts W) (result : Result Event PortFault)
+      (new : PortParts W) : Type 0 where
     pub answer : result ≡ ok_or (slice_get old.kept 0) fault.NoEvent
     pub rest : new ≡ record old { kept = drop 1 old.kept }
 
   -- refused by the layout that was told last; else it is wanted
-  pub record SetOutputGives (old : Parts W) (image : Image) (result : Result (Unit {0}) PortFault)
-      (new : Parts W) : Type 0 where
+  pub record SetOutputGives (old : PortParts W) (image : ImageOctets)
+      (result : Result (Unit {0}) PortFault)
+      (new : PortParts W) : Type 0 where
     pub answer : result_err result
         ≡ option_map (λ why. fault.Output why)
         (session.output_refusal image old.station.session.layout)
     pub wanted : OnOk result
         (new ≡ record old {
           station =
-              record old.station { session = session.wanting (Some image) old.station.session };
+              record old.station {
+                session =
+                    session.session_wanting (Some image) old.station.session;
+              };
         })
     pub unchanged : OnErr result (new ≡ old)
 
-  abbrev pub ClearOutputGives : Parts W → Parts W → Type 0
+  abbrev pub ClearOutputGives : PortParts W → PortParts W → Type 0
   ClearOutputGives old new = new
       ≡ record old {
         station =
-            record old.station { session = session.wanting None old.station.session };
+            record old.station { session = session.session_wanting None old.station.session };
       }
 
   -- the page of the present session, once it was read whole and checked
   -- PORT-11
-  abbrev pub page_shown : Parts W → Option (List ℕ)
+  abbrev pub page_shown : PortParts W → Option (List ℕ)
   page_shown p = page_in p.station.link.state p.station.session
 
   -- another device is expected, or any, and nothing else changes
   -- PORT-10
-  pub record ExpectGives (old : Parts W) (identity : Option Identity) (result : Counting)
-      (new : Parts W) : Type 0 where
-    pub counts : result ≡ counting (page_shown old)
+  pub record ExpectGives (old : PortParts W) (identity : Option Identity) (result : Counting)
+      (new : PortParts W) : Type 0 where
+    pub counts : result ≡ counting_of (page_shown old)
     pub expects : new
         ≡ record old {
           station =
-              record old.station { session = session.expecting identity old.station.session };
+              record old.station {
+                session =
+                    session.session_expecting identity old.station.session;
+              };
         }
 
   -- start-ups are to write this cycle time, or the least one, and nothing else changes
   -- PORT-10
-  pub record SetCycleGives (old : Parts W) (cycle : Option CycleTime) (result : Counting)
-      (new : Parts W) : Type 0 where
-    pub counts : result ≡ counting (page_shown old)
+  pub record SetCycleGives (old : PortParts W) (cycle : Option CycleTime) (result : Counting)
+      (new : PortParts W) : Type 0 where
+    pub counts : result ≡ counting_of (page_shown old)
     pub paces : new
         ≡ record old {
           station =
-              record old.station { session = session.pacing cycle old.station.session };
+              record old.station { session = session.session_with_cycle cycle old.station.session };
         }
 
   -- the wire stays, the link is down and has no fault; the request under way is cut
   -- off, and there is no image
   -- PORT-6
-  pub record RestartGives (old new : Parts W) : Type 0 where
-    pub wire : wire_of new.station.link ≡ wire_of old.station.link
+  pub record RestartGives (old new : PortParts W) : Type 0 where
+    pub wire : link_wire new.station.link ≡ link_wire old.station.link
     pub mode : mode_of new.station.link ≡ Down
-    pub why : why_of new.station.link ≡ None
-    pub session_is : new.station.session ≡ session.left old.station.session
+    pub why : why_down new.station.link ≡ None
+    pub session_is : new.station.session ≡ session.session_after_leaving old.station.session
     pub book : new.book.state
         ≡ book_through (restart_steps (request_taken old.book.state.standing.taken)) old.book.state
     pub memory : KeepsMemory old new
@@ -195,34 +204,34 @@ module _ {W : Type 0} where
 
   -- whether the next turn would send IDLE 1, so that it takes or denies the next request
   -- REQ-2
-  abbrev pub takes_next : Parts W → Bool
+  abbrev pub takes_next : PortParts W → Bool
   takes_next p = is_operating p.station.link && is_ready p.station.session (event_room p.kept)
 
   -- the station and the book with which a turn begins: that request is taken and begun, or denied
-  abbrev pub station_begun : Parts W → StationState W
-  station_begun p = prepared (begun_next p) p.station (event_room p.kept)
+  abbrev pub station_begun : PortParts W → StationState W
+  station_begun p = station_with_request (begun_next p) p.station (event_room p.kept)
 
-  abbrev pub book_begun : Parts W → BookState
+  abbrev pub book_begun : PortParts W → BookState
   book_begun p =
-      taken_where (takes_next p) (lacks_isdu p.station.session.isdu)
+      book_after_taking (takes_next p) (lacks_isdu p.station.session.isdu)
       (next_taken p.book.state.standing) p.book.state
 
   -- The ticket's request waited, none was taken, and a start-up told that the device has no
   -- ISDU; all that the turn does in the book is to give it this outcome, without a taking
-  pub record IsDenied (old new : Parts W) (ticket : Ticket) : Type 0 where
+  pub record IsDenied (old new : PortParts W) (ticket : Ticket) : Type 0 where
     pub told : old.station.session.isdu ≡ Some false
     pub waited : IsTrue (waits old.book.state.standing ticket)
     pub free : old.book.state.standing.taken ≡ None
-    pub book : new.book.state ≡ denied old.book.state ticket
+    pub book : new.book.state ≡ book_after_denial old.book.state ticket
 
   module _ (facts : WireFacts W) where
     -- A turn: the next request is begun or denied; the station makes its own one, with room
     -- for events where at most 58 are kept, and what that says goes to the book and to the
     -- kept events; a reset of the device ends what a request that was cut off may still do
     -- PORT-1
-    pub record TurnGives (old new : Parts W) : Type 0 where
+    pub record PortTurnGives (old new : PortParts W) : Type 0 where
       pub said : Said
-      pub brought : Brought
+      pub brought : WireResult
       -- its one call of the wire is the one that the port asks for, and brought this
       pub turn :
           IsTurn (brought_facts facts (asks_of old) (tries_in old.station.link.state) brought)
@@ -241,54 +250,56 @@ module _ {W : Type 0} where
 
     -- One call, with the answer that a list of calls has for it
     -- PORT-3, PORT-7
-    abbrev pub CallGives : Parts W → Call → Answered → Parts W → Type 0
-    CallGives old (call.Submit request) reply new =
+    abbrev pub PortCallGives : PortParts W → Call → Answered → PortParts W → Type 0
+    PortCallGives old (call.Submit request) reply new =
         (result : Result Ticket PortFault) × (reply ≡ ticket_reply result)
-        × SubmitGives old (submitted old.book.state request) result new
-    CallGives old (call.SubmitUrgent request) reply new =
+        × SubmitGives old (book_after_submit old.book.state request) result new
+    PortCallGives old (call.SubmitUrgent request) reply new =
         (result : Result Ticket PortFault) × (reply ≡ ticket_reply result)
-        × SubmitGives old (submitted_urgent old.book.state request) result new
-    CallGives old (call.Collect ticket) reply new =
+        × SubmitGives old (book_after_urgent old.book.state request) result new
+    PortCallGives old (call.Collect ticket) reply new =
         (result : Result Outcome PortFault) × (reply ≡ outcome_reply result)
         × CollectGives old ticket result new
-    CallGives old (call.Withdraw ticket) reply new =
+    PortCallGives old (call.Withdraw ticket) reply new =
         (result : Result (Unit {0}) PortFault) × (reply ≡ nothing_reply result)
         × WithdrawGives old ticket result new
-    CallGives old (call.Cancel ticket) reply new =
+    PortCallGives old (call.Cancel ticket) reply new =
         (result : Result (Unit {0}) PortFault) × (reply ≡ nothing_reply result)
         × CancelGives old ticket result new
-    CallGives old call.Restart reply new = (reply ≡ answered.Nothing) × RestartGives old new
-    CallGives old (call.SetOutput image) reply new =
+    PortCallGives old call.Restart reply new = (reply ≡ answered.Nothing) × RestartGives old new
+    PortCallGives old (call.SetOutput image) reply new =
         (result : Result (Unit {0}) PortFault) × (reply ≡ nothing_reply result)
         × SetOutputGives old image result new
-    CallGives old call.ClearOutput reply new = (reply ≡ answered.Nothing) × ClearOutputGives old new
-    CallGives old call.Look reply new = (reply ≡ answered.Image old.station.session.image)
+    PortCallGives old call.ClearOutput reply new = (reply ≡ answered.Nothing)
+        × ClearOutputGives old new
+    PortCallGives old call.Look reply new = (reply ≡ answered.Image old.station.session.image)
         × (new ≡ old)
-    CallGives old (call.Expect identity) reply new =
+    PortCallGives old (call.Expect identity) reply new =
         (result : Counting) × (reply ≡ answered.Counts result)
         × ExpectGives old identity result new
-    CallGives old (call.Cycle cycle) reply new =
+    PortCallGives old (call.Cycle cycle) reply new =
         (result : Counting) × (reply ≡ answered.Counts result)
         × SetCycleGives old cycle result new
-    CallGives old call.Counters reply new = (reply ≡ answered.Counters old.counters) × (new ≡ old)
-    CallGives old call.Page reply new = (reply ≡ answered.Page (page_shown old)) × (new ≡ old)
-    CallGives old call.TakeEvent reply new =
+    PortCallGives old call.Counters reply new = (reply ≡ answered.Counters old.counters)
+        × (new ≡ old)
+    PortCallGives old call.Page reply new = (reply ≡ answered.Page (page_shown old)) × (new ≡ old)
+    PortCallGives old call.TakeEvent reply new =
         (result : Result Event PortFault) × (reply ≡ event_reply result)
         × TakeEventGives old result new
-    CallGives old call.Status reply new = (reply ≡ answered.Status (status_of old.station))
+    PortCallGives old call.Status reply new = (reply ≡ answered.Status (status_of old.station))
         × (new ≡ old)
-    CallGives old call.Archive reply new =
+    PortCallGives old call.Archive reply new =
         (result : Result (List Entry) PortFault) × (reply ≡ archive_reply result)
         × ArchiveGives old result new
-    CallGives old call.Turn reply new =
-        (reply ≡ answered.Nothing) × TurnGives old new
-        × IsCall facts (asks_of old) (wire_of old.station.link) (wire_of new.station.link)
+    PortCallGives old call.Turn reply new =
+        (reply ≡ answered.Nothing) × PortTurnGives old new
+        × IsCall facts (asks_of old) (link_wire old.station.link) (link_wire new.station.link)
 
     -- a run: each call in order, once, with its answer
     -- PORT-3
-    abbrev pub RunGives : Parts W → List Call → List Answered → Parts W → Type 0
+    abbrev pub RunGives : PortParts W → List Call → List Answered → PortParts W → Type 0
     RunGives old [] [] new = new ≡ old
-    RunGives old (call ∷ calls) (reply ∷ replies) new = (mid : Parts W)
-        × CallGives old call reply mid × RunGives mid calls replies new
+    RunGives old (call ∷ calls) (reply ∷ replies) new = (mid : PortParts W)
+        × PortCallGives old call reply mid × RunGives mid calls replies new
     RunGives old [] (reply ∷ replies) new = ⊥
     RunGives old (call ∷ calls) [] new = ⊥

@@ -1,11 +1,11 @@
 -- The numbers of a port's refusals.
 use Rattle.std.specs.Prelude.{ℕ}
-use Rattle.iol_book.specs.Faults.{fault_number as book_number}
-use Rattle.iol_app.specs.Faults.{fault_number as output_number}
+use Rattle.iol_book.specs.Faults.{book_fault_number}
+use Rattle.iol_app.specs.Faults.{output_fault_number}
 use Rattle.iol_port.specs.declared.fault.PortFault.{PortFault}
 use Rattle.iol_port.specs.declared.fault.PortFault.TheVariants.{Book, Output, NoEvent}
 
-abbrev pub fault_number : PortFault → ℕ
-fault_number (Book fault) = book_number fault
-fault_number (Output fault) = output_number fault
-fault_number NoEvent = 30
+abbrev pub port_fault_number : PortFault → ℕ
+port_fault_number (Book fault) = book_fault_number fault
+port_fault_number (Output fault) = output_fault_number fault
+port_fault_number NoEvent = 30

@@ -10,8 +10,8 @@ use Rattle.iol_book.specs.declared.entries.Outcome.{Outcome}
 use Rattle.iol_book.specs.declared.entries.Outcome.TheVariants as outcome
 use Rattle.iol_book.specs.declared.entries.Outcome.TheVariants.{NoIsdu}
 use Rattle.iol_book.specs.declared.entries.Ticket.{Ticket}
-use Rattle.iol_book.specs.Takings.{Taking, taking_of, ended, first_with}
-use Rattle.iol_steps.specs.Step.{Step, Take, Carry, Done, Unknown, LateCarry, Terms, may_repeat, may_misread}
+use Rattle.iol_book.specs.Takings.{Taking, taking_of, taking_with_outcome, first_with}
+use Rattle.iol_steps.specs.Step.{PortStep, Take, Carry, Done, Unknown, LateCarry, Terms, may_repeat, may_misread}
 use Rattle.iol_port.specs.Steps.{ticket_of}
 
 -- an owner: a request that was taken, and what the device answered it, the last answer first. Each
@@ -41,35 +41,38 @@ pairs_of [] = []
 pairs_of (owner ∷ earlier) =
     pairs_of earlier ++ pairs_for owner.taking.request owner.answers
 
-abbrev pub answered : Answer → Owner → Owner
-answered answer owner = record owner { answers = answer ∷ owner.answers }
+abbrev pub owner_with_answer : Answer → Owner → Owner
+owner_with_answer answer owner = record owner { answers = answer ∷ owner.answers }
 
-abbrev pub settled : Outcome → Owner → Owner
-settled result owner = record owner { taking = ended result owner.taking }
+abbrev pub owner_with_outcome : Outcome → Owner → Owner
+owner_with_outcome result owner = record owner { taking = taking_with_outcome result owner.taking }
 
 -- What a step does: whatever is carried out, or ends, is the request that was taken last
-abbrev pub owners_after : Step → Owners → Owners
+abbrev pub owners_after : PortStep → Owners → Owners
 owners_after (Take ticket request) owners = record owners {
   current =
       record { taking = taking_of (ticket_of ticket) request; answers = [] } ∷ owners.current;
 }
 owners_after (Carry answer) owners =
-    record owners { current = first_with (answered answer) owners.current }
+    record owners { current = first_with (owner_with_answer answer) owners.current }
 owners_after (LateCarry answer) owners =
-    record owners { current = first_with (answered answer) owners.current }
+    record owners { current = first_with (owner_with_answer answer) owners.current }
 owners_after (Done answer) owners =
-    record owners { current = first_with (settled (outcome.Done answer)) owners.current }
+    record owners { current = first_with (owner_with_outcome (outcome.Done answer)) owners.current }
 owners_after (Unknown cause) owners =
-    record owners { current = first_with (settled (outcome.Unknown cause)) owners.current }
+    record owners {
+      current = first_with (owner_with_outcome (outcome.Unknown cause))
+          owners.current;
+    }
 owners_after step owners = owners
 
-abbrev pub owners_through : List Step → Owners → Owners
+abbrev pub owners_through : List PortStep → Owners → Owners
 owners_through [] owners = owners
 owners_through (step ∷ steps) owners = owners_through steps (owners_after step owners)
 
 -- an archive begins a new journal
-abbrev pub archiving : Owners → Owners
-archiving owners = record owners { current = []; archived = all owners }
+abbrev pub owners_after_archive : Owners → Owners
+owners_after_archive owners = record owners { current = []; archived = all owners }
 
 -- What is said of owners
 

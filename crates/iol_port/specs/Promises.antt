@@ -5,32 +5,32 @@ use Rattle.iol_book.specs.declared.limits.Limits.{Limits}
 use Rattle.iol_book.specs.declared.entries.Ticket.{Ticket}
 use Rattle.iol_book.specs.BookModel.{is_taken}
 use Rattle.iol_isdu.specs.declared.values.Cause.TheVariants.{Cancelled}
-use Rattle.iol_steps.specs.Step.{Step, Unknown, Moment}
+use Rattle.iol_steps.specs.Step.{PortStep, Unknown, Moment}
 use Rattle.iol_steps.specs.Session.{Job, Session, MaySessionAll}
 use Rattle.iol_steps.specs.declared.mode.Mode.TheVariants.{Operate}
 use Rattle.iol_port.specs.declared.call.Call.{Call}
 use Rattle.iol_port.specs.declared.call.Call.TheVariants as call
 use Rattle.iol_port.specs.declared.call.Answered.{Answered}
 use Rattle.iol_port.specs.declared.call.Answered.TheVariants as answered
-use Rattle.iol_port.specs.Run.{PortState, TurnOf, SendOf, ReceiveOf, Piece, Whole, PieceOf, Pieces, Run, opened}
-use Rattle.iol_port.specs.Sound.{IsSound}
+use Rattle.iol_port.specs.Run.{PortState, TurnOf, SendOf, ReceiveOf, Piece, Whole, PieceOf, Pieces, Run, port_at_opening}
+use Rattle.iol_port.specs.Sound.{PortIsSound}
 use Rattle.iol_mode.specs.declared.configuration.Devices.{Devices}
 
 -- a port that is opened is sound
 abbrev pub OpensSound : Type 0
 OpensSound = (devices : Devices) (limits : Limits) (far : Far) (silence : ℕ)
-    → IsSound (opened devices limits far silence)
+    → PortIsSound (port_at_opening devices limits far silence)
 
 -- and every run keeps it so
 abbrev pub RunsSound : Type 0
 RunsSound = (a b : PortState) (calls : List Call) (replies : List Answered) → Run a calls replies b
-    → IsSound a → IsSound b
+    → PortIsSound a → PortIsSound b
 
 -- in pieces as well
 abbrev pub PiecesSound : Type 0
 PiecesSound =
     (a b : PortState) (pieces : List Piece) (replies : List Answered) → Pieces a pieces replies b
-    → IsSound a → IsSound b
+    → PortIsSound a → PortIsSound b
 
 -- a turn that begins in OPERATE and brings a good reply ends in OPERATE
 abbrev pub GoodLinkStays : Type 0
@@ -60,26 +60,26 @@ abbrev pub HalvesAreTurns : Type 0
 HalvesAreTurns = (a m b : PortState) → SendOf a m → ReceiveOf m b → TurnOf a b
 
 -- whether the program asked to cut off the request under way
-abbrev pub is_asked : Option Job → Bool
-is_asked None = false
-is_asked (Some job) = job.asked
+abbrev pub is_cancel_asked : Option Job → Bool
+is_cancel_asked None = false
+is_cancel_asked (Some job) = job.asked
 
 -- steps of which one says that a request was cancelled
-abbrev pub Cancels : List Step → Type 0
-Cancels [] = ⊥
-Cancels (Unknown Cancelled ∷ steps) = ⊤
-Cancels (step ∷ steps) = Cancels steps
+abbrev pub SaysCancelled : List PortStep → Type 0
+SaysCancelled [] = ⊥
+SaysCancelled (Unknown Cancelled ∷ steps) = ⊤
+SaysCancelled (step ∷ steps) = SaysCancelled steps
 
 -- a request is cancelled only where the program had asked for it before the turn
 abbrev pub CancelledWasAsked : Type 0
-CancelledWasAsked = (moment : Moment) (steps : List Step) (s : Session)
-    → MaySessionAll moment steps s → Cancels steps → is_asked s.job ≡ true
+CancelledWasAsked = (moment : Moment) (steps : List PortStep) (s : Session)
+    → MaySessionAll moment steps s → SaysCancelled steps → is_cancel_asked s.job ≡ true
 
 -- and a request has that mark only by a cancel of its ticket, which was answered
 abbrev pub AskedByCancel : Type 0
 AskedByCancel =
     (a b : PortState) (piece : Piece) (reply : Answered) → PieceOf a piece reply b
-    → is_asked b.session.job ≡ true
-    → (is_asked a.session.job ≡ true)
+    → is_cancel_asked b.session.job ≡ true
+    → (is_cancel_asked a.session.job ≡ true)
     ⊎ ((ticket : Ticket) × (piece ≡ Whole (call.Cancel ticket)) × (reply ≡ answered.Nothing)
     × (is_taken a.book.standing ticket ≡ true))

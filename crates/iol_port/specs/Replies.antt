@@ -12,25 +12,25 @@ use Rattle.iol_port.specs.declared.fault.PortFault.{PortFault}
 use Rattle.iol_port.specs.declared.fault.PortFault.TheVariants as fault
 
 -- a value in its own way, else the refusal
-abbrev pub reply_of : {X : Type 0} → (X → Answered) → Result X PortFault → Answered
-reply_of answer (Ok value) = answer value
-reply_of answer (Err why) = answered.Refused why
+abbrev pub result_reply : {X : Type 0} → (X → Answered) → Result X PortFault → Answered
+result_reply answer (Ok value) = answer value
+result_reply answer (Err why) = answered.Refused why
 
 abbrev pub ticket_reply : Result Ticket PortFault → Answered
-ticket_reply result = reply_of (λ ticket. answered.Ticket ticket) result
+ticket_reply result = result_reply (λ ticket. answered.Ticket ticket) result
 
 abbrev pub outcome_reply : Result Outcome PortFault → Answered
-outcome_reply result = reply_of (λ outcome. answered.Outcome outcome) result
+outcome_reply result = result_reply (λ outcome. answered.Outcome outcome) result
 
 abbrev pub nothing_reply : Result (Unit {0}) PortFault → Answered
-nothing_reply result = reply_of (λ _. answered.Nothing) result
+nothing_reply result = result_reply (λ _. answered.Nothing) result
 
 abbrev pub event_reply : Result Event PortFault → Answered
-event_reply result = reply_of (λ event. answered.Event event) result
+event_reply result = result_reply (λ event. answered.Event event) result
 
 -- of an archive, how many entries were handed out
 abbrev pub archive_reply : Result (List Entry) PortFault → Answered
-archive_reply result = reply_of (λ entries. answered.Archived (length entries)) result
+archive_reply result = result_reply (λ entries. answered.Archived (length entries)) result
 
 -- the book's refusals are the port's
 abbrev pub by_book : {X : Type 0} → Result X BookFault → Result X PortFault

@@ -1,17 +1,17 @@
 -- For which device a port works, on every wire.
 use Rattle.std.specs.Prelude.{◌≡◌, true, Option, Some, None, IsTrue}
 use Rattle.iol_page.specs.Identity.{is_expected}
-use Rattle.iol_mode.specs.declared.states.Told.{Told}
+use Rattle.iol_mode.specs.declared.states.PageFacts.{PageFacts}
 use Rattle.iol_app.specs.StationState.{is_operating}
-use Rattle.iol_port.specs.View.{Parts}
+use Rattle.iol_port.specs.View.{PortParts}
 
 -- a page was read whole, and is that of the device that was expected when it was checked
-abbrev pub IsOfRightDevice : Option Told → Type 0
+abbrev pub IsOfRightDevice : Option PageFacts → Type 0
 IsOfRightDevice None = ⊥
 IsOfRightDevice (Some told) = is_expected told.expected told.page ≡ true
 
 -- in OPERATE, where alone a request is taken and an output goes out, this holds of the page of
 -- the present session
-abbrev pub IsForRightDevice : {W : Type 0} → Parts W → Type 0
+abbrev pub IsForRightDevice : {W : Type 0} → PortParts W → Type 0
 IsForRightDevice p = IsTrue (is_operating p.station.link)
     → IsOfRightDevice p.station.session.present

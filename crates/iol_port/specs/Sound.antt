@@ -42,18 +42,18 @@ request_taken None = None
 request_taken (Some taken) = Some taken.1
 
 -- the answers of a request under way: without one it may be carried out next
-abbrev pub AnswersFit : Bool → Option Answer → List Answer → Type 0
-AnswersFit repeats None answers = (answers ≡ []) ⊎ IsTrue repeats
-AnswersFit repeats (Some answer) [] = ⊥
-AnswersFit repeats (Some answer) (last ∷ earlier) = last ≡ answer
+abbrev pub AnswersFitJob : Bool → Option Answer → List Answer → Type 0
+AnswersFitJob repeats None answers = (answers ≡ []) ⊎ IsTrue repeats
+AnswersFitJob repeats (Some answer) [] = ⊥
+AnswersFitJob repeats (Some answer) (last ∷ earlier) = last ≡ answer
 
 -- the request under way is the one that is taken
-pub record IsUnderWay (repeats : Request → Bool) (job : Job) (taken : Option (Ticket × Request))
+pub record JobIsTaken (repeats : Request → Bool) (job : Job) (taken : Option (Ticket × Request))
     (owner : Owner) : Type 0 where
   pub taken_is : taken ≡ Some (owner.taking.ticket, job.request)
   pub request_is : owner.taking.request ≡ job.request
   pub none : owner.taking.outcome ≡ None
-  pub answers : AnswersFit (repeats job.request) job.answer owner.answers
+  pub answers : AnswersFitJob (repeats job.request) job.answer owner.answers
 
 -- one was cut off, and may be carried out next
 pub record IsLate (repeats : Request → Bool) (request : Request) (owner : Owner) : Type 0 where
@@ -61,16 +61,17 @@ pub record IsLate (repeats : Request → Bool) (request : Request) (owner : Owne
   pub cause : Cause
   pub cut : owner.taking.outcome ≡ Some (Unknown cause)
   pub unsure : leaves_unsure (Unknown cause) ≡ true
-  pub answers : AnswersFit (repeats request) None owner.answers
+  pub answers : AnswersFitJob (repeats request) None owner.answers
 
 -- the request under way, or the late one, is the one that was taken last
-abbrev pub IsOpen : (Request → Bool) → Option Job → Option Request → Option (Ticket × Request)
+abbrev pub LastTakenIsOpen : (Request → Bool) → Option Job → Option Request
+    → Option (Ticket × Request)
     → List Owner → Type 0
-IsOpen repeats None None taken owners = taken ≡ None
-IsOpen repeats (Some job) None taken (last ∷ owners) = IsUnderWay repeats job taken last
-IsOpen repeats None (Some request) taken (last ∷ owners) =
+LastTakenIsOpen repeats None None taken owners = taken ≡ None
+LastTakenIsOpen repeats (Some job) None taken (last ∷ owners) = JobIsTaken repeats job taken last
+LastTakenIsOpen repeats None (Some request) taken (last ∷ owners) =
     (taken ≡ None) × IsLate repeats request last
-IsOpen repeats job late taken owners = ⊥
+LastTakenIsOpen repeats job late taken owners = ⊥
 
 -- an outcome is that of a request that was taken, or of one that never was: withdrawn, or denied at
 -- a device without ISDU
@@ -90,7 +91,7 @@ pub record Sound (allowance : Allowance) (book : BookState) (s : Session) (owner
     Type 0 where
   pub replayed : IsReplayed book
   pub fits : RecordFits allowance book s owners
-  pub opens : IsOpen allowance.repeats s.job s.late book.standing.taken owners.current
+  pub opens : LastTakenIsOpen allowance.repeats s.job s.late book.standing.taken owners.current
   -- a request may be late only while that isn't sure
   pub sure : book.unsure ≡ false → s.late ≡ None
   -- each ticket is that of one request, and above those that were given before
@@ -98,5 +99,5 @@ pub record Sound (allowance : Allowance) (book : BookState) (s : Session) (owner
   pub above : (number : ℕ) → number ≤ owners.given → times_ever number book owners ≡ 0
   pub outcomes : Each (IsOutcome allowance.isdu (all owners)) book.standing.outcomes
 
-abbrev pub IsSound : PortState → Type 0
-IsSound a = Sound (allowance_of a.terms) a.book a.session a.owners
+abbrev pub PortIsSound : PortState → Type 0
+PortIsSound a = Sound (allowance_of a.terms) a.book a.session a.owners

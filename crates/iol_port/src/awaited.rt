@@ -2,7 +2,7 @@
 
 /// What waits for its answer.
 #[derive(Clone, Copy, Debug, PartialEq, Eq)]
-pub enum Awaited {
+pub enum AwaitedAnswer {
     /// Nothing is out.
     Nothing,
     /// A wake-up request.

@@ -1,10 +1,10 @@
 //! What a port counts.
 ghost use Rattle.std.specs.Prelude.{◌≡◌};
-ghost use Rattle.iol_port.specs.Counters.{one_more, none_counted, call_counted, said_counted};
+ghost use Rattle.iol_port.specs.Counters.{next_counter, none_counted, call_counted, said_counted};
 ghost use Rattle.iol_port.specs.Counters.{verdict_counted, repeat_counted, loss_counted};
 ghost use Rattle.iol_port.specs.Counters.{cause_counted};
 
-use iol_app::{Brought, Verdict};
+use iol_app::{ReplyVerdict, WireResult};
 use iol_isdu::Cause;
 use iol_link::MAX_RETRY;
 use iol_steps::Said;
@@ -79,20 +79,20 @@ impl Counters {
     /// Counts the one call of the wire in a turn, and the request that the turn ended, if any.
     ///
     /// Rule PORT-12.
-    pub(crate) fn turned(&mut self, brought: Brought, said: &Said)
+    pub(crate) fn turned(&mut self, brought: WireResult, said: &Said)
         ensures { self.new ≡ said_counted said.now (call_counted brought self.old) }
     {
         self.call(brought);
         self.said(said);
     }
 
-    fn call(&mut self, brought: Brought)
+    fn call(&mut self, brought: WireResult)
         ensures { self.new ≡ call_counted brought self.old }
     {
         match brought {
-            Brought::NoDevice => {}
-            Brought::Woken => count(&mut self.start_ups),
-            Brought::Exchanged(tries, verdict) => {
+            WireResult::NoDevice => {}
+            WireResult::Woken => count(&mut self.start_ups),
+            WireResult::Exchanged(tries, verdict) => {
                 count(&mut self.exchanges);
                 self.repeat(tries);
                 self.verdict(verdict);
@@ -109,21 +109,21 @@ impl Counters {
         }
     }
 
-    fn verdict(&mut self, verdict: Verdict)
+    fn verdict(&mut self, verdict: ReplyVerdict)
         ensures { self.new ≡ verdict_counted verdict self.old }
     {
         match verdict {
-            Verdict::Good => count(&mut self.good_replies),
-            Verdict::NoReply => count(&mut self.no_reply),
-            Verdict::WrongLength => count(&mut self.wrong_length),
-            Verdict::WrongChecksum => count(&mut self.wrong_checksum),
+            ReplyVerdict::Good => count(&mut self.good_replies),
+            ReplyVerdict::NoReply => count(&mut self.no_reply),
+            ReplyVerdict::WrongLength => count(&mut self.wrong_length),
+            ReplyVerdict::WrongChecksum => count(&mut self.wrong_checksum),
         }
     }
 
-    fn loss(&mut self, tries: u8, verdict: Verdict)
+    fn loss(&mut self, tries: u8, verdict: ReplyVerdict)
         ensures { self.new ≡ loss_counted tries verdict self.old }
     {
-        if tries == MAX_RETRY && !matches!(verdict, Verdict::Good) {
+        if tries == MAX_RETRY && !matches!(verdict, ReplyVerdict::Good) {
             count(&mut self.links_lost);
         }
     }
@@ -156,7 +156,7 @@ impl Unknown {
 
 /// One more.
 fn count(counter: &mut u64)
-    ensures { counter.new ≡ one_more counter.old }
+    ensures { counter.new ≡ next_counter counter.old }
 {
     *counter = counter.saturating_add(1);
 }

@@ -20,11 +20,11 @@ pub enum PortFault {
 }
 
 impl PortFault {
-    ghost use Rattle.iol_port.specs.Faults.{fault_number};
+    ghost use Rattle.iol_port.specs.Faults.{port_fault_number};
 
     /// Its number among the refusals.
     pub fn code(&self) -> u8
-        ensures { result ≡ fault_number self.now }
+        ensures { result ≡ port_fault_number self.now }
     {
         match self {
             PortFault::Book(fault) => fault.code(),

@@ -33,7 +33,7 @@ mod port;
 mod port_core;
 mod settle;
 
-pub use awaited::Awaited;
+pub use awaited::AwaitedAnswer;
 pub use call::{Answered, Call, Counting};
 pub use counters::{Counters, Unknown};
 pub use fault::PortFault;

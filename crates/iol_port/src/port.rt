@@ -5,22 +5,22 @@ ghost use Rattle.std.specs.Option.{option_copied};
 ghost use Rattle.std.specs.Result.{result_map_both};
 ghost use Rattle.iol_book.specs.declared.fault.BookFault.TheVariants.{OutOfMemory};
 ghost use Rattle.iol_book.specs.BookModel as book;
-ghost use Rattle.iol_book.specs.BookModel.{IsReplayed, submitted};
+ghost use Rattle.iol_book.specs.BookModel.{IsReplayed, book_after_submit};
 ghost use Rattle.iol_port.specs.declared.fault.PortFault.TheVariants as fault;
 ghost use Rattle.iol_port.specs.declared.call.Call.TheVariants as call;
 ghost use Rattle.iol_port.specs.declared.call.Answered.TheVariants as answered;
-ghost use Rattle.iol_port.specs.Run.{opened};
-ghost use Rattle.iol_app.specs.StationState.{wire_of};
+ghost use Rattle.iol_port.specs.Run.{port_at_opening};
+ghost use Rattle.iol_app.specs.StationState.{link_wire};
 ghost use Rattle.iol_port.specs.Asks.{asks_of, IsWireCall};
 ghost use Rattle.iol_port.specs.Called.{Submits, SubmitsUrgent, Collects, Withdraws, Cancels, Restarts, SetsOutput};
-ghost use Rattle.iol_port.specs.Called.{ClearsOutput, Expects, SetsCycle, TakesEvent, Archives, Turns, Shown};
-ghost use Rattle.iol_port.specs.Called.{ShowsPage, ShowsCounters, ShowsImage, ShowsStatus, Called, Looked};
+ghost use Rattle.iol_port.specs.Called.{ClearsOutput, Expects, SetsCycle, TakesEvent, Archives, Turns, PublishesAfter};
+ghost use Rattle.iol_port.specs.Called.{ShowsPage, ShowsCounters, ShowsImage, ShowsStatus, MakesCall, PortOnlyLooks};
 ghost use Rattle.iol_port.specs.Claim.{Claim};
-ghost use Rattle.iol_port.specs.EveryWire.{CallGives, RunGives};
+ghost use Rattle.iol_port.specs.EveryWire.{PortCallGives, RunGives};
 ghost use Rattle.iol_port.specs.RightDevice.{IsForRightDevice};
 ghost use Rattle.iol_port.specs.WireCalls.{ComesFrom};
 ghost use Rattle.iol_port.specs.View.{Does, Runs, StandsFor, IsOpened, IsRun, KeepsLimits, OpensWell, opening_for, opening_of};
-ghost use Rattle.iol_port.specs.View.{KeepsRecord, shown_in};
+ghost use Rattle.iol_port.specs.View.{KeepsRecord, writer_after_publish};
 ghost use Rattle.iol_port.specs.Clean.{CleanTurn, CleanRuns, CleanServes, IsLevelBetween};
 ghost use Rattle.iol_port.specs.Replies.{ticket_reply, nothing_reply};
 
@@ -62,10 +62,10 @@ pub struct Port<W: Wire, A: Handle = Global> {
 }
 
 impl<W: Wire, A: Handle> Model for Port<W, A> {
-    ghost use Rattle.iol_port.specs.View.{Port, IsPort, opening_for};
+    ghost use Rattle.iol_port.specs.View.{PortValue, IsPort, opening_for};
     ghost use Rattle.iol_port.specs.CorePort.{parts_over};
 
-    ghost Value = { Port W };
+    ghost Value = { PortValue W };
 
     ghost view = { λ p. record {
       parts = parts_over p.wire p.core;
@@ -88,7 +88,7 @@ impl<W: Wire, A: Handle> Port<W, A> {
         ensures opening { IfOk result (λ p. p.opening ≡ opening_of W.facts limits.now wire) }
         ensures parts { IfOk result (λ p. IsOpened p.opening p.parts) }
         ensures stands { IfOk result (λ p. OpensWell p.opening → StandsFor W.facts p.parts
-            (opened Devices.Own limits.now (W.facts.far wire) (W.facts.silence wire))) }
+            (port_at_opening Devices.Own limits.now (W.facts.far wire) (W.facts.silence wire))) }
         ensures writer { IfOk result (λ p. p.writer ≡ None) }
         ensures refused { IfErr result (λ e. e.0 ≡ fault.Book OutOfMemory) }
         ensures back { IfErr result (λ e. e.1 ≡ wire) }
@@ -109,7 +109,7 @@ impl<W: Wire, A: Handle> Port<W, A> {
             ≡ opening_for W.facts devices limits.now wire) }
         ensures parts { IfOk result (λ p. IsOpened p.opening p.parts) }
         ensures stands { IfOk result (λ p. OpensWell p.opening → StandsFor W.facts p.parts
-            (opened devices limits.now (W.facts.far wire) (W.facts.silence wire))) }
+            (port_at_opening devices limits.now (W.facts.far wire) (W.facts.silence wire))) }
         ensures writer { IfOk result (λ p. p.writer ≡ None) }
         ensures refused { IfErr result (λ e. e.0 ≡ fault.Book OutOfMemory) }
         ensures back { IfErr result (λ e. e.1 ≡ wire) }
@@ -135,7 +135,7 @@ impl<W: Wire, A: Handle> Port<W, A> {
     /// as the limit of the opening says, 22 where the journal has no room for the request's
     /// entries, 23 where the last ticket was 2^64 - 1, and 24 where a growth was refused.
     pub fn submit(&mut self, request: Request) -> Result<Ticket, PortFault>
-        ensures is { Submits (Called W.facts self.old self.new) self.old.parts self.new.parts
+        ensures is { Submits (MakesCall W.facts self.old self.new) self.old.parts self.new.parts
             request result }
         ensures lacks { IfErr result (λ e. e ≡ fault.Book OutOfMemory → self.old.parts.book.room
             ≡ 0) }
@@ -148,7 +148,8 @@ impl<W: Wire, A: Handle> Port<W, A> {
     ///
     /// Refused, with nothing changed, as `submit` is: 21, 22 and 23 count both kinds.
     pub fn submit_urgent(&mut self, request: Request) -> Result<Ticket, PortFault>
-        ensures is { SubmitsUrgent (Called W.facts self.old self.new) self.old.parts self.new.parts
+        ensures is { SubmitsUrgent (MakesCall W.facts self.old self.new) self.old.parts
+            self.new.parts
             request result }
         ensures lacks { IfErr result (λ e. e ≡ fault.Book OutOfMemory → self.old.parts.book.room
             ≡ 0) }
@@ -161,7 +162,7 @@ impl<W: Wire, A: Handle> Port<W, A> {
     /// Refused, with nothing changed, by 25 where no such ticket is outstanding,
     /// and by 26 where it has no outcome yet.
     pub fn collect(&mut self, ticket: Ticket) -> Result<Outcome, PortFault>
-        ensures { Collects (Called W.facts self.old self.new) self.old.parts self.new.parts
+        ensures { Collects (MakesCall W.facts self.old self.new) self.old.parts self.new.parts
             ticket result }
     {
         self.core.collect(ticket)
@@ -171,7 +172,7 @@ impl<W: Wire, A: Handle> Port<W, A> {
     /// caller, which a refusal leaves as it was. Most asks come before the outcome, and cost
     /// little.
     pub fn collect_into(&mut self, ticket: Ticket, into: &mut Outcome) -> Result<(), PortFault>
-        ensures is { Collects (Called W.facts self.old self.new) self.old.parts self.new.parts
+        ensures is { Collects (MakesCall W.facts self.old self.new) self.old.parts self.new.parts
             ticket (result_map_both (λ _. into.new) (λ why. why) result) }
         ensures kept { IfErr result (λ _. into.new ≡ into.old) }
     {
@@ -183,7 +184,7 @@ impl<W: Wire, A: Handle> Port<W, A> {
     /// Refused, with nothing changed, by 25 where no such ticket is outstanding,
     /// and by 27 where it waits no longer.
     pub fn withdraw(&mut self, ticket: Ticket) -> Result<(), PortFault>
-        ensures { Withdraws (Called W.facts self.old self.new) self.old.parts self.new.parts
+        ensures { Withdraws (MakesCall W.facts self.old self.new) self.old.parts self.new.parts
             ticket result }
     {
         self.core.withdraw(ticket)
@@ -199,7 +200,7 @@ impl<W: Wire, A: Handle> Port<W, A> {
     /// Refused, with nothing changed, by 25 where no such ticket is outstanding,
     /// and by 36 where it waits, or has an outcome.
     pub fn cancel(&mut self, ticket: Ticket) -> Result<(), PortFault>
-        ensures { Cancels (Called W.facts self.old self.new) self.old.parts self.new.parts
+        ensures { Cancels (MakesCall W.facts self.old self.new) self.old.parts self.new.parts
             ticket result }
     {
         self.core.cancel(ticket)
@@ -211,7 +212,7 @@ impl<W: Wire, A: Handle> Port<W, A> {
     /// once, until it is reset: by a wake that succeeds; at a port for any device, once it has left
     /// its mode.
     pub fn restart(&mut self)
-        ensures { Restarts (Called W.facts self.old self.new) self.old.parts self.new.parts }
+        ensures { Restarts (MakesCall W.facts self.old self.new) self.old.parts self.new.parts }
     {
         self.core.restart();
     }
@@ -221,7 +222,7 @@ impl<W: Wire, A: Handle> Port<W, A> {
     /// Refused, with nothing changed, by the first of 34 where no start-up has told the lengths
     /// of the process data yet, and 29 where the image has not the length that was told last.
     pub fn set_output(&mut self, image: &Image) -> Result<(), PortFault>
-        ensures { SetsOutput (Called W.facts self.old self.new) self.old.parts self.new.parts
+        ensures { SetsOutput (MakesCall W.facts self.old self.new) self.old.parts self.new.parts
             image.now result }
     {
         self.core.set_output(image)
@@ -229,7 +230,7 @@ impl<W: Wire, A: Handle> Port<W, A> {
 
     /// Wants no output of the device.
     pub fn clear_output(&mut self)
-        ensures { ClearsOutput (Called W.facts self.old self.new) self.old.parts self.new.parts }
+        ensures { ClearsOutput (MakesCall W.facts self.old self.new) self.old.parts self.new.parts }
     {
         self.core.clear_output();
     }
@@ -241,7 +242,7 @@ impl<W: Wire, A: Handle> Port<W, A> {
     /// was written to the device. Requests wait on. A page that was checked already is not checked
     /// again.
     pub fn expect(&mut self, identity: Identity) -> Counting
-        ensures { Expects (Called W.facts self.old self.new) self.old.parts self.new.parts
+        ensures { Expects (MakesCall W.facts self.old self.new) self.old.parts self.new.parts
             (Some identity) result }
     {
         self.core.expect(identity)
@@ -249,7 +250,7 @@ impl<W: Wire, A: Handle> Port<W, A> {
 
     /// Expects any device, as a port does that is new.
     pub fn expect_any(&mut self) -> Counting
-        ensures { Expects (Called W.facts self.old self.new) self.old.parts self.new.parts
+        ensures { Expects (MakesCall W.facts self.old self.new) self.old.parts self.new.parts
             None result }
     {
         self.core.expect_any()
@@ -258,7 +259,7 @@ impl<W: Wire, A: Handle> Port<W, A> {
     /// Has start-ups write this cycle time to MasterCycleTime, where it is at least the device's
     /// MinCycleTime; else, and with none, they write MinCycleTime as it stands in the page.
     pub fn set_cycle(&mut self, cycle: Option<CycleTime>) -> Counting
-        ensures { SetsCycle (Called W.facts self.old self.new) self.old.parts self.new.parts
+        ensures { SetsCycle (MakesCall W.facts self.old self.new) self.old.parts self.new.parts
             cycle result }
     {
         self.core.set_cycle(cycle)
@@ -267,14 +268,14 @@ impl<W: Wire, A: Handle> Port<W, A> {
     /// The device's page, once the start-up of the present session has read it whole and checked
     /// it; none before, and in down.
     pub fn page(&self) -> Option<Page>
-        ensures { ShowsPage (Looked W.facts self.now) self.now.parts result }
+        ensures { ShowsPage (PortOnlyLooks W.facts self.now) self.now.parts result }
     {
         self.core.page()
     }
 
     /// What was counted since the opening.
     pub fn counters(&self) -> &Counters
-        ensures { ShowsCounters (Looked W.facts self.now) self.now.parts result.now }
+        ensures { ShowsCounters (PortOnlyLooks W.facts self.now) self.now.parts result.now }
     {
         self.core.counters()
     }
@@ -282,7 +283,7 @@ impl<W: Wire, A: Handle> Port<W, A> {
     /// The device's input by the last good reply in OPERATE: one whole image, or
     /// none where it was not valid. None in every other mode.
     pub fn image(&self) -> Option<&Image>
-        ensures { ShowsImage (Looked W.facts self.now) self.now.parts
+        ensures { ShowsImage (PortOnlyLooks W.facts self.now) self.now.parts
             (option_copied result) }
     {
         self.core.image()
@@ -290,7 +291,7 @@ impl<W: Wire, A: Handle> Port<W, A> {
 
     /// Hands out the event that was kept longest. Refused by 30 where none is kept.
     pub fn take_event(&mut self) -> Result<Event, PortFault>
-        ensures { TakesEvent (Called W.facts self.old self.new) self.old.parts self.new.parts
+        ensures { TakesEvent (MakesCall W.facts self.old self.new) self.old.parts self.new.parts
             result }
     {
         self.core.take_event()
@@ -298,7 +299,7 @@ impl<W: Wire, A: Handle> Port<W, A> {
 
     /// The mode of the link, and why it is down.
     pub fn status(&self) -> Status
-        ensures { ShowsStatus (Looked W.facts self.now) self.now.parts result }
+        ensures { ShowsStatus (PortOnlyLooks W.facts self.now) self.now.parts result }
     {
         self.core.status()
     }
@@ -310,7 +311,7 @@ impl<W: Wire, A: Handle> Port<W, A> {
     /// since, as it may still carry that request out. A wake that succeeds resets it; at
     /// a port for any device it is reset once it has left its mode.
     pub fn archive(&mut self) -> Result<Vec<Entry, A>, PortFault>
-        ensures is { Archives (Called W.facts self.old self.new) self.old.parts self.new.parts
+        ensures is { Archives (MakesCall W.facts self.old self.new) self.old.parts self.new.parts
             (λ entries. entries.items) result }
         ensures within { IfOk result (λ entries. length entries.items ≤ 1000000) }
     {
@@ -346,9 +347,9 @@ impl<W: Wire, A: Handle> Port<W, A> {
     /// Rules PORT-2, PORT-3, PORT-4, PORT-7.
     pub fn call(&mut self, asked: &Call) -> Answered
         ensures does { Does W.facts self.old.parts asked.now result self.new.parts }
-        ensures gives { CallGives W.facts self.old.parts asked.now result self.new.parts }
+        ensures gives { PortCallGives W.facts self.old.parts asked.now result self.new.parts }
         ensures wire { IsWireCall W.facts asked.now (asks_of self.old.parts)
-            (wire_of self.old.parts.station.link) (wire_of self.new.parts.station.link) }
+            (link_wire self.old.parts.station.link) (link_wire self.new.parts.station.link) }
         ensures clean { asked.now ≡ call.Turn → CleanTurn W.facts self.old.parts self.new.parts }
         ensures rest { self.new ≡ record self.old { parts = self.new.parts } }
     {
@@ -444,7 +445,7 @@ impl<W: Wire, A: Handle> Port<W, A> {
 
     /// A turn, after which the image is published, once, where a writer was given.
     pub fn turn_shown<R: Wait>(&mut self, rt: &R)
-        ensures { Shown (Turns W.facts self.old) self.old self.new }
+        ensures { PublishesAfter (Turns W.facts self.old) self.old self.new }
     {
         self.turn();
         self.show(rt);
@@ -453,7 +454,8 @@ impl<W: Wire, A: Handle> Port<W, A> {
     /// A restart, after which the image, which is none, is published, once, where a
     /// writer was given.
     pub fn restart_shown<R: Wait>(&mut self, rt: &R)
-        ensures { Shown (λ new. Restarts (Called W.facts self.old new) self.old.parts new.parts)
+        ensures { PublishesAfter
+            (λ new. Restarts (MakesCall W.facts self.old new) self.old.parts new.parts)
             self.old self.new }
     {
         self.restart();
@@ -462,7 +464,7 @@ impl<W: Wire, A: Handle> Port<W, A> {
 
     fn show<R: Wait>(&mut self, rt: &R)
         ensures { self.new ≡ record self.old {
-          writer = shown_in self.old.parts.station.session.image self.old.writer;
+          writer = writer_after_publish self.old.parts.station.session.image self.old.writer;
         } }
     {
         if let Some(writer) = &mut self.writer {
@@ -472,14 +474,14 @@ impl<W: Wire, A: Handle> Port<W, A> {
 
     /// The wire, as it is now.
     pub fn wire(&self) -> &W
-        ensures { result.now ≡ wire_of self.now.parts.station.link }
+        ensures { result.now ≡ link_wire self.now.parts.station.link }
     {
         &self.wire
     }
 
     /// Ends the port, and hands its wire back.
     pub fn into_wire(self) -> W
-        ensures { result ≡ wire_of self.parts.station.link }
+        ensures { result ≡ link_wire self.parts.station.link }
     {
         let Port {
             core: _,
@@ -501,8 +503,8 @@ impl<W: Wire, A: Handle> Port<W, A> {
         ensures replayed { IsReplayed self.now.parts.book.state }
         ensures run { IsRun W.facts self.now.opening self.now.parts }
         ensures wire { ComesFrom W.facts
-            self.now.opening.wire (wire_of self.now.parts.station.link) }
-        ensures limits { KeepsLimits (book.opened self.now.opening.limits)
+            self.now.opening.wire (link_wire self.now.parts.station.link) }
+        ensures limits { KeepsLimits (book.empty_book self.now.opening.limits)
             self.now.parts.book.state }
         ensures claim { OpensWell self.now.opening
             → Claim W.facts self.now.opening [] [] self.now.parts }

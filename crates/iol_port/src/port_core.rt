@@ -5,33 +5,33 @@ ghost use Rattle.std.specs.Result.{result_map_both};
 ghost use Rattle.iol_far.specs.Octets.{octets_in};
 ghost use Rattle.iol_app.specs.Seen.{LinkStands, core_of};
 ghost use Rattle.iol_book.specs.declared.fault.BookFault.TheVariants.{OutOfMemory};
-ghost use Rattle.iol_book.specs.BookModel.{IsReplayed, submitted};
+ghost use Rattle.iol_book.specs.BookModel.{IsReplayed, book_after_submit};
 ghost use Rattle.iol_app.specs.Asking.{IsCall};
 ghost use Rattle.iol_app.specs.Pieces.{IsAskedOut};
 ghost use Rattle.iol_port.specs.declared.fault.PortFault.TheVariants as fault;
 ghost use Rattle.iol_port.specs.declared.call.Call.TheVariants as call;
 ghost use Rattle.iol_port.specs.declared.call.Answered.TheVariants as answered;
-ghost use Rattle.iol_port.specs.declared.awaited.Awaited.{Awaited};
+ghost use Rattle.iol_port.specs.declared.awaited.AwaitedAnswer.{AwaitedAnswer};
 ghost use Rattle.iol_port.specs.View.{Does};
 ghost use Rattle.iol_port.specs.Asks.{asks_of, event_room};
-ghost use Rattle.iol_port.specs.EveryWire.{TurnGives};
+ghost use Rattle.iol_port.specs.EveryWire.{PortTurnGives};
 ghost use Rattle.iol_port.specs.EveryWire.{page_shown};
 ghost use Rattle.iol_port.specs.RightDevice.{IsForRightDevice};
-ghost use Rattle.iol_port.specs.Run.{counting};
+ghost use Rattle.iol_port.specs.Run.{counting_of};
 ghost use Rattle.iol_port.specs.Clean.{CleanTurn};
-ghost use Rattle.iol_port.specs.CorePort.{CoreOpens, CoreOpensFor, CoreKeeps, IsNew, IsNewFor, awaited, parts_over, SendGives, SendDoes, ReceiveGives, ReceiveDoes, WakeGives, WakeDoes};
+ghost use Rattle.iol_port.specs.CorePort.{CoreOpens, CoreOpensFor, CoreKeeps, IsNew, IsNewFor, awaited_answer, parts_over, PortSendGives, SendDoes, PortReceiveGives, ReceiveDoes, WakeGives, WakeDoes};
 ghost use Rattle.iol_port.specs.Called.{Submits, SubmitsUrgent, Collects, Withdraws, Cancels, Restarts, SetsOutput};
 ghost use Rattle.iol_port.specs.Called.{ClearsOutput, Expects, SetsCycle, TakesEvent, Archives, CoreCalled};
 ghost use Rattle.iol_port.specs.Called.{ShowsPage, ShowsCounters, ShowsImage, ShowsStatus};
 
 use crate::PortFault;
-use crate::awaited::Awaited;
+use crate::awaited::AwaitedAnswer;
 use crate::call::Counting;
 use crate::counters::Counters;
 use crate::laws::clean_laws;
 use crate::settle::{KEPT, ROOM, begin_next, by_book, by_output, lacks_isdu, resets, settle};
 use arrayvec::ArrayVec;
-use iol_app::{Asked, Brought, Core, EventRoom, Status};
+use iol_app::{Asked, Core, EventRoom, Status, WireResult};
 use iol_book::{Book, Entry, Limits, Outcome, Ticket};
 use iol_event::Event;
 use iol_image::Image;
@@ -74,13 +74,13 @@ pub struct PortCore<A: Allocator + Copy = Global> {
 }
 
 impl<A: Allocator + Copy> Model for PortCore<A> {
-    ghost use Rattle.iol_port.specs.View.{Parts, IsTied};
-    ghost use Rattle.iol_port.specs.CorePort.{bare};
+    ghost use Rattle.iol_port.specs.View.{PortParts, IsTied};
+    ghost use Rattle.iol_port.specs.CorePort.{station_without_wire};
 
-    ghost Value = { Parts (Unit {0}) };
+    ghost Value = { PortParts (Unit {0}) };
 
     ghost view = { λ p. record {
-      station = bare p.core;
+      station = station_without_wire p.core;
       book = p.book;
       kept = p.kept.items;
       sent = p.sent;
@@ -88,7 +88,7 @@ impl<A: Allocator + Copy> Model for PortCore<A> {
     } };
 
     ghost invariant = { λ p. IsTied (record {
-      station = bare p.core;
+      station = station_without_wire p.core;
       book = p.book;
       kept = p.kept.items;
       sent = p.sent;
@@ -128,15 +128,15 @@ impl<A: Allocator + Copy> PortCore<A> {
     }
 
     /// What the port waits for: nothing, where nothing is out.
-    pub fn awaits(&self) -> Awaited
-        ensures { result ≡ awaited self.now }
+    pub fn awaits(&self) -> AwaitedAnswer
+        ensures { result ≡ awaited_answer self.now }
     {
         if !self.sent {
-            return Awaited::Nothing;
+            return AwaitedAnswer::Nothing;
         }
         match self.core.status().mode {
-            Mode::Down => Awaited::Wake,
-            Mode::Startup | Mode::Preoperate | Mode::Operate => Awaited::Reply,
+            Mode::Down => AwaitedAnswer::Wake,
+            Mode::Startup | Mode::Preoperate | Mode::Operate => AwaitedAnswer::Reply,
         }
     }
 
@@ -233,7 +233,7 @@ impl<A: Allocator + Copy> PortCore<A> {
     ///
     /// Rules REQ-11, PORT-6.
     pub fn restart(&mut self)
-        requires { awaited self.old ≡ Awaited.Nothing }
+        requires { awaited_answer self.old ≡ AwaitedAnswer.Nothing }
         ensures { Restarts (CoreCalled self.old self.new) self.old self.new }
     {
         if self.core.restart() {
@@ -319,7 +319,7 @@ impl<A: Allocator + Copy> PortCore<A> {
 
     /// From when on counts what start-ups are to ask.
     fn counting(&self) -> Counting
-        ensures { result ≡ counting (page_shown self.now) }
+        ensures { result ≡ counting_of (page_shown self.now) }
     {
         match self.page() {
             Some(_) => Counting::Later,
@@ -409,7 +409,7 @@ impl<A: Allocator + Copy> PortCore<A> {
         ensures says { IsAskedOut result self.new.station.link.state }
         ensures asked { result ≡ asks_of self.old }
         ensures again { IsTrue self.old.sent → self.new ≡ self.old }
-        ensures gives { SendGives self.old self.new }
+        ensures gives { PortSendGives self.old self.new }
         ensures does { SendDoes self.old self.new }
     {
         let room = self.event_room();
@@ -429,8 +429,8 @@ impl<A: Allocator + Copy> PortCore<A> {
     ///
     /// Rules PD-7, PORT-9.
     pub fn receive(&mut self, came: &Option<Message>)
-        requires { awaited self.old ≡ Awaited.Reply }
-        ensures gives { ReceiveGives self.old (octets_in came.now) self.new }
+        requires { awaited_answer self.old ≡ AwaitedAnswer.Reply }
+        ensures gives { PortReceiveGives self.old (octets_in came.now) self.new }
         ensures does { ReceiveDoes self.old (octets_in came.now) self.new }
     {
         let began = self.core.is_reset();
@@ -447,14 +447,14 @@ impl<A: Allocator + Copy> PortCore<A> {
     ///
     /// Rule PORT-9.
     pub fn receive_wake(&mut self, rate: Option<Rate>)
-        requires { awaited self.old ≡ Awaited.Wake }
+        requires { awaited_answer self.old ≡ AwaitedAnswer.Wake }
         ensures gives { WakeGives self.old (is_some rate) self.new }
         ensures does { WakeDoes self.old (is_some rate) self.new }
     {
         let began = self.core.is_reset();
         self.core.receive_wake(rate);
         self.sent = false;
-        self.counters.turned(Brought::of_wake(rate), &Said::Idle);
+        self.counters.turned(WireResult::of_wake(rate), &Said::Idle);
         let reset = resets(began, self.core.is_reset());
         settle(&mut self.book, &mut self.kept, reset, Said::Idle);
     }
@@ -472,7 +472,7 @@ impl<A: Allocator + Copy> PortCore<A> {
         ensures asked { IsCall W.facts (asks_of self.old) wire.old wire.new }
         ensures clean { CleanTurn W.facts (parts_over wire.old self.old)
             (parts_over wire.new self.new) }
-        ensures gives { TurnGives W.facts (parts_over wire.old self.old)
+        ensures gives { PortTurnGives W.facts (parts_over wire.old self.old)
             (parts_over wire.new self.new) }
     {
         clean_laws();

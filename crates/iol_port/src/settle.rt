@@ -2,20 +2,20 @@
 //! the book and to the kept events.
 ghost use Rattle.std.specs.Prelude.{◌≡◌, ◌≢◌, ◌+◌, ◌≤◌, ◌&&◌, [], ◌∷◌, ◌++◌, cond, not, length, None, Some, false, IsSome, IfSome};
 ghost use Rattle.iol_isdu.specs.Texts.{IsRequest};
-ghost use Rattle.iol_book.specs.BookModel.{next_taken, took};
-ghost use Rattle.iol_app.specs.Asking.{prepared};
+ghost use Rattle.iol_book.specs.BookModel.{next_taken, book_after_take};
+ghost use Rattle.iol_app.specs.Asking.{station_with_request};
 ghost use Rattle.iol_app.specs.Due.{is_ready};
 ghost use Rattle.iol_app.specs.Seen.{BeginSteps, core_of};
-ghost use Rattle.iol_port.specs.CorePort.{bare};
-ghost use Rattle.iol_app.specs.State.{begun_in};
+ghost use Rattle.iol_port.specs.CorePort.{station_without_wire};
+ghost use Rattle.iol_app.specs.State.{session_after_begin};
 ghost use Rattle.iol_app.specs.StationState.{operates, mode_in};
 ghost use Rattle.iol_port.specs.Asks.{lacks_isdu, to_begin};
-ghost use Rattle.iol_port.specs.EveryWire.{taken_where};
+ghost use Rattle.iol_port.specs.EveryWire.{book_after_taking};
 ghost use Rattle.iol_steps.specs.declared.mode.Mode.TheVariants as mode;
 ghost use Rattle.iol_steps.specs.Step.{Reset, book_said, reports_said};
 ghost use Rattle.iol_port.specs.Steps.{book_through, kept_through};
 ghost use Rattle.iol_port.specs.Replies.{by_book, by_output};
-ghost use Rattle.iol_port.specs.View.{BeginsNext, TakesNext, Asks, HasRoom};
+ghost use Rattle.iol_port.specs.View.{BeginsNext, TakesNext, Asks, ReportHasRoom};
 
 use crate::PortFault;
 use arrayvec::ArrayVec;
@@ -70,16 +70,16 @@ pub(crate) fn lacks_isdu(told: Option<bool>) -> bool
 ///
 /// Rules REQ-2, REQ-3.
 pub(crate) fn begin_next<A: Allocator + Copy>(core: &mut Core, book: &mut Book<A>, room: EventRoom)
-    ensures next { BeginsNext (bare core.old) book.old.state
-        (bare core.new) book.new.state }
-    ensures exact { core.new ≡ core_of (prepared
+    ensures next { BeginsNext (station_without_wire core.old) book.old.state
+        (station_without_wire core.new) book.new.state }
+    ensures exact { core.new ≡ core_of (station_with_request
         (to_begin (lacks_isdu core.old.session.isdu) (next_taken book.old.state.standing))
-        (bare core.old) room) }
-    ensures taken { book.new.state ≡ taken_where
+        (station_without_wire core.old) room) }
+    ensures taken { book.new.state ≡ book_after_taking
         (operates core.old.state && is_ready core.old.session room)
         (lacks_isdu core.old.session.isdu) (next_taken book.old.state.standing) book.old.state }
-    ensures takes { TakesNext room (bare core.old) book.old.state
-        (bare core.new) book.new.state }
+    ensures takes { TakesNext room (station_without_wire core.old) book.old.state
+        (station_without_wire core.new) book.new.state }
     ensures memory { book.new.memory ≡ book.old.memory }
 {
     // Most turns find no request that waits.
@@ -103,9 +103,9 @@ fn take_next<A: Allocator + Copy>(core: &mut Core, book: &mut Book<A>)
     requires isdu { core.old.session.isdu ≢ Some false }
     requires waits { IsSome (next_taken book.old.state.standing) }
     ensures core { IfSome (next_taken book.old.state.standing) (λ next. core.new
-        ≡ record core.old { session = begun_in next.1 core.old.session }) }
+        ≡ record core.old { session = session_after_begin next.1 core.old.session }) }
     ensures book { IfSome (next_taken book.old.state.standing) (λ next. book.new.state
-        ≡ took book.old.state next) }
+        ≡ book_after_take book.old.state next) }
     ensures steps { IfSome (next_taken book.old.state.standing) (λ next.
         BeginSteps next.1 core.old core.new) }
     ensures request { IfSome (next_taken book.old.state.standing) (λ next. IsRequest next.1) }
@@ -126,7 +126,7 @@ pub(crate) fn settle<A: Allocator + Copy>(
     said: Said,
 )
     requires asked { Asks said book.old.state.standing.taken }
-    requires room { HasRoom said kept.old.items }
+    requires room { ReportHasRoom said kept.old.items }
     ensures book { book.new.state
         ≡ book_through (cond reset (Reset ∷ []) [] ++ book_said said) book.old.state }
     ensures memory { book.new.memory ≡ book.old.memory }
@@ -145,7 +145,7 @@ pub(crate) fn settle<A: Allocator + Copy>(
 #[inline(never)]
 fn tell<A: Allocator + Copy>(book: &mut Book<A>, kept: &mut ArrayVec<Event, KEPT>, said: Said)
     requires asked { Asks said book.old.state.standing.taken }
-    requires room { HasRoom said kept.old.items }
+    requires room { ReportHasRoom said kept.old.items }
     ensures book { book.new.state
         ≡ book_through (book_said said) book.old.state }
     ensures memory { book.new.memory ≡ book.old.memory }

@@ -7,23 +7,23 @@ use Rattle.iol_app.specs.declared.asked.Asked.{Asked}
 use Rattle.iol_app.specs.declared.asked.Asked.TheVariants.{Wake, Exchange}
 use Rattle.iol_app.specs.Asking.{IsCall}
 use Rattle.iol_port.specs.WireCalls.{AreCalls, ComesFrom}
-use Rattle.iol_sim.specs.declared.params.Entry.{Entry}
+use Rattle.iol_sim.specs.declared.params.ParameterEntry.{ParameterEntry}
 use Rattle.iol_sim.specs.Params.{Stores, AnsweredBy}
-use Rattle.iol_sim.specs.Script.{firsts_of, turned, AreThose}
-use Rattle.iol_sim.specs.Sim.{Simulated, devices_of, sim_facts}
+use Rattle.iol_sim.specs.Script.{firsts_of, firsts_after_swap, AreThose}
+use Rattle.iol_sim.specs.Sim.{SimulatedWire, sim_devices, sim_facts}
 
-turned_twice : {P : Type 0} (x : P × Option P) → turned (turned x) ≡ x
+turned_twice : {P : Type 0} (x : P × Option P) → firsts_after_swap (firsts_after_swap x) ≡ x
 turned_twice (first, None) = refl
 turned_twice (first, Some other) = refl
 
 abbrev AreSame : {P : Type 0} → P × Option P → P × Option P → Type 0
-AreSame x y = (y ≡ x) ⊎ (y ≡ turned x)
+AreSame x y = (y ≡ x) ⊎ (y ≡ firsts_after_swap x)
 
 same_and : {P : Type 0} (x y z : P × Option P) → AreSame x y → AreSame y z → AreSame x z
 same_and x y z (inl p) (inl q) = inl (q ∙ p)
-same_and x y z (inl p) (inr q) = inr (q ∙ ap turned p)
+same_and x y z (inl p) (inr q) = inr (q ∙ ap firsts_after_swap p)
 same_and x y z (inr p) (inl q) = inr (q ∙ p)
-same_and x y z (inr p) (inr q) = inl (q ∙ ap turned p ∙ turned_twice x)
+same_and x y z (inr p) (inr q) = inl (q ∙ ap firsts_after_swap p ∙ turned_twice x)
 
 -- of one device it is the first of the two
 one_first : {P : Type 0} (x y : P × Option P) → AreSame x y → x.1 ≡ None → y.0 ≡ x.0
@@ -32,36 +32,37 @@ one_first (first, None) y (inr e) one = ap (λ (z : _ × Option _). z.0) e
 one_first (first, Some other) y same one = absurd (cc)
 
 module _ {P : Type 0} (gives : Gives P) where
-  those_by : (asked : Asked) (old new : Simulated P) → IsCall (sim_facts gives) asked old new
-      → AreThose (devices_of old) (devices_of new)
+  those_by : (asked : Asked) (old new : SimulatedWire P) → IsCall (sim_facts gives) asked old new
+      → AreThose (sim_devices old) (sim_devices new)
   those_by Wake old new (answer, woken) = woken.those
   those_by (Exchange sent) old new (answer, exchanged) = exchanged.those
 
-  those_through : (calls : List Asked) (old new : Simulated P)
-      → AreCalls (sim_facts gives) calls old new → AreThose (devices_of old) (devices_of new)
-  those_through [] old new same = inl (ap (λ (s : Simulated P). firsts_of (devices_of s)) same)
+  those_through : (calls : List Asked) (old new : SimulatedWire P)
+      → AreCalls (sim_facts gives) calls old new → AreThose (sim_devices old) (sim_devices new)
+  those_through [] old new same = inl (ap (λ (s : SimulatedWire P). firsts_of (sim_devices s)) same)
   those_through (asked ∷ calls) old new (mid, one, rest) =
-      same_and (firsts_of (devices_of old)) (firsts_of (devices_of mid))
-      (firsts_of (devices_of new)) (those_by asked old mid one)
+      same_and (firsts_of (sim_devices old)) (firsts_of (sim_devices mid))
+      (firsts_of (sim_devices new)) (those_by asked old mid one)
       (those_through calls mid new rest)
 
-  pub those_now : (old new : Simulated P) → ComesFrom (sim_facts gives) old new
-      → AreThose (devices_of old) (devices_of new)
+  pub those_now : (old new : SimulatedWire P) → ComesFrom (sim_facts gives) old new
+      → AreThose (sim_devices old) (sim_devices new)
   those_now old new (calls, through) = those_through calls old new through
 
-  pub follows_first : (old new : Simulated P) → ComesFrom (sim_facts gives) old new
+  pub follows_first : (old new : SimulatedWire P) → ComesFrom (sim_facts gives) old new
       → Follows gives new.device.first new.device.far.carried new.device.app
       → old.away ≡ None → Follows gives old.device.first new.device.far.carried new.device.app
   follows_first old new from follows one =
       subst (λ (first : P). Follows gives first new.device.far.carried new.device.app)
-      (one_first (firsts_of (devices_of old)) (firsts_of (devices_of new))
+      (one_first (firsts_of (sim_devices old)) (firsts_of (sim_devices new))
       (those_now old new from) (ap (option_map (λ (d : Running P). d.first)) one)) follows
 
-pub answered_first : (old new : Simulated (List Entry)) → ComesFrom (sim_facts Stores) old new
+pub answered_first : (old new : SimulatedWire (List ParameterEntry))
+    → ComesFrom (sim_facts Stores) old new
     → AnsweredBy new.device.first new.device.far.carried new.device.app
     → old.away ≡ None → AnsweredBy old.device.first new.device.far.carried new.device.app
 answered_first old new from answered one =
-    subst (λ (first : List Entry). AnsweredBy first new.device.far.carried new.device.app)
-    (one_first (firsts_of (devices_of old)) (firsts_of (devices_of new))
+    subst (λ (first : List ParameterEntry). AnsweredBy first new.device.far.carried new.device.app)
+    (one_first (firsts_of (sim_devices old)) (firsts_of (sim_devices new))
     (those_now Stores old new from)
-    (ap (option_map (λ (d : Running (List Entry)). d.first)) one)) answered
+    (ap (option_map (λ (d : Running (List ParameterEntry)). d.first)) one)) answered

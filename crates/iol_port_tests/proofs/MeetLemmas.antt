@@ -3,9 +3,9 @@ use Rattle.std.proofs.Common.{◌≡◌, inl, refl, ◌∙◌, ap, Bool, true, f
 use Rattle.std.specs.Prelude.{MatchBool}
 use Rattle.iol_isdu.specs.declared.values.Request.{Request}
 use Rattle.iol_isdu.specs.declared.values.Answer.{Answer}
-use Rattle.iol_far.specs.Isdu.{handed, fits}
+use Rattle.iol_far.specs.Isdu.{handed_request, fits}
 use Rattle.iol_far.specs.Far.{Far, hear}
-use Rattle.iol_far.specs.Local.{LocalStep, Carry, local, locals, woken, has_room}
+use Rattle.iol_far.specs.Local.{LocalStep, Carry, local, locals, far_after_wake, has_room}
 use Rattle.iol_device.specs.App.{Gives, IsCarriedOut}
 use Rattle.iol_far.specs.Laws.{IsRegular}
 use Rattle.iol_link.specs.Honest.{HonestExchange, HonestWake, OutLost, BackLost, Clean, silence_after}
@@ -25,14 +25,14 @@ own_steps {P} gives (Some request) old before new after h = split (has_room old)
     split false same = ([], same.0)
 
 module _ {P : Type 0} (gives : Gives P) (old : Far) (before : P) (worked : Far) (after : P)
-    (work : IsCarriedOut gives (handed old.isdu) old before worked after) where
-  pub woken_is_honest : (new : Far) → new ≡ woken worked → HonestWake old true new
+    (work : IsCarriedOut gives (handed_request old.isdu) old before worked after) where
+  pub woken_is_honest : (new : Far) → new ≡ far_after_wake worked → HonestWake old true new
   woken_is_honest new woke =
-      let made = own_steps gives (handed old.isdu) old before worked after work in
+      let made = own_steps gives (handed_request old.isdu) old before worked after work in
       inl (record {
         steps = made.0;
         wakes = true;
-        far_is = woke ∙ ap woken made.1;
+        far_is = woke ∙ ap far_after_wake made.1;
         answered_is = λ e. e;
       })
 
@@ -40,7 +40,7 @@ module _ {P : Type 0} (gives : Gives P) (old : Far) (before : P) (worked : Far) 
       → IsRegular old → new ≡ (hear worked sent).far → answer ≡ (hear worked sent).reply
       → HonestExchange old silence sent answer new (silence_after silence answer)
   passed_is_honest sent answer new silence regular heard replied =
-      let made = own_steps gives (handed old.isdu) old before worked after work in
+      let made = own_steps gives (handed_request old.isdu) old before worked after work in
       let reply_is : answer ≡ (hear (locals old made.0) sent).reply = replied
       ∙ ap (λ (f : Far). (hear f sent).reply) made.1 in
       record {
@@ -55,7 +55,7 @@ module _ {P : Type 0} (gives : Gives P) (old : Far) (before : P) (worked : Far) 
   pub lost_is_honest : (sent : List ℕ) (silence : ℕ) → IsRegular old
       → HonestExchange old silence sent None worked (silence_after silence None)
   lost_is_honest sent silence regular =
-      let made = own_steps gives (handed old.isdu) old before worked after work in
+      let made = own_steps gives (handed_request old.isdu) old before worked after work in
       record {
         regular = regular;
         steps = made.0;
@@ -69,7 +69,7 @@ module _ {P : Type 0} (gives : Gives P) (old : Far) (before : P) (worked : Far) 
       → new ≡ (hear worked sent).far → HonestExchange old silence sent None new
       (silence_after silence None)
   reply_lost_is_honest sent new silence regular heard =
-      let made = own_steps gives (handed old.isdu) old before worked after work in
+      let made = own_steps gives (handed_request old.isdu) old before worked after work in
       record {
         regular = regular;
         steps = made.0;

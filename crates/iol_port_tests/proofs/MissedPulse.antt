@@ -8,11 +8,11 @@ use Rattle.iol_mseq.specs.Master.{HasMasterParts}
 use Rattle.iol_mseq.specs.Texts.{master_text}
 use Rattle.iol_mseq.specs.declared.master.MasterMsg.{MasterMsg}
 use Rattle.iol_isdu.specs.declared.values.Request.{Request}
-use Rattle.iol_far.specs.declared.mode.Mode.TheVariants.{Operate}
+use Rattle.iol_far.specs.declared.mode.DeviceMode.TheVariants.{Operate}
 use Rattle.iol_far.specs.declared.kind.Kind.{Kind}
 use Rattle.iol_far.specs.Isdu.{Handed}
 use Rattle.iol_far.specs.Codec.{layout_in, message_in}
-use Rattle.iol_far.specs.Far.{Far, accepted, hear, heard_as, opened_as}
+use Rattle.iol_far.specs.Far.{Far, accepted_message, hear, heard_as, opened_as}
 use Rattle.iol_far.specs.Linked.{TextsAreHeard}
 use Rattle.iol_link.specs.Honest.{UnseenWake, test_read}
 use Rattle.iol_port_tests.specs.MissedPulse.{PulsesAreMissed}
@@ -41,11 +41,11 @@ unfolding control_of
 parts = record { out = refl; od = refl }
 
 text_is : master_text startup_shape read ≡ test_read
-unfolding control_of checksum.checksum_of checksum.compressed
+unfolding control_of checksum.checksum_of checksum.six_bits_of
 text_is = refl
 
 accepted_is : TextsAreHeard → (kind : Kind) (request : Request)
-    → accepted (misses kind request) test_read ≡ Some (misses kind request, read)
+    → accepted_message (misses kind request) test_read ≡ Some (misses kind request, read)
 accepted_is heard kind request =
     ap (λ (l : Shape). option_map (λ m. (misses kind request, m)) (message_in l test_read))
     layout_is

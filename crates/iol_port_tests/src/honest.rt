@@ -3,8 +3,8 @@
 ghost use Rattle.std.specs.Prelude.{◌≡◌, ℕ, IfOk, true};
 ghost use Rattle.iol_far.specs.Octets.{octets_in};
 ghost use Rattle.iol_link.specs.Honest.{HonestExchange, HonestWake, silence_after};
-ghost use Rattle.iol_port.specs.declared.awaited.Awaited.{Awaited};
-ghost use Rattle.iol_port.specs.CorePort.{awaited};
+ghost use Rattle.iol_port.specs.declared.awaited.AwaitedAnswer.{AwaitedAnswer};
+ghost use Rattle.iol_port.specs.CorePort.{awaited_answer};
 ghost use Rattle.iol_line.specs.Honestly.{Exchanges};
 
 use crate::device::{PLACE, Parameter, octets_of, open_device};
@@ -109,7 +109,7 @@ fn meet(port: &mut HonestPort, device: &mut Device<Parameter>, fate: Fate)
 
 /// The device answered a wake-up request.
 fn woken_by(port: &mut HonestPort, device: &Device<Parameter>)
-    requires awaited { awaited port.old.parts ≡ Awaited.Wake }
+    requires awaited { awaited_answer port.old.parts ≡ AwaitedAnswer.Wake }
     requires premise { HonestWake port.old.at.far true device.now.far }
     ensures { port.new.at.far ≡ device.now.far }
 {
@@ -118,7 +118,7 @@ fn woken_by(port: &mut HonestPort, device: &Device<Parameter>)
 
 /// This came back from the device.
 fn answered_by(port: &mut HonestPort, came: &Option<Message>, device: &Device<Parameter>)
-    requires awaited { awaited port.old.parts ≡ Awaited.Reply }
+    requires awaited { awaited_answer port.old.parts ≡ AwaitedAnswer.Reply }
     requires premise { Exchanges port.old (octets_in came.now) (record {
       far = device.now.far;
       silence = silence_after port.old.at.silence (octets_in came.now);

@@ -1,10 +1,10 @@
 //! What holds of every port over a simulated wire, beside what its own contracts say.
 ghost use Rattle.std.specs.Prelude.{◌≡◌, None, IfSome};
-ghost use Rattle.iol_app.specs.StationState.{wire_of};
+ghost use Rattle.iol_app.specs.StationState.{link_wire};
 ghost use Rattle.iol_device.specs.App.{Follows};
 ghost use Rattle.iol_sim.specs.Params.{AnsweredBy};
 ghost use Rattle.iol_sim.specs.Script.{AreThose};
-ghost use Rattle.iol_sim.specs.Sim.{devices_of};
+ghost use Rattle.iol_sim.specs.Sim.{sim_devices};
 ghost use Rattle.iol_port_tests.specs.MissedPulse.{PulsesAreMissed};
 
 use iol_cell::Handle;
@@ -22,8 +22,8 @@ use std::alloc::Allocator;
 pub fn first_app_follows_record<P: App, B: Allocator + Copy, A: Handle>(port: &Port<Sim<P, B>, A>)
     ensures { port.now.opening.wire.away ≡ None
         → Follows P.carry_out_gives port.now.opening.wire.device.first
-        (wire_of port.now.parts.station.link).device.far.carried
-        (wire_of port.now.parts.station.link).device.app }
+        (link_wire port.now.parts.station.link).device.far.carried
+        (link_wire port.now.parts.station.link).device.app }
 {
     port.keeps_record();
     port.wire().app_follows_record();
@@ -32,11 +32,11 @@ pub fn first_app_follows_record<P: App, B: Allocator + Copy, A: Handle>(port: &P
 /// The same of one device and of two: each device is one of the opening, with the application
 /// with which it was opened, and what its application is follows from its own record.
 pub fn each_app_follows_record<P: App, B: Allocator + Copy, A: Handle>(port: &Port<Sim<P, B>, A>)
-    ensures those { AreThose (devices_of port.now.opening.wire)
-        (devices_of (wire_of port.now.parts.station.link)) }
-    ensures device { let device = (wire_of port.now.parts.station.link).device in
+    ensures those { AreThose (sim_devices port.now.opening.wire)
+        (sim_devices (link_wire port.now.parts.station.link)) }
+    ensures device { let device = (link_wire port.now.parts.station.link).device in
         Follows P.carry_out_gives device.first device.far.carried device.app }
-    ensures away { IfSome (wire_of port.now.parts.station.link).away (λ away.
+    ensures away { IfSome (link_wire port.now.parts.station.link).away (λ away.
         Follows P.carry_out_gives away.first away.far.carried away.app) }
 {
     port.keeps_record();
@@ -52,8 +52,8 @@ pub fn record_is_answered_by_the_first_params<B: Allocator + Copy, A: Handle>(
 )
     ensures { port.now.opening.wire.away ≡ None
         → AnsweredBy port.now.opening.wire.device.first
-        (wire_of port.now.parts.station.link).device.far.carried
-        (wire_of port.now.parts.station.link).device.app }
+        (link_wire port.now.parts.station.link).device.far.carried
+        (link_wire port.now.parts.station.link).device.app }
 {
     port.keeps_record();
     port.wire().record_is_answered_by_params();

@@ -3,7 +3,7 @@
 use iol_link::{Rate, Wire};
 use iol_mseq::Message;
 use iol_peers::{AnyWire, Peer};
-use iol_tap::{Passed, Tap};
+use iol_tap::{Tap, TapNote};
 
 /// A peer that answers each message by its octets but the first, as far as they are a message.
 #[derive(Drop)]
@@ -24,7 +24,7 @@ impl Peer for Echo {
 fn is_noted<W: Wire>(tap: &mut Tap<W>, sent: &[u8], answer: Option<Message>) -> bool {
     let is_answered = tap.exchange(sent) == answer;
     let noted = Message::from([0x5A; 66]);
-    is_answered && tap.last() == Some(&Passed::Exchange(noted, answer))
+    is_answered && tap.last() == Some(&TapNote::Exchange(noted, answer))
 }
 
 /// The rate of each wake, and of longer octets than a message has the first 66.
@@ -33,7 +33,7 @@ fn notes_rates_and_66_octets(rt: HostRuntime) {
     let mut tap = Tap::new(AnyWire(Echo));
     assert!(rt; tap.last().is_none());
     assert!(rt; tap.wake() == Some(Rate::Com3));
-    assert!(rt; tap.last() == Some(&Passed::Wake(Some(Rate::Com3))));
+    assert!(rt; tap.last() == Some(&TapNote::Wake(Some(Rate::Com3))));
     let long = [0x5A; 68];
     assert!(rt; is_noted(&mut tap, &long[..67], Some(Message::from([0x5A; 66]))));
     // An answer of 67 octets is no message, so this wire has none.

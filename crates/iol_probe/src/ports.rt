@@ -14,7 +14,7 @@ use iol_link::Rate;
 use iol_mode::Why;
 use iol_mseq::Message;
 use iol_page::Identity;
-use iol_port::{Awaited, PortCore, PortFault};
+use iol_port::{AwaitedAnswer, PortCore, PortFault};
 use std::alloc::{AllocError, Global};
 
 /// A line of a port, behind `port`.
@@ -118,14 +118,14 @@ fn act(port: &mut PortCore, name: &[u8], line: &mut Line<'_>) {
 /// What came back to the octets that were sent, at most 66.
 fn receive(port: &mut PortCore, line: &mut Line<'_>) {
     match Message::try_from(line.octets().as_slice()) {
-        Ok(came) if port.awaits() == Awaited::Reply => port.receive(&Some(came)),
+        Ok(came) if port.awaits() == AwaitedAnswer::Reply => port.receive(&Some(came)),
         _ => line.refuse(),
     }
 }
 
 /// Nothing came back.
 fn silence(port: &mut PortCore, line: &mut Line<'_>) {
-    if port.awaits() == Awaited::Reply {
+    if port.awaits() == AwaitedAnswer::Reply {
         port.receive(&None);
     } else {
         line.refuse();
@@ -135,7 +135,7 @@ fn silence(port: &mut PortCore, line: &mut Line<'_>) {
 /// What came of a wake-up request.
 fn woken(port: &mut PortCore, line: &mut Line<'_>) {
     let rate = rate(line);
-    if port.awaits() == Awaited::Wake {
+    if port.awaits() == AwaitedAnswer::Wake {
         port.receive_wake(rate);
     } else {
         line.refuse();
@@ -160,7 +160,7 @@ fn rate(line: &mut Line<'_>) -> Option<Rate> {
 }
 
 fn restart(port: &mut PortCore, line: &mut Line<'_>) {
-    if port.awaits() == Awaited::Nothing {
+    if port.awaits() == AwaitedAnswer::Nothing {
         port.restart();
     } else {
         line.refuse();

@@ -17,7 +17,7 @@ use iol_event::{EventMemory, EventReader};
 use iol_mseq::{Layout, Message};
 use iol_page::Page;
 use iol_port::PortCore;
-use iol_script::{Lines, Words};
+use iol_script::{TextLines, Words};
 use std::alloc::{AllocError, Global};
 
 /// One value of each kind that keeps a state from line to line.
@@ -53,7 +53,7 @@ impl Probe {
 
     /// Answers each line of a text, up to the first that is bad.
     pub fn answer_all(&mut self, output: &mut String, input: &[u8]) -> Result<(), ProbeFault> {
-        for (number, text) in Lines::of(input) {
+        for (number, text) in TextLines::of(input) {
             if !self.answer_line(output, text)? {
                 return Err(ProbeFault::Line(number));
             }

@@ -9,7 +9,7 @@ use Rattle.std.proofs.lemmas.List.Sums.{position_or_len_is}
 use Rattle.std.proofs.Math.Bridge.{le_prop}
 use Rattle.iol_page.specs.Cycle.{micros_of, IsShortest}
 use Rattle.iol_page.specs.declared.cycle.CycleTime.{CycleTime}
-use Rattle.iol_script.specs.Cycles.{shortest_octet, cycle_told, cycle_lasting}
+use Rattle.iol_script.specs.Cycles.{shortest_octet, cycle_of_octet, cycle_lasting}
 
 octet_at : (octet : ℕ) → octet < 192 → get_or (range_with_len 0 192) octet 0 ≡ octet
 octet_at octet known = omega (arith, get_or-range_with_len 0 192 octet 0 known)
@@ -29,7 +29,7 @@ least cycle micros long shortest =
 
 -- a cycle time is its octet
 at_octet : (cycle : CycleTime) (known : Bool) (is : nat_lt cycle.octet 192 ≡ known)
-    → Some cycle ≡ cycle_told cycle.octet known is
+    → Some cycle ≡ cycle_of_octet cycle.octet known is
 at_octet cycle true is = λ i. Some (record {
   octet = cycle.octet;
   base_in_range = le_prop cycle.base_in_range (ltb-true cycle.octet 192 is) i;
@@ -45,6 +45,6 @@ unfolding cycle_lasting
 computed (Ok c) cycle micros e long shortest =
     let same : c ≡ cycle = cc in
     subst (λ (x : CycleTime). Some x ≡ cycle_lasting micros) same
-    (subst (λ n. Some c ≡ cycle_told n (nat_lt n 192) refl) (sym (least c micros long shortest))
+    (subst (λ n. Some c ≡ cycle_of_octet n (nat_lt n 192) refl) (sym (least c micros long shortest))
     (at_octet c (nat_lt c.octet 192) refl))
 computed (Err fault) cycle micros e long shortest = absurd (cc)

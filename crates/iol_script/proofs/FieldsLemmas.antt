@@ -4,26 +4,28 @@ use Rattle.std.specs.Result.{result_ok}
 use Rattle.std.proofs.lemmas.Bool.Decides.{nat_tests}
 use Rattle.iol_image.specs.Image.{IsImage}
 use Rattle.iol_page.specs.Page.{layouts_of}
-use Rattle.iol_script.specs.Numerals.{octets_of, within}
+use Rattle.iol_script.specs.Numerals.{octets_of_words, octets_within}
 use Rattle.iol_script.specs.RunLines.{page_octets}
 
 -- octets that are within bounds are those that were given
 pub within-is : (most : ℕ) (items : List ℕ) (given : Option (List ℕ))
-    → Some items ≡ option_and_then (within 0 most) given → given ≡ Some items
+    → Some items ≡ option_and_then (octets_within 0 most) given → given ≡ Some items
 within-is most items given e = grind (arith, nat_tests)
 
 -- what isn't within wider bounds isn't within narrower ones
-pub not_within : (most : ℕ) (given : Option (List ℕ)) → None ≡ option_and_then (within 0 most) given
-    → None ≡ option_and_then (within 1 most) given
+pub not_within : (most : ℕ) (given : Option (List ℕ))
+    → None ≡ option_and_then (octets_within 0 most) given
+    → None ≡ option_and_then (octets_within 1 most) given
 not_within most given e = grind (arith, nat_tests)
 
 no_image : (items : List ℕ) → (1 ≤ length items → length items ≤ 32 → ⊥)
-    → None ≡ within 1 32 items
+    → None ≡ octets_within 1 32 items
 no_image items not = grind (arith, nat_tests)
 
 -- octets are an image, or aren't
 pub image-within : {E : Type 0} (items : List ℕ) (r : Result (List ℕ) E)
-    → IfOk r (λ image. image ≡ items) → (IsOk r ↔ IsImage items) → result_ok r ≡ within 1 32 items
+    → IfOk r (λ image. image ≡ items) → (IsOk r ↔ IsImage items)
+    → result_ok r ≡ octets_within 1 32 items
 image-within items (Ok image) is all =
     let some_octet = (all.0 refl).some_octet in
     let fits = (all.0 refl).fits in
@@ -33,8 +35,8 @@ image-within items (Err e) is all = no_image items (λ some_octet fits.
 
 -- the words of a page give its octets
 pub page_read : (words : List (List ℕ)) (items page : List ℕ) (good : Bool)
-    → Some items ≡ option_and_then (within 0 10) (octets_of words) → page ≡ items
+    → Some items ≡ option_and_then (octets_within 0 10) (octets_of_words words) → page ≡ items
     → length items ≡ 10 → good ≡ is_ok (layouts_of page)
     → cond good (Some page) None ≡ page_octets words
 page_read words items page good given same size is =
-    rw (within-is 10 items (octets_of words) given, is, same) (grind (arith, nat_tests))
+    rw (within-is 10 items (octets_of_words words) given, is, same) (grind (arith, nat_tests))

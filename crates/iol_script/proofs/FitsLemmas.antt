@@ -5,7 +5,7 @@ use Rattle.iol_port.specs.declared.call.Call.{Call}
 use Rattle.iol_script.specs.DraftInside.{after_form}
 use Rattle.iol_script.specs.Numerals.{of_both}
 use Rattle.iol_script.specs.RunLines.{one_call}
-use Rattle.iol_script.specs.Script.{Draft, in_bounds}
+use Rattle.iol_script.specs.Script.{DraftValue, in_bounds}
 
 pub both_fit : {X Y Z : Type 0} (make : X → Y → Z) (x : Option X) (y : Option Y)
     → is_some (of_both make x y) ≡ is_some x && is_some y
@@ -14,12 +14,12 @@ both_fit make (Some x) None = refl
 both_fit make None y = refl
 
 -- no call, and one more
-pub no_call : (draft : Draft) (call : Option Call) → is_some call ≡ false
+pub no_call : (draft : DraftValue) (call : Option Call) → is_some call ≡ false
     → None ≡ after_form one_call draft call
 no_call draft (Some call) e = cc
 no_call draft None e = refl
 
-pub one_more : (draft : Draft) (call : Option Call) → is_some call ≡ true
+pub one_more : (draft : DraftValue) (call : Option Call) → is_some call ≡ true
     → in_bounds (record draft { calls = draft.calls + 1; begun = true })
     ≡ after_form one_call draft call
 one_more draft (Some call) e = refl

@@ -4,7 +4,7 @@ use Rattle.std.proofs.Common.{◌≡◌, ℕ, ◌+◌, Option, Some, None, IfSom
 use Rattle.std.specs.Option.{ok_or, option_map_or}
 use Rattle.std.proofs.lemmas.List.Elements.{All-nil, All-cons}
 use Rattle.iol_script.specs.RunLines.{run_form}
-use Rattle.iol_script.specs.Script.{Draft, calls_of, calls_in, script_after, draft_after}
+use Rattle.iol_script.specs.Script.{DraftValue, calls_of, calls_in, script_after, draft_after}
 use Rattle.iol_script.specs.declared.run_line.RunLine.{RunLine}
 use Rattle.iol_script.specs.declared.run_line.RunLine.TheVariants as line
 use Rattle.iol_script.proofs.LinesRead.{stays_bad}
@@ -12,15 +12,15 @@ use Rattle.iol_script.proofs.LinesRead.{stays_bad}
 -- A good line
 
 -- the next draft has so many more calls
-abbrev HasMore : Draft → ℕ → Draft → Type 0
+abbrev HasMore : DraftValue → ℕ → DraftValue → Type 0
 HasMore draft count next = next.calls ≡ draft.calls + count
 
 -- a good line adds its calls
-after-calls : (draft : Draft) (form : RunLine)
+after-calls : (draft : DraftValue) (form : RunLine)
     → IfSome (script_after draft form) (HasMore draft (length (calls_of form)))
 after-calls draft form = grind arith
 
-good : (draft next : Draft) (number : ℕ) (o : Option RunLine)
+good : (draft next : DraftValue) (number : ℕ) (o : Option RunLine)
     → ok_or (option_and_then (script_after draft) o) number ≡ Ok next
     → IsSome o × HasMore draft (length (option_map_or calls_of o [])) next
 good draft next number None e = cc
@@ -33,11 +33,11 @@ abbrev pub HasForm : ℕ × List ℕ → Type 0
 HasForm line = IsSome (run_form line.1)
 
 -- where the lines are good, each has a form, and their calls are counted
-pub record Goods (draft final : Draft) (lines : List (ℕ × List ℕ)) : Type 0 where
+pub record Goods (draft final : DraftValue) (lines : List (ℕ × List ℕ)) : Type 0 where
   pub forms : All HasForm lines
   pub calls : HasMore draft (length (calls_in lines)) final
 
-pub goods : (draft final : Draft) (lines : List (ℕ × List ℕ))
+pub goods : (draft final : DraftValue) (lines : List (ℕ × List ℕ))
     → fold draft_after (Ok draft) lines ≡ Ok final → Goods draft final lines
 goods draft final [] e =
     let same : draft ≡ final = cc in

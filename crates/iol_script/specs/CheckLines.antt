@@ -2,7 +2,7 @@
 use Rattle.std.specs.Prelude.{ℕ, Option, Some, None, is_some, option_map, option_and_then, List, [], ◌∷◌, if◌then◌else◌, codes}
 use Rattle.std.specs.Str.{bytes_eq}
 use Rattle.iol_script.specs.Text.{alone, line_words}
-use Rattle.iol_script.specs.Numerals.{of_three, octets_of, number_in, within}
+use Rattle.iol_script.specs.Numerals.{of_three, octets_of_words, number_in, octets_within}
 use Rattle.iol_script.specs.declared.check_line.LayoutLine.{LayoutLine}
 use Rattle.iol_script.specs.declared.check_line.LayoutLine.TheVariants.{Startup, Preoperate, Operate}
 use Rattle.iol_script.specs.declared.check_line.CheckLine.{CheckLine}
@@ -10,16 +10,16 @@ use Rattle.iol_script.specs.declared.check_line.CheckLine.TheVariants.{Skip, Lay
 
 -- what a line says: nothing, which layout is asked for, or the octets of a master
 -- message, of the reply to a read or to a write
-pub data Form : Type 0 where
-  skip : Form
-  layout : LayoutLine → Form
-  master : List ℕ → Form
-  read_reply : List ℕ → Form
-  write_reply : List ℕ → Form
+pub data CheckForm : Type 0 where
+  skip : CheckForm
+  layout : LayoutLine → CheckForm
+  master : List ℕ → CheckForm
+  read_reply : List ℕ → CheckForm
+  write_reply : List ℕ → CheckForm
 
 -- 1 to 128 octets in words of their own
 abbrev pub message_form : List (List ℕ) → Option (List ℕ)
-message_form words = option_and_then (within 1 128) (octets_of words)
+message_form words = option_and_then (octets_within 1 128) (octets_of_words words)
 
 -- the word behind `preoperate`: a code
 abbrev pub preoperate_form : List (List ℕ) → Option LayoutLine
@@ -41,7 +41,7 @@ layout_form (mode ∷ words) =
     if bytes_eq mode (codes "operate") then operate_form words else None
 
 -- the form that the words of a line fit: a line without words says nothing
-abbrev pub words_form : List (List ℕ) → Option Form
+abbrev pub words_form : List (List ℕ) → Option CheckForm
 words_form [] = Some skip
 words_form (name ∷ words) =
     if bytes_eq name (codes "layout") then option_map layout (layout_form words) else
@@ -50,11 +50,11 @@ words_form (name ∷ words) =
     if bytes_eq name (codes "w") then option_map write_reply (message_form words) else None
 
 -- the form that a line fits
-abbrev pub line_form : List ℕ → Option Form
-line_form line = option_and_then words_form (line_words line)
+abbrev pub check_form : List ℕ → Option CheckForm
+check_form line = option_and_then words_form (line_words line)
 
 -- what a parsed line says
-abbrev pub parsed_form : CheckLine → Form
+abbrev pub parsed_form : CheckLine → CheckForm
 parsed_form Skip = skip
 parsed_form (Layout line) = layout line
 parsed_form (Master octets) = master octets.items
@@ -65,4 +65,4 @@ parsed_form (WriteReply octets) = write_reply octets.items
 abbrev pub first_bad : List (ℕ × List ℕ) → Option ℕ
 first_bad [] = None
 first_bad ((number, line) ∷ lines) =
-    if is_some (line_form line) then first_bad lines else Some number
+    if is_some (check_form line) then first_bad lines else Some number

@@ -11,10 +11,11 @@ shortest_octet micros =
     position_or_len (λ octet. nat_le micros (micros_of octet)) (range_with_len 0 192)
 
 -- the cycle time of an octet, where its time base isn't reserved
-abbrev pub cycle_told : (octet : ℕ) (known : Bool) → nat_lt octet 192 ≡ known → Option CycleTime
-cycle_told octet true e = Some (record { octet = octet; base_in_range = ltb-true octet 192 e })
-cycle_told octet false e = None
+abbrev pub cycle_of_octet : (octet : ℕ) (known : Bool) → nat_lt octet 192 ≡ known → Option CycleTime
+cycle_of_octet octet true e = Some (record { octet = octet; base_in_range = ltb-true octet 192 e })
+cycle_of_octet octet false e = None
 
 -- the shortest cycle time that takes at least so many microseconds
 unfoldable pub cycle_lasting : ℕ → Option CycleTime
-cycle_lasting micros = cycle_told (shortest_octet micros) (nat_lt (shortest_octet micros) 192) refl
+cycle_lasting micros = cycle_of_octet (shortest_octet micros)
+    (nat_lt (shortest_octet micros) 192) refl

@@ -23,8 +23,8 @@ digit_of c = if nat_le 48 c && nat_le c 57 then Some (c - 48)
     else (if nat_le 97 c && nat_le c 102 then Some (c - 87) else None))
 
 -- the octet of two digits
-abbrev pub octet_of : ℕ → ℕ → Option ℕ
-octet_of high low = of_both (λ h l. h * 16 + l) (digit_of high) (digit_of low)
+abbrev pub octet_of_digits : ℕ → ℕ → Option ℕ
+octet_of_digits high low = of_both (λ h l. h * 16 + l) (digit_of high) (digit_of low)
 
 -- one more octet before what the rest gives
 abbrev pub before : Option ℕ → Option (List ℕ) → Option (List ℕ)
@@ -32,34 +32,35 @@ before = of_both (λ octet octets. octet ∷ octets)
 
 -- the octet of a word of two digits
 abbrev pub word_octet : List ℕ → Option ℕ
-word_octet (high ∷ low ∷ []) = octet_of high low
+word_octet (high ∷ low ∷ []) = octet_of_digits high low
 word_octet _ = None
 
 -- the octets of words of two digits
-abbrev pub octets_of : List (List ℕ) → Option (List ℕ)
-octets_of [] = Some []
-octets_of (word ∷ words) = before (word_octet word) (octets_of words)
+abbrev pub octets_of_words : List (List ℕ) → Option (List ℕ)
+octets_of_words [] = Some []
+octets_of_words (word ∷ words) = before (word_octet word) (octets_of_words words)
 
 -- the octets of pairs of digits
-abbrev pub pairs_of : List ℕ → Option (List ℕ)
-pairs_of [] = Some []
-pairs_of (digit ∷ []) = None
-pairs_of (high ∷ low ∷ digits) = before (octet_of high low) (pairs_of digits)
+abbrev pub octets_of_pairs : List ℕ → Option (List ℕ)
+octets_of_pairs [] = Some []
+octets_of_pairs (digit ∷ []) = None
+octets_of_pairs (high ∷ low ∷ digits) = before (octet_of_digits high low) (octets_of_pairs digits)
 
 -- the octets of one word: pairs of digits, or `-` for none
 abbrev pub word_octets : List ℕ → Option (List ℕ)
 word_octets [] = None
-word_octets (c ∷ word) = if bytes_eq (c ∷ word) (codes "-") then Some [] else pairs_of (c ∷ word)
+word_octets (c ∷ word) = if bytes_eq (c ∷ word) (codes "-") then Some [] else octets_of_pairs
+    (c ∷ word)
 
 -- octets, where there are from `least` to `most` of them
-abbrev pub within : ℕ → ℕ → List ℕ → Option (List ℕ)
-within least most octets =
+abbrev pub octets_within : ℕ → ℕ → List ℕ → Option (List ℕ)
+octets_within least most octets =
     if nat_le least (length octets) && nat_le (length octets) most then Some octets else None
 
 -- the number of a word of four digits
 abbrev pub word_code : List ℕ → Option ℕ
 word_code (a ∷ b ∷ c ∷ d ∷ []) =
-    of_both (λ high low. high * 256 + low) (octet_of a b) (octet_of c d)
+    of_both (λ high low. high * 256 + low) (octet_of_digits a b) (octet_of_digits c d)
 word_code _ = None
 
 -- Decimal numbers

@@ -5,8 +5,8 @@ use Rattle.iol_script.specs.Numerals.{number_in}
 use Rattle.iol_script.specs.PlanRanges.{ArePlanned}
 use Rattle.iol_script.specs.Text.{line_words, line_read}
 use Rattle.iol_script.specs.declared.plan.Plan.{Plan}
-use Rattle.iol_script.specs.declared.plan.Shown.{Shown}
-use Rattle.iol_script.specs.declared.plan.Shown.TheVariants.{Tickets, Counters}
+use Rattle.iol_script.specs.declared.plan.ShownCounts.{ShownCounts}
+use Rattle.iol_script.specs.declared.plan.ShownCounts.TheVariants.{Tickets, Counters}
 use Rattle.iol_script.specs.declared.plan_draft.PlanDraft.{PlanDraft}
 use Rattle.iol_script.specs.declared.plan_draft.PlanDraft.TheVariants.{Empty, Ports, Clients, Each, Turns}
 
@@ -16,7 +16,7 @@ field_of name wanted most (word ∷ []) = if bytes_eq name wanted then number_in
 field_of name wanted most _ = None
 
 -- what the line behind the four shows: `counters` alone
-abbrev pub shown_by : List ℕ → List (List ℕ) → Option Shown
+abbrev pub shown_by : List ℕ → List (List ℕ) → Option ShownCounts
 shown_by name [] = if bytes_eq name (codes "counters") then Some Counters else None
 shown_by name (word ∷ words) = None
 
@@ -37,8 +37,8 @@ words_after (Turns p k m t Tickets) (name ∷ words) =
 words_after (Turns p k m t Counters) (name ∷ words) = None
 
 -- the draft after a line, where the line is good in its place
-abbrev pub draft_after : PlanDraft → List ℕ → Option PlanDraft
-draft_after draft line = option_and_then (words_after draft) (line_words line)
+abbrev pub plan_draft_after : PlanDraft → List ℕ → Option PlanDraft
+plan_draft_after draft line = option_and_then (words_after draft) (line_words line)
 
 -- the numbers of a plan, and what it shows
 pub record PlanNumbers : Type 0 where
@@ -46,7 +46,7 @@ pub record PlanNumbers : Type 0 where
   pub clients : ℕ
   pub each : ℕ
   pub turns : ℕ
-  pub shown : Shown
+  pub shown : ShownCounts
 
 abbrev pub numbers_of : Plan → PlanNumbers
 numbers_of plan = record {
@@ -66,7 +66,7 @@ whole_plan behind (Ok draft) = Err behind
 
 -- the plan of lines, or the number of the first bad one
 abbrev pub plan_of : List (ℕ × List ℕ) → Result PlanNumbers ℕ
-plan_of lines = whole_plan (length lines + 1) (fold (line_read draft_after) (Ok Empty) lines)
+plan_of lines = whole_plan (length lines + 1) (fold (line_read plan_draft_after) (Ok Empty) lines)
 
 -- The numbers of a draft are in their ranges, where 1 stands for each that no line gave yet.
 abbrev pub IsPlanned : PlanDraft → Type 0

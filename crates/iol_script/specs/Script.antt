@@ -10,8 +10,8 @@ use Rattle.iol_far.specs.Isdu.{own}
 use Rattle.iol_isdu.specs.declared.values.Place.{Place}
 use Rattle.iol_mode.specs.declared.configuration.Devices.{Devices}
 use Rattle.iol_mode.specs.declared.configuration.Devices.TheVariants.{Own}
-use Rattle.iol_sim.specs.Params.{number_of}
-use Rattle.iol_sim.specs.declared.params.Entry.{Entry}
+use Rattle.iol_sim.specs.Params.{number_at_place}
+use Rattle.iol_sim.specs.declared.params.ParameterEntry.{ParameterEntry}
 use Rattle.iol_sim.specs.declared.script.Step.{Step}
 use Rattle.iol_sim.specs.declared.script.Step.TheVariants.{Fate, Swap}
 use Rattle.iol_script.specs.Text.{line_read}
@@ -29,7 +29,7 @@ use Rattle.iol_script.specs.declared.run_line.RunLine.TheVariants as line
 use Rattle.iol_script.specs.declared.script.Script.{Script}
 
 -- a script, as far as its lines are read
-pub record Draft : Type 0 where
+pub record DraftValue : Type 0 where
   -- the page, that of a second device, the kind, for which devices the port is, and the limits,
   -- where a line gave them; whether one said that the device may miss pulses
   pub page : Option (List ℕ)
@@ -38,7 +38,7 @@ pub record Draft : Type 0 where
   pub misses_pulses : Bool
   pub devices : Option Devices
   pub limits : Option Limits
-  pub params : List Entry
+  pub params : List ParameterEntry
   pub steps : List Step
   -- how many calls there are
   pub calls : ℕ
@@ -46,7 +46,7 @@ pub record Draft : Type 0 where
   pub begun : Bool
 
 -- no line is read
-abbrev pub empty_draft : Draft
+abbrev pub empty_draft : DraftValue
 empty_draft = record {
   page = None;
   other = None;
@@ -76,15 +76,15 @@ line_calls (Once call) = call ∷ []
 line_calls (Turns n) = replicate n Turn
 
 -- one more parameter is taken at a place: it is one of 32 at places of their own
-abbrev pub takes_param : List Entry → Place → Bool
-takes_param params place = nat_lt (length params) 32 && is_none (number_of params place)
+abbrev pub takes_param : List ParameterEntry → Place → Bool
+takes_param params place = nat_lt (length params) 32 && is_none (number_at_place params place)
 
 -- a draft, where a setting of it is not given yet
-abbrev pub once : {T : Type 0} → Option T → Draft → Option Draft
+abbrev pub once : {T : Type 0} → Option T → DraftValue → Option DraftValue
 once given draft = if is_none given then Some draft else None
 
 -- the draft after a setting: each but a parameter is given at most once
-abbrev pub with_setting : Draft → Setting → Option Draft
+abbrev pub with_setting : DraftValue → Setting → Option DraftValue
 with_setting draft (setting.Page octets) = once draft.page (record draft { page = Some octets })
 with_setting draft (setting.Other octets) = once draft.other (record draft { other = Some octets })
 with_setting draft (setting.Kind kind) = once draft.kind (record draft { kind = Some kind })
@@ -105,13 +105,13 @@ with_setting draft (setting.Param place writable value) =
     else None
 
 -- a draft with at most 1,000,000 steps and 1,000,000 calls
-abbrev pub in_bounds : Draft → Option Draft
+abbrev pub in_bounds : DraftValue → Option DraftValue
 in_bounds draft =
     if nat_le (length draft.steps) 1000000 && nat_le draft.calls 1000000 then Some draft else None
 
 -- the draft after a line, where the line is good in its place: devices are exchanged
 -- only where there is a second one
-abbrev pub script_after : Draft → RunLine → Option Draft
+abbrev pub script_after : DraftValue → RunLine → Option DraftValue
 script_after draft line.Skip = Some draft
 script_after draft (line.Setting setting) = if draft.begun then None else with_setting draft setting
 script_after draft (line.Wire wire) =
@@ -122,11 +122,11 @@ script_after draft (line.Call call) =
 
 -- the draft after a line with its number, or the number of the first bad line: it
 -- fits no form, or is refused in its place
-abbrev pub draft_after : Result Draft ℕ → ℕ × List ℕ → Result Draft ℕ
+abbrev pub draft_after : Result DraftValue ℕ → ℕ × List ℕ → Result DraftValue ℕ
 draft_after = line_read (λ draft line. option_and_then (script_after draft) (run_form line))
 
 -- the draft of lines, or the number of the first bad one
-abbrev pub draft_of : List (ℕ × List ℕ) → Result Draft ℕ
+abbrev pub draft_of : List (ℕ × List ℕ) → Result DraftValue ℕ
 draft_of lines = fold draft_after (Ok empty_draft) lines
 
 -- the number of the first bad line
@@ -141,7 +141,7 @@ pub record ScriptValue : Type 0 where
   pub other : Option (List ℕ)
   pub kind : Kind
   pub misses_pulses : Bool
-  pub params : List Entry
+  pub params : List ParameterEntry
   -- for which devices, and with what limits, the port is opened
   pub devices : Devices
   pub limits : Limits
@@ -171,7 +171,7 @@ value_of script = record {
 }
 
 -- a draft with what no line gave
-abbrev pub script_of : Draft → ScriptValue
+abbrev pub script_of : DraftValue → ScriptValue
 script_of draft = record {
   page = unwrap_or draft.page
       (0x17 ∷ 0x2D ∷ 0x11 ∷ 0x00 ∷ 0x00 ∷ 0x12 ∷ 0x34 ∷ 0x00 ∷ 0x01 ∷ 0x07 ∷ []);

@@ -2,7 +2,7 @@
 use Rattle.std.specs.Prelude.{ℕ, ◌+◌, Option, Some, None, Result, Ok, Err, List, [], ◌∷◌, length, nat_le, ◌==◌, if◌then◌else◌}
 use Rattle.std.specs.Option.{ok_or, option_map_or}
 use Rattle.std.specs.List.{slice_split, onto_first, enumerate_from}
-use Rattle.iol_script.specs.declared.parts.Lines.{Lines}
+use Rattle.iol_script.specs.declared.parts.TextLines.{TextLines}
 use Rattle.iol_script.specs.declared.parts.Words.{Words}
 
 -- the lines: each ends with a line feed, which the last may lack
@@ -28,7 +28,7 @@ abbrev pub line_words : List ℕ → Option (List (List ℕ))
 line_words line = if nat_le (length line) 1024 then Some (text_words line) else None
 
 -- the lines that an iterator has left, with their numbers
-abbrev pub lines_left : Lines → List (ℕ × List ℕ)
+abbrev pub lines_left : TextLines → List (ℕ × List ℕ)
 lines_left lines = enumerate_from (lines.given + 1) (lines_of lines.left.now)
 
 -- the value, where no word is left

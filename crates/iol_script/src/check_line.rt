@@ -39,11 +39,11 @@ pub enum CheckLine {
 }
 
 impl CheckLine {
-    ghost use Rattle.iol_script.specs.CheckLines.{line_form};
+    ghost use Rattle.iol_script.specs.CheckLines.{check_form};
 
     /// What a line says, where it fits a form.
     pub fn parse(line: &[u8]) -> Option<CheckLine>
-        ensures { option_map parsed_form result ≡ line_form line.now }
+        ensures { option_map parsed_form result ≡ check_form line.now }
     {
         parse_words(Words::of(line)?)
     }

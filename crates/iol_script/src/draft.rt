@@ -3,7 +3,7 @@ ghost use Rattle.std.specs.Prelude.{◌≡◌, ◌++◌, ◌+◌, ◌≤◌, ℕ
 ghost use Rattle.iol_script.specs.declared.fault.ScriptFault.TheVariants.{Line};
 ghost use Rattle.iol_script.specs.RunLines.{call_form, devices_form, kind_form, limits_form, one_call, page_line, page_octets, param_form, pulses_form, run_words, turns_form, wire_form};
 ghost use Rattle.iol_script.specs.Text.{words_left};
-ghost use Rattle.iol_sim.specs.Params.{number_of};
+ghost use Rattle.iol_sim.specs.Params.{number_at_place};
 
 use crate::call_check::fits_call;
 use crate::call_line::turns_of;
@@ -18,7 +18,7 @@ use iol_far::Kind;
 use iol_isdu::Place;
 use iol_mode::Devices;
 use iol_page::Page;
-use iol_sim::{Entry, Fate, Step};
+use iol_sim::{Fate, ParameterEntry, Step};
 use std::alloc::{AllocError, Allocator};
 use std::marker::Model;
 
@@ -44,7 +44,7 @@ pub(crate) struct Draft<A: Allocator> {
     misses_pulses: bool,
     devices: Option<Devices>,
     limits: Option<Limits>,
-    params: Vec<Entry, A>,
+    params: Vec<ParameterEntry, A>,
     steps: Vec<Step, A>,
     calls: usize,
     /// Whether a line of the wire or a call came.
@@ -52,19 +52,19 @@ pub(crate) struct Draft<A: Allocator> {
 }
 
 impl<A: Allocator> Model for Draft<A> {
-    ghost use Rattle.iol_script.specs.Script.{Draft};
+    ghost use Rattle.iol_script.specs.Script.{DraftValue};
 
-    ghost Value = { Draft };
+    ghost Value = { DraftValue };
 
-    ghost use Rattle.iol_script.specs.DraftInside.{draft_view, IsSound};
+    ghost use Rattle.iol_script.specs.DraftInside.{draft_view, DraftIsSound};
 
     ghost view = { draft_view };
 
-    ghost invariant = { IsSound };
+    ghost invariant = { DraftIsSound };
 }
 
 impl<A: Allocator> Draft<A> {
-    ghost use Rattle.iol_script.specs.DraftInside.{after_form, IsTaken};
+    ghost use Rattle.iol_script.specs.DraftInside.{after_form, LineIsTaken};
     ghost use Rattle.iol_script.specs.declared.run_line.RunLine.{RunLine};
     ghost use Rattle.iol_script.specs.declared.setting.Setting.{Setting};
     ghost use Rattle.iol_script.specs.Script.{IsScript, draft_after, empty_draft, in_bounds, script_after, script_of, takes_param, value_of};
@@ -102,7 +102,7 @@ impl<A: Allocator> Draft<A> {
     /// One more line is read, by its words. Each kind has a function of its own, and
     /// no line is built as a value: of a call it is only asked whether the words fit.
     fn take_words(&mut self, number: u64, mut words: Words) -> Result<(), ScriptFault>
-        ensures { IsTaken (option_and_then (script_after self.old)
+        ensures { LineIsTaken (option_and_then (script_after self.old)
             (run_words (words_left words.entry))) number result self.new }
     {
         let bad = ScriptFault::Line(number);
@@ -226,7 +226,7 @@ impl<A: Allocator> Draft<A> {
 
     /// The words behind `param`.
     fn take_param(&mut self, number: u64, words: Words) -> Result<(), ScriptFault>
-        ensures { IsTaken (after_form RunLine.Setting self.old
+        ensures { LineIsTaken (after_form RunLine.Setting self.old
             (param_form (words_left words.entry))) number result self.new }
     {
         let param = param_of(words).ok_or(ScriptFault::Line(number))?;
@@ -246,14 +246,15 @@ impl<A: Allocator> Draft<A> {
 
     /// Where the parameter at a place stands among the others.
     fn number_of(&self, place: Place) -> Option<usize>
-        ensures { result ≡ number_of self.now.params place }
+        ensures { result ≡ number_at_place self.now.params place }
     {
         self.params.iter().position(|param| param.place == place)
     }
 
     /// The words behind `wire`.
     fn take_wire(&mut self, number: u64, words: Words) -> Result<(), ScriptFault>
-        ensures { IsTaken (after_form RunLine.Wire self.old (wire_form (words_left words.entry)))
+        ensures { LineIsTaken
+            (after_form RunLine.Wire self.old (wire_form (words_left words.entry)))
             number result self.new }
     {
         let line = parse_wire(words).ok_or(ScriptFault::Line(number))?;
@@ -283,7 +284,7 @@ impl<A: Allocator> Draft<A> {
     /// Steps are taken up to 1,000,000, and a swap only with a second device. The memory for
     /// all of them is taken before the first.
     fn add_steps(&mut self, number: u64, line: WireLine) -> Result<(), ScriptFault>
-        ensures { IsTaken (script_after self.old (RunLine.Wire line)) number result self.new }
+        ensures { LineIsTaken (script_after self.old (RunLine.Wire line)) number result self.new }
     {
         if line.is_swap() && self.other.is_none() {
             return Err(ScriptFault::Line(number));

@@ -1,8 +1,8 @@
 //! What several lines of `run` have.
 ghost use Rattle.std.specs.Prelude.{◌≡◌, ◌∷◌, ℕ, List, [], is_some, option_map, option_and_then, MatchOption};
 ghost use Rattle.std.specs.Str.{bytes_eq};
-ghost use Rattle.iol_script.specs.Numerals.{number_in, within, word_octets};
-ghost use Rattle.iol_script.specs.RunLines.{image_form, place_of, value_of};
+ghost use Rattle.iol_script.specs.Numerals.{number_in, octets_within, word_octets};
+ghost use Rattle.iol_script.specs.RunLines.{image_form, place_of_words, parameter_octets};
 ghost use Rattle.iol_script.specs.Text.{words_left};
 
 use crate::numerals::{decimal_number, fits_octets, hexadecimal_octets};
@@ -31,7 +31,7 @@ pub(crate) fn end_of(mut words: Words) -> Option<()>
 
 /// An index and a subindex.
 pub(crate) fn place_of(index: &[u8], sub: &[u8]) -> Option<Place>
-    ensures { result ≡ place_of index.now sub.now }
+    ensures { result ≡ place_of_words index.now sub.now }
 {
     let index = decimal_number(index, 0, 65_535)? as u16;
     let sub = decimal_number(sub, 0, 255)? as u8;
@@ -40,7 +40,7 @@ pub(crate) fn place_of(index: &[u8], sub: &[u8]) -> Option<Place>
 
 /// The octets of a parameter, up to 232.
 pub(crate) fn value_of(word: &[u8]) -> Option<Octets>
-    ensures { option_map (λ octets. octets.items) result ≡ value_of word.now }
+    ensures { option_map (λ octets. octets.items) result ≡ parameter_octets word.now }
 {
     hexadecimal_octets(word)
 }
@@ -67,7 +67,7 @@ pub(crate) fn parse_image(mut words: Words) -> Option<Option<Image>>
 
 /// The image of a word, 1 to 32 octets.
 fn image_of(word: &[u8]) -> Option<Image>
-    ensures { result ≡ option_and_then (within 1 32) (word_octets word.now) }
+    ensures { result ≡ option_and_then (octets_within 1 32) (word_octets word.now) }
 {
     let octets: ArrayVec<u8, 32> = hexadecimal_octets(word)?;
     Image::new(octets.as_slice()).ok()
@@ -75,7 +75,7 @@ fn image_of(word: &[u8]) -> Option<Image>
 
 /// Whether a word gives the octets of a parameter.
 pub(crate) fn fits_value(word: &[u8]) -> bool
-    ensures { result ≡ is_some (value_of word.now) }
+    ensures { result ≡ is_some (parameter_octets word.now) }
 {
     fits_octets(word, 0, 232)
 }

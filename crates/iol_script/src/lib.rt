@@ -32,8 +32,8 @@ pub use fault::ScriptFault;
 pub use numerals::{
     decimal_number, hexadecimal_code, hexadecimal_octet, hexadecimal_octets, parted_octets,
 };
-pub use parts::{Lines, Words};
-pub use plan::{Plan, Shown};
+pub use parts::{TextLines, Words};
+pub use plan::{Plan, ShownCounts};
 pub use run_line::RunLine;
 pub use script::Script;
 pub use setting::Setting;

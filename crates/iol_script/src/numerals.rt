@@ -5,7 +5,7 @@ ghost use Rattle.std.specs.Char.{digit_value};
 ghost use Rattle.std.specs.Fmt.{decimal};
 ghost use Rattle.std.specs.Option.{SomeIff};
 ghost use Rattle.std.specs.Str.Parse.{AllDigits, digits_value};
-ghost use Rattle.iol_script.specs.Numerals.{digit_of, octet_of, word_octet, word_code, pairs_of, word_octets, octets_of, within, number_in, is_plain_of};
+ghost use Rattle.iol_script.specs.Numerals.{digit_of, octet_of_digits, word_octet, word_code, octets_of_pairs, word_octets, octets_of_words, octets_within, number_in, is_plain_of};
 ghost use Rattle.iol_script.specs.Text.{words_left};
 
 use crate::parts::Words;
@@ -26,7 +26,7 @@ fn digit(c: u8) -> Option<u8>
 
 /// The octet of two hexadecimal digits, in both cases.
 fn octet_of(high: u8, low: u8) -> Option<u8>
-    ensures { result ≡ octet_of high low }
+    ensures { result ≡ octet_of_digits high low }
 {
     Some(digit(high)? * 16 + digit(low)?)
 }
@@ -55,7 +55,7 @@ pub fn hexadecimal_code(word: &[u8]) -> Option<u16>
 #[tactic(auto, using(crate::proofs::OctetsLemmas::behind_whole))]
 fn pairs_of<const N: usize>(word: &[u8]) -> Option<ArrayVec<u8, N>>
     ensures { option_map (λ octets. octets.items) result
-        ≡ option_and_then (within 0 N) (pairs_of word.now) }
+        ≡ option_and_then (octets_within 0 N) (octets_of_pairs word.now) }
 {
     let mut octets = ArrayVec::new();
     let mut left = word;
@@ -73,7 +73,7 @@ fn pairs_of<const N: usize>(word: &[u8]) -> Option<ArrayVec<u8, N>>
 /// `-` stands for none.
 pub fn hexadecimal_octets<const N: usize>(word: &[u8]) -> Option<ArrayVec<u8, N>>
     ensures { option_map (λ octets. octets.items) result
-        ≡ option_and_then (within 0 N) (word_octets word.now) }
+        ≡ option_and_then (octets_within 0 N) (word_octets word.now) }
 {
     match word {
         [] => None,
@@ -85,7 +85,7 @@ pub fn hexadecimal_octets<const N: usize>(word: &[u8]) -> Option<ArrayVec<u8, N>
 /// Whether a word gives octets in pairs of digits, or none by `-`, and how many is
 /// from `least` to `most`.
 pub(crate) fn fits_octets(word: &[u8], least: usize, most: usize) -> bool
-    ensures { result ≡ is_some (option_and_then (within least most) (word_octets word.now)) }
+    ensures { result ≡ is_some (option_and_then (octets_within least most) (word_octets word.now)) }
 {
     match word {
         [] => false,
@@ -96,7 +96,8 @@ pub(crate) fn fits_octets(word: &[u8], least: usize, most: usize) -> bool
 
 /// Whether they are pairs of hexadecimal digits, from `least` to `most` of them.
 fn are_pairs(word: &[u8], least: usize, most: usize) -> bool
-    ensures { result ≡ is_some (option_and_then (within least most) (pairs_of word.now)) }
+    ensures { result
+        ≡ is_some (option_and_then (octets_within least most) (octets_of_pairs word.now)) }
 {
     let count = word.len() / 2;
     if word.len() > 2 * count {
@@ -119,7 +120,7 @@ fn are_digits(word: &[u8]) -> bool
 #[tactic(auto, using(crate::proofs::OctetsLemmas::behind_whole))]
 pub fn parted_octets<const N: usize>(words: Words) -> Option<ArrayVec<u8, N>>
     ensures { option_map (λ octets. octets.items) result
-        ≡ option_and_then (within 0 N) (octets_of (words_left words.entry)) }
+        ≡ option_and_then (octets_within 0 N) (octets_of_words (words_left words.entry)) }
 {
     let mut octets = ArrayVec::new();
     for word in words {

@@ -47,28 +47,28 @@ fn first_word(line: &[u8]) -> (&[u8], Option<&[u8]>)
 /// The lines of a text with their numbers, from 1 on. Each ends with a line feed,
 /// which the last may lack.
 #[derive(Clone, Copy, Debug)]
-pub struct Lines<'a> {
+pub struct TextLines<'a> {
     left: &'a [u8],
     given: u64,
     ghost countable: { given + length left.now < 2 ^ 64 },
 }
 
-impl<'a> Lines<'a> {
+impl<'a> TextLines<'a> {
     ghost use Rattle.std.specs.Prelude.{◌≡◌};
     ghost use Rattle.iol_script.specs.Text.{numbered_lines, lines_left};
 
     /// The lines of a text, none of them given yet.
-    pub fn of(text: &'a [u8]) -> Lines<'a>
+    pub fn of(text: &'a [u8]) -> TextLines<'a>
         ensures { lines_left result ≡ numbered_lines text.now }
     {
-        Lines {
+        TextLines {
             left: text,
             given: 0,
         }
     }
 }
 
-impl<'a> Iterator for Lines<'a> {
+impl<'a> Iterator for TextLines<'a> {
     ghost use Rattle.std.specs.Iterator.{YieldsFirstBy, item_count};
     ghost use Rattle.iol_script.specs.Text.{lines_left};
 

@@ -5,12 +5,12 @@ ghost use Rattle.iol_script.specs.PlanRanges.{ArePlanned};
 ghost use Rattle.iol_script.specs.Text.{numbered_lines};
 
 use crate::fault::ScriptFault;
-use crate::parts::Lines;
+use crate::parts::TextLines;
 use crate::plan_draft::PlanDraft;
 
 /// What `many` prints of each port.
 #[derive(Clone, Copy, Debug, PartialEq, Eq)]
-pub enum Shown {
+pub enum ShownCounts {
     /// What became of its tickets.
     Tickets,
     /// That, and what the port counted.
@@ -31,7 +31,7 @@ pub struct Plan {
     /// afterwards: 1 to 100,000.
     pub turns: u32,
     /// What is printed of each port.
-    pub shown: Shown,
+    pub shown: ShownCounts,
     pub ghost ranges: { ArePlanned ports clients each turns },
 }
 
@@ -53,7 +53,7 @@ impl Plan {
             × (plan_of (numbered_lines input.now) ≡ Err n)) }
     {
         let mut draft = PlanDraft::Empty;
-        for (number, line) in Lines::of(input) {
+        for (number, line) in TextLines::of(input) {
             let Some(next) = draft.after(line) else {
                 return Err(ScriptFault::Line(number));
             };
@@ -67,7 +67,7 @@ impl Plan {
                 turns,
                 shown,
             }),
-            _ => Err(ScriptFault::Line(Lines::of(input).count() as u64 + 1)),
+            _ => Err(ScriptFault::Line(TextLines::of(input).count() as u64 + 1)),
         }
     }
 }

@@ -1,12 +1,12 @@
 //! A plan, as far as its lines are read.
 ghost use Rattle.std.specs.Prelude.{◌≡◌, ◌≤◌, IfSome};
-ghost use Rattle.iol_script.specs.Plan.{draft_after, field_of, shown_by, words_after, IsPlanned};
+ghost use Rattle.iol_script.specs.Plan.{plan_draft_after, field_of, shown_by, words_after, IsPlanned};
 ghost use Rattle.iol_script.specs.Text.{words_left};
 
 use crate::fields::{end_of, is};
 use crate::numerals::decimal_number;
 use crate::parts::Words;
-use crate::plan::Shown;
+use crate::plan::ShownCounts;
 
 /// The most requests that the clients of one port submit.
 const REQUESTS: u32 = 64;
@@ -23,14 +23,14 @@ pub(crate) enum PlanDraft {
     /// Both, and how many requests each client submits.
     Each(u32, u32, u32),
     /// All three, how many turns each port makes, and what is shown of it: no line is missing.
-    Turns(u32, u32, u32, u32, Shown),
+    Turns(u32, u32, u32, u32, ShownCounts),
 }
 
 impl PlanDraft {
     /// One more line is read, where it is good in its place.
     pub(crate) fn after(self, line: &[u8]) -> Option<PlanDraft>
         requires { IsPlanned self }
-        ensures draft { result ≡ draft_after self line.now }
+        ensures draft { result ≡ plan_draft_after self line.now }
         ensures planned { IfSome result IsPlanned }
     {
         self.after_words(Words::of(line)?)
@@ -63,9 +63,9 @@ impl PlanDraft {
             }
             PlanDraft::Each(ports, clients, each) => {
                 let turns = field_of(name, b"turns", 100_000, words)?;
-                Some(PlanDraft::Turns(ports, clients, each, turns, Shown::Tickets))
+                Some(PlanDraft::Turns(ports, clients, each, turns, ShownCounts::Tickets))
             }
-            PlanDraft::Turns(ports, clients, each, turns, Shown::Tickets) => {
+            PlanDraft::Turns(ports, clients, each, turns, ShownCounts::Tickets) => {
                 let shown = shown_by(name, words)?;
                 Some(PlanDraft::Turns(ports, clients, each, turns, shown))
             }
@@ -75,14 +75,14 @@ impl PlanDraft {
 }
 
 /// What a line that follows the four shows: `counters`, and nothing behind it.
-fn shown_by(name: &[u8], words: Words) -> Option<Shown>
+fn shown_by(name: &[u8], words: Words) -> Option<ShownCounts>
     ensures { result ≡ shown_by name.now (words_left words.entry) }
 {
     if !is(name, b"counters") {
         return None;
     }
     end_of(words)?;
-    Some(Shown::Counters)
+    Some(ShownCounts::Counters)
 }
 
 /// The number of a line of this name, 1 to `most`.

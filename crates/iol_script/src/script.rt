@@ -7,12 +7,12 @@ ghost use Rattle.iol_script.specs.Text.{numbered_lines};
 
 use crate::draft::Draft;
 use crate::fault::ScriptFault;
-use crate::parts::Lines;
+use crate::parts::TextLines;
 use iol_book::Limits;
 use iol_far::Kind;
 use iol_mode::Devices;
 use iol_page::Page;
-use iol_sim::{Entry, Step};
+use iol_sim::{ParameterEntry, Step};
 use std::alloc::{Allocator, Global};
 
 /// What the lines of `run` set up: the device, the port and the wire between them.
@@ -30,7 +30,7 @@ pub struct Script<A: Allocator = Global> {
     /// Whether it may miss the pulse of a wake-up request; the second one doesn't.
     pub misses_pulses: bool,
     /// The parameters that each device has, at most 32, each at a place of its own.
-    pub params: Vec<Entry, A>,
+    pub params: Vec<ParameterEntry, A>,
     /// For which devices the port is opened.
     pub devices: Devices,
     /// With what limits it is.
@@ -59,7 +59,7 @@ impl<A: Allocator + Copy> Script<A> {
             (numbered_lines input.now)) }
     {
         let mut draft = Draft::new(alloc);
-        for (number, line) in Lines::of(input) {
+        for (number, line) in TextLines::of(input) {
             draft.take(number, line)?;
         }
         Ok(draft.finish())

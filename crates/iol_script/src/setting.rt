@@ -14,7 +14,7 @@ use iol_far::{HandsOver, Kind, Recalls};
 use iol_isdu::{Octets, Place};
 use iol_mode::Devices;
 use iol_page::Page;
-use iol_sim::Entry;
+use iol_sim::ParameterEntry;
 
 /// A line that sets something up before the first step and the first call.
 #[derive(Clone, Debug, PartialEq, Eq, Drop)]
@@ -162,7 +162,7 @@ fn queue_of(mut words: Words) -> Option<QueueLimit>
 }
 
 /// The words behind `param`: a place, whether it may be written, its octets.
-pub(crate) fn param_of(mut words: Words) -> Option<Entry>
+pub(crate) fn param_of(mut words: Words) -> Option<ParameterEntry>
     ensures { option_map (λ param. Setting.Param param.place param.writable param.value) result
         ≡ param_form (words_left words.entry) }
 {
@@ -170,7 +170,7 @@ pub(crate) fn param_of(mut words: Words) -> Option<Entry>
     let writable = access_of(words.next()?)?;
     let value = value_of(words.next()?)?;
     end_of(words)?;
-    Some(Entry {
+    Some(ParameterEntry {
         place,
         writable,
         value,

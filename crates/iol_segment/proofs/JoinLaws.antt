@@ -9,11 +9,11 @@ use Rattle.iol_octets.specs.declared.flow_control.Flow.{Flow}
 use Rattle.iol_segment.specs.declared.took.Took.{Took}
 use Rattle.iol_segment.specs.declared.took.Took.TheVariants.{Repeat}
 use Rattle.iol_segment.specs.declared.took.JoinFault.{JoinFault}
-use Rattle.iol_segment.specs.Cut.{segment, segments, flow_at, pairs_from, cut}
-use Rattle.iol_segment.specs.Join.{Open, stage, Joining, staged, taken}
-use Rattle.iol_segment.specs.TextLaws.{HoldsLength, joined}
+use Rattle.iol_segment.specs.Cut.{segment, segments, flow_at, pairs_from, cut_of}
+use Rattle.iol_segment.specs.Join.{Open, stage, Joining, stage_step, join_step}
+use Rattle.iol_segment.specs.TextLaws.{HoldsLength, segments_up_to}
 use Rattle.arrayvec.specs.ArrayVec.{ArrayVec}
-use Rattle.iol_segment.specs.JoinLaws.{count_at, standing, took_at, first_took, repeated, answers_behind, expected, results, fed, JoinLaws}
+use Rattle.iol_segment.specs.JoinLaws.{count_at, joiner_at, took_at, first_took, with_repeats, answers_behind, expected_results, results, joiner_after, JoinLaws}
 use Rattle.iol_segment.proofs.CutLaws.{segments-low, segments-past, length-pairs_from}
 use Rattle.iol_segment.proofs.Growing.{total-bounds}
 use Rattle.iol_segment.proofs.TextLaws.{grows, ends, joined-is, joined-front, front-open}
@@ -22,54 +22,54 @@ use Rattle.iol_segment.proofs.TextLaws.{grows, ends, joined-is, joined-front, fr
 
 staged-joined : (count : Option ℕ) (size : ℕ) (text : List ℕ) (i : ℕ)
     → HoldsLength text → i * size < length text
-    → staged count (joined size text i) (stage (joined size text i))
+    → stage_step count (segments_up_to size text i) (stage (segments_up_to size text i))
     ≡ record {
       took = Ok (took_at size text i);
-      joining = record (standing size text i) { count = count };
+      joining = record (joiner_at size text i) { count = count };
     }
 staged-joined count size text i e low =
     let open_yet = grows size text i e in let whole = ends size text i e in
     let front = joined-front size text i in grind (arith, nat_tests, common_steps)
 
 taken-next : (j : Joining) (i : ℕ) (octets : List ℕ) → j.started ≡ true → j.count ≡ count_at i
-    → stage j.text ≡ Open → taken j (flow_at (suc i)) octets
-    ≡ staged (Some (segment_number (suc i))) (j.text ++ octets) (stage (j.text ++ octets))
+    → stage j.text ≡ Open → join_step j (flow_at (suc i)) octets
+    ≡ stage_step (Some (segment_number (suc i))) (j.text ++ octets) (stage (j.text ++ octets))
 taken-next j i octets started count open_yet = grind (arith, nat_tests, common_steps)
 
 pub join-first : (size : ℕ) (j : Joining) (text : List ℕ) → HoldsLength text
-    → taken j (flow_at 0) (segment size text 0)
-    ≡ record { took = Ok (took_at size text 0); joining = standing size text 0 }
+    → join_step j (flow_at 0) (segment size text 0)
+    ≡ record { took = Ok (took_at size text 0); joining = joiner_at size text 0 }
 join-first size j text e = staged-joined None size text 0 e
     (omega (arith, (total-bounds text (length text) e).0))
 
 pub join-next : (size : ℕ) (text : List ℕ) (i : ℕ) → HoldsLength text
     → suc i * size < length text →
-    taken (standing size text i) (flow_at (suc i)) (segment size text (suc i))
+    join_step (joiner_at size text i) (flow_at (suc i)) (segment size text (suc i))
     ≡ record {
       took = Ok (took_at size text (suc i));
-      joining = standing size text (suc i);
+      joining = joiner_at size text (suc i);
     }
 join-next size text i e low =
-    taken-next (standing size text i) i (segment size text (suc i)) refl refl
+    taken-next (joiner_at size text i) i (segment size text (suc i)) refl refl
     (front-open text (length text) (suc i * size) e low (omega arith))
-    ∙ ap (λ xs. staged (Some (segment_number (suc i))) xs (stage xs))
+    ∙ ap (λ xs. stage_step (Some (segment_number (suc i))) xs (stage xs))
     (sym (joined-is size text (suc i) (omega arith)))
     ∙ staged-joined (Some (segment_number (suc i))) size text (suc i) e low
 
 pub join-again : (size : ℕ) (text : List ℕ) (i : ℕ) (octets : List ℕ) →
-    taken (standing size text (suc i)) (flow_at (suc i)) octets
-    ≡ record { took = Ok Repeat; joining = standing size text (suc i) }
+    join_step (joiner_at size text (suc i)) (flow_at (suc i)) octets
+    ≡ record { took = Ok Repeat; joining = joiner_at size text (suc i) }
 join-again size text i octets = grind (arith, nat_tests, common_steps)
 
 -- the joiner gives these answers to the pairs, and is the other one after them
 record Runs (j : Joining) (ps : List (Flow × ArrayVec ℕ)) (rs : List (Result Took JoinFault))
     (k : Joining) : Type 0 where
   answers : results j ps ≡ rs
-  ends : fed j ps ≡ k
+  ends : joiner_after j ps ≡ k
 
 run_step : {j k l : Joining} {p : Flow × ArrayVec ℕ} {ps : List (Flow × ArrayVec ℕ)}
     {r : Result Took JoinFault} {rs : List (Result Took JoinFault)}
-    → taken j p.0 p.1.items ≡ record { took = r; joining = k } → Runs k ps rs l
+    → join_step j p.0 p.1.items ≡ record { took = r; joining = k } → Runs k ps rs l
     → Runs j (p ∷ ps) (r ∷ rs) l
 run_step one more = record {
   answers = rw (one, more.answers) refl;
@@ -78,7 +78,7 @@ run_step one more = record {
 
 run_repeats : {k l : Joining} {ps : List (Flow × ArrayVec ℕ)} {r : Result Took JoinFault}
     {rs : List (Result Took JoinFault)} (n : ℕ) (p : Flow × ArrayVec ℕ)
-    → taken k p.0 p.1.items ≡ record { took = r; joining = k } → Runs k ps rs l
+    → join_step k p.0 p.1.items ≡ record { took = r; joining = k } → Runs k ps rs l
     → Runs k (replicate n p ++ ps) (replicate n r ++ rs) l
 run_repeats zero p one more = more
 run_repeats (suc n) p one more = run_step one (run_repeats n p one more)
@@ -95,11 +95,11 @@ module _ (size : ℕ) (text : List ℕ) (e : HoldsLength text) where
   -- the segments behind the i-th, each so many times more
   run_on : (i last : ℕ) (ns : List ℕ) → last ≡ i + length ns
       → last * size < length text → length text ≤ suc last * size
-      → Runs (standing size text i)
-      (repeated (pairs_from size text (suc i) (length ns)) ns) (answers_behind ns)
-      (standing size text last)
+      → Runs (joiner_at size text i)
+      (with_repeats (pairs_from size text (suc i) (length ns)) ns) (answers_behind ns)
+      (joiner_at size text last)
   run_on i last [] same low high =
-      record { answers = refl; ends = ap (standing size text) (omega arith) }
+      record { answers = refl; ends = ap (joiner_at size text) (omega arith) }
   run_on i last (n ∷ ns) same low high =
       run_step (rw (took-first (suc i) last ns (omega arith) low high) at
       (join-next size text i e (before i last (length ns) size (length text) same low)))
@@ -107,8 +107,8 @@ module _ (size : ℕ) (text : List ℕ) (e : HoldsLength text) where
       (run_on (suc i) last ns (omega arith) low high))
 
   -- the whole cut, with as many numbers as it has pairs
-  run_cut : (j : Joining) (more : List ℕ) → 1 ≤ size → length more ≡ length (cut size text)
-      → (k : Joining) × Runs j (repeated (cut size text) more) (expected more) k
+  run_cut : (j : Joining) (more : List ℕ) → 1 ≤ size → length more ≡ length (cut_of size text)
+      → (k : Joining) × Runs j (with_repeats (cut_of size text) more) (expected_results more) k
       × (k.text ≡ text)
   run_cut j [] size_low same =
       let high : length text ≤ 0 * size = segments-past size text 0 size_low
@@ -121,10 +121,10 @@ module _ (size : ℕ) (text : List ℕ) (e : HoldsLength text) where
       segments-low size text (length ns) size_low (omega arith) in
       let high : length text ≤ suc (length ns) * size =
       segments-past size text (suc (length ns)) size_low (omega arith) in
-      let first : (k : Joining) → taken k (flow_at 0) (segment size text 0)
-      ≡ record { took = Ok (first_took ns); joining = standing size text 0 } =
+      let first : (k : Joining) → join_step k (flow_at 0) (segment size text 0)
+      ≡ record { took = Ok (first_took ns); joining = joiner_at size text 0 } =
       λ k. rw (took-first 0 (length ns) ns (omega arith) low high) at (join-first size k text e) in
-      let last = standing size text (length ns) in (
+      let last = joiner_at size text (length ns) in (
         last,
         rw count (run_step (first j) (run_repeats n _ (first last)
             (run_on 0 (length ns) ns (omega arith) low high))),

@@ -4,7 +4,7 @@ use Rattle.std.proofs.lemmas.Grind.{common_steps}
 use Rattle.std.proofs.lemmas.List.{drop-append-le, take-replicate}
 use Rattle.std.proofs.Math.Seq.{take-append-add}
 use Rattle.iol_isdu.specs.Frame.{xor_of}
-use Rattle.iol_isdu.specs.Texts.{sealed}
+use Rattle.iol_isdu.specs.Texts.{with_chkpdu}
 use Rattle.iol_segment.specs.Cut.{segment}
 
 drop-append : (n : ℕ) (xs ys : List ℕ) → drop n (xs ++ ys) ≡ drop n xs ++ drop (n - length xs) ys
@@ -38,19 +38,20 @@ take-fill n m k xs low h g =
 -- The segment of a text behind other octets
 module _ (size i : ℕ) (old front piece : List ℕ) (fits : i * size ≤ length front)
     (is : piece ≡ take (length old + size) (old ++ drop (i * size) front)) where
-  whole : old ++ segment size (sealed front) i
+  whole : old ++ segment size (with_chkpdu front) i
       ≡ take (length old + size) ((old ++ drop (i * size) front) ++ xor_of front ∷ replicate size 0)
   unfolding segment
   whole = rw (drop-append-le (i * size) front (xor_of front ∷ []) fits)
       (sym (take-append-add old _ size) ∙ simp append_assoc)
 
   -- it is full, or the CHKPDU and zeros follow
-  pub behind-full : length old + size ≤ length piece → piece ≡ old ++ segment size (sealed front) i
+  pub behind-full : length old + size ≤ length piece
+      → piece ≡ old ++ segment size (with_chkpdu front) i
   behind-full full = rw whole (grind (arith, common_steps))
 
   pub behind-last : (most : ℕ) → size ≤ most → length piece < length old + size
       → take (length old + size) ((piece ++ xor_of front ∷ []) ++ replicate most 0)
-      ≡ old ++ segment size (sealed front) i
+      ≡ old ++ segment size (with_chkpdu front) i
   behind-last most enough short =
       let rest : List ℕ = old ++ drop (i * size) front in
       let all : piece ≡ rest = grind (arith, common_steps) in

@@ -11,7 +11,7 @@ use Rattle.iol_isdu.specs.Laws.{OneShortText, RequestHoldsLength, AnswerHoldsLen
 use Rattle.iol_isdu.specs.Requests.{shortest, place_of}
 use Rattle.iol_segment.specs.Cut.{segment}
 use Rattle.iol_segment.specs.Join.{Open, Complete, stage}
-use Rattle.iol_segment.specs.TextLaws.{HoldsLength, joined, IsBefore, IsLast, TextLaws}
+use Rattle.iol_segment.specs.TextLaws.{HoldsLength, segments_up_to, IsBefore, IsLast, TextLaws}
 use Rattle.iol_segment.proofs.CutLaws.{segments-low, segments-past}
 use Rattle.iol_segment.proofs.Growing.{total-bounds}
 
@@ -36,14 +36,14 @@ segment-full size text i h = grind (arith, nat_tests, common_steps)
 
 -- the segments before the i-th are the octets before it
 pub joined-front : (size : ℕ) (text : List ℕ) (i : ℕ) → suc i * size ≤ length text
-    → joined size text i ≡ take (suc i * size) text
+    → segments_up_to size text i ≡ take (suc i * size) text
 joined-front size text zero h = grind (arith, common_steps, segment-full size text 0 h)
 joined-front size text (suc i) h =
     rw (joined-front size text i (omega arith), segment-full size text (suc i) h)
     (sym (take-add (suc i * size) size text) ∙ ap (λ n. take n text) (omega arith))
 
 pub joined-is : (size : ℕ) (text : List ℕ) (i : ℕ) → i * size ≤ length text
-    → joined size text i ≡ take (i * size) text ++ segment size text i
+    → segments_up_to size text i ≡ take (i * size) text ++ segment size text i
 joined-is size text zero h = grind (arith, common_steps)
 joined-is size text (suc i) h = rw (joined-front size text i h) refl
 
@@ -58,7 +58,7 @@ segment-last size text i high =
     ap (λ n. take n (rest ++ replicate size 0)) room ∙ take-append-add rest _ _
 
 pub joined-whole : (size : ℕ) (text : List ℕ) (i : ℕ) → i * size ≤ length text
-    → length text ≤ suc i * size → (more : List ℕ) × (joined size text i ≡ text ++ more)
+    → length text ≤ suc i * size → (more : List ℕ) × (segments_up_to size text i ≡ text ++ more)
 joined-whole size text i low high =
     let front : List ℕ = take (i * size) text in
     let rest : List ℕ = drop (i * size) text in
@@ -70,12 +70,12 @@ joined-whole size text i low high =
     )
 
 pub grows : (size : ℕ) (text : List ℕ) (i : ℕ) → HoldsLength text → IsBefore size text i
-    → stage (joined size text i) ≡ Open
+    → stage (segments_up_to size text i) ≡ Open
 grows size text i e before = rw (joined-front size text i (omega arith))
     (front-open text (length text) (suc i * size) e before (omega arith))
 
 pub ends : (size : ℕ) (text : List ℕ) (i : ℕ) → HoldsLength text → IsLast size text i
-    → stage (joined size text i) ≡ Complete text
+    → stage (segments_up_to size text i) ≡ Complete text
 ends size text i e last =
     let whole = joined-whole size text i (omega (arith, last.0)) last.1 in
     ap stage whole.1 ∙ whole-complete text whole.0 e

@@ -32,8 +32,8 @@ pairs_from size text i zero = []
 pairs_from size text i (suc n) = pair size text i ∷ pairs_from size text (suc i) n
 
 -- the cut of a text: its segments in order, each with its flow
-abbrev pub cut : ℕ → List ℕ → List (Flow × ArrayVec ℕ)
-cut size text = pairs_from size text 0 (segments size text)
+abbrev pub cut_of : ℕ → List ℕ → List (Flow × ArrayVec ℕ)
+cut_of size text = pairs_from size text 0 (segments size text)
 
 -- segment i with its flow, none where the text has ended
 abbrev pub pair_at : ℕ → List ℕ → ℕ → Option (Flow × ArrayVec ℕ)
@@ -41,7 +41,7 @@ pair_at size text i = if nat_lt (i * size) (length text) then Some (pair size te
 
 -- pair after pair, and then none: that is the cut
 abbrev pub CutIsPairs : ℕ → Type 0
-CutIsPairs size = (text : List ℕ) (i : ℕ) → slice_get (cut size text) i ≡ pair_at size text i
+CutIsPairs size = (text : List ℕ) (i : ℕ) → slice_get (cut_of size text) i ≡ pair_at size text i
 
 -- each segment has the size
 abbrev pub SegmentsHaveSize : Type 0

@@ -55,24 +55,24 @@ abbrev pub empty : Joining
 empty = record { started = false; count = None; text = [] }
 
 -- the answer to a segment, and the joiner after it
-pub record Taken : Type 0 where
+pub record JoinStep : Type 0 where
   pub took : Result Took JoinFault
   pub joining : Joining
 
 -- a segment was taken under START, or under a COUNT, and the octets are these
 -- SEG-5
-abbrev pub staged : Option ℕ → List ℕ → Stage → Taken
-staged count octets Open =
+abbrev pub stage_step : Option ℕ → List ℕ → Stage → JoinStep
+stage_step count octets Open =
     record {
       took = Ok More;
       joining = record { started = true; count = count; text = octets };
     }
-staged count octets (Complete text) =
+stage_step count octets (Complete text) =
     record {
       took = Ok Whole;
       joining = record { started = true; count = count; text = text };
     }
-staged count octets Wrong = record { took = Err BadIsduLength; joining = empty }
+stage_step count octets Wrong = record { took = Err BadIsduLength; joining = empty }
 
 -- 1 behind START, 0 behind 15
 abbrev pub next_count : Option ℕ → ℕ
@@ -87,17 +87,17 @@ is_last (Some d) c = d == c
 
 -- a COUNT once START was taken: the same again, the next, or a wrong one
 -- SEG-3, SEG-4
-abbrev pub counted : Joining → ℕ → List ℕ → Taken
-counted j c octets =
+abbrev pub count_step : Joining → ℕ → List ℕ → JoinStep
+count_step j c octets =
     if is_last j.count c then record { took = Ok Repeat; joining = j } else
     if (c == next_count j.count) && not (is_whole j.text)
-    then staged (Some c) (j.text ++ octets) (stage (j.text ++ octets)) else
+    then stage_step (Some c) (j.text ++ octets) (stage (j.text ++ octets)) else
     record { took = Err WrongCount; joining = empty }
 
 -- a segment under its flow
 -- SEG-3
-abbrev pub taken : Joining → Flow → List ℕ → Taken
-taken j Start octets = staged None octets (stage octets)
-taken j (Count c) octets = if j.started then counted j c octets
+abbrev pub join_step : Joining → Flow → List ℕ → JoinStep
+join_step j Start octets = stage_step None octets (stage octets)
+join_step j (Count c) octets = if j.started then count_step j c octets
     else record { took = Err WrongCount; joining = empty }
-taken j any octets = record { took = Err WrongCount; joining = empty }
+join_step j any octets = record { took = Err WrongCount; joining = empty }

@@ -6,25 +6,26 @@ use Rattle.iol_octets.specs.declared.flow_control.Flow.{Flow}
 use Rattle.iol_segment.specs.declared.took.Took.{Took}
 use Rattle.iol_segment.specs.declared.took.Took.TheVariants.{Repeat, More, Whole}
 use Rattle.iol_segment.specs.declared.took.JoinFault.{JoinFault}
-use Rattle.iol_segment.specs.Cut.{segment, flow_at, cut}
-use Rattle.iol_segment.specs.Join.{Joining, taken, is_whole}
+use Rattle.iol_segment.specs.Cut.{segment, flow_at, cut_of}
+use Rattle.iol_segment.specs.Join.{Joining, join_step, is_whole}
 use Rattle.iol_segment.specs.TextLaws.{HoldsLength}
 
 -- the answers of a joiner to pairs of a flow and a segment
 abbrev pub results : Joining → List (Flow × ArrayVec ℕ) → List (Result Took JoinFault)
 results j [] = []
-results j (p ∷ ps) = (taken j p.0 p.1.items).took ∷ results (taken j p.0 p.1.items).joining ps
+results j (p ∷ ps) = (join_step j p.0 p.1.items).took ∷ results
+    (join_step j p.0 p.1.items).joining ps
 
 -- and the joiner after them
-abbrev pub fed : Joining → List (Flow × ArrayVec ℕ) → Joining
-fed j [] = j
-fed j (p ∷ ps) = fed (taken j p.0 p.1.items).joining ps
+abbrev pub joiner_after : Joining → List (Flow × ArrayVec ℕ) → Joining
+joiner_after j [] = j
+joiner_after j (p ∷ ps) = joiner_after (join_step j p.0 p.1.items).joining ps
 
 -- each pair once and so many times more
-abbrev pub repeated : List (Flow × ArrayVec ℕ) → List ℕ → List (Flow × ArrayVec ℕ)
-repeated (p ∷ ps) (n ∷ ns) = p ∷ replicate n p ++ repeated ps ns
-repeated [] ns = []
-repeated (p ∷ ps) [] = []
+abbrev pub with_repeats : List (Flow × ArrayVec ℕ) → List ℕ → List (Flow × ArrayVec ℕ)
+with_repeats (p ∷ ps) (n ∷ ns) = p ∷ replicate n p ++ with_repeats ps ns
+with_repeats [] ns = []
+with_repeats (p ∷ ps) [] = []
 
 -- the answer to the first giving of a pair, so many pairs behind it
 abbrev pub first_took : List ℕ → Took
@@ -37,9 +38,10 @@ answers_behind [] = []
 answers_behind (n ∷ ns) = Ok (first_took ns) ∷ replicate n (Ok Repeat) ++ answers_behind ns
 
 -- the answers to all pairs: START is taken each time that it is given
-abbrev pub expected : List ℕ → List (Result Took JoinFault)
-expected [] = []
-expected (n ∷ ns) = Ok (first_took ns) ∷ replicate n (Ok (first_took ns)) ++ answers_behind ns
+abbrev pub expected_results : List ℕ → List (Result Took JoinFault)
+expected_results [] = []
+expected_results (n ∷ ns) = Ok (first_took ns) ∷ replicate n (Ok (first_took ns))
+    ++ answers_behind ns
 
 -- the COUNT of segment i, none for START
 abbrev pub count_at : ℕ → Option ℕ
@@ -47,8 +49,8 @@ count_at zero = None
 count_at (suc i) = Some (segment_number (suc i))
 
 -- the joiner that has the segments up to the i-th
-abbrev pub standing : ℕ → List ℕ → ℕ → Joining
-standing size text i =
+abbrev pub joiner_at : ℕ → List ℕ → ℕ → Joining
+joiner_at size text i =
     record {
       started = true;
       count = count_at i;
@@ -64,27 +66,28 @@ took_at size text i = if nat_le (length text) (suc i * size) then Whole else Mor
 pub record JoinLaws (size : ℕ) : Type 0 where
   -- the whole cut, each pair one or more times running, given to any joiner
   pub answers : (j : Joining) (text more : List ℕ) → HoldsLength text
-      → length more ≡ length (cut size text)
-      → results j (repeated (cut size text) more) ≡ expected more
+      → length more ≡ length (cut_of size text)
+      → results j (with_repeats (cut_of size text) more) ≡ expected_results more
   -- and the joiner after it has the text
   pub joins : (j : Joining) (text more : List ℕ) → HoldsLength text
-      → length more ≡ length (cut size text) → (fed j (repeated (cut size text) more)).text ≡ text
+      → length more ≡ length (cut_of size text)
+      → (joiner_after j (with_repeats (cut_of size text) more)).text ≡ text
   -- such a text is whole, so the joiner may be asked for its value
   pub ready : (text : List ℕ) → HoldsLength text → IsTrue (is_whole text)
   -- one step each: START to any joiner, the next COUNT, the same again
   pub first : (j : Joining) (text : List ℕ) → HoldsLength text
-      → taken j (flow_at 0) (segment size text 0)
-      ≡ record { took = Ok (took_at size text 0); joining = standing size text 0 }
+      → join_step j (flow_at 0) (segment size text 0)
+      ≡ record { took = Ok (took_at size text 0); joining = joiner_at size text 0 }
   pub next : (text : List ℕ) (i : ℕ) → HoldsLength text
       → suc i * size < length text →
-      taken (standing size text i) (flow_at (suc i)) (segment size text (suc i))
+      join_step (joiner_at size text i) (flow_at (suc i)) (segment size text (suc i))
       ≡ record {
         took = Ok (took_at size text (suc i));
-        joining = standing size text (suc i);
+        joining = joiner_at size text (suc i);
       }
   pub again : (text : List ℕ) (i : ℕ) (octets : List ℕ) →
-      taken (standing size text (suc i)) (flow_at (suc i)) octets
-      ≡ record { took = Ok Repeat; joining = standing size text (suc i) }
+      join_step (joiner_at size text (suc i)) (flow_at (suc i)) octets
+      ≡ record { took = Ok Repeat; joining = joiner_at size text (suc i) }
   -- with the last segment the joiner has the text
   pub whole : (text : List ℕ) (i : ℕ) → length text ≤ suc i * size
-      → (standing size text i).text ≡ text
+      → (joiner_at size text i).text ≡ text

@@ -14,9 +14,9 @@ abbrev pub HoldsLength : List ℕ → Type 0
 HoldsLength text = total_at text ≡ Ok (length text)
 
 -- the segments up to the i-th, one after the other
-abbrev pub joined : ℕ → List ℕ → ℕ → List ℕ
-joined size text zero = segment size text 0
-joined size text (suc i) = joined size text i ++ segment size text (suc i)
+abbrev pub segments_up_to : ℕ → List ℕ → ℕ → List ℕ
+segments_up_to size text zero = segment size text 0
+segments_up_to size text (suc i) = segments_up_to size text i ++ segment size text (suc i)
 
 -- another segment follows the i-th
 abbrev pub IsBefore : ℕ → List ℕ → ℕ → Type 0
@@ -34,15 +34,15 @@ pub record TextLaws (size : ℕ) : Type 0 where
   pub past : (text : List ℕ) (i : ℕ) → segments size text ≤ i → length text ≤ i * size
   -- a text that holds its own length isn't whole before its last segment, and is whole with it
   pub grows : (text : List ℕ) (i : ℕ) → HoldsLength text → IsBefore size text i
-      → stage (joined size text i) ≡ Open
+      → stage (segments_up_to size text i) ≡ Open
   pub ends : (text : List ℕ) (i : ℕ) → HoldsLength text → IsLast size text i
-      → stage (joined size text i) ≡ Complete text
+      → stage (segments_up_to size text i) ≡ Complete text
   -- so a request's, which is then found to be its
   pub requests : (r : Request) → IsRequest r → HoldsLength (request_text r)
   pub request_grows : (r : Request) (i : ℕ) → IsRequest r → IsBefore size (request_text r) i
-      → stage (joined size (request_text r) i) ≡ Open
+      → stage (segments_up_to size (request_text r) i) ≡ Open
   pub request_ends : (r : Request) (i : ℕ) → IsRequest r → IsLast size (request_text r) i
-      → stage (joined size (request_text r) i) ≡ Complete (request_text r)
+      → stage (segments_up_to size (request_text r) i) ≡ Complete (request_text r)
   pub finds : (r : Request) (more : List ℕ) → IsRequest r
       → request_of (request_text r ++ more) ≡ Some r
   -- and an answer's, to a read or to a write

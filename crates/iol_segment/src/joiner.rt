@@ -7,7 +7,7 @@ ghost use Rattle.iol_isdu.specs.Frame.{isdu_fault};
 ghost use Rattle.iol_isdu.specs.Requests.{BeginsWithRequest, request_accepts};
 ghost use Rattle.iol_isdu.specs.Answers.{BeginsWithAnswer, answer_fault, is_read};
 ghost use Rattle.iol_isdu.specs.Parse.{request_of};
-ghost use Rattle.iol_segment.specs.Join.{Joining, Grown, empty, taken, counted, staged, stage, is_whole, next_count};
+ghost use Rattle.iol_segment.specs.Join.{Joining, Grown, empty, join_step, count_step, stage_step, stage, is_whole, next_count};
 ghost use Rattle.iol_segment.specs.declared.took.Took.TheVariants.{More, Whole};
 ghost use Rattle.iol_segment.specs.declared.took.JoinFault.TheVariants.{WrongCount};
 
@@ -72,8 +72,8 @@ impl Joiner {
     ///
     /// Rule SEG-3.
     pub fn take(&mut self, flow: Flow, octets: &[u8]) -> Result<Took, JoinFault>
-        ensures took { result ≡ (taken self.old flow octets.now).took }
-        ensures joining { self.new ≡ (taken self.old flow octets.now).joining }
+        ensures took { result ≡ (join_step self.old flow octets.now).took }
+        ensures joining { self.new ≡ (join_step self.old flow octets.now).joining }
         ensures whole { result ≡ Ok Whole → IsTrue (is_whole self.new.text) }
         ensures more { result ≡ Ok More → is_whole self.new.text ≡ false }
     {
@@ -194,8 +194,8 @@ impl Joiner {
     ///
     /// Rules SEG-3, SEG-4.
     fn take_count(&mut self, count: u8, octets: &[u8]) -> Result<Took, JoinFault>
-        ensures took { result ≡ (counted self.old count octets.now).took }
-        ensures joining { self.new ≡ (counted self.old count octets.now).joining }
+        ensures took { result ≡ (count_step self.old count octets.now).took }
+        ensures joining { self.new ≡ (count_step self.old count octets.now).joining }
         ensures whole { result ≡ Ok Whole → IsTrue (is_whole self.new.text) }
         ensures more { result ≡ Ok More → is_whole self.new.text ≡ false }
     {
@@ -224,10 +224,10 @@ impl Joiner {
     /// Rule SEG-5.
     fn add(&mut self, count: Option<u8>, octets: &[u8]) -> Result<Took, JoinFault>
         ensures took { result
-            ≡ (staged count (self.old.text ++ octets.now)
+            ≡ (stage_step count (self.old.text ++ octets.now)
             (stage (self.old.text ++ octets.now))).took }
         ensures joining { self.new
-            ≡ (staged count (self.old.text ++ octets.now)
+            ≡ (stage_step count (self.old.text ++ octets.now)
             (stage (self.old.text ++ octets.now))).joining }
         ensures whole { result ≡ Ok Whole → IsTrue (is_whole self.new.text) }
         ensures more { result ≡ Ok More → is_whole self.new.text ≡ false }

@@ -53,11 +53,11 @@ pub struct Reaction {
 /// A request's text is the one that `iol_isdu::encode_request` writes.
 impl Source for Request {
     ghost use Rattle.iol_isdu.specs.Texts.{request_front};
-    ghost use Rattle.iol_isdu.specs.Requests.{written};
+    ghost use Rattle.iol_isdu.specs.Requests.{written_octets};
 
     ghost octets = { request_front };
 
-    ghost body = { written };
+    ghost body = { written_octets };
 
     fn front(&self) -> Front<'_> {
         request_front(self)

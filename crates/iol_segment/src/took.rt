@@ -26,11 +26,11 @@ pub enum JoinFault {
 }
 
 impl JoinFault {
-    ghost use Rattle.iol_segment.specs.Fault.{fault_number};
+    ghost use Rattle.iol_segment.specs.Fault.{join_fault_number};
 
     /// The number of the refusal, 11 or 15 (profile).
     pub fn code(&self) -> u8
-        ensures { result ≡ fault_number self.now }
+        ensures { result ≡ join_fault_number self.now }
     {
         match self {
             JoinFault::BadIsduLength => 11,

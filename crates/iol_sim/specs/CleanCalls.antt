@@ -13,8 +13,8 @@ use Rattle.iol_device.specs.App.{Gives, IsCarriedOut}
 use Rattle.iol_link.specs.Honest.{CleanExchange}
 use Rattle.iol_link.specs.declared.wire.Rate.{Rate}
 use Rattle.iol_sim.specs.declared.script.Step.{Step}
-use Rattle.iol_sim.specs.Script.{Devices, IsWorked}
-use Rattle.iol_sim.specs.Sim.{Simulated, is_ended, is_clean, IsWake, IsExchange}
+use Rattle.iol_sim.specs.Script.{DevicePair, ApplicationWorks}
+use Rattle.iol_sim.specs.Sim.{SimulatedWire, is_ended, is_clean, SimWakes, SimExchanges}
 
 never : {A : Type 0} → false ≡ true → A
 never e = absurd (cc)
@@ -38,7 +38,7 @@ module _ {P : Type 0} (gives : Gives P) where
       by_room false h = h.0
 
   -- what holds of each clean wire holds of every wire that is clean
-  by_clean : (Q : Simulated P → Type 0)
+  by_clean : (Q : SimulatedWire P → Type 0)
       → ((device : Running P) (away : Option (Running P)) (silence : ℕ) → Q (record {
         device = device;
         away = away;
@@ -46,7 +46,7 @@ module _ {P : Type 0} (gives : Gives P) where
         auto = true;
         silent = false;
         silence = silence;
-      })) → (old : Simulated P) → IsTrue (is_clean old) → Q old
+      })) → (old : SimulatedWire P) → IsTrue (is_clean old) → Q old
   by_clean Q holds old clean = by old.steps old.auto old.silent clean
     where
       by : (steps : List Step) (auto silent : Bool)
@@ -55,28 +55,29 @@ module _ {P : Type 0} (gives : Gives P) where
       by [] true false e = holds old.device old.away old.silence
       by steps auto silent e = never e
 
-  pub exchanges_cleanly : (old : Simulated P) (sent : List ℕ) (answer : Option (ArrayVec ℕ))
-      (new : Simulated P) → IsTrue (is_clean old) → IsExchange gives old sent answer new
+  pub exchanges_cleanly : (old : SimulatedWire P) (sent : List ℕ) (answer : Option (ArrayVec ℕ))
+      (new : SimulatedWire P) → IsTrue (is_clean old) → SimExchanges gives old sent answer new
       → CleanExchange old.device.far sent (octets_in answer) new.device.far × IsTrue (is_clean new)
   exchanges_cleanly old sent answer new clean =
-      by_clean (λ (s : Simulated P). IsExchange gives s sent answer new
+      by_clean (λ (s : SimulatedWire P). SimExchanges gives s sent answer new
       → CleanExchange s.device.far sent (octets_in answer) new.device.far
       × IsTrue (is_clean new)) (λ device away silence x.
-      let worked : IsWorked gives (record { device = device; away = away }) x.ready =
-      subst (λ (d : Devices P). IsWorked gives d x.ready) x.ready_is.steps x.ready_is.work in (
+      let worked : ApplicationWorks gives (record { device = device; away = away }) x.ready =
+      subst (λ (d : DevicePair P). ApplicationWorks gives d x.ready) x.ready_is.steps
+      x.ready_is.work in (
         record {
           ready = x.ready.device.far;
           work =
               worked_off _ device.far x.ready.device.far device.app x.ready.device.app
               worked.carried;
-          far_is = ap (λ (s : Simulated P). s.device.far) x.new_is;
+          far_is = ap (λ (s : SimulatedWire P). s.device.far) x.new_is;
           answer_is = x.answer_is;
         },
-        ap (λ (s : Simulated P). is_clean s) x.new_is,
+        ap (λ (s : SimulatedWire P). is_clean s) x.new_is,
       )) old clean
 
-  pub wakes_cleanly : (old : Simulated P) (answer : Option Rate) (new : Simulated P)
-      → IsTrue (is_clean old) → IsWake gives old answer new → IsTrue (is_clean new)
+  pub wakes_cleanly : (old : SimulatedWire P) (answer : Option Rate) (new : SimulatedWire P)
+      → IsTrue (is_clean old) → SimWakes gives old answer new → IsTrue (is_clean new)
   wakes_cleanly old answer new clean =
-      by_clean (λ (s : Simulated P). IsWake gives s answer new → IsTrue (is_clean new))
-      (λ device away silence x. ap (λ (s : Simulated P). is_clean s) x.new_is) old clean
+      by_clean (λ (s : SimulatedWire P). SimWakes gives s answer new → IsTrue (is_clean new))
+      (λ device away silence x. ap (λ (s : SimulatedWire P). is_clean s) x.new_is) old clean

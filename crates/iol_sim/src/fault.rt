@@ -15,11 +15,11 @@ pub enum SimFault {
 }
 
 impl SimFault {
-    ghost use Rattle.iol_sim.specs.Faults.{fault_number};
+    ghost use Rattle.iol_sim.specs.Faults.{sim_fault_number};
 
     /// The number of the refusal.
     pub fn code(&self) -> u8
-        ensures { result ≡ fault_number self.now }
+        ensures { result ≡ sim_fault_number self.now }
     {
         match self {
             SimFault::OutOfMemory => 24,

@@ -17,7 +17,7 @@ mod script;
 mod sim;
 
 pub use fault::SimFault;
-pub use params::{Entry, Params};
+pub use params::{ParameterEntry, Params};
 pub use raw::Raw;
 pub use script::{Fate, Step};
 pub use sim::Sim;

@@ -2,8 +2,8 @@
 ghost use Rattle.std.specs.Prelude.{◌≡◌, ℕ, [], true, None, Option, false, List, Some, IfOk, IfErr, IfSome, MatchBool, length, min, ◌+◌, ◌≤◌, if◌then◌else◌, ◌∷◌, option_copied, option_map};
 ghost use Rattle.std.specs.Vec.Iter.{into_iter_items};
 ghost use Rattle.iol_octets.specs.Checksum.{AreOctets};
-ghost use Rattle.iol_far.specs.Octets.{octets_in, buffered};
-ghost use Rattle.iol_sim.specs.Sim.{damaged};
+ghost use Rattle.iol_far.specs.Octets.{octets_in, octets_in_buffer};
+ghost use Rattle.iol_sim.specs.Sim.{damaged_octets};
 
 use crate::fault::SimFault;
 use crate::params::Params;
@@ -34,7 +34,7 @@ const TEST_READ: [u8; 2] = [0xA2, 0x00];
 /// goes as the fate says. An ended script is clean.
 #[derive(Drop)]
 pub struct Sim<P: App, A: Allocator + Copy = Global> {
-    line: Line,
+    line: LineStanding,
     // Apart, since a device is large and a wire is moved with the link that owns it.
     device: Box<Device<P, Kept<A>>, A>,
     /// The device that isn't plugged in, where there is a second one.
@@ -45,7 +45,7 @@ pub struct Sim<P: App, A: Allocator + Copy = Global> {
 
 /// How the line stands.
 #[derive(Clone, Copy)]
-struct Line {
+struct LineStanding {
     auto: bool,
     silent: bool,
     /// The exchanges in a row that brought no unaltered reply, counted up to 3.
@@ -55,10 +55,10 @@ struct Line {
 impl<P: App, A: Allocator + Copy> Model for Sim<P, A> {
     ghost use Rattle.std.specs.Prelude.{◌≤◌, option_map};
     ghost use Rattle.std.specs.Vec.Iter.{into_iter_items};
-    ghost use Rattle.iol_sim.specs.Sim.{Simulated};
+    ghost use Rattle.iol_sim.specs.Sim.{SimulatedWire};
     ghost use Rattle.iol_link.specs.Attempts.{most_attempts};
 
-    ghost Value = { Simulated P };
+    ghost Value = { SimulatedWire P };
 
     ghost view = { λ sim. record {
       device = sim.device.value;
@@ -75,14 +75,14 @@ impl<P: App, A: Allocator + Copy> Model for Sim<P, A> {
 impl<P: App, A: Allocator + Copy> Sim<P, A> {
     ghost use Rattle.iol_far.specs.Far.{Far, hear};
     ghost use Rattle.iol_device.specs.App.{Follows};
-    ghost use Rattle.iol_device.specs.Hearing.{heard};
+    ghost use Rattle.iol_device.specs.Hearing.{device_after_hearing};
     ghost use Rattle.iol_device.specs.Pulses.{is_orderly};
     ghost use Rattle.iol_link.specs.Honest.{test_read};
     ghost use Rattle.iol_link.specs.declared.wire.Rate.{Rate};
     ghost use Rattle.iol_sim.specs.declared.fault.SimFault.{SimFault};
     ghost use Rattle.iol_sim.specs.declared.script.Fate.{Fate};
-    ghost use Rattle.iol_sim.specs.Script.{fate_of, rest_of, auto_of, swapped, IsDone, AreDone};
-    ghost use Rattle.iol_sim.specs.Sim.{devices_of, fate_now, prepared, IsReady, misses_pulse, woken_by, rate_by, reached_by, rate_found, heard_by, reply_by, silence_by};
+    ghost use Rattle.iol_sim.specs.Script.{fate_of, rest_of, auto_of, devices_after_swap, IsDone, AreDone};
+    ghost use Rattle.iol_sim.specs.Sim.{sim_devices, fate_now, wire_before_call, IsReady, misses_pulse, device_after_wake, rate_by, reached_by, rate_found, device_after_exchange, reply_by, silence_by_fate};
 
     /// A wire to this device, with this script, which isn't copied.
     ///
@@ -107,7 +107,7 @@ impl<P: App, A: Allocator + Copy> Sim<P, A> {
     {
         match Box::new(alloc, device) {
             Ok(device) => Ok(Sim {
-                line: Line {
+                line: LineStanding {
                     auto: true,
                     silent: false,
                     silence: 0,
@@ -212,7 +212,7 @@ impl<P: App, A: Allocator + Copy> Sim<P, A> {
 
     /// The device is pulled, and the other one plugged in, with a power cycle.
     fn swap(&mut self)
-        ensures devices { devices_of self.new ≡ swapped (devices_of self.old) }
+        ensures devices { sim_devices self.new ≡ devices_after_swap (sim_devices self.old) }
         ensures rest { self.new
             ≡ record self.old {
               device = self.new.device;
@@ -227,8 +227,8 @@ impl<P: App, A: Allocator + Copy> Sim<P, A> {
 
     /// Does one step that is no fate.
     fn act(&mut self, step: &Step)
-        ensures devices { IsDone P.carry_out_gives step.now (devices_of self.old)
-            (devices_of self.new) }
+        ensures devices { IsDone P.carry_out_gives step.now (sim_devices self.old)
+            (sim_devices self.new) }
         ensures rest { self.new
             ≡ record self.old {
               device = self.new.device;
@@ -258,8 +258,8 @@ impl<P: App, A: Allocator + Copy> Sim<P, A> {
     /// Does the steps up to and with the next fate, which is answered.
     fn next_fate(&mut self) -> Fate
         ensures fate { result ≡ fate_of self.old.steps }
-        ensures devices { AreDone P.carry_out_gives self.old.steps (devices_of self.old)
-            (devices_of self.new) }
+        ensures devices { AreDone P.carry_out_gives self.old.steps (sim_devices self.old)
+            (sim_devices self.new) }
         ensures rest { self.new
             ≡ record self.old {
               device = self.new.device;
@@ -281,10 +281,10 @@ impl<P: App, A: Allocator + Copy> Sim<P, A> {
     /// Uses the steps before a call, whose fate is answered; none where it is silent.
     fn begin(&mut self) -> Fate
         ensures fate { result ≡ fate_now self.old }
-        ensures devices { MatchBool self.old.silent (devices_of self.new
-            ≡ devices_of self.old) (AreDone P.carry_out_gives self.old.steps (devices_of self.old)
-            (devices_of self.new)) }
-        ensures rest { self.new ≡ prepared self.old (devices_of self.new) }
+        ensures devices { MatchBool self.old.silent (sim_devices self.new
+            ≡ sim_devices self.old) (AreDone P.carry_out_gives self.old.steps (sim_devices self.old)
+            (sim_devices self.new)) }
+        ensures rest { self.new ≡ wire_before_call self.old (sim_devices self.new) }
     {
         if self.line.silent {
             return Fate::Silent;
@@ -297,8 +297,8 @@ impl<P: App, A: Allocator + Copy> Sim<P, A> {
     /// Does all that comes before a call, whose fate is answered.
     fn prepare(&mut self) -> Fate
         ensures fate { result ≡ fate_now self.old }
-        ensures devices { IsReady P.carry_out_gives self.old (devices_of self.new) }
-        ensures rest { self.new ≡ prepared self.old (devices_of self.new) }
+        ensures devices { IsReady P.carry_out_gives self.old (sim_devices self.new) }
+        ensures rest { self.new ≡ wire_before_call self.old (sim_devices self.new) }
     {
         let fate = self.begin();
         if self.line.auto {
@@ -310,7 +310,8 @@ impl<P: App, A: Allocator + Copy> Sim<P, A> {
     /// The wake-up request is made, and the rate that the master finds is answered.
     fn reach(&mut self, fate: Fate) -> Option<Rate>
         ensures rate { result ≡ rate_by fate }
-        ensures device { self.new ≡ record self.old { device = woken_by fate self.old.device } }
+        ensures device { self.new
+            ≡ record self.old { device = device_after_wake fate self.old.device } }
     {
         match fate {
             Fate::Clean => {
@@ -346,7 +347,8 @@ impl<P: App, A: Allocator + Copy> Sim<P, A> {
     fn miss_pulse(&mut self) -> Option<Rate>
         ensures rate { result
             ≡ option_map (λ reply. Rate.Com2) (hear self.old.device.far test_read).reply }
-        ensures device { self.new ≡ record self.old { device = heard self.old.device test_read } }
+        ensures device { self.new
+            ≡ record self.old { device = device_after_hearing self.old.device test_read } }
     {
         let mut reply = Message::new();
         self.device
@@ -370,10 +372,10 @@ impl<P: App, A: Allocator + Copy> Sim<P, A> {
 
     /// The octets are sent. Answers whether a reply comes back; it is put into the buffer.
     fn pass(&mut self, fate: Fate, sent: &[u8], reply: &mut Message) -> bool
-        ensures answer { buffered result reply.new
+        ensures answer { octets_in_buffer result reply.new
             ≡ reply_by fate self.old.device.far sent.now }
         ensures device { self.new
-            ≡ record self.old { device = heard_by fate self.old.device sent.now } }
+            ≡ record self.old { device = device_after_exchange fate self.old.device sent.now } }
         ensures octets { fate ≡ Fate.BackDamaged
             → IfSome (hear self.old.device.far sent.now).reply AreOctets }
     {
@@ -396,10 +398,11 @@ impl<P: App, A: Allocator + Copy> Sim<P, A> {
     /// The octets are sent, and come damaged.
     fn pass_damaged(&mut self, sent: &[u8], reply: &mut Message) -> bool
         requires { length sent.now ≤ LONGEST }
-        ensures answer { buffered result reply.new
-            ≡ (hear self.old.device.far (damaged sent.now)).reply }
+        ensures answer { octets_in_buffer result reply.new
+            ≡ (hear self.old.device.far (damaged_octets sent.now)).reply }
         ensures device { self.new
-            ≡ record self.old { device = heard self.old.device (damaged sent.now) } }
+            ≡ record self.old
+            { device = device_after_hearing self.old.device (damaged_octets sent.now) } }
     {
         let mut message = Message::try_from(sent).unwrap();
         damage(&mut message);
@@ -409,7 +412,7 @@ impl<P: App, A: Allocator + Copy> Sim<P, A> {
     /// Counts an exchange that ended so.
     fn count(&mut self, fate: Fate, answered: bool)
         ensures { (reply : List ℕ) → self.new ≡ record self.old {
-          silence = silence_by fate self.old.silence (if answered then Some reply else None);
+          silence = silence_by_fate fate self.old.silence (if answered then Some reply else None);
         } }
     {
         self.line.silence = match (fate, answered) {
@@ -452,7 +455,7 @@ fn keep_if(answered: bool, answer: &mut Option<Message>)
 
 /// Flips bit 0 of the last octet of a message.
 fn damage(message: &mut Message)
-    ensures value { message.new.items ≡ damaged message.old.items }
+    ensures value { message.new.items ≡ damaged_octets message.old.items }
     ensures octets { AreOctets message.old.items }
 {
     are_octets(message);

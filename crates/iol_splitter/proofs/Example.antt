@@ -1,6 +1,6 @@
 -- The example is written by the rules: `some_are_written`, for the law `what_is_written_is_split`.
 use Rattle.std.proofs.Common.{◌≡◌, ℕ, ◌<◌, List, [], ◌∷◌, ◌++◌, length, arith, refl, ap, subst, length-append}
-use Rattle.iol_octets.specs.Checksum.{checksum_of, compressed, has_checksum}
+use Rattle.iol_octets.specs.Checksum.{checksum_of, six_bits_of, has_checksum}
 use Rattle.iol_octets.specs.Control.{control_of}
 use Rattle.iol_mseq.specs.Shape.{startup_shape}
 use Rattle.iol_splitter.specs.declared.message.Meaning.TheVariants.{Part}
@@ -25,7 +25,7 @@ parts_of_three state a b c part begun rest is some more =
     absurd (omega (arith, ap length is, length-append begun rest))
 
 pub some_are_written : SomeAreWritten
-unfolding control_of has_checksum checksum_of compressed
+unfolding control_of has_checksum checksum_of six_bits_of
 some_are_written = (
   omega arith,
   omega arith,

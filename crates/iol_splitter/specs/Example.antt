@@ -3,9 +3,9 @@
 use Rattle.std.specs.Prelude.{ℕ, List, [], ◌∷◌}
 use Rattle.iol_link.specs.declared.wire.Rate.TheVariants.{Com3}
 use Rattle.iol_splitter.specs.State.{new_splitter}
-use Rattle.iol_splitter.specs.Written.{AreWritten, Item, Passes, Timed, Wakes}
+use Rattle.iol_splitter.specs.Written.{AreWritten, Item, Passes, TimedOctet, Wakes}
 
-abbrev pub at : ℕ → ℕ → Timed
+abbrev pub at : ℕ → ℕ → TimedOctet
 at time octet = record { time = time; octet = octet }
 
 abbrev pub some_capture : List Item

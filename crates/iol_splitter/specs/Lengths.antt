@@ -10,8 +10,8 @@ use Rattle.iol_splitter.specs.declared.splitter.Requests.{Requests}
 use Rattle.iol_splitter.specs.declared.splitter.Requests.TheVariants.{Unshown, Shown}
 
 -- bit 7 of the first octet
-abbrev pub is_read : List ℕ → Bool
-is_read octets = nat_le 128 (slice_index octets 0)
+abbrev pub is_read_message : List ℕ → Bool
+is_read_message octets = nat_le 128 (slice_index octets 0)
 
 -- how many octets a message has that begins with these
 abbrev pub message_length : Shape → List ℕ → ℕ
@@ -19,14 +19,14 @@ message_length layout octets = 2 + layout.pd_out + sent_od layout (slice_index o
 
 -- how many the reply to it has
 abbrev pub reply_length : Shape → List ℕ → ℕ
-reply_length layout sent = answered_od layout (is_read sent) + layout.pd_in + 1
+reply_length layout sent = answered_od layout (is_read_message sent) + layout.pd_in + 1
 
 -- a read of page address 0x02 in STARTUP
-abbrev pub test_read : List ℕ
-test_read = 0xA2 ∷ 0 ∷ []
+abbrev pub test_read_octets : List ℕ
+test_read_octets = 0xA2 ∷ 0 ∷ []
 
 abbrev pub is_test_read : List ℕ → Bool
-is_test_read octets = bytes_eq octets test_read
+is_test_read octets = bytes_eq octets test_read_octets
 
 -- What octets are that a message in this layout begins with. A test read stands behind a wake-up
 -- request, and is a message in a layout of M-sequence type 0 alone; there it may be any read

@@ -13,16 +13,16 @@ use Rattle.iol_splitter.specs.declared.gap.Gap.{Gap}
 use Rattle.iol_splitter.specs.declared.gap.Gap.TheVariants as gap
 use Rattle.iol_splitter.specs.declared.message.Meaning.{Meaning}
 use Rattle.iol_splitter.specs.declared.message.Meaning.TheVariants.{Part, Whole, TestRead, ReadOrTest}
-use Rattle.iol_splitter.specs.declared.passed.Passed.{Passed}
-use Rattle.iol_splitter.specs.declared.passed.Passed.TheVariants as passed
+use Rattle.iol_splitter.specs.declared.passed.SplitItem.{SplitItem}
+use Rattle.iol_splitter.specs.declared.passed.SplitItem.TheVariants as passed
 use Rattle.iol_splitter.specs.declared.splitter.Phase.{Phase}
 use Rattle.iol_splitter.specs.declared.splitter.Phase.TheVariants.{Waking, Message, Reply, Rest}
 use Rattle.iol_splitter.specs.declared.splitter.Requests.TheVariants.{Shown}
 use Rattle.iol_splitter.specs.Times.{gap_of}
-use Rattle.iol_splitter.specs.Linking.{begun_in, link_after}
+use Rattle.iol_splitter.specs.Linking.{mode_begun, link_after}
 use Rattle.iol_splitter.specs.Lengths.{meaning_in, reply_length}
 use Rattle.iol_splitter.specs.State.{Splitting}
-use Rattle.iol_splitter.specs.Steps.{Step, step, told}
+use Rattle.iol_splitter.specs.Steps.{SplitStep, split_step, good_step}
 use Rattle.iol_splitter.specs.Waking.{waking_heard}
 
 -- An exchange
@@ -32,60 +32,60 @@ some_octets [] = None
 some_octets (octet ∷ octets) = Some (octet ∷ octets)
 
 -- the message and the reply under way
-abbrev pub exchange_of : Splitting → Passed
+abbrev pub exchange_of : Splitting → SplitItem
 exchange_of state =
     passed.Exchange (record { sent = state.sent; answer = some_octets state.answer })
 
-abbrev pub cleared : Splitting → Splitting
-cleared state = record state { sent = []; answer = [] }
+abbrev pub cleared_line : Splitting → Splitting
+cleared_line state = record state { sent = []; answer = [] }
 
 -- A message
 
 -- one begins
-abbrev pub begun : Splitting → ℕ → Splitting
-begun state octet = record state { phase = Message; sent = octet ∷ []; answer = [] }
+abbrev pub line_in_message : Splitting → ℕ → Splitting
+line_in_message state octet = record state { phase = Message; sent = octet ∷ []; answer = [] }
 
 -- it is whole, in this layout
-abbrev pub awaiting : Splitting → Shape → Splitting
-awaiting state layout = record state { layout = layout; phase = Reply }
+abbrev pub line_awaiting_reply : Splitting → Shape → Splitting
+line_awaiting_reply state layout = record state { layout = layout; phase = Reply }
 
-abbrev pub looked_as : Meaning → Splitting → Shape → Step
-looked_as Part state layout = told state None
-looked_as Whole state layout = told (awaiting state layout) None
-looked_as TestRead state layout = told (record state { phase = Waking }) None
+abbrev pub looked_as : Meaning → Splitting → Shape → SplitStep
+looked_as Part state layout = good_step state None
+looked_as Whole state layout = good_step (line_awaiting_reply state layout) None
+looked_as TestRead state layout = good_step (record state { phase = Waking }) None
 looked_as ReadOrTest state layout =
-    told (awaiting state layout) (Some (passed.Wake Unanswered))
+    good_step (line_awaiting_reply state layout) (Some (passed.Wake Unanswered))
 
 -- what its octets so far are in this layout
-abbrev pub looked : Splitting → Shape → Step
-looked state layout = looked_as (meaning_in layout state.requests state.sent) state layout
+abbrev pub step_in_layout : Splitting → Shape → SplitStep
+step_in_layout state layout = looked_as (meaning_in layout state.requests state.sent) state layout
 
-abbrev pub looked_in : Splitting → Result Shape Open → Step
-looked_in state (Ok layout) = looked state layout
-looked_in state (Err why) = step state (Err (fault.NoLayout why))
+abbrev pub looked_in : Splitting → Result Shape Open → SplitStep
+looked_in state (Ok layout) = step_in_layout state layout
+looked_in state (Err why) = split_step state (Err (fault.NoLayout why))
 
 -- the layout of a message that begins with these octets, where it is known
 abbrev pub layout_begun : Splitting → Result Shape Open
-layout_begun state = mode_layout (layouts_seen state.seen) (begun_in state.link state.sent)
+layout_begun state = mode_layout (layouts_seen state.seen) (mode_begun state.link state.sent)
 
 -- it goes on with this octet
-abbrev pub sent_more : Splitting → ℕ → Step
+abbrev pub sent_more : Splitting → ℕ → SplitStep
 sent_more state octet =
-    if length state.sent == 66 then step state (Err fault.LongMessage) else
+    if length state.sent == 66 then split_step state (Err fault.LongMessage) else
     let more = record state { sent = state.sent ++ octet ∷ [] } in
     looked_in more (layout_begun more)
 
-abbrev pub message_heard : Gap → Splitting → ℕ → Step
-message_heard gap.Overlap state octet = step state (Err fault.Overlap)
+abbrev pub message_heard : Gap → Splitting → ℕ → SplitStep
+message_heard gap.Overlap state octet = split_step state (Err fault.Overlap)
 message_heard gap.Close state octet = sent_more state octet
 message_heard gap.Message state octet = sent_more state octet
-message_heard other state octet = step state (Err fault.GapInMessage)
+message_heard other state octet = split_step state (Err fault.GapInMessage)
 
 -- A reply
 
 -- what a good reply says of the page and the mode
-abbrev pub learned : Splitting → Splitting
-learned state = elim (master_in state.layout state.sent) [
+abbrev pub line_after_reply : Splitting → Splitting
+line_after_reply state = elim (master_in state.layout state.sent) [
   | Some message ↦ if is_some (reply_in state.layout message.mc.read state.answer)
       then record state {
         seen = noted_by state.seen message.mc state.answer;
@@ -96,57 +96,57 @@ learned state = elim (master_in state.layout state.sent) [
 ]
 
 -- it is whole
-abbrev pub rested : Splitting → Splitting
-rested state = cleared (record (learned state) { phase = Rest })
+abbrev pub line_at_rest : Splitting → Splitting
+line_at_rest state = cleared_line (record (line_after_reply state) { phase = Rest })
 
-abbrev pub concluded : Splitting → Step
-concluded state = told (rested state) (Some (exchange_of state))
+abbrev pub concluding_step : Splitting → SplitStep
+concluding_step state = good_step (line_at_rest state) (Some (exchange_of state))
 
-abbrev pub answered_with : Splitting → Step
+abbrev pub answered_with : Splitting → SplitStep
 answered_with state =
-    if length state.answer == reply_length state.layout state.sent then concluded state
-    else told state None
+    if length state.answer == reply_length state.layout state.sent then concluding_step state
+    else good_step state None
 
 -- it goes on with this octet
-abbrev pub answered_more : Splitting → ℕ → Step
+abbrev pub answered_more : Splitting → ℕ → SplitStep
 answered_more state octet =
-    if length state.answer == 66 then step state (Err fault.LongReply) else
+    if length state.answer == 66 then split_step state (Err fault.LongReply) else
     answered_with (record state { answer = state.answer ++ octet ∷ [] })
 
 -- it didn't come, or not all of it, and the next message begins
-abbrev pub pause_heard : Splitting → ℕ → Step
-pause_heard state octet = told (begun state octet) (Some (exchange_of state))
+abbrev pub pause_heard : Splitting → ℕ → SplitStep
+pause_heard state octet = good_step (line_in_message state octet) (Some (exchange_of state))
 
 -- no octet of it came yet
-abbrev pub first_heard : Gap → Splitting → ℕ → Step
-first_heard gap.Overlap state octet = step state (Err fault.Overlap)
-first_heard gap.Close state octet = step state (Err fault.LongMessage)
+abbrev pub first_heard : Gap → Splitting → ℕ → SplitStep
+first_heard gap.Overlap state octet = split_step state (Err fault.Overlap)
+first_heard gap.Close state octet = split_step state (Err fault.LongMessage)
 first_heard gap.Pause state octet = pause_heard state octet
 first_heard other state octet = answered_more state octet
 
 -- some came
-abbrev pub further_heard : Gap → Splitting → ℕ → Step
-further_heard gap.Overlap state octet = step state (Err fault.Overlap)
-further_heard gap.Response state octet = step state (Err fault.GapInReply)
+abbrev pub further_heard : Gap → Splitting → ℕ → SplitStep
+further_heard gap.Overlap state octet = split_step state (Err fault.Overlap)
+further_heard gap.Response state octet = split_step state (Err fault.GapInReply)
 further_heard gap.Pause state octet = pause_heard state octet
 further_heard other state octet = answered_more state octet
 
-abbrev pub reply_heard : Gap → Splitting → ℕ → Step
+abbrev pub reply_heard : Gap → Splitting → ℕ → SplitStep
 reply_heard gap state octet =
     if length state.answer == 0 then first_heard gap state octet else further_heard gap state octet
 
 -- Behind a whole reply
 
-abbrev pub rest_heard : Gap → Splitting → ℕ → Step
-rest_heard gap.Overlap state octet = step state (Err fault.Overlap)
-rest_heard gap.Response state octet = told (begun state octet) None
-rest_heard gap.Pause state octet = told (begun state octet) None
-rest_heard other state octet = step state (Err fault.LongReply)
+abbrev pub rest_heard : Gap → Splitting → ℕ → SplitStep
+rest_heard gap.Overlap state octet = split_step state (Err fault.Overlap)
+rest_heard gap.Response state octet = good_step (line_in_message state octet) None
+rest_heard gap.Pause state octet = good_step (line_in_message state octet) None
+rest_heard other state octet = split_step state (Err fault.LongReply)
 
 -- Calls
 
-abbrev pub heard : Splitting → ℕ → ℕ → Step
-heard state elapsed octet =
+abbrev pub octet_heard : Splitting → ℕ → ℕ → SplitStep
+octet_heard state elapsed octet =
     let gap = gap_of state.rate elapsed in
     elim state.phase [
       | Message ↦ message_heard gap state octet
@@ -156,14 +156,14 @@ heard state elapsed octet =
     ]
 
 -- an octet that begins at this time
-abbrev pub octet_split : Splitting → ℕ → ℕ → Step
+abbrev pub octet_split : Splitting → ℕ → ℕ → SplitStep
 octet_split state time octet =
-    if nat_lt time state.last then step state (Err fault.TimeBack) else
-    heard (record state { last = time }) (time - state.last) octet
+    if nat_lt time state.last then split_step state (Err fault.TimeBack) else
+    octet_heard (record state { last = time }) (time - state.last) octet
 
 -- what isn't told when a stream ends
-abbrev pub ended : Splitting → Option Passed
-ended state = elim state.phase [
+abbrev pub untold_at_end : Splitting → Option SplitItem
+untold_at_end state = elim state.phase [
   | Waking ↦ Some (passed.Wake Unanswered)
   | Reply ↦ Some (exchange_of state)
   | phase ↦ None
@@ -174,13 +174,13 @@ is_in_message Message = true
 is_in_message phase = false
 
 -- an answer to a wake-up request is awaited
-abbrev pub requested : Splitting → ℕ → Splitting
-requested state time =
-    record (cleared state) { requests = Shown; phase = Waking; last = time }
+abbrev pub line_after_request : Splitting → ℕ → Splitting
+line_after_request state time =
+    record (cleared_line state) { requests = Shown; phase = Waking; last = time }
 
 -- a wake-up request that the decoder shows at this time
-abbrev pub wake_split : Splitting → ℕ → Step
+abbrev pub wake_split : Splitting → ℕ → SplitStep
 wake_split state time =
-    if nat_lt time state.last then step state (Err fault.TimeBack) else
-    if is_in_message state.phase then step state (Err fault.GapInMessage) else
-    told (requested state time) (ended state)
+    if nat_lt time state.last then split_step state (Err fault.TimeBack) else
+    if is_in_message state.phase then split_step state (Err fault.GapInMessage) else
+    good_step (line_after_request state time) (untold_at_end state)

@@ -1,7 +1,7 @@
 -- What is kept of a line.
 use Rattle.std.specs.Prelude.{ℕ, List, [], Option}
 use Rattle.iol_mseq.specs.Shape.{Shape, startup_shape}
-use Rattle.iol_far.specs.Level.{Link}
+use Rattle.iol_far.specs.Level.{FarLink}
 use Rattle.iol_link.specs.declared.wire.Rate.{Rate}
 use Rattle.iol_judge.specs.Seen.{nothing_seen}
 use Rattle.iol_splitter.specs.Linking.{started_link}
@@ -16,7 +16,7 @@ pub record Splitting : Type 0 where
   pub requests : Requests
   -- what is known of the page
   pub seen : List (Option ℕ)
-  pub link : Link
+  pub link : FarLink
   -- that of the message under way, once it is whole
   pub layout : Shape
   pub phase : Phase

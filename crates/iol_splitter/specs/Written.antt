@@ -6,52 +6,52 @@ use Rattle.iol_judge.specs.declared.verdict.Wake.TheVariants.{Answered, Unanswer
 use Rattle.iol_splitter.specs.declared.fault.SplitFault.{SplitFault}
 use Rattle.iol_splitter.specs.declared.message.Meaning.{Meaning}
 use Rattle.iol_splitter.specs.declared.message.Meaning.TheVariants.{Part, Whole, TestRead, ReadOrTest}
-use Rattle.iol_splitter.specs.declared.passed.Passed.{Passed}
-use Rattle.iol_splitter.specs.declared.passed.Passed.TheVariants as passed
+use Rattle.iol_splitter.specs.declared.passed.SplitItem.{SplitItem}
+use Rattle.iol_splitter.specs.declared.passed.SplitItem.TheVariants as passed
 use Rattle.iol_splitter.specs.declared.splitter.Phase.{Phase}
 use Rattle.iol_splitter.specs.declared.splitter.Phase.TheVariants.{Asleep, Reply, Rest}
 use Rattle.iol_splitter.specs.Times.{bit_time}
-use Rattle.iol_splitter.specs.Lengths.{meaning_in, reply_length, test_read}
+use Rattle.iol_splitter.specs.Lengths.{meaning_in, reply_length, test_read_octets}
 use Rattle.iol_splitter.specs.State.{Splitting, new_splitter}
-use Rattle.iol_splitter.specs.Steps.{Step}
-use Rattle.iol_splitter.specs.Waking.{is_test_reply, woken}
-use Rattle.iol_splitter.specs.Splitting.{ended, layout_begun, octet_split, requested, rested, some_octets, wake_split}
+use Rattle.iol_splitter.specs.Steps.{SplitStep}
+use Rattle.iol_splitter.specs.Waking.{is_test_reply, line_in_startup}
+use Rattle.iol_splitter.specs.Splitting.{untold_at_end, layout_begun, octet_split, line_after_request, line_at_rest, some_octets, wake_split}
 
 -- an octet, and when it begins
-pub record Timed : Type 0 where
+pub record TimedOctet : Type 0 where
   pub time : ℕ
   pub octet : ℕ
 
-abbrev pub octets_of : List Timed → List ℕ
-octets_of timed = map (λ (t : Timed). t.octet) timed
+abbrev pub octets_of_timed : List TimedOctet → List ℕ
+octets_of_timed timed = map (λ (t : TimedOctet). t.octet) timed
 
 -- A stream
 
 -- what a decoder shows
-pub data Shown : Type 0 where
-  Octet : Timed → Shown
+pub data StreamItem : Type 0 where
+  Octet : TimedOctet → StreamItem
   -- a wake-up request, and when it begins
-  Request : ℕ → Shown
+  Request : ℕ → StreamItem
 
-abbrev pub split : Splitting → Shown → Step
+abbrev pub split : Splitting → StreamItem → SplitStep
 split state (Octet t) = octet_split state t.time t.octet
 split state (Request time) = wake_split state time
 
-abbrev pub with_told : Result (Option Passed) SplitFault → Result (List Passed) SplitFault
-    → Result (List Passed) SplitFault
+abbrev pub with_told : Result (Option SplitItem) SplitFault → Result (List SplitItem) SplitFault
+    → Result (List SplitItem) SplitFault
 with_told (Ok None) later = later
 with_told (Ok (Some passed)) (Ok later) = Ok (passed ∷ later)
 with_told (Ok (Some passed)) (Err fault) = Err fault
 with_told (Err fault) later = Err fault
 
 -- all that a splitter tells of a stream, or the first fault
-abbrev pub all_split : Splitting → List Shown → Result (List Passed) SplitFault
-all_split state [] = with_told (Ok (ended state)) (Ok [])
+abbrev pub all_split : Splitting → List StreamItem → Result (List SplitItem) SplitFault
+all_split state [] = with_told (Ok (untold_at_end state)) (Ok [])
 all_split state (shown ∷ stream) =
     let step = split state shown in with_told step.told (all_split step.state stream)
 
 -- octets, and what is shown behind them
-abbrev pub shown_before : List Timed → List Shown → List Shown
+abbrev pub shown_before : List TimedOctet → List StreamItem → List StreamItem
 shown_before [] stream = stream
 shown_before (t ∷ timed) stream = Octet t ∷ shown_before timed stream
 
@@ -67,7 +67,7 @@ pub record IsBehind (rate : Rate) (least most last time : ℕ) : Type 0 where
   pub latest : time ≤ last + (frame + most) * bit_time rate
 
 -- each begins at most so many T_BIT behind the frame of the one before
-abbrev pub Follow : Rate → ℕ → ℕ → List Timed → Type 0
+abbrev pub Follow : Rate → ℕ → ℕ → List TimedOctet → Type 0
 Follow rate most last [] = Unit {0}
 Follow rate most last (t ∷ timed) =
     IsBehind rate 0 most last t.time × Follow rate most t.time timed
@@ -82,31 +82,31 @@ abbrev pub IsBehindPause : Splitting → ℕ → Type 0
 IsBehindPause state time =
     state.last + (frame + shortest_pause state.phase) * bit_time state.rate ≤ time
 
-abbrev pub IsSentBehind : Splitting → List Timed → Type 0
+abbrev pub IsSentBehind : Splitting → List TimedOctet → Type 0
 IsSentBehind state [] = ⊥
 IsSentBehind state (t ∷ timed) =
     IsBehindPause state t.time × Follow state.rate 1 t.time timed
 
 -- a reply begins 1 to 10 T_BIT behind the message, if any comes
-abbrev pub IsAnswerBehind : Rate → ℕ → List Timed → Type 0
+abbrev pub IsAnswerBehind : Rate → ℕ → List TimedOctet → Type 0
 IsAnswerBehind rate last [] = Unit {0}
 IsAnswerBehind rate last (t ∷ timed) = IsBehind rate 1 10 last t.time × Follow rate 3 t.time timed
 
-abbrev pub last_of : ℕ → List Timed → ℕ
+abbrev pub last_of : ℕ → List TimedOctet → ℕ
 last_of last [] = last
 last_of last (t ∷ timed) = last_of t.time timed
 
 -- Exchanges
 
 -- a message, and what came back
-pub record Written : Type 0 where
-  pub sent : List Timed
-  pub answer : List Timed
+pub record TimedExchange : Type 0 where
+  pub sent : List TimedOctet
+  pub answer : List TimedOctet
 
-abbrev pub exchange_written : Written → Passed
+abbrev pub exchange_written : TimedExchange → SplitItem
 exchange_written w = passed.Exchange (record {
-  sent = octets_of w.sent;
-  answer = some_octets (octets_of w.answer);
+  sent = octets_of_timed w.sent;
+  answer = some_octets (octets_of_timed w.answer);
 })
 
 -- the octets are this in the layout that a message has which begins with them
@@ -115,7 +115,7 @@ pub record Means (state : Splitting) (sent : List ℕ) (meaning : Meaning) : Typ
   pub spoken : layout_begun (record state { sent = sent }) ≡ Ok layout
   pub meant : meaning_in layout state.requests sent ≡ meaning
 
-pub record IsWhole (state : Splitting) (layout : Shape) (sent : List ℕ)
+pub record IsWholeMessage (state : Splitting) (layout : Shape) (sent : List ℕ)
     (meaning : Meaning) : Type 0 where
   pub spoken : layout_begun (record state { sent = sent }) ≡ Ok layout
   pub whole : meaning_in layout state.requests sent ≡ meaning
@@ -133,46 +133,47 @@ IsSpeaking phase = ⊥
 -- once a message went over the line, and this came back
 abbrev pub exchanged_with : Splitting → Splitting
 exchanged_with state =
-    if length state.answer == reply_length state.layout state.sent then rested state else state
+    if length state.answer == reply_length state.layout state.sent then line_at_rest state else
+    state
 
-abbrev pub exchanged : Splitting → Shape → Written → Splitting
-exchanged state layout w = exchanged_with (record state {
+abbrev pub line_after_exchange : Splitting → Shape → TimedExchange → Splitting
+line_after_exchange state layout w = exchanged_with (record state {
   layout = layout;
   phase = Reply;
-  sent = octets_of w.sent;
-  answer = octets_of w.answer;
+  sent = octets_of_timed w.sent;
+  answer = octets_of_timed w.answer;
   last = last_of (last_of state.last w.sent) w.answer;
 })
 
 -- it is written by the rules: a message as the layout has it, behind it no more than the reply to
 -- it, and the times as the standard gives them
-pub record IsWritten (state : Splitting) (layout : Shape) (w : Written)
+pub record IsWellWritten (state : Splitting) (layout : Shape) (w : TimedExchange)
     (meaning : Meaning) : Type 0 where
   pub speaks : IsSpeaking state.phase
-  pub message : IsWhole state layout (octets_of w.sent) meaning
+  pub message : IsWholeMessage state layout (octets_of_timed w.sent) meaning
   pub sent : IsSentBehind state w.sent
-  pub reply : length (octets_of w.answer) ≤ reply_length layout (octets_of w.sent)
-  pub most : reply_length layout (octets_of w.sent) ≤ 66
+  pub reply : length (octets_of_timed w.answer) ≤ reply_length layout (octets_of_timed w.sent)
+  pub most : reply_length layout (octets_of_timed w.sent) ≤ 66
   pub answer : IsAnswerBehind state.rate (last_of state.last w.sent) w.answer
 
 -- Wake-up requests
 
 -- a test read and the reply to it: the times of its octets, and the two octets of the reply
-pub record Tested : Type 0 where
+pub record TimedTestRead : Type 0 where
   pub control : ℕ
   pub check : ℕ
-  pub value : Timed
-  pub status : Timed
+  pub value : TimedOctet
+  pub status : TimedOctet
 
 -- it is written by the rules, with a good reply
-pub record IsTested (rate : Rate) (t : Tested) : Type 0 where
+pub record IsTested (rate : Rate) (t : TimedTestRead) : Type 0 where
   pub check : IsBehind rate 0 1 t.control t.check
   pub value : IsBehind rate 1 10 t.check t.value.time
   pub status : IsBehind rate 0 3 t.value.time t.status.time
   pub reply : is_test_reply t.value.octet t.status.octet ≡ true
 
-abbrev pub tested : Splitting → Tested → Splitting
-tested state t = woken (record state { last = t.status.time })
+abbrev pub line_after_test : Splitting → TimedTestRead → Splitting
+line_after_test state t = line_in_startup (record state { last = t.status.time })
 
 -- A test read at this time behind a request that the decoder doesn't show: nothing was told before,
 -- or its octets are no message of the layout
@@ -180,41 +181,42 @@ abbrev pub IsUnshown : Phase → Splitting → ℕ → Type 0
 IsUnshown Asleep state time =
     (state.last ≤ time) × (state.sent ≡ []) × (state.answer ≡ [])
 IsUnshown phase state time =
-    IsSpeaking phase × IsBehindPause state time × Means state test_read TestRead
+    IsSpeaking phase × IsBehindPause state time × Means state test_read_octets TestRead
 
 -- Captures
 
 -- what went over the line
 pub data Item : Type 0 where
-  Passes : Written → Item
+  Passes : TimedExchange → Item
   -- a read of page address 0x02 that may be a test read, where the decoder shows no requests
-  Reads : Written → Item
+  Reads : TimedExchange → Item
   -- a wake-up request that is shown, and answered
-  Wakes : ℕ → Tested → Item
+  Wakes : ℕ → TimedTestRead → Item
   -- one that isn't answered
   Fails : ℕ → Item
   -- one that isn't shown, and answered
-  Tests : Tested → Item
+  Tests : TimedTestRead → Item
 
 -- each in turn is written by the rules
 abbrev pub AreWritten : Splitting → List Item → Type 0
 AreWritten state [] = Unit {0}
 AreWritten state (Passes w ∷ items) = (layout : Shape)
-    × IsWritten state layout w Whole × AreWritten (exchanged state layout w) items
+    × IsWellWritten state layout w Whole × AreWritten (line_after_exchange state layout w) items
 AreWritten state (Reads w ∷ items) = (layout : Shape)
-    × IsWritten state layout w ReadOrTest × AreWritten (exchanged state layout w) items
+    × IsWellWritten state layout w ReadOrTest
+    × AreWritten (line_after_exchange state layout w) items
 AreWritten state (Wakes time t ∷ items) = (state.last ≤ time) × (time ≤ t.control)
-    × IsTested state.rate t × AreWritten (tested (requested state time) t) items
+    × IsTested state.rate t × AreWritten (line_after_test (line_after_request state time) t) items
 AreWritten state (Fails time ∷ items) =
-    (state.last ≤ time) × AreWritten (requested state time) items
+    (state.last ≤ time) × AreWritten (line_after_request state time) items
 AreWritten state (Tests t ∷ items) = IsUnshown state.phase state t.control
-    × IsTested state.rate t × AreWritten (tested state t) items
+    × IsTested state.rate t × AreWritten (line_after_test state t) items
 
-abbrev pub test_before : Tested → List Shown → List Shown
+abbrev pub test_before : TimedTestRead → List StreamItem → List StreamItem
 test_before t stream = Octet (record { time = t.control; octet = 0xA2 })
     ∷ Octet (record { time = t.check; octet = 0 }) ∷ Octet t.value ∷ Octet t.status ∷ stream
 
-abbrev pub stream_of : List Item → List Shown
+abbrev pub stream_of : List Item → List StreamItem
 stream_of [] = []
 stream_of (Passes w ∷ items) = shown_before w.sent (shown_before w.answer (stream_of items))
 stream_of (Reads w ∷ items) = shown_before w.sent (shown_before w.answer (stream_of items))
@@ -223,7 +225,7 @@ stream_of (Fails time ∷ items) = Request time ∷ stream_of items
 stream_of (Tests t ∷ items) = test_before t (stream_of items)
 
 -- what is to be told of them
-abbrev pub items_told : List Item → List Passed
+abbrev pub items_told : List Item → List SplitItem
 items_told [] = []
 items_told (Passes w ∷ items) = exchange_written w ∷ items_told items
 items_told (Reads w ∷ items) = passed.Wake Unanswered ∷ exchange_written w ∷ items_told items

@@ -31,11 +31,11 @@ pub enum SplitFault {
 }
 
 impl SplitFault {
-    ghost use Rattle.iol_splitter.specs.Numbers.{fault_number};
+    ghost use Rattle.iol_splitter.specs.Numbers.{split_fault_number};
 
     /// The number of the refusal.
     pub fn code(&self) -> u8
-        ensures { result ≡ fault_number self.now }
+        ensures { result ≡ split_fault_number self.now }
     {
         match self {
             SplitFault::TimeBack => 1,

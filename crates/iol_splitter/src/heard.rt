@@ -1,12 +1,12 @@
 //! What a splitter makes of an octet.
 ghost use Rattle.std.specs.Prelude.{◌≡◌, Some, None, Ok};
-ghost use Rattle.iol_splitter.specs.Splitting.{answered_more, awaiting, begun, cleared, concluded, exchange_of, first_heard, further_heard, heard, learned, looked, looked_in, message_heard, pause_heard, reply_heard, rest_heard, sent_more};
-ghost use Rattle.iol_splitter.specs.Steps.{step, told};
+ghost use Rattle.iol_splitter.specs.Splitting.{answered_more, line_awaiting_reply, line_in_message, cleared_line, concluding_step, exchange_of, first_heard, further_heard, octet_heard, line_after_reply, step_in_layout, looked_in, message_heard, pause_heard, reply_heard, rest_heard, sent_more};
+ghost use Rattle.iol_splitter.specs.Steps.{split_step, good_step};
 
 use crate::fault::SplitFault;
 use crate::gap::Gap;
 use crate::message::{LONGEST, Meaning, meaning_in, reply_length};
-use crate::passed::{Exchange, Passed};
+use crate::passed::{Exchange, SplitItem};
 use crate::splitter::{Phase, Splitter};
 use iol_judge::{Open, Wake, layout_in};
 use iol_mseq::{Layout, Message, view_master, view_reply};
@@ -14,8 +14,8 @@ use std::mem::replace;
 
 impl Splitter {
     /// An octet begins so long behind the last one.
-    pub(crate) fn hear(&mut self, elapsed: u64, octet: u8) -> Result<Option<Passed>, SplitFault>
-        ensures { step self.new result ≡ heard self.old elapsed octet }
+    pub(crate) fn hear(&mut self, elapsed: u64, octet: u8) -> Result<Option<SplitItem>, SplitFault>
+        ensures { split_step self.new result ≡ octet_heard self.old elapsed octet }
     {
         let gap = Gap::of(self.rate, elapsed);
         match self.phase {
@@ -28,8 +28,8 @@ impl Splitter {
     }
 
     /// Behind a whole reply.
-    fn hear_at_rest(&mut self, gap: Gap, octet: u8) -> Result<Option<Passed>, SplitFault>
-        ensures { step self.new result ≡ rest_heard gap self.old octet }
+    fn hear_at_rest(&mut self, gap: Gap, octet: u8) -> Result<Option<SplitItem>, SplitFault>
+        ensures { split_step self.new result ≡ rest_heard gap self.old octet }
     {
         match gap {
             Gap::Overlap => Err(SplitFault::Overlap),
@@ -42,8 +42,8 @@ impl Splitter {
     }
 
     /// A message begins.
-    fn begin(&mut self, octet: u8) -> Option<Passed>
-        ensures { told self.new result ≡ told (begun self.old octet) None }
+    fn begin(&mut self, octet: u8) -> Option<SplitItem>
+        ensures { good_step self.new result ≡ good_step (line_in_message self.old octet) None }
     {
         self.phase = Phase::Message;
         self.answer.clear();
@@ -53,8 +53,8 @@ impl Splitter {
     }
 
     /// In a message.
-    fn hear_message(&mut self, gap: Gap, octet: u8) -> Result<Option<Passed>, SplitFault>
-        ensures { step self.new result ≡ message_heard gap self.old octet }
+    fn hear_message(&mut self, gap: Gap, octet: u8) -> Result<Option<SplitItem>, SplitFault>
+        ensures { split_step self.new result ≡ message_heard gap self.old octet }
     {
         match gap {
             Gap::Overlap => Err(SplitFault::Overlap),
@@ -67,8 +67,8 @@ impl Splitter {
     }
 
     /// One more octet of a message.
-    fn send_more(&mut self, octet: u8) -> Result<Option<Passed>, SplitFault>
-        ensures { step self.new result ≡ sent_more self.old octet }
+    fn send_more(&mut self, octet: u8) -> Result<Option<SplitItem>, SplitFault>
+        ensures { split_step self.new result ≡ sent_more self.old octet }
     {
         if self.sent.len() == LONGEST {
             return Err(SplitFault::LongMessage);
@@ -80,8 +80,8 @@ impl Splitter {
     }
 
     /// What the octets so far are in this layout, where it is known.
-    fn look_in(&mut self, found: Result<Layout, Open>) -> Result<Option<Passed>, SplitFault>
-        ensures { step self.new result ≡ looked_in self.old found }
+    fn look_in(&mut self, found: Result<Layout, Open>) -> Result<Option<SplitItem>, SplitFault>
+        ensures { split_step self.new result ≡ looked_in self.old found }
     {
         match found {
             Ok(layout) => Ok(self.look(layout)),
@@ -90,8 +90,8 @@ impl Splitter {
     }
 
     /// What the octets so far are in this layout.
-    fn look(&mut self, layout: Layout) -> Option<Passed>
-        ensures { step self.new (Ok result) ≡ looked self.old layout }
+    fn look(&mut self, layout: Layout) -> Option<SplitItem>
+        ensures { split_step self.new (Ok result) ≡ step_in_layout self.old layout }
     {
         match meaning_in(&layout, self.requests, self.sent.as_slice()) {
             Meaning::Part => None,
@@ -105,21 +105,21 @@ impl Splitter {
             }
             Meaning::ReadOrTest => {
                 self.await_reply(layout);
-                Some(Passed::Wake(Wake::Unanswered))
+                Some(SplitItem::Wake(Wake::Unanswered))
             }
         }
     }
 
     fn await_reply(&mut self, layout: Layout)
-        ensures { self.new ≡ awaiting self.old layout }
+        ensures { self.new ≡ line_awaiting_reply self.old layout }
     {
         self.layout = layout;
         self.phase = Phase::Reply;
     }
 
     /// Behind a whole message.
-    fn hear_reply(&mut self, gap: Gap, octet: u8) -> Result<Option<Passed>, SplitFault>
-        ensures { step self.new result ≡ reply_heard gap self.old octet }
+    fn hear_reply(&mut self, gap: Gap, octet: u8) -> Result<Option<SplitItem>, SplitFault>
+        ensures { split_step self.new result ≡ reply_heard gap self.old octet }
     {
         if self.answer.is_empty() {
             self.hear_first(gap, octet)
@@ -129,8 +129,8 @@ impl Splitter {
     }
 
     /// No octet of a reply came yet.
-    fn hear_first(&mut self, gap: Gap, octet: u8) -> Result<Option<Passed>, SplitFault>
-        ensures { step self.new result ≡ first_heard gap self.old octet }
+    fn hear_first(&mut self, gap: Gap, octet: u8) -> Result<Option<SplitItem>, SplitFault>
+        ensures { split_step self.new result ≡ first_heard gap self.old octet }
     {
         match gap {
             Gap::Overlap => Err(SplitFault::Overlap),
@@ -143,8 +143,8 @@ impl Splitter {
     }
 
     /// In a reply.
-    fn hear_further(&mut self, gap: Gap, octet: u8) -> Result<Option<Passed>, SplitFault>
-        ensures { step self.new result ≡ further_heard gap self.old octet }
+    fn hear_further(&mut self, gap: Gap, octet: u8) -> Result<Option<SplitItem>, SplitFault>
+        ensures { split_step self.new result ≡ further_heard gap self.old octet }
     {
         match gap {
             Gap::Overlap => Err(SplitFault::Overlap),
@@ -157,8 +157,8 @@ impl Splitter {
     }
 
     /// No reply came, or not all of it, and the next message begins.
-    fn hear_behind_pause(&mut self, octet: u8) -> Passed
-        ensures { step self.new (Ok (Some result)) ≡ pause_heard self.old octet }
+    fn hear_behind_pause(&mut self, octet: u8) -> SplitItem
+        ensures { split_step self.new (Ok (Some result)) ≡ pause_heard self.old octet }
     {
         let passed = self.exchange();
         let _ = self.begin(octet);
@@ -166,8 +166,8 @@ impl Splitter {
     }
 
     /// One more octet of a reply.
-    fn answer_more(&mut self, octet: u8) -> Result<Option<Passed>, SplitFault>
-        ensures { step self.new result ≡ answered_more self.old octet }
+    fn answer_more(&mut self, octet: u8) -> Result<Option<SplitItem>, SplitFault>
+        ensures { split_step self.new result ≡ answered_more self.old octet }
     {
         if self.answer.len() == LONGEST {
             return Err(SplitFault::LongReply);
@@ -181,8 +181,8 @@ impl Splitter {
     }
 
     /// The reply is whole.
-    fn conclude(&mut self) -> Passed
-        ensures { step self.new (Ok (Some result)) ≡ concluded self.old }
+    fn conclude(&mut self) -> SplitItem
+        ensures { split_step self.new (Ok (Some result)) ≡ concluding_step self.old }
     {
         self.learn();
         self.phase = Phase::Rest;
@@ -191,7 +191,7 @@ impl Splitter {
 
     /// What a good reply says of the page and the mode.
     fn learn(&mut self)
-        ensures { self.new ≡ learned self.old }
+        ensures { self.new ≡ line_after_reply self.old }
     {
         let Ok(message) = view_master(&self.layout, self.sent.as_slice()) else {
             return;
@@ -205,13 +205,13 @@ impl Splitter {
     }
 
     /// The message and the reply under way, which are over.
-    pub(crate) fn exchange(&mut self) -> Passed
-        ensures { told self.new (Some result)
-            ≡ told (cleared self.old) (Some (exchange_of self.old)) }
+    pub(crate) fn exchange(&mut self) -> SplitItem
+        ensures { good_step self.new (Some result)
+            ≡ good_step (cleared_line self.old) (Some (exchange_of self.old)) }
     {
         let sent = replace(&mut self.sent, Message::new());
         let answer = replace(&mut self.answer, Message::new());
-        Passed::Exchange(Exchange {
+        SplitItem::Exchange(Exchange {
             sent,
             answer: if answer.is_empty() {
                 None

@@ -27,5 +27,5 @@ pub use fault::SplitFault;
 pub use gap::bit_time;
 pub use laws::{octets_are_never_blamed, what_is_written_is_split};
 pub use octet_line::OctetLine;
-pub use passed::{Exchange, Passed};
+pub use passed::{Exchange, SplitItem};
 pub use splitter::Splitter;

@@ -2,19 +2,19 @@
 ghost use Rattle.std.specs.Prelude.{◌≡◌, ◌≤◌, length};
 ghost use Rattle.iol_splitter.specs.Linking.{mode_into};
 
-use iol_far::Mode;
-use iol_judge::{Known, command_in, mode_asked};
+use iol_far::DeviceMode;
+use iol_judge::{KnownLayouts, command_in, mode_asked};
 use iol_mseq::{MasterView, Message};
 use std::marker::Model;
 
 /// A command into another mode that had a good reply, with its octets.
 #[derive(Debug, Drop)]
-pub(crate) struct Waiting {
-    into: Mode,
+pub(crate) struct AnsweredCommand {
+    into: DeviceMode,
     octets: Message,
 }
 
-impl Model for Waiting {
+impl Model for AnsweredCommand {
     ghost use Rattle.iol_far.specs.Far.{WaitingCommand};
 
     ghost Value = { WaitingCommand };
@@ -27,14 +27,14 @@ impl Model for Waiting {
 /// The mode whose layout is spoken, and the command into another one that was answered.
 #[derive(Debug, Drop)]
 pub(crate) struct Spoken {
-    mode: Mode,
-    waits: Option<Waiting>,
+    mode: DeviceMode,
+    waits: Option<AnsweredCommand>,
 }
 
 impl Model for Spoken {
-    ghost use Rattle.iol_far.specs.Level.{Link};
+    ghost use Rattle.iol_far.specs.Level.{FarLink};
 
-    ghost Value = { Link };
+    ghost Value = { FarLink };
 
     ghost view = { λ s. record { mode = s.mode; waits = s.waits } };
 
@@ -42,22 +42,22 @@ impl Model for Spoken {
 }
 
 impl Spoken {
-    ghost use Rattle.iol_splitter.specs.Linking.{begun_in, link_after, started_link};
+    ghost use Rattle.iol_splitter.specs.Linking.{mode_begun, link_after, started_link};
 
     /// Right after a wake-up request.
     pub fn started() -> Spoken
         ensures { result ≡ started_link }
     {
         Spoken {
-            mode: Mode::Startup,
+            mode: DeviceMode::Startup,
             waits: None,
         }
     }
 
     /// The mode in whose layout a message is that begins with these octets. Behind a mode command
     /// the command itself is in the old one.
-    pub fn mode_of(&self, begun: &[u8]) -> Mode
-        ensures { result ≡ begun_in self.now begun.now }
+    pub fn mode_of(&self, begun: &[u8]) -> DeviceMode
+        ensures { result ≡ mode_begun self.now begun.now }
     {
         match &self.waits {
             None => self.mode,
@@ -67,7 +67,7 @@ impl Spoken {
     }
 
     /// Once a message had a good reply.
-    pub fn turn(&mut self, layouts: &Known, octets: &[u8], message: &MasterView<'_>)
+    pub fn turn(&mut self, layouts: &KnownLayouts, octets: &[u8], message: &MasterView<'_>)
         requires { length octets.now ≤ 66 }
         ensures { self.new ≡ link_after self.old layouts.now octets.now message.now }
     {
@@ -76,7 +76,7 @@ impl Spoken {
         if let Some(into) = asked
             && into != self.mode
         {
-            self.waits = Some(Waiting {
+            self.waits = Some(AnsweredCommand {
                 into,
                 octets: Message::try_from(octets).unwrap(),
             });
@@ -85,7 +85,7 @@ impl Spoken {
 
     /// A message other than the command that waits is in the new layout.
     fn take(&mut self, octets: &[u8])
-        ensures { self.new ≡ taken self.old octets.now }
+        ensures { self.new ≡ accepting_link self.old octets.now }
     {
         if let Some(command) = &self.waits
             && command.octets.as_slice() != octets
@@ -95,15 +95,15 @@ impl Spoken {
         }
     }
 
-    ghost use Rattle.iol_far.specs.Level.{taken};
+    ghost use Rattle.iol_far.specs.Level.{accepting_link};
 }
 
 /// The mode asked for, unless the device is known not to have it.
-fn mode_into(layouts: &Known, asked: Option<Mode>) -> Option<Mode>
+fn mode_into(layouts: &KnownLayouts, asked: Option<DeviceMode>) -> Option<DeviceMode>
     ensures { result ≡ mode_into layouts.now asked }
 {
     match (asked, layouts) {
-        (Some(Mode::Preoperate), Ok(layouts)) if layouts.pre.is_none() => None,
+        (Some(DeviceMode::Preoperate), Ok(layouts)) if layouts.pre.is_none() => None,
         _ => asked,
     }
 }

@@ -1,6 +1,6 @@
 //! What the octets of a message are.
 ghost use Rattle.std.specs.Prelude.{◌≡◌, ◌≤◌};
-ghost use Rattle.iol_splitter.specs.Lengths.{is_read, is_test_read, meaning_in, message_length, reply_length};
+ghost use Rattle.iol_splitter.specs.Lengths.{is_read_message, is_test_read, meaning_in, message_length, reply_length};
 
 use crate::splitter::Requests;
 use iol_mseq::{Layout, first};
@@ -52,7 +52,7 @@ pub(crate) fn is_test_read(octets: &[u8]) -> bool
 
 /// Whether a message is a read, by its first octet.
 fn is_read(octets: &[u8]) -> bool
-    ensures { result ≡ is_read octets.now }
+    ensures { result ≡ is_read_message octets.now }
 {
     first(octets) >= 128
 }

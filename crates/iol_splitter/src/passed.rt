@@ -14,35 +14,35 @@ pub struct Exchange {
 
 impl Model for Exchange {
     ghost use Rattle.iol_far.specs.Octets.{octets_in};
-    ghost use Rattle.iol_splitter.specs.Exchanged.{Exchanged};
+    ghost use Rattle.iol_splitter.specs.Exchanged.{ExchangeOctets};
 
-    ghost Value = { Exchanged };
+    ghost Value = { ExchangeOctets };
 
     ghost view = { λ e. record { sent = e.sent.items; answer = octets_in e.answer } };
 }
 
 /// What went over a line.
 #[derive(Debug, Drop)]
-pub enum Passed {
+pub enum SplitItem {
     Exchange(Exchange),
     /// A wake-up request, with its test read. One that isn't answered may have been none.
     Wake(Wake),
 }
 
-impl Passed {
+impl SplitItem {
     ghost use Rattle.std.specs.Prelude.{◌≡◌};
-    ghost use Rattle.iol_splitter.specs.Fair.{judged_with};
+    ghost use Rattle.iol_splitter.specs.Fair.{judge_after_item};
 
     /// Tells it to a judge.
     pub fn tell(&self, judge: &mut Judge)
-        ensures { judge.new ≡ judged_with judge.old self.now }
+        ensures { judge.new ≡ judge_after_item judge.old self.now }
     {
         match self {
-            Passed::Exchange(exchange) => {
+            SplitItem::Exchange(exchange) => {
                 let answer = exchange.answer.as_ref().map(|octets| octets.as_slice());
                 judge.exchange(exchange.sent.as_slice(), answer);
             }
-            Passed::Wake(answer) => judge.wake(*answer),
+            SplitItem::Wake(answer) => judge.wake(*answer),
         }
     }
 }

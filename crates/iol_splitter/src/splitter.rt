@@ -1,14 +1,14 @@
 //! The splitter.
 ghost use Rattle.std.specs.Prelude.{◌≡◌};
 ghost use Rattle.iol_judge.specs.Seen.{whole_page};
-ghost use Rattle.iol_splitter.specs.Splitting.{ended, octet_split, wake_split};
-ghost use Rattle.iol_splitter.specs.Steps.{step, told};
+ghost use Rattle.iol_splitter.specs.Splitting.{untold_at_end, octet_split, wake_split};
+ghost use Rattle.iol_splitter.specs.Steps.{split_step, good_step};
 ghost use Rattle.iol_splitter.specs.State.{new_splitter};
 
 use crate::fault::SplitFault;
 use crate::link::Spoken;
-use crate::passed::Passed;
-use iol_judge::{Seen, Wake};
+use crate::passed::SplitItem;
+use iol_judge::{SeenPage, Wake};
 use iol_link::Rate;
 use iol_mseq::{Layout, Message};
 use std::marker::Model;
@@ -48,7 +48,7 @@ pub(crate) enum Requests {
 pub struct Splitter {
     pub(crate) rate: Rate,
     pub(crate) requests: Requests,
-    pub(crate) seen: Seen,
+    pub(crate) seen: SeenPage,
     pub(crate) link: Spoken,
     /// That of the message under way, once it is whole.
     pub(crate) layout: Layout,
@@ -85,7 +85,7 @@ impl Splitter {
         Splitter {
             rate,
             requests: Requests::Unshown,
-            seen: Seen::nothing(),
+            seen: SeenPage::nothing(),
             link: Spoken::started(),
             layout: Layout::startup(),
             phase: Phase::Asleep,
@@ -99,13 +99,13 @@ impl Splitter {
     pub fn page(&mut self, octets: &[u8; 10])
         ensures { self.new ≡ record self.old { seen = whole_page octets.now } }
     {
-        self.seen = Seen::whole(octets);
+        self.seen = SeenPage::whole(octets);
     }
 
     /// An octet began at this time. None: what went over the line isn't known yet. Refusals: each
     /// of [`SplitFault`]. Behind one the rest can't be split.
-    pub fn octet(&mut self, time: u64, octet: u8) -> Result<Option<Passed>, SplitFault>
-        ensures { step self.new result ≡ octet_split self.old time octet }
+    pub fn octet(&mut self, time: u64, octet: u8) -> Result<Option<SplitItem>, SplitFault>
+        ensures { split_step self.new result ≡ octet_split self.old time octet }
     {
         if time < self.last {
             return Err(SplitFault::TimeBack);
@@ -117,8 +117,8 @@ impl Splitter {
 
     /// The decoder shows a wake-up request at this time. None: nothing is known that went over the
     /// line before. Refusals, the first that holds: 1 TimeBack; 4 GapInMessage.
-    pub fn wake(&mut self, time: u64) -> Result<Option<Passed>, SplitFault>
-        ensures { step self.new result ≡ wake_split self.old time }
+    pub fn wake(&mut self, time: u64) -> Result<Option<SplitItem>, SplitFault>
+        ensures { split_step self.new result ≡ wake_split self.old time }
     {
         if time < self.last {
             return Err(SplitFault::TimeBack);
@@ -134,23 +134,24 @@ impl Splitter {
     }
 
     /// The stream has ended: what isn't told yet. A message without its last octets is none.
-    pub fn end(mut self) -> Option<Passed>
-        ensures { result ≡ ended self }
+    pub fn end(mut self) -> Option<SplitItem>
+        ensures { result ≡ untold_at_end self }
     {
         self.finish()
     }
 }
 
 impl Splitter {
-    ghost use Rattle.iol_splitter.specs.Splitting.{cleared};
+    ghost use Rattle.iol_splitter.specs.Splitting.{cleared_line};
 
     /// What isn't told yet. No octet is under way any more.
-    fn finish(&mut self) -> Option<Passed>
-        ensures { told self.new result ≡ told (cleared self.old) (ended self.old) }
+    fn finish(&mut self) -> Option<SplitItem>
+        ensures { good_step self.new result
+            ≡ good_step (cleared_line self.old) (untold_at_end self.old) }
     {
         let passed = match self.phase {
             Phase::Asleep => None,
-            Phase::Waking => Some(Passed::Wake(Wake::Unanswered)),
+            Phase::Waking => Some(SplitItem::Wake(Wake::Unanswered)),
             Phase::Message => None,
             Phase::Reply => Some(self.exchange()),
             Phase::Rest => None,

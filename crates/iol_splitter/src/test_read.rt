@@ -1,20 +1,20 @@
 //! The test read behind a wake-up request.
 ghost use Rattle.std.specs.Prelude.{◌≡◌};
-ghost use Rattle.iol_splitter.specs.Waking.{in_message, in_reply, begins_reply, is_test_reply, sought, test_heard, waking_heard, woken};
-ghost use Rattle.iol_splitter.specs.Steps.{told};
+ghost use Rattle.iol_splitter.specs.Waking.{in_message, in_reply, begins_reply, is_test_reply, line_in_test, test_heard, waking_heard, line_in_startup};
+ghost use Rattle.iol_splitter.specs.Steps.{good_step};
 
 use crate::gap::Gap;
 use crate::link::Spoken;
 use crate::message::{TEST_CHECK, TEST_CONTROL, is_test_read};
-use crate::passed::Passed;
+use crate::passed::SplitItem;
 use crate::splitter::{Phase, Splitter};
 use iol_judge::Wake;
 use iol_mseq::{Layout, first, view_reply};
 
 impl Splitter {
     /// Before an answered test read. Octets that are none of one are of no exchange.
-    pub(crate) fn hear_waking(&mut self, gap: Gap, octet: u8) -> Option<Passed>
-        ensures { told self.new result ≡ waking_heard gap self.old octet }
+    pub(crate) fn hear_waking(&mut self, gap: Gap, octet: u8) -> Option<SplitItem>
+        ensures { good_step self.new result ≡ waking_heard gap self.old octet }
     {
         if is_test_read(self.sent.as_slice()) {
             return self.hear_test_reply(gap, octet);
@@ -29,7 +29,7 @@ impl Splitter {
 
     /// The test read may begin anew.
     fn seek(&mut self, octet: u8)
-        ensures { self.new ≡ sought self.old octet }
+        ensures { self.new ≡ line_in_test self.old octet }
     {
         self.sent.clear();
         self.answer.clear();
@@ -39,8 +39,8 @@ impl Splitter {
     }
 
     /// Behind a test read.
-    fn hear_test_reply(&mut self, gap: Gap, octet: u8) -> Option<Passed>
-        ensures { told self.new result ≡ test_heard gap self.old octet }
+    fn hear_test_reply(&mut self, gap: Gap, octet: u8) -> Option<SplitItem>
+        ensures { good_step self.new result ≡ test_heard gap self.old octet }
     {
         if self.answer.is_empty() && gap.begins_reply() {
             self.answer.push(octet);
@@ -51,7 +51,7 @@ impl Splitter {
             && is_test_reply(first(self.answer.as_slice()), octet)
         {
             self.start();
-            return Some(Passed::Wake(Wake::Answered));
+            return Some(SplitItem::Wake(Wake::Answered));
         }
         self.seek(octet);
         None
@@ -59,7 +59,7 @@ impl Splitter {
 
     /// The device is in STARTUP.
     fn start(&mut self)
-        ensures { self.new ≡ woken self.old }
+        ensures { self.new ≡ line_in_startup self.old }
     {
         self.sent.clear();
         self.answer.clear();

@@ -8,11 +8,11 @@ use Rattle.iol_isdu.specs.declared.values.Answer.{Answer}
 use Rattle.iol_event.specs.declared.event.Event.{Event}
 use Rattle.iol_event.specs.Memory.{Events, is_empty, freezes_at_once}
 use Rattle.iol_far.specs.Isdu.{IsduState, Handed, fits}
-use Rattle.iol_far.specs.Far.{Far, accepted, worked, is_confirm, output_of}
+use Rattle.iol_far.specs.Far.{Far, accepted_message, far_after_message, is_confirm, output_of}
 use Rattle.iol_far.specs.Local.{LocalStep, local, locals, has_room, is_input, Carry as OwnCarry, Raise as OwnRaise, Input as OwnInput, NoInput as OwnNoInput, Power as OwnPower}
 use Rattle.iol_link.specs.Honest.{Passage, OutLost, BackLost, Clean}
-use Rattle.iol_steps.specs.Step.{Step, Carry, Again, LateCarry, Freeze, Confirm, OutputOn, OutputOff, Input, PowerLoss, Image}
-use Rattle.iol_steps.specs.Session.{unanswered}
+use Rattle.iol_steps.specs.Step.{PortStep, Carry, Again, LateCarry, Freeze, Confirm, OutputOn, OutputOff, Input, PowerLoss, ImageOctets}
+use Rattle.iol_steps.specs.Session.{unanswered_request}
 
 -- the answer that the device gave to the request under way, and a request that was
 -- cut off and may yet be carried out
@@ -24,7 +24,7 @@ pub record Hidden : Type 0 where
 -- no answer; where none is, the late one
 abbrev pub open_request : Option Request → Hidden → Option Request
 open_request None hidden = hidden.late
-open_request (Some request) hidden = unanswered hidden.answer request
+open_request (Some request) hidden = unanswered_request hidden.answer request
 
 -- what the device is handed is what it may still carry out
 abbrev pub IsOpen : IsduState → Option Request → Hidden → Type 0
@@ -33,27 +33,27 @@ IsOpen state request hidden = ⊤
 
 -- What the device does by itself, while this request is under way
 
-abbrev pub carry_step : Option Request → Answer → Step
+abbrev pub carry_step : Option Request → Answer → PortStep
 carry_step None answer = LateCarry answer
 carry_step (Some request) answer = Carry answer
 
 -- an answer counts where the device is handed a request, has room and the answer fits
-abbrev pub carry_steps : Option Request → IsduState → Far → Answer → List Step
+abbrev pub carry_steps : Option Request → IsduState → Far → Answer → List PortStep
 carry_steps request (Handed held) far answer =
     if has_room far && fits held answer then carry_step request answer ∷ [] else []
 carry_steps request state far answer = []
 
-abbrev pub raise_steps : Events → Event → List Step
+abbrev pub raise_steps : Events → Event → List PortStep
 raise_steps memory event = if freezes_at_once memory then Freeze (event ∷ []) ∷ [] else []
 
-abbrev pub own_step : Option Request → Far → LocalStep → List Step
+abbrev pub own_step : Option Request → Far → LocalStep → List PortStep
 own_step request far (OwnCarry answer) = carry_steps request far.isdu far answer
 own_step request far (OwnRaise event) = raise_steps far.events event
 own_step request far (OwnInput image) = if is_input far image then Input (Some image) ∷ [] else []
 own_step request far OwnNoInput = Input None ∷ []
 own_step request far OwnPower = PowerLoss ∷ []
 
-abbrev pub own_steps : Option Request → Far → List LocalStep → List Step
+abbrev pub own_steps : Option Request → Far → List LocalStep → List PortStep
 own_steps request far [] = []
 own_steps request far (step ∷ steps) =
     own_step request far step ++ own_steps request (local far step) steps
@@ -79,11 +79,11 @@ hidden_through request far (step ∷ steps) hidden =
 
 -- what the device is handed has no answer, even if it had one before
 
-abbrev pub again_by : Option Answer → List Step
+abbrev pub again_by : Option Answer → List PortStep
 again_by None = []
 again_by (Some answer) = Again ∷ []
 
-abbrev pub again_steps : Option Request → IsduState → Hidden → List Step
+abbrev pub again_steps : Option Request → IsduState → Hidden → List PortStep
 again_steps (Some request) (Handed held) hidden = again_by hidden.answer
 again_steps request state hidden = []
 
@@ -104,19 +104,19 @@ told_through far (step ∷ steps) told =
 
 -- What a message does that the device accepts
 
-abbrev pub confirm_steps : Events → List Step
+abbrev pub confirm_steps : Events → List PortStep
 confirm_steps memory = if not memory.held && not (is_empty memory.frozen) then Confirm ∷ [] else []
 
 -- any other message, or a wake
-abbrev pub release_steps : Events → List Step
+abbrev pub release_steps : Events → List PortStep
 release_steps memory = if is_empty memory.frozen && not (is_empty memory.waiting)
     then Freeze (take 6 memory.waiting) ∷ [] else []
 
-abbrev pub event_steps : Events → Bool → List Step
+abbrev pub event_steps : Events → Bool → List PortStep
 event_steps memory true = confirm_steps memory
 event_steps memory false = release_steps memory
 
-abbrev pub output_steps : Option Image → List Step
+abbrev pub output_steps : Option ImageOctets → List PortStep
 output_steps None = OutputOff ∷ []
 output_steps (Some image) = OutputOn ∷ []
 
@@ -124,16 +124,16 @@ output_steps (Some image) = OutputOn ∷ []
 abbrev pub confirms_by : Mc → Bool
 confirms_by mc = is_confirm mc.channel mc.read mc.address
 
-abbrev pub worked_steps : Far → List ℕ → MasterMsg → List Step
+abbrev pub worked_steps : Far → List ℕ → MasterMsg → List PortStep
 worked_steps far octets message = event_steps far.events (confirms_by message.mc)
-    ++ output_steps (output_of (worked far octets message))
+    ++ output_steps (output_of (far_after_message far octets message))
 
-abbrev pub heard_steps_as : Option (Far × MasterMsg) → List ℕ → List Step
+abbrev pub heard_steps_as : Option (Far × MasterMsg) → List ℕ → List PortStep
 heard_steps_as None octets = []
 heard_steps_as (Some (there, message)) octets = worked_steps there octets message
 
-abbrev pub heard_steps : Far → List ℕ → List Step
-heard_steps far octets = heard_steps_as (accepted far octets) octets
+abbrev pub heard_steps : Far → List ℕ → List PortStep
+heard_steps far octets = heard_steps_as (accepted_message far octets) octets
 
 abbrev pub told_released : Events → Bool → Bool
 told_released memory told =
@@ -148,11 +148,11 @@ told_heard_as None told = told
 told_heard_as (Some (there, message)) told = told_worked there.events (confirms_by message.mc) told
 
 abbrev pub told_heard : Far → List ℕ → Bool → Bool
-told_heard far octets told = told_heard_as (accepted far octets) told
+told_heard far octets told = told_heard_as (accepted_message far octets) told
 
 -- One exchange: the device's own steps, and what it hears
 
-abbrev pub passed_steps : Passage → Far → List ℕ → List Step
+abbrev pub passed_steps : Passage → Far → List ℕ → List PortStep
 passed_steps OutLost far octets = []
 passed_steps BackLost far octets = heard_steps far octets
 passed_steps Clean far octets = heard_steps far octets
@@ -162,7 +162,7 @@ told_passed OutLost far octets told = told
 told_passed BackLost far octets told = told_heard far octets told
 told_passed Clean far octets told = told_heard far octets told
 
-abbrev pub exchange_steps : Option Request → Far → List LocalStep → Passage → List ℕ → List Step
+abbrev pub exchange_steps : Option Request → Far → List LocalStep → Passage → List ℕ → List PortStep
 exchange_steps request far steps passage octets =
     own_steps request far steps ++ passed_steps passage (locals far steps) octets
 
@@ -172,7 +172,7 @@ told_exchanged far steps passage octets told =
 
 -- One wake: the device's own steps, and the wake's effect, if any
 
-abbrev pub woken_steps : Bool → Far → List Step
+abbrev pub woken_steps : Bool → Far → List PortStep
 woken_steps true far = release_steps far.events ++ OutputOff ∷ []
 woken_steps false far = []
 
@@ -180,7 +180,7 @@ abbrev pub told_woken : Bool → Far → Bool → Bool
 told_woken true far told = told_released far.events told
 told_woken false far told = told
 
-abbrev pub wake_steps : Far → List LocalStep → Bool → List Step
+abbrev pub wake_steps : Far → List LocalStep → Bool → List PortStep
 wake_steps far steps wakes = own_steps None far steps ++ woken_steps wakes (locals far steps)
 
 abbrev pub told_wake : Far → List LocalStep → Bool → Bool → Bool

@@ -14,7 +14,7 @@ use Rattle.iol_far.specs.declared.kind.Kind.{Kind}
 use Rattle.iol_far.specs.declared.kind.HandsOver.{HandsOver}
 use Rattle.iol_far.specs.declared.kind.Recalls.{Recalls}
 use Rattle.iol_far.specs.declared.kind.Recalls.TheVariants.{UntilSent}
-use Rattle.iol_far.specs.declared.mode.Mode.TheVariants.{Operate as FarOperate}
+use Rattle.iol_far.specs.declared.mode.DeviceMode.TheVariants.{Operate as FarOperate}
 use Rattle.iol_far.specs.Codec.{layout_in}
 use Rattle.iol_far.specs.Level.{Move as MasterMove, Begin, hands_whole}
 use Rattle.iol_link.specs.Attempts.{most_attempts}
@@ -28,49 +28,49 @@ use Rattle.iol_steps.specs.declared.said.Said.{Said}
 use Rattle.iol_steps.specs.declared.said.Said.TheVariants.{Answered, Cut, Reported}
 
 -- the octets of one direction's process data
-abbrev pub Image : Type 0
-Image = List ℕ
+abbrev pub ImageOctets : Type 0
+ImageOctets = List ℕ
 
-pub data Step : Type 0 where
+pub data PortStep : Type 0 where
   -- a request, under the number of its ticket, is under way
-  Take : ℕ → Request → Step
+  Take : ℕ → Request → PortStep
   -- the request of this ticket is answered NoIsdu, and never under way
-  Deny : ℕ → Step
+  Deny : ℕ → PortStep
   -- the device carries out the request under way, and answers this
-  Carry : Answer → Step
+  Carry : Answer → PortStep
   -- it has answered the request under way, and is handed it once more
-  Again : Step
+  Again : PortStep
   -- the request under way has this answer, or is cut off
-  Done : Answer → Step
-  Unknown : Cause → Step
+  Done : Answer → PortStep
+  Unknown : Cause → PortStep
   -- the device carries out a request that was cut off
-  LateCarry : Answer → Step
+  LateCarry : Answer → PortStep
   -- at a port for any device a wake-up request was answered
-  Start : Step
+  Start : PortStep
   -- the device was reset by a wake-up request, or it has left the mode that it was in
-  Reset : Step
+  Reset : PortStep
   -- the device freezes events; the master has read them; the device hears the confirm
-  Freeze : List Event → Step
-  Report : List Event → Step
-  Confirm : Step
+  Freeze : List Event → PortStep
+  Report : List Event → PortStep
+  Confirm : PortStep
   -- the port's image becomes the device's input, or none
-  ShowImage : Step
-  DropImage : Step
+  ShowImage : PortStep
+  DropImage : PortStep
   -- a message is made in OPERATE, with the output wanted
-  Make : Step
+  Make : PortStep
   -- a message is heard, after which the device's output is the one sent, or none
-  OutputOn : Step
-  OutputOff : Step
+  OutputOn : PortStep
+  OutputOff : PortStep
   -- the device's input becomes this
-  Input : Option Image → Step
+  Input : Option ImageOctets → PortStep
   -- the device has a power cycle
-  PowerLoss : Step
+  PowerLoss : PortStep
   -- the device's page is read and checked
-  TellLength : Step
+  TellLength : PortStep
   -- the device replies that it is busy with the request
-  Busy : Step
+  Busy : PortStep
   -- the link takes another mode, or is down for a cause
-  Move : Mode → Option Why → Step
+  Move : Mode → Option Why → PortStep
 
 -- The one call of the wire in a turn: a wake, and whether it was answered; an
 -- exchange, and whether it brought a good reply
@@ -143,8 +143,8 @@ fault_in (Ok layouts) = None
 fault_in (Err fault) = Some (why_of fault)
 
 -- why a page can't be taken into use
-abbrev pub page_fault : List ℕ → Option Why
-page_fault octets = fault_in (layouts_of octets)
+abbrev pub page_refusal : List ℕ → Option Why
+page_refusal octets = fault_in (layouts_of octets)
 
 -- a turn, as its steps are judged: the mode and the silence at its beginning, and its wire call
 pub record Moment : Type 0 where
@@ -161,7 +161,7 @@ silence_left moment = silence_by moment.call moment.silence
 
 -- two steps that don't stand in one turn: a second of a kind, a denial beside a
 -- taking, and a busy reply beside the taking or the carrying out of its request
-abbrev pub clash : Step → Step → Bool
+abbrev pub clash : PortStep → PortStep → Bool
 clash (Take ticket request) (Take other next) = true
 clash (Take ticket request) (Deny other) = true
 clash (Deny ticket) (Take other next) = true
@@ -180,19 +180,19 @@ clash Busy (Carry answer) = true
 clash (Carry answer) Busy = true
 clash step other = false
 
-abbrev pub is_clash_free : List Step → Bool
+abbrev pub is_clash_free : List PortStep → Bool
 is_clash_free [] = true
 is_clash_free (step ∷ steps) =
     list_all (λ other. not (clash step other)) steps && is_clash_free steps
 
 -- no message is made in them
-abbrev pub no_make : List Step → Bool
+abbrev pub no_make : List PortStep → Bool
 no_make [] = true
 no_make (Make ∷ steps) = false
 no_make (step ∷ steps) = no_make steps
 
 -- the steps that the book hears of
-abbrev pub is_for_book : Step → Bool
+abbrev pub is_for_book : PortStep → Bool
 is_for_book (Take ticket request) = true
 is_for_book (Deny ticket) = true
 is_for_book (Done answer) = true
@@ -201,20 +201,20 @@ is_for_book Reset = true
 is_for_book step = false
 
 -- and the steps that bring events to the port
-abbrev pub is_report : Step → Bool
+abbrev pub is_report : PortStep → Bool
 is_report (Report events) = true
 is_report step = false
 
 -- what a turn says tells of its steps
-abbrev pub book_said : Said → List Step
+abbrev pub book_said : Said → List PortStep
 book_said (Answered answer) = Done answer ∷ []
 book_said (Cut cause) = Unknown cause ∷ []
 book_said said = []
 
-abbrev pub reports_said : Said → List Step
+abbrev pub reports_said : Said → List PortStep
 reports_said (Reported events) = Report events ∷ []
 reports_said said = []
 
 -- the device wasn't known to be reset when a turn began, and is behind it
-abbrev pub resets : Bool → Bool → List Step
+abbrev pub resets : Bool → Bool → List PortStep
 resets began ended = cond (not began && ended) (Reset ∷ []) []

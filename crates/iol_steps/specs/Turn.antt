@@ -3,11 +3,11 @@
 use Rattle.std.specs.Prelude.{◌≡◌, ◌≢◌, ◌⊎◌, ◌≤◌, Bool, not, None}
 use Rattle.iol_steps.specs.declared.mode.Mode.{Mode}
 use Rattle.iol_steps.specs.declared.mode.Mode.TheVariants.{Operate}
-use Rattle.iol_steps.specs.Step.{Step, Busy, silence_by, Moment, clash}
+use Rattle.iol_steps.specs.Step.{PortStep, Busy, silence_by, Moment, clash}
 use Rattle.iol_steps.specs.Images.{Images}
 
 -- whether a step may stand in the turn in which its request is taken
-abbrev pub is_calm : Step → Bool
+abbrev pub is_calm : PortStep → Bool
 is_calm step = not (clash Busy step)
 
 -- a turn that began in OPERATE and leaves no silence leaves the image equal to the device's

@@ -3,41 +3,41 @@ use Rattle.std.specs.Prelude.{◌≡◌, ℕ, List, take, Option, Some}
 use Rattle.arrayvec.specs.ArrayVec.{ArrayVec}
 use Rattle.iol_link.specs.declared.wire.Rate.{Rate}
 use Rattle.iol_link.specs.WireFacts.{WireFacts}
-use Rattle.iol_tap.specs.declared.tap.Passed.{Passed}
-use Rattle.iol_tap.specs.declared.tap.Passed.TheVariants.{Wake, Exchange}
+use Rattle.iol_tap.specs.declared.tap.TapNote.{TapNote}
+use Rattle.iol_tap.specs.declared.tap.TapNote.TheVariants.{Wake, Exchange}
 
 -- the wire within, and the last call that passed
-pub record Tapped (W : Type 0) : Type 0 where
+pub record TappedWire (W : Type 0) : Type 0 where
   pub wire : W
-  pub last : Option Passed
+  pub last : Option TapNote
 
 -- what holds of the wire within holds of the tap
-abbrev pub through : {W X : Type 0} → (W → X) → Tapped W → X
+abbrev pub through : {W X : Type 0} → (W → X) → TappedWire W → X
 through of tap = of tap.wire
 
 -- the note of a wake: what was answered
-abbrev pub wake_noted : Option Rate → Passed
+abbrev pub wake_noted : Option Rate → TapNote
 wake_noted answer = Wake answer
 
 -- the note of an exchange: the octets sent, the first 66 where there are more, and the answer
-abbrev pub exchange_noted : List ℕ → Option (ArrayVec ℕ) → Passed
+abbrev pub exchange_noted : List ℕ → Option (ArrayVec ℕ) → TapNote
 exchange_noted sent answer = Exchange (record { items = take 66 sent }) answer
 
 module _ {W : Type 0} (facts : WireFacts W) where
   open facts use {wake_gives, exchange_gives}
 
   -- a wake of the tap: one of the wire within, and its note
-  abbrev pub TapWakes : Tapped W → Option Rate → Tapped W → Type 0
+  abbrev pub TapWakes : TappedWire W → Option Rate → TappedWire W → Type 0
   TapWakes old answer new = wake_gives old.wire answer new.wire
       × (new.last ≡ Some (wake_noted answer))
 
   -- an exchange of the tap: one of the wire within, and its note
-  abbrev pub TapGives : Tapped W → List ℕ → Option (ArrayVec ℕ) → Tapped W → Type 0
+  abbrev pub TapGives : TappedWire W → List ℕ → Option (ArrayVec ℕ) → TappedWire W → Type 0
   TapGives old sent answer new = exchange_gives old.wire sent answer new.wire
       × (new.last ≡ Some (exchange_noted sent answer))
 
   -- what the tap is to a contract: it claims what the wire within claims, and is told nothing
-  abbrev pub tap_facts : WireFacts (Tapped W)
+  abbrev pub tap_facts : WireFacts (TappedWire W)
   tap_facts = record {
     honest = through facts.honest;
     far = through facts.far;
@@ -48,7 +48,7 @@ module _ {W : Type 0} (facts : WireFacts W) where
   }
 
   -- a note is of one call of a wire, which led from the one state of it to the other
-  abbrev pub IsNoteOf : Passed → W → W → Type 0
+  abbrev pub IsNoteOf : TapNote → W → W → Type 0
   IsNoteOf (Wake answer) old new = wake_gives old answer new
   IsNoteOf (Exchange first answer) old new = (sent : List ℕ) × (first.items ≡ take 66 sent)
       × exchange_gives old sent answer new

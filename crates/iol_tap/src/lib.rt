@@ -12,4 +12,4 @@
 
 mod tap;
 
-pub use tap::{Passed, Tap};
+pub use tap::{Tap, TapNote};

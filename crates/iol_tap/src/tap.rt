@@ -11,7 +11,7 @@ const LONGEST: usize = 66;
 
 /// One call of a wire, as it was made and answered.
 #[derive(Clone, Debug, PartialEq, Eq, Drop)]
-pub enum Passed {
+pub enum TapNote {
     /// A wake-up request, and the rate that was answered, if any.
     Wake(Option<Rate>),
     /// The octets of a message, and those that came back in the time of a reply, if any.
@@ -26,13 +26,13 @@ pub enum Passed {
 #[derive(Drop)]
 pub struct Tap<W: Wire> {
     wire: W,
-    last: Option<Passed>,
+    last: Option<TapNote>,
 }
 
 impl<W: Wire> Model for Tap<W> {
-    ghost use Rattle.iol_tap.specs.Tapped.{Tapped};
+    ghost use Rattle.iol_tap.specs.Tapped.{TappedWire};
 
-    ghost Value = { Tapped W };
+    ghost Value = { TappedWire W };
 
     ghost view = { λ tap. record { wire = tap.wire; last = tap.last } };
 }
@@ -46,7 +46,7 @@ impl<W: Wire> Tap<W> {
     }
 
     /// The last call that passed, none where none did yet.
-    pub fn last(&self) -> Option<&Passed>
+    pub fn last(&self) -> Option<&TapNote>
         ensures { option_copied result ≡ self.now.last }
     {
         self.last.as_ref()
@@ -80,13 +80,13 @@ impl<W: Wire> Wire for Tap<W> {
 
     fn wake(&mut self) -> Option<Rate> {
         let answer = self.wire.wake();
-        self.last = Some(Passed::Wake(answer));
+        self.last = Some(TapNote::Wake(answer));
         answer
     }
 
     fn exchange(&mut self, sent: &[u8]) -> Option<Message> {
         let answer = self.wire.exchange(sent);
-        self.last = Some(Passed::Exchange(first_of(sent), copy_of(&answer)));
+        self.last = Some(TapNote::Exchange(first_of(sent), copy_of(&answer)));
         answer
     }
 }

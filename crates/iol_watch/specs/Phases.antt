@@ -5,30 +5,31 @@ use Rattle.iol_page.specs.declared.page.Layouts.{Layouts}
 use Rattle.iol_page.specs.declared.master_command.MasterCommand.{MasterCommand}
 use Rattle.iol_page.specs.declared.master_command.MasterCommand.TheVariants.{MasterIdent, DeviceIdent, DeviceStartup, ProcessDataOutputOperate, DeviceOperate, DevicePreoperate}
 use Rattle.iol_judge.specs.declared.open.Open.{Open}
-use Rattle.iol_watch.specs.declared.phase.Phase.{Phase}
-use Rattle.iol_watch.specs.declared.phase.Phase.TheVariants.{Startup, Preoperate, Operate}
+use Rattle.iol_watch.specs.declared.phase.MasterPhase.{MasterPhase}
+use Rattle.iol_watch.specs.declared.phase.MasterPhase.TheVariants.{Startup, Preoperate, Operate}
 use Rattle.iol_watch.specs.declared.master.StartUp.{StartUp}
 
 -- the layout of its messages
-abbrev pub phase_layout : Phase → Shape
+abbrev pub phase_layout : MasterPhase → Shape
 phase_layout (Preoperate layouts) = unwrap_or layouts.pre startup_shape
 phase_layout (Operate layouts) = layouts.run
 phase_layout phase = startup_shape
 
 -- once the good reply to a master command came
-abbrev pub entered : Phase → Result Layouts Open → Option MasterCommand → Phase
-entered Startup (Ok layouts) (Some DevicePreoperate) = Preoperate layouts
-entered Startup (Ok layouts) (Some DeviceOperate) = Operate layouts
-entered (Preoperate layouts) asked (Some DeviceOperate) = Operate layouts
-entered phase asked command = phase
+abbrev pub phase_after_command : MasterPhase → Result Layouts Open → Option MasterCommand
+    → MasterPhase
+phase_after_command Startup (Ok layouts) (Some DevicePreoperate) = Preoperate layouts
+phase_after_command Startup (Ok layouts) (Some DeviceOperate) = Operate layouts
+phase_after_command (Preoperate layouts) asked (Some DeviceOperate) = Operate layouts
+phase_after_command phase asked command = phase
 
-abbrev pub in_operate : Phase → Bool
-in_operate (Operate layouts) = true
-in_operate phase = false
+abbrev pub is_in_operate : MasterPhase → Bool
+is_in_operate (Operate layouts) = true
+is_in_operate phase = false
 
 -- Whether a new master command is allowed; an octet that is none isn't. In STARTUP the page asks
 -- for layouts of a device of V1.1, or of V1.0
-abbrev pub allows : Phase → Result Layouts Open → StartUp → Option MasterCommand → Bool
+abbrev pub allows : MasterPhase → Result Layouts Open → StartUp → Option MasterCommand → Bool
 allows Startup asked done (Some MasterIdent) = true
 allows Startup asked done (Some DeviceIdent) = true
 allows Startup asked done (Some DeviceStartup) = true

@@ -1,16 +1,16 @@
 -- The event work of a master: which message is due there.
 use Rattle.std.specs.Prelude.{ℕ, Bool, false, not, ◌&&◌, ◌==◌, if◌then◌else◌, [], Some, None, Ok, Err}
-use Rattle.iol_event.specs.Reading.{next_address, taken}
+use Rattle.iol_event.specs.Reading.{next_address, reader_step}
 use Rattle.iol_watch.specs.declared.reading.Reading.{Reading}
 use Rattle.iol_watch.specs.declared.reading.Reading.TheVariants.{Resting, UnderWay, ConfirmDue, Refused}
-use Rattle.iol_watch.specs.declared.reading.Events.{Events}
+use Rattle.iol_watch.specs.declared.reading.MasterEvents.{MasterEvents}
 
 -- as a session begins
-abbrev pub no_events : Events
-no_events = record { flag = false; reading = Resting }
+abbrev pub no_master_events : MasterEvents
+no_master_events = record { flag = false; reading = Resting }
 
 -- whether a new read or write of this diagnosis address is due
-abbrev pub is_due : Events → Bool → ℕ → Bool
+abbrev pub is_due : MasterEvents → Bool → ℕ → Bool
 is_due events read address = elim events.reading [
   | Resting ↦ read && events.flag && (address == 0)
   | UnderWay reader ↦ read && (address == next_address reader)
@@ -21,7 +21,7 @@ is_due events read address = elim events.reading [
 -- with one more octet
 abbrev pub reading_after : Reading → ℕ → Reading
 reading_after reading octet =
-    let next = taken (elim reading [ UnderWay reader ↦ reader | _ ↦ [] ]) octet in
+    let next = reader_step (elim reading [ UnderWay reader ↦ reader | _ ↦ [] ]) octet in
     elim next.answer [
       | Ok None ↦ UnderWay next.reader
       | Ok (Some list) ↦ ConfirmDue
@@ -29,5 +29,5 @@ reading_after reading octet =
     ]
 
 -- once the good reply to a read brought this octet, or one to the confirm came
-abbrev pub read_on : Bool → ℕ → Reading → Reading
-read_on read octet reading = if read then reading_after reading octet else Resting
+abbrev pub reading_after_reply : Bool → ℕ → Reading → Reading
+reading_after_reply read octet reading = if read then reading_after reading octet else Resting

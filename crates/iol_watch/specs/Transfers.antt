@@ -7,123 +7,125 @@ use Rattle.iol_isdu.specs.Answers.{answer_fault, is_read}
 use Rattle.iol_isdu.specs.Parse.{request_of}
 use Rattle.iol_segment.specs.Join.{Open, Complete, Wrong, stage, next_count}
 use Rattle.iol_judge.specs.Octets.{are_zeros}
-use Rattle.iol_watch.specs.declared.fault.MasterFault.{MasterFault}
-use Rattle.iol_watch.specs.declared.fault.MasterFault.TheVariants.{NotDue, RequestText, NotInLine}
-use Rattle.iol_watch.specs.declared.transfer.Transfer.{Transfer}
-use Rattle.iol_watch.specs.declared.transfer.Transfer.TheVariants.{Quiet, Written, Asked, Doubted, Answered, Refused}
+use Rattle.iol_watch.specs.declared.fault.Blame.{Blame}
+use Rattle.iol_watch.specs.declared.fault.Blame.TheVariants.{NotDue, RequestText, NotInLine}
+use Rattle.iol_watch.specs.declared.transfer.MasterTransfer.{MasterTransfer}
+use Rattle.iol_watch.specs.declared.transfer.MasterTransfer.TheVariants.{Quiet, Written, Asked, Doubted, Answered, Refused}
 use Rattle.iol_watch.specs.declared.transfer.TheConstants.{LONGEST, NO_SERVICE, BUSY, START_WRITE, START_READ}
 
 -- The request's segments
 
 -- not all octets of a request
-abbrev pub begun : List ℕ → Option ℕ → Result Transfer MasterFault
-begun octets last = if nat_le (length octets) LONGEST
+abbrev pub request_begun : List ℕ → Option ℕ → Result MasterTransfer Blame
+request_begun octets last = if nat_le (length octets) LONGEST
     then Ok (Written (record { items = octets }) last) else Err RequestText
 
 -- a text, and the octets behind it
-abbrev pub whole : Option Request → List ℕ → Result Transfer MasterFault
-whole None rest = Err RequestText
-whole (Some request) rest =
+abbrev pub request_joined : Option Request → List ℕ → Result MasterTransfer Blame
+request_joined None rest = Err RequestText
+request_joined (Some request) rest =
     if are_zeros rest then Ok (Asked (is_read request)) else Err RequestText
 
 -- of a request these octets were written, the last of them under this COUNT
-abbrev pub written : List ℕ → Option ℕ → Result Transfer MasterFault
-written octets last = elim (stage octets) [
-  | Open ↦ begun octets last
-  | Complete text ↦ whole (request_of text) (drop (length text) octets)
+abbrev pub transfer_in_request : List ℕ → Option ℕ → Result MasterTransfer Blame
+transfer_in_request octets last = elim (stage octets) [
+  | Open ↦ request_begun octets last
+  | Complete text ↦ request_joined (request_of text) (drop (length text) octets)
   | Wrong ↦ Err RequestText
 ]
 
-abbrev pub start_sent : Bool → Transfer → List ℕ → Result Transfer MasterFault
-start_sent true Quiet octets = written octets None
+abbrev pub start_sent : Bool → MasterTransfer → List ℕ → Result MasterTransfer Blame
+start_sent true Quiet octets = transfer_in_request octets None
 start_sent isdu transfer octets = Err NotDue
 
-abbrev pub count_sent : Transfer → ℕ → List ℕ → Result Transfer MasterFault
+abbrev pub count_sent : MasterTransfer → ℕ → List ℕ → Result MasterTransfer Blame
 count_sent (Written text last) count octets = if count == next_count last
-    then written (text.items ++ octets) (Some count) else Err NotInLine
+    then transfer_in_request (text.items ++ octets) (Some count) else Err NotInLine
 count_sent (Asked read) count octets = Err RequestText
 count_sent transfer count octets = Err NotDue
 
 -- The answer's segments
 
-abbrev pub start_asked : Transfer → Result Transfer MasterFault
+abbrev pub start_asked : MasterTransfer → Result MasterTransfer Blame
 start_asked (Asked read) = Ok (Asked read)
 start_asked transfer = Err NotDue
 
-abbrev pub count_asked : Transfer → ℕ → Result Transfer MasterFault
+abbrev pub count_asked : MasterTransfer → ℕ → Result MasterTransfer Blame
 count_asked (Answered read text last) count =
     if count == next_count last then Ok (Answered read text (Some count)) else Err NotInLine
 count_asked transfer count = Err NotDue
 
 -- not all octets of an answer
-abbrev pub answer_begun : Bool → List ℕ → Option ℕ → Transfer
+abbrev pub answer_begun : Bool → List ℕ → Option ℕ → MasterTransfer
 answer_begun read octets last = if nat_le (length octets) LONGEST
     then Answered read (record { items = octets }) last else Refused
 
-abbrev pub answer_joined : Bool → List ℕ → Transfer
+abbrev pub answer_joined : Bool → List ℕ → MasterTransfer
 answer_joined read text = if is_some (answer_fault read text) then Refused else Quiet
 
 -- of an answer these octets came, the last of them under this COUNT
-abbrev pub answered : Bool → List ℕ → Option ℕ → Transfer
-answered read octets last = elim (stage octets) [
+abbrev pub transfer_in_answer : Bool → List ℕ → Option ℕ → MasterTransfer
+transfer_in_answer read octets last = elim (stage octets) [
   | Open ↦ answer_begun read octets last
   | Complete text ↦ answer_joined read text
   | Wrong ↦ Refused
 ]
 
 -- busy, no service, or the answer's first segment
-abbrev pub asked_told : Bool → List ℕ → Transfer
-asked_told read octets =
+abbrev pub asked_after_reply : Bool → List ℕ → MasterTransfer
+asked_after_reply read octets =
     if slice_index octets 0 == BUSY then Asked read else
     if slice_index octets 0 == NO_SERVICE then Refused else
-    answered read octets None
+    transfer_in_answer read octets None
 
 -- the same of a START read in place of a START write: of which the device has heard nothing
-abbrev pub doubted_told : Bool → List ℕ → Transfer
+abbrev pub doubted_told : Bool → List ℕ → MasterTransfer
 doubted_told read octets =
-    if slice_index octets 0 == NO_SERVICE then Quiet else asked_told read octets
+    if slice_index octets 0 == NO_SERVICE then Quiet else asked_after_reply read octets
 
 -- once the good reply to a read on the ISDU channel brought these octets
-abbrev pub told : Transfer → List ℕ → Transfer
-told (Asked read) octets = asked_told read octets
-told (Doubted read) octets = doubted_told read octets
-told (Answered read text last) octets = answered read (text.items ++ octets) last
-told transfer octets = transfer
+abbrev pub transfer_after_reply : MasterTransfer → List ℕ → MasterTransfer
+transfer_after_reply (Asked read) octets = asked_after_reply read octets
+transfer_after_reply (Doubted read) octets = doubted_told read octets
+transfer_after_reply (Answered read text last) octets =
+    transfer_in_answer read (text.items ++ octets) last
+transfer_after_reply transfer octets = transfer
 
 -- A message in place of a repeat
 
 -- a START read, in place of a START write that holds a whole request
-abbrev pub asks_instead : Transfer → List ℕ → List ℕ → Bool
+abbrev pub asks_instead : MasterTransfer → List ℕ → List ℕ → Bool
 asks_instead (Asked read) out octets =
     (slice_index out 0 == START_WRITE) && (slice_index octets 0 == START_READ)
 asks_instead transfer out octets = false
 
 -- once that goes out, and once it goes out again
-abbrev pub doubted : Transfer → Transfer
-doubted (Asked read) = Doubted read
-doubted transfer = transfer
+abbrev pub transfer_in_doubt : MasterTransfer → MasterTransfer
+transfer_in_doubt (Asked read) = Doubted read
+transfer_in_doubt transfer = transfer
 
-abbrev pub asked_again : Transfer → Transfer
-asked_again (Doubted read) = Asked read
-asked_again transfer = transfer
+abbrev pub transfer_after_repeat : MasterTransfer → MasterTransfer
+transfer_after_repeat (Doubted read) = Asked read
+transfer_after_repeat transfer = transfer
 
 -- A message
 
-abbrev pub idle_sent : Transfer → Result Transfer MasterFault
+abbrev pub idle_sent : MasterTransfer → Result MasterTransfer Blame
 idle_sent Quiet = Ok Quiet
 idle_sent transfer = Err NotDue
 
-abbrev pub abort_sent : Transfer → Result Transfer MasterFault
+abbrev pub abort_sent : MasterTransfer → Result MasterTransfer Blame
 abort_sent Quiet = Err NotDue
 abort_sent transfer = Ok Quiet
 
 -- once a new message is sent on the ISDU channel, to a device that has ISDU or not
-abbrev pub moved : Bool → Transfer → Bool → Flow → List ℕ → Result Transfer MasterFault
-moved isdu transfer true Start octets = start_asked transfer
-moved isdu transfer false Start octets = start_sent isdu transfer octets
-moved isdu transfer true (Count count) octets = count_asked transfer count
-moved isdu transfer false (Count count) octets = count_sent transfer count octets
-moved isdu transfer read Idle1 octets = idle_sent transfer
-moved isdu transfer read Idle2 octets = idle_sent transfer
-moved isdu transfer read Abort octets = abort_sent transfer
-moved isdu transfer read (Reserved address) octets = Err NotDue
+abbrev pub transfer_after_message : Bool → MasterTransfer → Bool → Flow → List ℕ
+    → Result MasterTransfer Blame
+transfer_after_message isdu transfer true Start octets = start_asked transfer
+transfer_after_message isdu transfer false Start octets = start_sent isdu transfer octets
+transfer_after_message isdu transfer true (Count count) octets = count_asked transfer count
+transfer_after_message isdu transfer false (Count count) octets = count_sent transfer count octets
+transfer_after_message isdu transfer read Idle1 octets = idle_sent transfer
+transfer_after_message isdu transfer read Idle2 octets = idle_sent transfer
+transfer_after_message isdu transfer read Abort octets = abort_sent transfer
+transfer_after_message isdu transfer read (Reserved address) octets = Err NotDue

@@ -8,7 +8,7 @@ use thiserror::Error;
 /// A new message is one behind a good reply, or behind an answered wake-up request. Of a new
 /// message the first that holds is named.
 #[derive(Clone, Copy, Debug, PartialEq, Eq, Error)]
-pub enum MasterFault {
+pub enum Blame {
     /// 1: a wake-up request was due: the last one wasn't answered, or three attempts in a row had
     /// no good reply since.
     #[error("WakeDue")]
@@ -59,22 +59,22 @@ pub enum MasterFault {
     NotInLine,
 }
 
-impl MasterFault {
-    ghost use Rattle.iol_watch.specs.Numbers.{fault_number};
+impl Blame {
+    ghost use Rattle.iol_watch.specs.Numbers.{blame_number};
 
     /// The number of the fault.
     pub fn code(&self) -> u8
-        ensures { result ≡ fault_number self.now }
+        ensures { result ≡ blame_number self.now }
     {
         match self {
-            MasterFault::WakeDue => 1,
-            MasterFault::NotRepeated => 2,
-            MasterFault::NotStartUp => 3,
-            MasterFault::NotWellFormed => 4,
-            MasterFault::OutputOctets => 5,
-            MasterFault::NotDue => 6,
-            MasterFault::RequestText => 7,
-            MasterFault::NotInLine => 8,
+            Blame::WakeDue => 1,
+            Blame::NotRepeated => 2,
+            Blame::NotStartUp => 3,
+            Blame::NotWellFormed => 4,
+            Blame::OutputOctets => 5,
+            Blame::NotDue => 6,
+            Blame::RequestText => 7,
+            Blame::NotInLine => 8,
         }
     }
 }

@@ -24,7 +24,7 @@ mod transfer;
 mod verdict;
 mod watch;
 
-pub use fault::MasterFault;
+pub use fault::Blame;
 pub use laws::repeats_and_wakes_are_fair;
-pub use verdict::Verdict;
+pub use verdict::MasterVerdict;
 pub use watch::Watch;

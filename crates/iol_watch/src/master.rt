@@ -2,16 +2,16 @@
 ghost use Rattle.std.specs.Prelude.{◌≡◌, ◌≤◌, length, OnOk, option_copied};
 ghost use Rattle.iol_judge.specs.Seen.{layouts_seen};
 ghost use Rattle.iol_watch.specs.Phases.{allows, allows_cycle};
-ghost use Rattle.iol_watch.specs.Results.{result_with};
-ghost use Rattle.iol_watch.specs.Watched.{asked_instead, command_sent, cycle_sent, heard, missed, mode_entered, new_master, replied, sent, sent_in_startup, sent_new, sent_on, sent_to_page, woken};
+ghost use Rattle.iol_watch.specs.Results.{result_or_blame};
+ghost use Rattle.iol_watch.specs.Watched.{asked_instead, command_sent, cycle_sent, master_after_answer, master_without_reply, mode_entered, new_master, master_after_reply, master_after_sending, sent_in_startup, sent_new, sent_on, sent_to_page, master_after_wake};
 
-use crate::fault::MasterFault;
+use crate::fault::Blame;
 use crate::message::reply_in;
 use crate::output::Output;
-use crate::phase::Phase;
-use crate::reading::Events;
-use crate::transfer::Transfer;
-use iol_judge::{Seen, Wake, command_in, message_in};
+use crate::phase::MasterPhase;
+use crate::reading::MasterEvents;
+use crate::transfer::MasterTransfer;
+use iol_judge::{SeenPage, Wake, command_in, message_in};
 use iol_mseq::{MasterView, Message, ReplyView, first};
 use iol_octets::Channel;
 use iol_page::{Layouts, MasterCommand};
@@ -34,7 +34,7 @@ pub(crate) struct StartUp {
 
 /// A message whose last attempts had no good reply.
 #[derive(Debug, Drop)]
-pub(crate) struct Missed {
+pub(crate) struct MissedMessage {
     pub octets: Message,
     /// Whether these were two attempts, else one.
     pub twice: bool,
@@ -42,61 +42,61 @@ pub(crate) struct Missed {
 
 /// How far a master has come.
 #[derive(Debug, Drop)]
-pub(crate) struct Master {
-    pub phase: Phase,
+pub(crate) struct MasterState {
+    pub phase: MasterPhase,
     /// What it knows of the device's page.
-    pub seen: Seen,
+    pub seen: SeenPage,
     pub done: StartUp,
     /// The message that is to be sent again.
-    pub out: Option<Missed>,
+    pub out: Option<MissedMessage>,
     pub output: Output,
-    pub events: Events,
-    pub transfer: Transfer,
+    pub events: MasterEvents,
+    pub transfer: MasterTransfer,
 }
 
-impl Master {
+impl MasterState {
     /// Of a capture that just began.
-    pub fn new() -> Master
+    pub fn new() -> MasterState
         ensures { result ≡ new_master }
     {
-        Master {
-            phase: Phase::Down,
-            seen: Seen::nothing(),
+        MasterState {
+            phase: MasterPhase::Down,
+            seen: SeenPage::nothing(),
             done: StartUp {
                 ident: false,
                 cycle: false,
             },
             out: None,
             output: Output::new(),
-            events: Events::new(),
-            transfer: Transfer::Quiet,
+            events: MasterEvents::new(),
+            transfer: MasterTransfer::Quiet,
         }
     }
 
     /// Once a wake-up request was made, by what is known of the page.
-    pub fn woken(self, seen: Seen, answer: Wake) -> Master
-        ensures { result ≡ woken self seen answer }
+    pub fn woken(self, seen: SeenPage, answer: Wake) -> MasterState
+        ensures { result ≡ master_after_wake self seen answer }
     {
         let phase = match answer {
-            Wake::Answered => Phase::Startup,
-            Wake::Unanswered => Phase::Down,
+            Wake::Answered => MasterPhase::Startup,
+            Wake::Unanswered => MasterPhase::Down,
         };
-        Master {
+        MasterState {
             phase,
             seen,
             output: self.output.woken(),
-            ..Master::new()
+            ..MasterState::new()
         }
     }
 
     /// Once it sends these octets.
     ///
-    /// Refusals: each `MasterFault`.
-    pub fn send(&mut self, octets: &[u8]) -> Result<(), MasterFault>
-        ensures { result_with result self.new ≡ sent self.old octets.now }
+    /// Refusals: each `Blame`.
+    pub fn send(&mut self, octets: &[u8]) -> Result<(), Blame>
+        ensures { result_or_blame result self.new ≡ master_after_sending self.old octets.now }
     {
         match (&self.phase, &self.out) {
-            (Phase::Down, _) => Err(MasterFault::WakeDue),
+            (MasterPhase::Down, _) => Err(Blame::WakeDue),
             (_, Some(out)) if out.octets.as_slice() == octets => {
                 self.transfer.repeat();
                 Ok(())
@@ -105,20 +105,20 @@ impl Master {
                 let twice = out.twice;
                 self.ask_instead(octets, twice)
             }
-            (_, Some(_)) => Err(MasterFault::NotRepeated),
+            (_, Some(_)) => Err(Blame::NotRepeated),
             (_, None) => self.send_new(octets),
         }
     }
 
     /// A START read in place of the message that is to be sent again: from now on it is that. The
     /// attempts are counted on.
-    fn ask_instead(&mut self, octets: &[u8], twice: bool) -> Result<(), MasterFault>
-        ensures { result_with result self.new
+    fn ask_instead(&mut self, octets: &[u8], twice: bool) -> Result<(), Blame>
+        ensures { result_or_blame result self.new
             ≡ asked_instead twice octets.now (sent_new self.old octets.now) }
     {
         self.send_new(octets)?;
         self.transfer.doubt();
-        self.out = Some(Missed {
+        self.out = Some(MissedMessage {
             octets: Message::try_from(octets).unwrap(),
             twice,
         });
@@ -126,17 +126,17 @@ impl Master {
     }
 
     /// A new message. Refusals: 3 NotStartUp to 8 NotInLine.
-    fn send_new(&mut self, octets: &[u8]) -> Result<(), MasterFault>
-        ensures value { result_with result self.new ≡ sent_new self.old octets.now }
+    fn send_new(&mut self, octets: &[u8]) -> Result<(), Blame>
+        ensures value { result_or_blame result self.new ≡ sent_new self.old octets.now }
         ensures length { OnOk result (length octets.now ≤ 66) }
     {
         let Some(message) = message_in(&self.phase.layout(), octets) else {
-            return Err(MasterFault::NotWellFormed);
+            return Err(Blame::NotWellFormed);
         };
         match self.phase {
-            Phase::Down | Phase::Startup => self.send_in_startup(&message),
-            Phase::Preoperate(layouts) => self.send_on(&layouts, &message),
-            Phase::Operate(layouts) => {
+            MasterPhase::Down | MasterPhase::Startup => self.send_in_startup(&message),
+            MasterPhase::Preoperate(layouts) => self.send_on(&layouts, &message),
+            MasterPhase::Operate(layouts) => {
                 self.output.carry(&message)?;
                 self.send_on(&layouts, &message)
             }
@@ -144,28 +144,28 @@ impl Master {
     }
 
     /// Of STARTUP. Refusal 3 NotStartUp.
-    fn send_in_startup(&mut self, message: &MasterView<'_>) -> Result<(), MasterFault>
-        ensures { result_with result self.new ≡ sent_in_startup self.old message.now }
+    fn send_in_startup(&mut self, message: &MasterView<'_>) -> Result<(), Blame>
+        ensures { result_or_blame result self.new ≡ sent_in_startup self.old message.now }
     {
         if message.mc().channel == Channel::Page {
             self.send_to_page(message)
         } else {
-            Err(MasterFault::NotStartUp)
+            Err(Blame::NotStartUp)
         }
     }
 
     /// Of PREOPERATE or OPERATE. Refusals: 3 NotStartUp, 6 NotDue to 8 NotInLine.
-    fn send_on(&mut self, layouts: &Layouts, message: &MasterView<'_>) -> Result<(), MasterFault>
-        ensures { result_with result self.new ≡ sent_on self.old layouts.now message.now }
+    fn send_on(&mut self, layouts: &Layouts, message: &MasterView<'_>) -> Result<(), Blame>
+        ensures { result_or_blame result self.new ≡ sent_on self.old layouts.now message.now }
     {
         let mc = message.mc();
         match mc.channel {
             Channel::Process => Ok(()),
             Channel::Page => self.send_to_page(message),
             Channel::Diagnosis if self.events.is_due(mc.read, mc.address) => Ok(()),
-            Channel::Diagnosis => Err(MasterFault::NotDue),
+            Channel::Diagnosis => Err(Blame::NotDue),
             Channel::Isdu => {
-                let transfer = replace(&mut self.transfer, Transfer::Quiet);
+                let transfer = replace(&mut self.transfer, MasterTransfer::Quiet);
                 self.transfer = transfer.moved(layouts.isdu, message)?;
                 Ok(())
             }
@@ -173,8 +173,8 @@ impl Master {
     }
 
     /// On the page channel. Refusal 3 NotStartUp.
-    fn send_to_page(&mut self, message: &MasterView<'_>) -> Result<(), MasterFault>
-        ensures { result_with result self.new ≡ sent_to_page self.old message.now }
+    fn send_to_page(&mut self, message: &MasterView<'_>) -> Result<(), Blame>
+        ensures { result_or_blame result self.new ≡ sent_to_page self.old message.now }
     {
         let mc = message.mc();
         match (mc.read, mc.address) {
@@ -185,11 +185,11 @@ impl Master {
     }
 
     /// A master command, or an octet that is none.
-    fn send_command(&mut self, command: Option<MasterCommand>) -> Result<(), MasterFault>
-        ensures { result_with result self.new ≡ command_sent self.old command }
+    fn send_command(&mut self, command: Option<MasterCommand>) -> Result<(), Blame>
+        ensures { result_or_blame result self.new ≡ command_sent self.old command }
     {
         if !self.allows(command) {
-            return Err(MasterFault::NotStartUp);
+            return Err(Blame::NotStartUp);
         }
         if command == Some(MasterCommand::MasterIdent) {
             self.done.ident = true;
@@ -198,11 +198,11 @@ impl Master {
     }
 
     /// MasterCycleTime.
-    fn send_cycle(&mut self, octet: u8) -> Result<(), MasterFault>
-        ensures { result_with result self.new ≡ cycle_sent self.old octet }
+    fn send_cycle(&mut self, octet: u8) -> Result<(), Blame>
+        ensures { result_or_blame result self.new ≡ cycle_sent self.old octet }
     {
         if !allows_cycle(self.seen.octet(MIN_CYCLE_TIME), octet) {
-            return Err(MasterFault::NotStartUp);
+            return Err(Blame::NotStartUp);
         }
         self.done.cycle = true;
         Ok(())
@@ -215,24 +215,25 @@ impl Master {
     {
         let asked = self.seen.layouts();
         match (&self.phase, command) {
-            (Phase::Startup, Some(MasterCommand::MasterIdent | MasterCommand::DeviceIdent)) => true,
-            (Phase::Startup, Some(MasterCommand::DeviceStartup)) => true,
-            (Phase::Startup, Some(MasterCommand::DevicePreoperate)) => {
+            (MasterPhase::Startup, Some(MasterCommand::MasterIdent | MasterCommand::DeviceIdent)) =>
+                true,
+            (MasterPhase::Startup, Some(MasterCommand::DeviceStartup)) => true,
+            (MasterPhase::Startup, Some(MasterCommand::DevicePreoperate)) => {
                 self.done.ident && matches!(asked, Ok(layouts) if layouts.pre.is_some())
             }
-            (Phase::Startup, Some(MasterCommand::DeviceOperate)) => {
+            (MasterPhase::Startup, Some(MasterCommand::DeviceOperate)) => {
                 self.done.cycle && matches!(asked, Ok(layouts) if layouts.pre.is_none())
             }
-            (Phase::Preoperate(_), Some(MasterCommand::DeviceOperate)) => self.done.cycle,
-            (Phase::Operate(_), Some(MasterCommand::ProcessDataOutputOperate)) => true,
-            (Phase::Operate(_), Some(MasterCommand::DeviceOperate)) => true,
+            (MasterPhase::Preoperate(_), Some(MasterCommand::DeviceOperate)) => self.done.cycle,
+            (MasterPhase::Operate(_), Some(MasterCommand::ProcessDataOutputOperate)) => true,
+            (MasterPhase::Operate(_), Some(MasterCommand::DeviceOperate)) => true,
             _ => false,
         }
     }
 
     /// Once this came in the time of a reply to what was sent, if anything did.
     pub fn hear(&mut self, sent: &[u8], answer: Option<&[u8]>)
-        ensures { self.new ≡ heard self.old sent.now (option_copied answer.entry) }
+        ensures { self.new ≡ master_after_answer self.old sent.now (option_copied answer.entry) }
     {
         let layout = self.phase.layout();
         let Some(message) = message_in(&layout, sent) else {
@@ -247,18 +248,18 @@ impl Master {
     /// Without a good reply.
     fn miss(&mut self, sent: &[u8])
         requires { length sent.now ≤ 66 }
-        ensures { self.new ≡ missed self.old sent.now }
+        ensures { self.new ≡ master_without_reply self.old sent.now }
     {
         let twice = match &self.out {
             None => false,
             Some(out) if !out.twice => true,
             Some(_) => {
-                self.phase = Phase::Down;
+                self.phase = MasterPhase::Down;
                 self.out = None;
                 return;
             }
         };
-        self.out = Some(Missed {
+        self.out = Some(MissedMessage {
             octets: Message::try_from(sent).unwrap(),
             twice,
         });
@@ -266,7 +267,7 @@ impl Master {
 
     /// With one.
     fn take(&mut self, message: &MasterView<'_>, reply: &ReplyView<'_>)
-        ensures { self.new ≡ replied self.old message.now reply.now }
+        ensures { self.new ≡ master_after_reply self.old message.now reply.now }
     {
         let mc = message.mc();
         self.out = None;
@@ -277,7 +278,7 @@ impl Master {
             Channel::Page => self.enter(command_in(message)),
             Channel::Diagnosis => self.events.go_on(mc.read, first(reply.od())),
             Channel::Isdu if mc.read => {
-                let transfer = replace(&mut self.transfer, Transfer::Quiet);
+                let transfer = replace(&mut self.transfer, MasterTransfer::Quiet);
                 self.transfer = transfer.told(reply);
             }
             Channel::Isdu => {}
@@ -290,7 +291,7 @@ impl Master {
     {
         let layouts = self.seen.layouts();
         if command.is_some() && !self.phase.in_operate() {
-            self.transfer = Transfer::Quiet;
+            self.transfer = MasterTransfer::Quiet;
         }
         self.phase = self.phase.entered(layouts, command);
     }

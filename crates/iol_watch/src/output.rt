@@ -1,17 +1,17 @@
 //! The process data out of a master.
 ghost use Rattle.std.specs.Prelude.{◌≡◌};
 ghost use Rattle.iol_far.specs.Far.{command_in};
-ghost use Rattle.iol_watch.specs.Outputs.{aged, allows_octets, carried, no_output, woken_output};
-ghost use Rattle.iol_watch.specs.Results.{result_with};
+ghost use Rattle.iol_watch.specs.Outputs.{aged_output, allows_octets, output_after_message, no_output, woken_output};
+ghost use Rattle.iol_watch.specs.Results.{result_or_blame};
 
-use crate::fault::MasterFault;
+use crate::fault::Blame;
 use iol_judge::{are_zeros, command_in};
 use iol_mseq::{MasterView, Part, part_of};
 use iol_page::MasterCommand;
 
 /// What the messages before carried as process data out.
 #[derive(Debug, Drop)]
-pub(crate) enum Carried {
+pub(crate) enum CarriedOutput {
     /// The capture has none of OPERATE yet.
     Unknown,
     /// These octets, in the session before.
@@ -23,31 +23,31 @@ pub(crate) enum Carried {
 /// The process data out of a master.
 #[derive(Debug, Drop)]
 pub(crate) struct Output {
-    pub carried: Carried,
+    pub carried: CarriedOutput,
     /// Whether the device was told that its output is valid.
     pub valid: bool,
 }
 
-impl Carried {
+impl CarriedOutput {
     /// Whether a message may carry these octets that leaves the device's output invalid.
     fn allows(&self, octets: &[u8]) -> bool
         ensures { result ≡ allows_octets self.now octets.now }
     {
         match self {
-            Carried::Unknown => true,
-            Carried::Before(before) => octets == before.as_slice() || are_zeros(octets),
-            Carried::Last(last) => octets == last.as_slice(),
+            CarriedOutput::Unknown => true,
+            CarriedOutput::Before(before) => octets == before.as_slice() || are_zeros(octets),
+            CarriedOutput::Last(last) => octets == last.as_slice(),
         }
     }
 
     /// Once another session begins.
-    fn aged(self) -> Carried
-        ensures { result ≡ aged self }
+    fn aged(self) -> CarriedOutput
+        ensures { result ≡ aged_output self }
     {
         match self {
-            Carried::Unknown => Carried::Unknown,
-            Carried::Before(octets) => Carried::Before(octets),
-            Carried::Last(octets) => Carried::Before(octets),
+            CarriedOutput::Unknown => CarriedOutput::Unknown,
+            CarriedOutput::Before(octets) => CarriedOutput::Before(octets),
+            CarriedOutput::Last(octets) => CarriedOutput::Before(octets),
         }
     }
 }
@@ -58,7 +58,7 @@ impl Output {
         ensures { result ≡ no_output }
     {
         Output {
-            carried: Carried::Unknown,
+            carried: CarriedOutput::Unknown,
             valid: false,
         }
     }
@@ -74,9 +74,9 @@ impl Output {
     }
 
     /// Once a new message of OPERATE is sent, which may be a command. Refusal 5 OutputOctets.
-    pub fn carry(&mut self, message: &MasterView<'_>) -> Result<(), MasterFault>
-        ensures { result_with result self.new
-            ≡ carried self.old (command_in message.now) message.now.out.items }
+    pub fn carry(&mut self, message: &MasterView<'_>) -> Result<(), Blame>
+        ensures { result_or_blame result self.new
+            ≡ output_after_message self.old (command_in message.now) message.now.out.items }
     {
         let octets = message.out();
         let valid = match command_in(message) {
@@ -85,9 +85,9 @@ impl Output {
             _ => self.valid,
         };
         if !valid && !self.carried.allows(octets) {
-            return Err(MasterFault::OutputOctets);
+            return Err(Blame::OutputOctets);
         }
-        self.carried = Carried::Last(part_of(octets));
+        self.carried = CarriedOutput::Last(part_of(octets));
         self.valid = valid;
         Ok(())
     }

@@ -1,6 +1,6 @@
 //! How far a start-up of a master has come.
 ghost use Rattle.std.specs.Prelude.{◌≡◌};
-ghost use Rattle.iol_watch.specs.Phases.{entered, in_operate, phase_layout};
+ghost use Rattle.iol_watch.specs.Phases.{phase_after_command, is_in_operate, phase_layout};
 
 use iol_judge::Open;
 use iol_mseq::Layout;
@@ -8,7 +8,7 @@ use iol_page::{Layouts, MasterCommand};
 
 /// How far a start-up of a master has come.
 #[derive(Clone, Copy, Debug, PartialEq, Eq)]
-pub(crate) enum Phase {
+pub(crate) enum MasterPhase {
     /// A wake-up request is due.
     Down,
     Startup,
@@ -17,31 +17,35 @@ pub(crate) enum Phase {
     Operate(Layouts),
 }
 
-impl Phase {
+impl MasterPhase {
     /// The layout of its messages; that of STARTUP where a wake-up request is due.
     pub fn layout(&self) -> Layout
         ensures { result ≡ phase_layout self.now }
     {
         match self {
-            Phase::Down | Phase::Startup => Layout::startup(),
-            Phase::Preoperate(layouts) => layouts.pre.unwrap_or(Layout::startup()),
-            Phase::Operate(layouts) => layouts.run,
+            MasterPhase::Down | MasterPhase::Startup => Layout::startup(),
+            MasterPhase::Preoperate(layouts) => layouts.pre.unwrap_or(Layout::startup()),
+            MasterPhase::Operate(layouts) => layouts.run,
         }
     }
 
     /// Once the good reply to a master command came, by what is known of the page's layouts.
-    pub fn entered(self, layouts: Result<Layouts, Open>, command: Option<MasterCommand>) -> Phase
-        ensures { result ≡ entered self layouts command }
+    pub fn entered(
+        self,
+        layouts: Result<Layouts, Open>,
+        command: Option<MasterCommand>,
+    ) -> MasterPhase
+        ensures { result ≡ phase_after_command self layouts command }
     {
         match (self, command, layouts) {
-            (Phase::Startup, Some(MasterCommand::DevicePreoperate), Ok(layouts)) => {
-                Phase::Preoperate(layouts)
+            (MasterPhase::Startup, Some(MasterCommand::DevicePreoperate), Ok(layouts)) => {
+                MasterPhase::Preoperate(layouts)
             }
-            (Phase::Startup, Some(MasterCommand::DeviceOperate), Ok(layouts)) => {
-                Phase::Operate(layouts)
+            (MasterPhase::Startup, Some(MasterCommand::DeviceOperate), Ok(layouts)) => {
+                MasterPhase::Operate(layouts)
             }
-            (Phase::Preoperate(layouts), Some(MasterCommand::DeviceOperate), _) => {
-                Phase::Operate(layouts)
+            (MasterPhase::Preoperate(layouts), Some(MasterCommand::DeviceOperate), _) => {
+                MasterPhase::Operate(layouts)
             }
             _ => self,
         }
@@ -49,8 +53,8 @@ impl Phase {
 
     /// Whether it is OPERATE.
     pub fn in_operate(&self) -> bool
-        ensures { result ≡ in_operate self.now }
+        ensures { result ≡ is_in_operate self.now }
     {
-        matches!(self, Phase::Operate(_))
+        matches!(self, MasterPhase::Operate(_))
     }
 }

@@ -1,6 +1,6 @@
 //! The event work of a master.
 ghost use Rattle.std.specs.Prelude.{◌≡◌};
-ghost use Rattle.iol_watch.specs.Readings.{is_due, no_events, read_on, reading_after};
+ghost use Rattle.iol_watch.specs.Readings.{is_due, no_master_events, reading_after_reply, reading_after};
 
 use iol_event::EventReader;
 use std::mem::replace;
@@ -20,18 +20,18 @@ pub(crate) enum Reading {
 
 /// The event work of a master.
 #[derive(Debug, Drop)]
-pub(crate) struct Events {
+pub(crate) struct MasterEvents {
     /// The Event flag of the last good reply.
     pub flag: bool,
     pub reading: Reading,
 }
 
-impl Events {
+impl MasterEvents {
     /// As a session begins.
-    pub fn new() -> Events
-        ensures { result ≡ no_events }
+    pub fn new() -> MasterEvents
+        ensures { result ≡ no_master_events }
     {
-        Events {
+        MasterEvents {
             flag: false,
             reading: Reading::Resting,
         }
@@ -52,7 +52,8 @@ impl Events {
     /// Once the good reply to a read of the event memory brought this octet, or one to the
     /// confirm came.
     pub fn go_on(&mut self, read: bool, octet: u8)
-        ensures { self.new ≡ record self.old { reading = read_on read octet self.old.reading } }
+        ensures { self.new
+            ≡ record self.old { reading = reading_after_reply read octet self.old.reading } }
     {
         let reading = replace(&mut self.reading, Reading::Resting);
         if read {

@@ -2,9 +2,9 @@
 ghost use Rattle.std.specs.Prelude.{◌≡◌, ◌≤◌, ◌++◌, length};
 ghost use Rattle.iol_isdu.specs.Parse.{request_of};
 ghost use Rattle.iol_far.specs.Codec.{flow_of};
-ghost use Rattle.iol_watch.specs.Transfers.{abort_sent, answer_begun, answer_joined, answered, asked_again, asked_told, asks_instead, begun, count_asked, count_sent, doubted, doubted_told, idle_sent, moved, start_asked, start_sent, told, whole, written};
+ghost use Rattle.iol_watch.specs.Transfers.{abort_sent, answer_begun, answer_joined, transfer_in_answer, transfer_after_repeat, asked_after_reply, asks_instead, request_begun, count_asked, count_sent, transfer_in_doubt, doubted_told, idle_sent, transfer_after_message, start_asked, start_sent, transfer_after_reply, request_joined, transfer_in_request};
 
-use crate::fault::MasterFault;
+use crate::fault::Blame;
 use arrayvec::ArrayVec;
 use iol_isdu::{IsduFault, Request, Text, read_answer, read_request, total_of};
 use iol_judge::{are_zeros, next_count, request_of};
@@ -33,7 +33,7 @@ type Joined = ArrayVec<u8, MOST_JOINED>;
 
 /// The ISDU transfer of a master. A request is a read, or a write.
 #[derive(Debug, Drop)]
-pub(crate) enum Transfer {
+pub(crate) enum MasterTransfer {
     /// None is under way.
     Quiet,
     /// Segments of a request were written: their octets, and the last COUNT.
@@ -50,12 +50,13 @@ pub(crate) enum Transfer {
     Refused,
 }
 
-impl Transfer {
+impl MasterTransfer {
     /// Once a new message is sent on the ISDU channel, to a device that has ISDU or not.
     ///
     /// Refusals: 6 NotDue, 7 RequestText, 8 NotInLine.
-    pub fn moved(self, isdu: bool, message: &MasterView<'_>) -> Result<Transfer, MasterFault>
-        ensures { result ≡ moved isdu self message.now.mc.read (flow_of message.now.mc.address)
+    pub fn moved(self, isdu: bool, message: &MasterView<'_>) -> Result<MasterTransfer, Blame>
+        ensures { result
+            ≡ transfer_after_message isdu self message.now.mc.read (flow_of message.now.mc.address)
             message.now.od.items }
     {
         let mc = message.mc();
@@ -66,68 +67,68 @@ impl Transfer {
             Flow::Count(count) => self.count_sent(count, message),
             Flow::Idle1 | Flow::Idle2 => self.kept_if_quiet(),
             Flow::Abort => self.aborted(),
-            Flow::Reserved(_) => Err(MasterFault::NotDue),
+            Flow::Reserved(_) => Err(Blame::NotDue),
         }
     }
 
-    fn start_sent(self, isdu: bool, octets: &[u8]) -> Result<Transfer, MasterFault>
+    fn start_sent(self, isdu: bool, octets: &[u8]) -> Result<MasterTransfer, Blame>
         ensures { result ≡ start_sent isdu self octets.now }
     {
         match self {
-            Transfer::Quiet if isdu => written(octets, None),
-            _ => Err(MasterFault::NotDue),
+            MasterTransfer::Quiet if isdu => written(octets, None),
+            _ => Err(Blame::NotDue),
         }
     }
 
-    fn count_sent(self, count: u8, message: &MasterView<'_>) -> Result<Transfer, MasterFault>
+    fn count_sent(self, count: u8, message: &MasterView<'_>) -> Result<MasterTransfer, Blame>
         ensures { result ≡ count_sent self count message.now.od.items }
     {
         match self {
-            Transfer::Written(text, last) if count == next_count(last) => {
+            MasterTransfer::Written(text, last) if count == next_count(last) => {
                 written(&joined(&text, message.od()), Some(count))
             }
-            Transfer::Written(..) => Err(MasterFault::NotInLine),
-            Transfer::Asked(_) => Err(MasterFault::RequestText),
-            _ => Err(MasterFault::NotDue),
+            MasterTransfer::Written(..) => Err(Blame::NotInLine),
+            MasterTransfer::Asked(_) => Err(Blame::RequestText),
+            _ => Err(Blame::NotDue),
         }
     }
 
-    fn start_asked(self) -> Result<Transfer, MasterFault>
+    fn start_asked(self) -> Result<MasterTransfer, Blame>
         ensures { result ≡ start_asked self }
     {
         match self {
-            Transfer::Asked(read) => Ok(Transfer::Asked(read)),
-            _ => Err(MasterFault::NotDue),
+            MasterTransfer::Asked(read) => Ok(MasterTransfer::Asked(read)),
+            _ => Err(Blame::NotDue),
         }
     }
 
-    fn count_asked(self, count: u8) -> Result<Transfer, MasterFault>
+    fn count_asked(self, count: u8) -> Result<MasterTransfer, Blame>
         ensures { result ≡ count_asked self count }
     {
         match self {
-            Transfer::Answered(read, text, last) if count == next_count(last) => {
-                Ok(Transfer::Answered(read, text, Some(count)))
+            MasterTransfer::Answered(read, text, last) if count == next_count(last) => {
+                Ok(MasterTransfer::Answered(read, text, Some(count)))
             }
-            Transfer::Answered(..) => Err(MasterFault::NotInLine),
-            _ => Err(MasterFault::NotDue),
+            MasterTransfer::Answered(..) => Err(Blame::NotInLine),
+            _ => Err(Blame::NotDue),
         }
     }
 
-    fn kept_if_quiet(self) -> Result<Transfer, MasterFault>
+    fn kept_if_quiet(self) -> Result<MasterTransfer, Blame>
         ensures { result ≡ idle_sent self }
     {
         match self {
-            Transfer::Quiet => Ok(Transfer::Quiet),
-            _ => Err(MasterFault::NotDue),
+            MasterTransfer::Quiet => Ok(MasterTransfer::Quiet),
+            _ => Err(Blame::NotDue),
         }
     }
 
-    fn aborted(self) -> Result<Transfer, MasterFault>
+    fn aborted(self) -> Result<MasterTransfer, Blame>
         ensures { result ≡ abort_sent self }
     {
         match self {
-            Transfer::Quiet => Err(MasterFault::NotDue),
-            _ => Ok(Transfer::Quiet),
+            MasterTransfer::Quiet => Err(Blame::NotDue),
+            _ => Ok(MasterTransfer::Quiet),
         }
     }
 
@@ -136,39 +137,43 @@ impl Transfer {
     pub fn asks_instead(&self, out: &[u8], octets: &[u8]) -> bool
         ensures { result ≡ asks_instead self.now out.now octets.now }
     {
-        matches!(self, Transfer::Asked(_))
+        matches!(self, MasterTransfer::Asked(_))
             && first(out) == START_WRITE
             && first(octets) == START_READ
     }
 
     /// Once that START read goes out.
     pub fn doubt(&mut self)
-        ensures { self.new ≡ doubted self.old }
+        ensures { self.new ≡ transfer_in_doubt self.old }
     {
-        if let Transfer::Asked(read) = *self {
-            *self = Transfer::Doubted(read);
+        if let MasterTransfer::Asked(read) = *self {
+            *self = MasterTransfer::Doubted(read);
         }
     }
 
     /// Once the message that is out goes out again: what the device has isn't in doubt any more,
     /// since a reply that got lost may have been the answer.
     pub fn repeat(&mut self)
-        ensures { self.new ≡ asked_again self.old }
+        ensures { self.new ≡ transfer_after_repeat self.old }
     {
-        if let Transfer::Doubted(read) = *self {
-            *self = Transfer::Asked(read);
+        if let MasterTransfer::Doubted(read) = *self {
+            *self = MasterTransfer::Asked(read);
         }
     }
 
     /// Once this good reply to a read on the ISDU channel came.
-    pub fn told(self, reply: &ReplyView<'_>) -> Transfer
-        ensures { result ≡ told self reply.now.od.items }
+    pub fn told(self, reply: &ReplyView<'_>) -> MasterTransfer
+        ensures { result ≡ transfer_after_reply self reply.now.od.items }
     {
         let octets = reply.od();
         match self {
-            Transfer::Asked(read) => asked_told(read, octets),
-            Transfer::Doubted(read) => doubted_told(read, octets),
-            Transfer::Answered(read, text, last) => answered(read, &joined(&text, octets), last),
+            MasterTransfer::Asked(read) => asked_told(read, octets),
+            MasterTransfer::Doubted(read) => doubted_told(read, octets),
+            MasterTransfer::Answered(read, text, last) => answered(
+                read,
+                &joined(&text, octets),
+                last,
+            ),
             other => other,
         }
     }
@@ -194,88 +199,88 @@ fn joined(text: &Text, octets: &[u8]) -> Joined
 }
 
 /// Of a request these octets were written, the last of them under this COUNT.
-fn written(octets: &[u8], last: Option<u8>) -> Result<Transfer, MasterFault>
-    ensures { result ≡ written octets.now last }
+fn written(octets: &[u8], last: Option<u8>) -> Result<MasterTransfer, Blame>
+    ensures { result ≡ transfer_in_request octets.now last }
 {
     match total_of(octets) {
         Ok(total) if total <= octets.len() => whole(&octets[..total], &octets[total..]),
         Ok(_) | Err(IsduFault::Truncated) => begun(octets, last),
-        Err(_) => Err(MasterFault::RequestText),
+        Err(_) => Err(Blame::RequestText),
     }
 }
 
 /// Not all octets of a request were written.
-fn begun(octets: &[u8], last: Option<u8>) -> Result<Transfer, MasterFault>
-    ensures { result ≡ begun octets.now last }
+fn begun(octets: &[u8], last: Option<u8>) -> Result<MasterTransfer, Blame>
+    ensures { result ≡ request_begun octets.now last }
 {
     if octets.len() <= LONGEST {
-        Ok(Transfer::Written(Text::try_from(octets).unwrap(), last))
+        Ok(MasterTransfer::Written(Text::try_from(octets).unwrap(), last))
     } else {
-        Err(MasterFault::RequestText)
+        Err(Blame::RequestText)
     }
 }
 
 /// A text was written, and these octets behind it.
-fn whole(text: &[u8], rest: &[u8]) -> Result<Transfer, MasterFault>
-    ensures { result ≡ whole (request_of text.now) rest.now }
+fn whole(text: &[u8], rest: &[u8]) -> Result<MasterTransfer, Blame>
+    ensures { result ≡ request_joined (request_of text.now) rest.now }
 {
     match read_request(text) {
-        Ok(Request::Read(_)) if are_zeros(rest) => Ok(Transfer::Asked(true)),
-        Ok(Request::Write(..)) if are_zeros(rest) => Ok(Transfer::Asked(false)),
-        _ => Err(MasterFault::RequestText),
+        Ok(Request::Read(_)) if are_zeros(rest) => Ok(MasterTransfer::Asked(true)),
+        Ok(Request::Write(..)) if are_zeros(rest) => Ok(MasterTransfer::Asked(false)),
+        _ => Err(Blame::RequestText),
     }
 }
 
 /// The reply to a START read: busy, no service, or the answer's first segment.
-fn asked_told(read: bool, octets: &[u8]) -> Transfer
-    ensures { result ≡ asked_told read octets.now }
+fn asked_told(read: bool, octets: &[u8]) -> MasterTransfer
+    ensures { result ≡ asked_after_reply read octets.now }
 {
     match octets.first() {
-        Some(&BUSY) => Transfer::Asked(read),
-        Some(&NO_SERVICE) | None => Transfer::Refused,
+        Some(&BUSY) => MasterTransfer::Asked(read),
+        Some(&NO_SERVICE) | None => MasterTransfer::Refused,
         Some(_) => answered(read, octets, None),
     }
 }
 
 /// The reply to a START read that went out in place of a START write: where the device has heard
 /// nothing of that, no request is under way.
-fn doubted_told(read: bool, octets: &[u8]) -> Transfer
+fn doubted_told(read: bool, octets: &[u8]) -> MasterTransfer
     ensures { result ≡ doubted_told read octets.now }
 {
     if first(octets) == NO_SERVICE {
-        return Transfer::Quiet;
+        return MasterTransfer::Quiet;
     }
     asked_told(read, octets)
 }
 
 /// Of an answer these octets came, the last of them under this COUNT.
-fn answered(read: bool, octets: &[u8], last: Option<u8>) -> Transfer
-    ensures { result ≡ answered read octets.now last }
+fn answered(read: bool, octets: &[u8], last: Option<u8>) -> MasterTransfer
+    ensures { result ≡ transfer_in_answer read octets.now last }
 {
     match total_of(octets) {
         Ok(total) if total <= octets.len() => answer_joined(read, &octets[..total]),
         Ok(_) | Err(IsduFault::Truncated) => answer_begun(read, octets, last),
-        Err(_) => Transfer::Refused,
+        Err(_) => MasterTransfer::Refused,
     }
 }
 
 /// Not all octets of an answer came.
-fn answer_begun(read: bool, octets: &[u8], last: Option<u8>) -> Transfer
+fn answer_begun(read: bool, octets: &[u8], last: Option<u8>) -> MasterTransfer
     ensures { result ≡ answer_begun read octets.now last }
 {
     if octets.len() <= LONGEST {
-        Transfer::Answered(read, Text::try_from(octets).unwrap(), last)
+        MasterTransfer::Answered(read, Text::try_from(octets).unwrap(), last)
     } else {
-        Transfer::Refused
+        MasterTransfer::Refused
     }
 }
 
 /// A text came.
-fn answer_joined(read: bool, text: &[u8]) -> Transfer
+fn answer_joined(read: bool, text: &[u8]) -> MasterTransfer
     ensures { result ≡ answer_joined read text.now }
 {
     match read_answer(&request_of(read), text) {
-        Ok(_) => Transfer::Quiet,
-        Err(_) => Transfer::Refused,
+        Ok(_) => MasterTransfer::Quiet,
+        Err(_) => MasterTransfer::Refused,
     }
 }

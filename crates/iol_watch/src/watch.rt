@@ -1,11 +1,11 @@
 //! The watch.
 ghost use Rattle.std.specs.Prelude.{◌≡◌, option_copied};
 ghost use Rattle.iol_judge.specs.Seen.{whole_page};
-ghost use Rattle.iol_watch.specs.Watched.{exchanged, new_watch, paged, woke};
+ghost use Rattle.iol_watch.specs.Watched.{watch_after_exchange, new_watch, watch_with_page, watch_after_wake};
 
-use crate::master::Master;
-use crate::verdict::Verdict;
-use iol_judge::{Seen, Wake};
+use crate::master::MasterState;
+use crate::verdict::MasterVerdict;
+use iol_judge::{SeenPage, Wake};
 use std::marker::Model;
 use std::mem::replace;
 
@@ -16,16 +16,16 @@ use std::mem::replace;
 /// exchanges it was told.
 #[derive(Drop)]
 pub struct Watch {
-    told: Seen,
-    master: Master,
-    verdict: Verdict,
+    told: SeenPage,
+    master: MasterState,
+    verdict: MasterVerdict,
     exchanges: u64,
 }
 
 impl Model for Watch {
-    ghost use Rattle.iol_watch.specs.Watched.{Watched};
+    ghost use Rattle.iol_watch.specs.Watched.{WatchState};
 
-    ghost Value = { Watched };
+    ghost Value = { WatchState };
 
     ghost view = { λ w. record {
       told = w.told;
@@ -41,9 +41,9 @@ impl Watch {
         ensures { result ≡ new_watch }
     {
         Watch {
-            told: Seen::nothing(),
-            master: Master::new(),
-            verdict: Verdict::Unjudged,
+            told: SeenPage::nothing(),
+            master: MasterState::new(),
+            verdict: MasterVerdict::Unjudged,
             exchanges: 0,
         }
     }
@@ -51,43 +51,43 @@ impl Watch {
     /// The device has this page: the octets of 0x02 to 0x0B. The master may know it without a
     /// start-up that reads it.
     pub fn page(&mut self, octets: &[u8; 10])
-        ensures { self.new ≡ paged self.old (whole_page octets.now) }
+        ensures { self.new ≡ watch_with_page self.old (whole_page octets.now) }
     {
-        self.told = Seen::whole(octets);
+        self.told = SeenPage::whole(octets);
         self.master.seen = self.told;
     }
 
     /// A wake-up request was sent. It is by the rules at any time: a restart.
     pub fn wake(&mut self, answer: Wake)
-        ensures { self.new ≡ woke self.old answer }
+        ensures { self.new ≡ watch_after_wake self.old answer }
     {
-        if let Verdict::NotByTheRules(..) = self.verdict {
+        if let MasterVerdict::NotByTheRules(..) = self.verdict {
             return;
         }
-        self.verdict = Verdict::ByTheRules;
-        let master = replace(&mut self.master, Master::new());
+        self.verdict = MasterVerdict::ByTheRules;
+        let master = replace(&mut self.master, MasterState::new());
         self.master = master.woken(self.told, answer);
     }
 
     /// These octets were sent, and those came in the time of a reply, if any.
     pub fn exchange(&mut self, sent: &[u8], answer: Option<&[u8]>)
-        ensures { self.new ≡ exchanged self.old sent.now (option_copied answer.entry) }
+        ensures { self.new ≡ watch_after_exchange self.old sent.now (option_copied answer.entry) }
     {
         self.exchanges = self.exchanges.saturating_add(1);
-        if self.verdict != Verdict::ByTheRules {
+        if self.verdict != MasterVerdict::ByTheRules {
             return;
         }
         match self.master.send(sent) {
             Ok(()) => self.master.hear(sent, answer),
             Err(fault) => {
-                self.master = Master::new();
-                self.verdict = Verdict::NotByTheRules(self.exchanges, fault);
+                self.master = MasterState::new();
+                self.verdict = MasterVerdict::NotByTheRules(self.exchanges, fault);
             }
         }
     }
 
     /// What can be said so far.
-    pub fn verdict(&self) -> Verdict
+    pub fn verdict(&self) -> MasterVerdict
         ensures { result ≡ self.now.verdict }
     {
         self.verdict

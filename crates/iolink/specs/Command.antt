@@ -4,15 +4,15 @@ use Rattle.std.specs.Str.{bytes_eq}
 use Rattle.iol_judge.specs.declared.verdict.Odd.{Odd}
 use Rattle.iol_link.specs.declared.wire.Rate.{Rate}
 use Rattle.iol_link.specs.declared.wire.Rate.TheVariants.{Com1, Com2, Com3}
-use Rattle.iol_capture.specs.declared.telling.Form.{Form}
-use Rattle.iol_capture.specs.declared.telling.Form.TheVariants.{Trace as TraceForm, Octets}
-use Rattle.iolink.specs.declared.command.Asked.{Asked}
-use Rattle.iolink.specs.declared.command.Asked.TheVariants as asked
-use Rattle.iolink.specs.declared.command.Mode.{Mode}
-use Rattle.iolink.specs.declared.command.Mode.TheVariants.{Check, Run, Trace, Many}
+use Rattle.iol_capture.specs.declared.telling.CaptureForm.{CaptureForm}
+use Rattle.iol_capture.specs.declared.telling.CaptureForm.TheVariants.{Trace as TraceForm, Octets}
+use Rattle.iolink.specs.declared.command.AskedCommand.{AskedCommand}
+use Rattle.iolink.specs.declared.command.AskedCommand.TheVariants as asked
+use Rattle.iolink.specs.declared.command.PrintingCommand.{PrintingCommand}
+use Rattle.iolink.specs.declared.command.PrintingCommand.TheVariants.{Check, Run, Trace, Many}
 
 -- the command of a name
-abbrev pub mode_named : List ℕ → Option Mode
+abbrev pub mode_named : List ℕ → Option PrintingCommand
 mode_named name =
     if bytes_eq name (codes "check") then Some Check else
     if bytes_eq name (codes "run") then Some Run else
@@ -20,7 +20,7 @@ mode_named name =
     if bytes_eq name (codes "many") then Some Many else None
 
 -- what a name asks for, with the form of a capture, and what is to be done with odd replies
-abbrev pub asked_named : List ℕ → Form → Odd → Option Asked
+abbrev pub asked_named : List ℕ → CaptureForm → Odd → Option AskedCommand
 asked_named name form odd =
     if bytes_eq name (codes "judge") then Some (asked.Judge form odd) else
     option_map asked.Mode (mode_named name)
@@ -33,6 +33,6 @@ rate_named word =
     if bytes_eq word (codes "com3") then Some Com3 else None
 
 -- the form of a capture, by the rate of its octets
-abbrev pub form_of : Option Rate → Form
+abbrev pub form_of : Option Rate → CaptureForm
 form_of None = TraceForm
 form_of (Some rate) = Octets rate

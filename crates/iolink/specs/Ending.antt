@@ -9,17 +9,17 @@ use Rattle.iolink.specs.declared.ending.Ending.TheVariants.{Failed, NotHonest, N
 
 -- the status of an ending: 1 where the command failed, or the capture isn't honest; 2 where the
 -- capture isn't judged, or the command line is refused
-abbrev pub status_of : Ending → ℕ
-status_of (Failed e) = 1
-status_of NotHonest = 1
-status_of (NotJudged e) = 2
-status_of (Refused error) = 2
-status_of NoText = 2
+abbrev pub ending_status : Ending → ℕ
+ending_status (Failed e) = 1
+ending_status NotHonest = 1
+ending_status (NotJudged e) = 2
+ending_status (Refused error) = 2
+ending_status NoText = 2
 
 -- the exit status: 0, or that of the ending
 abbrev pub status_after : {T : Type 0} → Result T Ending → ℕ
 status_after (Ok done) = 0
-status_after (Err ending) = status_of ending
+status_after (Err ending) = ending_status ending
 
 -- a command line that is refused ends the program, but for want of memory
 pub record EndsBy (error : Error) (ending : Ending) : Type 0 where

@@ -8,26 +8,26 @@ use Rattle.iol_commands.specs.Checked.{PrintsAll}
 use Rattle.iol_commands.specs.RunPlayed.{PrintsRun}
 use Rattle.iol_commands.specs.TracePrinted.{PrintsTrace}
 use Rattle.iol_commands.specs.ManyPrinted.{PrintsCounts}
-use Rattle.iolink.specs.declared.command.Mode.{Mode}
-use Rattle.iolink.specs.declared.command.Mode.TheVariants.{Check, Run, Trace, Many}
+use Rattle.iolink.specs.declared.command.PrintingCommand.{PrintingCommand}
+use Rattle.iolink.specs.declared.command.PrintingCommand.TheVariants.{Check, Run, Trace, Many}
 
 -- the first bad line of a command's input has this number
-abbrev pub IsBadAt : Mode → List (ℕ × List ℕ) → ℕ → Type 0
+abbrev pub IsBadAt : PrintingCommand → List (ℕ × List ℕ) → ℕ → Type 0
 IsBadAt Check lines n = first_bad lines ≡ Some n
 IsBadAt Run lines n = first_bad_run lines ≡ Some n
 IsBadAt Trace lines n = first_bad_run lines ≡ Some n
 IsBadAt Many lines n = plan_of lines ≡ Err n
 
 -- each line of a command's input is good
-abbrev pub IsGood : Mode → List (ℕ × List ℕ) → Type 0
+abbrev pub IsGood : PrintingCommand → List (ℕ × List ℕ) → Type 0
 IsGood Check lines = first_bad lines ≡ None
 IsGood Run lines = first_bad_run lines ≡ None
 IsGood Trace lines = first_bad_run lines ≡ None
 IsGood Many lines = IsOk (plan_of lines)
 
 -- a command prints this text for the lines of its input
-abbrev pub PrintsInMode : Mode → List (ℕ × List ℕ) → List ℕ → Type 0
-PrintsInMode Check lines text = PrintsAll startup_shape lines text
-PrintsInMode Run lines text = PrintsRun lines text
-PrintsInMode Trace lines text = PrintsTrace lines text
-PrintsInMode Many lines text = PrintsCounts lines text
+abbrev pub CommandPrints : PrintingCommand → List (ℕ × List ℕ) → List ℕ → Type 0
+CommandPrints Check lines text = PrintsAll startup_shape lines text
+CommandPrints Run lines text = PrintsRun lines text
+CommandPrints Trace lines text = PrintsTrace lines text
+CommandPrints Many lines text = PrintsCounts lines text

@@ -3,7 +3,7 @@ ghost use Rattle.std.specs.Prelude.{◌≡◌};
 
 use crate::help;
 use clap::{Arg, ArgAction, ArgMatches, Command, Error};
-use iol_capture::Form;
+use iol_capture::CaptureForm;
 use iol_judge::Odd;
 use iol_link::Rate;
 use std::alloc::{AllocError, Global};
@@ -11,7 +11,7 @@ use std::convert::AsStr;
 
 /// A command that ends well where all is printed.
 #[derive(Clone, Copy, Debug, PartialEq, Eq)]
-pub(crate) enum Mode {
+pub(crate) enum PrintingCommand {
     /// Prints what each line of its input says.
     Check,
     /// Makes the calls of a script, and prints what each of them answers.
@@ -22,18 +22,18 @@ pub(crate) enum Mode {
     Many,
 }
 
-impl Mode {
+impl PrintingCommand {
     ghost use Rattle.iolink.specs.Command.{mode_named};
 
     /// The command of this name.
-    fn named(name: &str) -> Option<Mode>
+    fn named(name: &str) -> Option<PrintingCommand>
         ensures { result ≡ mode_named name.now }
     {
         match name.as_bytes() {
-            b"check" => Some(Mode::Check),
-            b"run" => Some(Mode::Run),
-            b"trace" => Some(Mode::Trace),
-            b"many" => Some(Mode::Many),
+            b"check" => Some(PrintingCommand::Check),
+            b"run" => Some(PrintingCommand::Run),
+            b"trace" => Some(PrintingCommand::Trace),
+            b"many" => Some(PrintingCommand::Many),
             _ => None,
         }
     }
@@ -41,38 +41,38 @@ impl Mode {
 
 /// What the command line asks for.
 #[derive(Clone, Copy, Debug, PartialEq, Eq)]
-pub(crate) enum Asked {
+pub(crate) enum AskedCommand {
     /// A command that ends well where all is printed.
-    Mode(Mode),
+    Mode(PrintingCommand),
     /// Says whether a device by the rules could have brought a capture in this form, and does this
     /// with odd replies.
-    Judge(Form, Odd),
+    Judge(CaptureForm, Odd),
 }
 
-impl Asked {
+impl AskedCommand {
     ghost use Rattle.iolink.specs.Command.{asked_named};
 
     /// What this name asks for, with the form of a capture, and where that is to be done with odd
     /// replies.
-    fn named(name: &str, form: Form, odd: Odd) -> Option<Asked>
+    fn named(name: &str, form: CaptureForm, odd: Odd) -> Option<AskedCommand>
         ensures { result ≡ asked_named name.now form odd }
     {
         match name.as_bytes() {
-            b"judge" => Some(Asked::Judge(form, odd)),
-            _ => Some(Asked::Mode(Mode::named(name)?)),
+            b"judge" => Some(AskedCommand::Judge(form, odd)),
+            _ => Some(AskedCommand::Mode(PrintingCommand::named(name)?)),
         }
     }
 }
 
 /// What the words ask for, the program's own name first.
-pub(crate) fn asked_by<'a, S: AsStr>(alloc: Global, words: &'a [S]) -> Result<Asked, Error> {
+pub(crate) fn asked_by<'a, S: AsStr>(alloc: Global, words: &'a [S]) -> Result<AskedCommand, Error> {
     let matches = command(alloc)?.try_get_matches_from(words)?;
     // One of the five is named, since clap refuses all other words.
     let (name, form, odd) = match matches.subcommand() {
         Some((name, words)) => (name, form_of(octets_rate(words)), odd_of(words)),
-        None => ("check", Form::Trace, Odd::Blamed),
+        None => ("check", CaptureForm::Trace, Odd::Blamed),
     };
-    Ok(Asked::named(name, form, odd).unwrap_or(Asked::Mode(Mode::Check)))
+    Ok(AskedCommand::named(name, form, odd).unwrap_or(AskedCommand::Mode(PrintingCommand::Check)))
 }
 
 /// The option of `judge` that has octets read.
@@ -101,12 +101,12 @@ fn rate_named(word: &str) -> Option<Rate>
 }
 
 /// The form of a capture, by the rate of its octets.
-fn form_of(rate: Option<Rate>) -> Form
+fn form_of(rate: Option<Rate>) -> CaptureForm
     ensures { result ≡ form_of rate }
 {
     match rate {
-        Some(rate) => Form::Octets(rate),
-        None => Form::Trace,
+        Some(rate) => CaptureForm::Octets(rate),
+        None => CaptureForm::Trace,
     }
 }
 

@@ -26,11 +26,11 @@ pub(crate) enum Ending {
 }
 
 impl Ending {
-    ghost use Rattle.iolink.specs.Ending.{status_of};
+    ghost use Rattle.iolink.specs.Ending.{ending_status};
 
     /// The exit status of this ending.
     pub(crate) fn status(&self) -> u8
-        ensures { result ≡ status_of self.now }
+        ensures { result ≡ ending_status self.now }
     {
         match self {
             Ending::Failed(_) | Ending::NotHonest => 1,

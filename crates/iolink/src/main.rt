@@ -14,7 +14,7 @@ mod ending;
 mod help;
 mod performing;
 
-use crate::command::{Asked, asked_by};
+use crate::command::{AskedCommand, asked_by};
 use crate::ending::{Ending, exit_of};
 use crate::performing::{perform, perform_judge};
 use iol_commands::ProgramFault;
@@ -39,8 +39,8 @@ fn work<R: Runtime<A = Global> + Threads + Wait + Sync>(rt: &R) -> Result<(), En
         .map_err(|_| ProgramFault::OutOfMemory)?;
     let (mut reader, mut writer) = (rt.reader(), io::writer(rt));
     match asked_by(rt.alloc(), words.as_slice())? {
-        Asked::Mode(mode) => perform(rt, rt.alloc(), mode, &mut reader, &mut writer)?,
-        Asked::Judge(form, odd) => {
+        AskedCommand::Mode(mode) => perform(rt, rt.alloc(), mode, &mut reader, &mut writer)?,
+        AskedCommand::Judge(form, odd) => {
             perform_judge(rt.alloc(), form, odd, &mut reader, &mut writer)?
         }
     }

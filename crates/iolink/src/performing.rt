@@ -1,14 +1,14 @@
 //! A command, carried out over a reader and a writer.
 ghost use Rattle.std.specs.Prelude.{◌≡◌, ◌≢◌, ℕ, Err, OnErr, OnOk};
 ghost use Rattle.std.specs.Io.KnownBytes.{Keeps};
-ghost use Rattle.iolink.specs.declared.command.Mode.TheVariants.{Many, Trace};
+ghost use Rattle.iolink.specs.declared.command.PrintingCommand.TheVariants.{Many, Trace};
 ghost use Rattle.iol_commands.specs.declared.fault.ProgramFault.TheVariants.{NoThread, OutOfMemory, WriteFailed};
-ghost use Rattle.iolink.specs.Performed.{IsBadAt, IsGood, PrintsInMode};
-ghost use Rattle.iol_commands.specs.Input.{Answers, OfLines};
+ghost use Rattle.iolink.specs.Performed.{IsBadAt, IsGood, CommandPrints};
+ghost use Rattle.iol_commands.specs.Input.{AnswersInput, OfLines};
 
-use crate::command::Mode;
+use crate::command::PrintingCommand;
 use crate::ending::Ending;
-use iol_capture::{Finding, Form};
+use iol_capture::{CaptureForm, Finding};
 use iol_commands::{ProgramFault, check, judge, many, run, trace};
 use iol_judge::Odd;
 use std::alloc::Global;
@@ -20,11 +20,11 @@ use std::thread::Threads;
 pub(crate) fn perform<T: Threads + Wait + Sync, R: Read, W: Write>(
     rt: &T,
     alloc: Global,
-    mode: Mode,
+    mode: PrintingCommand,
     reader: &mut R,
     writer: &mut W,
 ) -> Result<(), ProgramFault>
-    ensures answers { Answers (IsBadAt mode) (IsGood mode) (PrintsInMode mode)
+    ensures answers { AnswersInput (IsBadAt mode) (IsGood mode) (CommandPrints mode)
         (R.remaining reader.old) (R.remaining reader.new)
         (W.contents writer.old) (W.contents writer.new) result }
     ensures threads { mode ≢ Many → result ≢ Err NoThread }
@@ -34,10 +34,10 @@ pub(crate) fn perform<T: Threads + Wait + Sync, R: Read, W: Write>(
         → Keeps (W.contents writer.old) (W.contents writer.new)) }
 {
     match mode {
-        Mode::Check => check(alloc, reader, writer),
-        Mode::Run => run(alloc, reader, writer),
-        Mode::Trace => trace(alloc, reader, writer),
-        Mode::Many => many(rt, alloc, reader, writer),
+        PrintingCommand::Check => check(alloc, reader, writer),
+        PrintingCommand::Run => run(alloc, reader, writer),
+        PrintingCommand::Trace => trace(alloc, reader, writer),
+        PrintingCommand::Many => many(rt, alloc, reader, writer),
     }
 }
 
@@ -56,7 +56,7 @@ ghost use Rattle.iol_commands.specs.JudgePrinted.{Judges};
 /// found, but what is passed over.
 pub(crate) fn perform_judge<R: Read, W: Write>(
     alloc: Global,
-    form: Form,
+    form: CaptureForm,
     odd: Odd,
     reader: &mut R,
     writer: &mut W,

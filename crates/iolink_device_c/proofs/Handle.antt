@@ -3,8 +3,8 @@ pub use Rattle.iolink_handle.proofs.Handles.{of_loose, take}
 use Rattle.iolink_handle.proofs.Handles.{Handle}
 use Rattle.std.proofs.Common.{refl}
 use Rattle.iolink_device_c.specs.contracts.held.Sensor as inner
-use Rattle.iolink_device_c.specs.contracts.held.Held as handle
-use Rattle.iolink_device_c.proofs.held.Held.TheLaws as laws
+use Rattle.iolink_device_c.specs.contracts.held.DevicePointer as handle
+use Rattle.iolink_device_c.proofs.held.DevicePointer.TheLaws as laws
 
 abbrev pub held : Handle inner.the_row
 held = record {

@@ -5,7 +5,7 @@ use Rattle.iol_isdu.specs.declared.values.Answer.TheVariants.{Read}
 use Rattle.iol_far.specs.Far.{Far}
 use Rattle.iol_far.specs.Local.{LocalStep, local}
 use Rattle.iol_device.specs.Device.{Running}
-use Rattle.iol_device.specs.Faults.{fault_number}
+use Rattle.iol_device.specs.Faults.{device_fault_number}
 use Rattle.iol_device.specs.Number.{answer_refusal}
 use Rattle.iol_device.specs.declared.app.Apart.{Apart}
 use Rattle.iol_device.specs.declared.fault.DeviceFault.{DeviceFault}
@@ -51,7 +51,7 @@ read_of octets = Read (record { items = octets })
 abbrev pub AnswersBy : Option DeviceFault → Answer → IolDevice → ℕ → IolDevice → Type 0
 AnswersBy None answer old result new = (result ≡ 0)
     × (far_of new ≡ local (far_of old) (LocalStep.Carry answer))
-AnswersBy (Some fault) answer old result new = (result ≡ fault_number fault)
+AnswersBy (Some fault) answer old result new = (result ≡ device_fault_number fault)
     × (device_of new ≡ device_of old)
 
 -- an answer is brought for a number

@@ -2,18 +2,18 @@
 use Rattle.std.specs.Prelude.{◌≡◌, ℕ, if◌then◌else◌, Option, Some, None}
 use Rattle.iol_isdu.specs.declared.values.Request.{Request}
 use Rattle.iol_far.specs.Far.{Far}
-use Rattle.iol_far.specs.declared.mode.Mode.{Mode}
-use Rattle.iol_far.specs.declared.mode.Mode.TheVariants.{Startup, Preoperate, Operate}
+use Rattle.iol_far.specs.declared.mode.DeviceMode.{DeviceMode}
+use Rattle.iol_far.specs.declared.mode.DeviceMode.TheVariants.{Startup, Preoperate, Operate}
 use Rattle.iolink_handle.specs.declared.request.IolRequest.{IolRequest}
-use Rattle.iolink_handle.specs.Shown.{IsRequest}
+use Rattle.iolink_handle.specs.Shown.{RequestIsShown}
 
 -- a request, or kind 0 where there is none
 abbrev pub IsShown : Option Request → IolRequest → Type 0
 IsShown None out = out.kind ≡ 0
-IsShown (Some request) out = IsRequest request out
+IsShown (Some request) out = RequestIsShown request out
 
 -- a mode's number
-abbrev pub mode_number : Mode → ℕ
+abbrev pub mode_number : DeviceMode → ℕ
 mode_number Startup = 2
 mode_number Preoperate = 3
 mode_number Operate = 4

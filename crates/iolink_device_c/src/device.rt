@@ -1,10 +1,10 @@
 //! Opening and closing, and what comes to pass at a device by itself.
 ghost use Rattle.std.specs.Prelude.{◌≡◌, true, false, None, IfErr, IsOk, IsTrue, IsFalse};
 ghost use Rattle.iol_event.specs.Memory.{is_full};
-ghost use Rattle.iol_page.specs.Fault.{fault_number};
+ghost use Rattle.iol_page.specs.Fault.{page_fault_number};
 ghost use Rattle.iol_page.specs.Page.{layouts_of};
-ghost use Rattle.iol_far.specs.Far.{opened};
-ghost use Rattle.iol_far.specs.Local.{local, woken, LocalStep};
+ghost use Rattle.iol_far.specs.Far.{new_far};
+ghost use Rattle.iol_far.specs.Local.{local, far_after_wake, LocalStep};
 ghost use Rattle.iolink_device_c.specs.Calls.{device_of, far_of, number_of, silent_of, IsRefused, Guards, GuardsFar};
 
 use crate::held::{IolDevice, Sensor};
@@ -23,12 +23,12 @@ use std::alloc::Global;
 pub extern "C" fn iol_device_open(alloc: Global, handle: &mut IolDevice, page: &[u8; 10]) -> u8
     ensures once { IsTrue handle.old.is_open → (result ≡ 253) × (handle.new ≡ handle.old) }
     ensures refused { IsFalse handle.old.is_open →
-        IfErr (layouts_of page.now) (λ fault. result ≡ fault_number fault) }
+        IfErr (layouts_of page.now) (λ fault. result ≡ page_fault_number fault) }
     ensures memory { IsFalse handle.old.is_open → IsOk (layouts_of page.now) →
         ¬ (result ≡ 0) → result ≡ 24 }
     ensures kept { ¬ (result ≡ 0) → handle.new ≡ handle.old }
     ensures opened { result ≡ 0 → handle.new.is_open ≡ true }
-    ensures far { result ≡ 0 → far_of handle.new ≡ opened page.now None }
+    ensures far { result ≡ 0 → far_of handle.new ≡ new_far page.now None }
     ensures number { result ≡ 0 → number_of handle.new ≡ 0 }
     ensures silent { result ≡ 0 → silent_of handle.new ≡ false }
 {
@@ -72,7 +72,7 @@ pub extern "C" fn iol_device_close(alloc: Global, handle: &mut IolDevice) -> u8
 pub extern "C" fn iol_device_wake(alloc: Global, handle: &mut IolDevice) -> u8
     ensures guards { GuardsFar result handle.old handle.new }
     ensures far { IsTrue handle.old.is_open → (result ≡ 0)
-        × (far_of handle.new ≡ woken (far_of handle.old)) }
+        × (far_of handle.new ≡ far_after_wake (far_of handle.old)) }
 {
     if !handle.is_open {
         return CLOSED;

@@ -17,38 +17,38 @@ pub struct Sensor {
 /// A pointer, with the box behind it where it holds one.
 #[derive(Drop)]
 #[repr(C)]
-pub struct Held {
+pub struct DevicePointer {
     at: *mut (),
     pub ghost is_held: { Bool },
     pub ghost value: { Sensor },
 }
 
-impl Model for Held {
-    ghost use Rattle.iolink_handle.specs.Heap.{held};
+impl Model for DevicePointer {
+    ghost use Rattle.iolink_handle.specs.Heap.{handle_owns};
     ghost use Rattle.iolink_device_c.specs.contracts.held.Sensor.{the_row};
 
-    ghost also_owns = { λ h. held the_row h.is_held h.at h.value };
+    ghost also_owns = { λ h. handle_owns the_row h.is_held h.at h.value };
 }
 
-impl Held {
-    fn of_loose(loose: Loose<Sensor>) -> Held
+impl DevicePointer {
+    fn of_loose(loose: Loose<Sensor>) -> DevicePointer
         ensures value { result.value ≡ loose.value }
         ensures holds { result.is_held ≡ true }
     {
         let Loose { at } = loose;
-        Held { at: at as *mut () }
+        DevicePointer { at: at as *mut () }
     }
 
     /// The box, beside the pointer to nothing that is left.
-    fn take(self) -> (Held, Loose<Sensor>)
+    fn take(self) -> (DevicePointer, Loose<Sensor>)
         requires { self.is_held ≡ true }
         ensures last { result.0.value ≡ self.value }
         ensures shut { result.0.is_held ≡ false }
         ensures value { result.1.value ≡ self.value }
     {
-        let Held { at } = self;
+        let DevicePointer { at } = self;
         (
-            Held { at: null_mut() },
+            DevicePointer { at: null_mut() },
             Loose {
                 at: at as *mut Sensor,
             },
@@ -60,7 +60,7 @@ impl Held {
 #[derive(Drop)]
 #[repr(C)]
 pub struct IolDevice {
-    pub held: Held,
+    pub held: DevicePointer,
     pub is_open: bool,
     pub ghost same: { held.is_held ≡ is_open },
 }
@@ -71,7 +71,7 @@ impl IolDevice {
         ensures opened { result.is_open ≡ true }
     {
         IolDevice {
-            held: Held::of_loose(Loose::of(sensor)),
+            held: DevicePointer::of_loose(Loose::of(sensor)),
             is_open: true,
         }
     }

@@ -1,6 +1,6 @@
 //! Requests: the one that is handed over, and its answer.
 ghost use Rattle.std.specs.Prelude.{◌≡◌, ◌≤◌, ◌<◌, length, unwrap_or, IsTrue, IsFalse};
-ghost use Rattle.iol_far.specs.Isdu.{handed};
+ghost use Rattle.iol_far.specs.Isdu.{handed_request};
 ghost use Rattle.iol_isdu.specs.declared.values.Answer.TheVariants as answer;
 ghost use Rattle.iol_device.specs.Number.{handed_number};
 ghost use Rattle.iolink_device_c.specs.Calls.{device_of, far_of, number_of, silent_of, Answers, read_of, Guards};
@@ -33,7 +33,8 @@ pub extern "C" fn iol_device_handed(
     ensures done { IsTrue handle.old.is_open → result ≡ 0 }
     ensures number { IsTrue handle.old.is_open →
         number.new ≡ unwrap_or (handed_number (device_of handle.old)) 0 }
-    ensures shown { IsTrue handle.old.is_open → IsShown (handed (far_of handle.old).isdu) out.new }
+    ensures shown { IsTrue handle.old.is_open
+        → IsShown (handed_request (far_of handle.old).isdu) out.new }
 {
     if !handle.is_open {
         return CLOSED;

@@ -12,7 +12,7 @@ abbrev pub Fields : RattleType → Type 0
 Fields R = Ptr × (Bool × R.Denot)
 
 abbrev pub owned_by : (R : RattleType) → Fields R → List Val → Fml
-owned_by R f vs = fsep (Inside.own_val (f.0, tt) vs) (held R f.1.0 f.0 f.1.1)
+owned_by R f vs = fsep (Inside.own_val (f.0, tt) vs) (handle_owns R f.1.0 f.0 f.1.1)
 
 -- a library's struct, whose box holds an R
 pub record Handle (R : RattleType) : Type 2 where
@@ -153,7 +153,7 @@ module _ {R : RattleType} (A : Handle R) where
         (fact 𝓤 (d.1.0 ≡ true)) ∷ []) ∵
         move ! (1 ∷ []) $ heard ! _ (λ opened. split ! $ move ! (1 ∷ []) $ fsplit ! $
         rewrite ! 0 (λ (F : Fml). ‵ F) (A.owns a.0 (word p ∷ [])) refl $ fsplit ! $ drop ! $
-        rewrite ! 0 (λ (b : Bool). ‵ (held R b p x)) opened refl $
+        rewrite ! 0 (λ (b : Bool). ‵ (handle_owns R b p x)) opened refl $
         enter ! C Λ take_code (word p ∷ []) _ $ alloc_all !
         (λ b. pass_all ! refl (word_fits p, tt) $
         sets ! (of_opd ! (get_in ! (fld ! refl (stop !)) (sub ! 0 refl (whole !)))) refl

@@ -18,6 +18,6 @@ abbrev pub block : Ty → Ptr → Fml
 block = ghosts.dealloc_token heap
 
 -- what a handle owns: the box, where it is open
-abbrev pub held : (R : RattleType) → Bool → Ptr → R.Denot → Fml
-held R true at value = box_owns block R at value
-held R false at value = ftrue
+abbrev pub handle_owns : (R : RattleType) → Bool → Ptr → R.Denot → Fml
+handle_owns R true at value = box_owns block R at value
+handle_owns R false at value = ftrue

@@ -10,11 +10,11 @@ abbrev pub AreShown : List ℕ → ℕ → List ℕ → Type 0
 AreShown octets count room = (count ≡ length octets) × (take count room ≡ octets)
 
 -- the place of a request
-abbrev pub IsAt : Place → IolRequest → Type 0
-IsAt place out = (out.index ≡ place.index) × (out.sub ≡ place.sub)
+abbrev pub PlaceIsShown : Place → IolRequest → Type 0
+PlaceIsShown place out = (out.index ≡ place.index) × (out.sub ≡ place.sub)
 
 -- a request as C is shown it
-abbrev pub IsRequest : Request → IolRequest → Type 0
-IsRequest (Read place) out = (out.kind ≡ 1) × IsAt place out × (out.length ≡ 0)
-IsRequest (Write place octets) out = (out.kind ≡ 2) × IsAt place out
+abbrev pub RequestIsShown : Request → IolRequest → Type 0
+RequestIsShown (Read place) out = (out.kind ≡ 1) × PlaceIsShown place out × (out.length ≡ 0)
+RequestIsShown (Write place octets) out = (out.kind ≡ 2) × PlaceIsShown place out
     × AreShown octets.items out.length out.octets

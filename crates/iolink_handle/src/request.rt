@@ -1,6 +1,6 @@
 //! A request, as C sees it.
 ghost use Rattle.std.specs.Prelude.{◌≡◌};
-ghost use Rattle.iolink_handle.specs.Shown.{IsRequest};
+ghost use Rattle.iolink_handle.specs.Shown.{RequestIsShown};
 
 use crate::octets::put;
 use iol_isdu::{Place, Request};
@@ -22,7 +22,7 @@ pub struct IolRequest {
 
 /// Shows C a request.
 pub fn show_request(request: &Request, out: &mut IolRequest)
-    ensures { IsRequest request.now out.new }
+    ensures { RequestIsShown request.now out.new }
 {
     match request {
         Request::Read(place) => {

@@ -2,9 +2,9 @@
 pub use Rattle.iolink_handle.proofs.Handles.{of_loose, take}
 use Rattle.iolink_handle.proofs.Handles.{Handle}
 use Rattle.std.proofs.Common.{refl}
-use Rattle.iolink_port_c.specs.contracts.held.Master as inner
-use Rattle.iolink_port_c.specs.contracts.held.Held as handle
-use Rattle.iolink_port_c.proofs.held.Held.TheLaws as laws
+use Rattle.iolink_port_c.specs.contracts.held.PortWithJournal as inner
+use Rattle.iolink_port_c.specs.contracts.held.PortPointer as handle
+use Rattle.iolink_port_c.proofs.held.PortPointer.TheLaws as laws
 
 abbrev pub held : Handle inner.the_row
 held = record {

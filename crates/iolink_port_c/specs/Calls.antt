@@ -5,53 +5,53 @@ use Rattle.iol_link.specs.declared.wire.Rate.TheVariants.{Com1, Com2, Com3}
 use Rattle.iol_port.specs.declared.call.Call.{Call}
 use Rattle.iol_port.specs.declared.call.Answered.{Answered}
 use Rattle.iol_port.specs.declared.fault.PortFault.{PortFault}
-use Rattle.iol_port.specs.Faults.{fault_number}
-use Rattle.iol_port.specs.View.{Parts}
+use Rattle.iol_port.specs.Faults.{port_fault_number}
+use Rattle.iol_port.specs.View.{PortParts}
 use Rattle.iol_port.specs.CorePort.{CoreDoes}
 use Rattle.iolink_port_c.specs.declared.held.IolPort.{IolPort}
 
 -- the parts of the port that a handle holds
-abbrev pub parts_of : IolPort → Parts (Unit {0})
-parts_of handle = handle.held.value.port
+abbrev pub held_parts : IolPort → PortParts (Unit {0})
+held_parts handle = handle.held.value.port
 
 -- a call of a closed handle: refused, with nothing changed
-abbrev pub IsRefused : ℕ → IolPort → IolPort → Type 0
-IsRefused result old new = (result ≡ 252) × (new ≡ old)
+abbrev pub ClosedPortIsRefused : ℕ → IolPort → IolPort → Type 0
+ClosedPortIsRefused result old new = (result ≡ 252) × (new ≡ old)
 
 -- a call that writes elsewhere: one of a closed handle is refused, and writes nothing
 abbrev pub LeavesClosed : {X : Type 0} → ℕ → IolPort → IolPort → X → X → Type 0
 LeavesClosed result old new out after =
-    IsFalse old.is_open → IsRefused result old new × (after ≡ out)
+    IsFalse old.is_open → ClosedPortIsRefused result old new × (after ≡ out)
 
 -- a call that doesn't fit what waits for its answer: refused, with nothing of the port changed
 abbrev pub IsNotAsked : ℕ → IolPort → IolPort → Type 0
-IsNotAsked result old new = (result ≡ 255) × (parts_of new ≡ parts_of old)
+IsNotAsked result old new = (result ≡ 255) × (held_parts new ≡ held_parts old)
 
 -- all stays but the port's parts: the handle is as open as it was, and the archived
 -- journal is what it was
 abbrev pub Stays : IolPort → IolPort → Type 0
 Stays old new =
     (new.is_open ≡ old.is_open)
-    × (new.held.value ≡ record old.held.value { port = parts_of new })
+    × (new.held.value ≡ record old.held.value { port = held_parts new })
 
 -- a closed handle is refused, and an open one stays open, with the archived journal
-pub record Guards (result : ℕ) (old new : IolPort) : Type 0 where
-  pub closed : IsFalse old.is_open → IsRefused result old new
+pub record GuardsPort (result : ℕ) (old new : IolPort) : Type 0 where
+  pub closed : IsFalse old.is_open → ClosedPortIsRefused result old new
   pub stays : Stays old new
 
 -- and what is written elsewhere stays where it is closed
 pub record GuardsOut {X : Type 0} (result : ℕ) (old new : IolPort) (out after : X) : Type 0 where
-  pub guards : Guards result old new
+  pub guards : GuardsPort result old new
   pub unwritten : IsFalse old.is_open → after ≡ out
 
 -- the call of C is this call of the abstract port, with this answer
 abbrev pub CallDoes : IolPort → Call → Answered → IolPort → Type 0
-CallDoes old call answered new = CoreDoes (parts_of old) call answered (parts_of new)
+CallDoes old call answered new = CoreDoes (held_parts old) call answered (held_parts new)
 
 -- the number of an answer: that of its refusal, or 0
-abbrev pub number_of : {X : Type 0} → Result X PortFault → ℕ
-number_of (Ok value) = 0
-number_of (Err why) = fault_number why
+abbrev pub answer_number : {X : Type 0} → Result X PortFault → ℕ
+answer_number (Ok value) = 0
+answer_number (Err why) = port_fault_number why
 
 -- a rate by its number: 0 for no answer, 1 to 3 for COM1 to COM3
 abbrev pub rate_of : ℕ → Option Rate

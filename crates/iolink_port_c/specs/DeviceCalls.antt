@@ -10,7 +10,7 @@ use Rattle.iol_port.specs.declared.call.Counting.{Counting}
 use Rattle.iol_port.specs.declared.call.Counting.TheVariants.{Now, Later}
 use Rattle.iol_port.specs.EveryWire.{ExpectGives, SetCycleGives}
 use Rattle.iolink_port_c.specs.declared.held.IolPort.{IolPort}
-use Rattle.iolink_port_c.specs.Calls.{parts_of, CallDoes}
+use Rattle.iolink_port_c.specs.Calls.{held_parts, CallDoes}
 
 -- a device by its numbers
 abbrev pub identity_at : ℕ → ℕ → Identity
@@ -32,12 +32,12 @@ IsCycleOf micros (Some cycle) =
     (micros ≢ 0) × (micros ≤ micros_of cycle.octet) × IsShortest micros cycle
 
 -- this device is expected, or any
-pub record Expects (identity : Option Identity) (old : IolPort) (number counts : ℕ)
+pub record HandleExpects (identity : Option Identity) (old : IolPort) (number counts : ℕ)
     (new : IolPort) : Type 0 where
   pub answer : Counting
   pub number_is : number ≡ 0
   pub counts_is : counts ≡ counting_number answer
-  pub gives : ExpectGives (parts_of old) identity answer (parts_of new)
+  pub gives : ExpectGives (held_parts old) identity answer (held_parts new)
   pub does : CallDoes old (call.Expect identity) (answered.Counts answer) new
 
 -- a start-up is to write the cycle time of so many microseconds
@@ -47,5 +47,5 @@ pub record Paces (micros : ℕ) (old : IolPort) (number counts : ℕ) (new : Iol
   pub answer : Counting
   pub number_is : number ≡ 0
   pub counts_is : counts ≡ counting_number answer
-  pub gives : SetCycleGives (parts_of old) cycle answer (parts_of new)
+  pub gives : SetCycleGives (held_parts old) cycle answer (held_parts new)
   pub does : CallDoes old (call.Cycle cycle) (answered.Counts answer) new

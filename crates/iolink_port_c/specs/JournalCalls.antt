@@ -6,13 +6,13 @@ use Rattle.iol_port.specs.declared.call.Call.TheVariants as call
 use Rattle.iol_port.specs.declared.call.Answered.TheVariants as answered
 use Rattle.iol_port.specs.declared.fault.PortFault.TheVariants as fault
 use Rattle.iolink_port_c.specs.declared.held.IolPort.{IolPort}
-use Rattle.iolink_port_c.specs.Calls.{parts_of, Stays, CallDoes}
+use Rattle.iolink_port_c.specs.Calls.{held_parts, Stays, CallDoes}
 
 -- the journal goes to the handle, which has read none of it
-pub record Archives (old : IolPort) (number count : ℕ) (new : IolPort) : Type 0 where
+pub record HandleArchives (old : IolPort) (number count : ℕ) (new : IolPort) : Type 0 where
   pub number_is : number ≡ 0
-  pub count_is : count ≡ length (parts_of old).book.state.journal
-  pub kept : new.held.value.journal.items ≡ (parts_of old).book.state.journal
+  pub count_is : count ≡ length (held_parts old).book.state.journal
+  pub kept : new.held.value.journal.items ≡ (held_parts old).book.state.journal
   pub read : new.held.value.read ≡ 0
   pub does : CallDoes old call.Archive (answered.Archived count) new
 
@@ -20,7 +20,7 @@ pub record Archives (old : IolPort) (number count : ℕ) (new : IolPort) : Type 
 pub record RefusesArchive (old : IolPort) (number count : ℕ) (new : IolPort) : Type 0 where
   pub number_is : number ≡ 28
   pub count_is : count ≡ 0
-  pub book : (parts_of new).book.state ≡ (parts_of old).book.state
+  pub book : (held_parts new).book.state ≡ (held_parts old).book.state
   pub rest : Stays old new
   pub does : CallDoes old call.Archive (answered.Refused (fault.Book Outstanding)) new
 

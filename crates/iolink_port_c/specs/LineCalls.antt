@@ -7,11 +7,11 @@ use Rattle.iol_app.specs.declared.asked.Asked.{Asked}
 use Rattle.iol_app.specs.declared.asked.Asked.TheVariants.{Wake, Exchange}
 use Rattle.iol_app.specs.Pieces.{IsAskedOut}
 use Rattle.iol_port.specs.Asks.{asks_of}
-use Rattle.iol_port.specs.CorePort.{SendGives, SendDoes, ReceiveGives, ReceiveDoes, WakeGives, WakeDoes}
+use Rattle.iol_port.specs.CorePort.{PortSendGives, SendDoes, PortReceiveGives, ReceiveDoes, WakeGives, WakeDoes}
 use Rattle.iolink_handle.specs.Shown.{AreShown}
 use Rattle.iolink_port_c.specs.declared.held.IolPort.{IolPort}
 use Rattle.iolink_port_c.specs.declared.line.IolMessage.{IolMessage}
-use Rattle.iolink_port_c.specs.Calls.{parts_of}
+use Rattle.iolink_port_c.specs.Calls.{held_parts}
 
 -- the layout of the mode as C is shown it
 abbrev pub IsLaidOut : Shape → IolMessage → Type 0
@@ -27,23 +27,25 @@ IsMessage (Exchange sent) out = AreShown sent.octets.items out.length out.octets
 
 -- What the port asks for goes out, and is what it then waits to have answered. Where it was
 -- out already it is the same, and nothing changes
-pub record Sends (old : IolPort) (number : ℕ) (out : IolMessage) (new : IolPort) : Type 0 where
-  pub number_is : number ≡ 0
-  pub shown : IsMessage (asks_of (parts_of old)) out
-  pub says : IsAskedOut (asks_of (parts_of old)) (parts_of new).station.link.state
-  pub again : IsTrue (parts_of old).sent → parts_of new ≡ parts_of old
-  pub gives : SendGives (parts_of old) (parts_of new)
-  pub does : SendDoes (parts_of old) (parts_of new)
+pub record HandleSends (old : IolPort) (number : ℕ) (out : IolMessage) (new : IolPort) : Type 0
+  where
+    pub number_is : number ≡ 0
+    pub shown : IsMessage (asks_of (held_parts old)) out
+    pub says : IsAskedOut (asks_of (held_parts old)) (held_parts new).station.link.state
+    pub again : IsTrue (held_parts old).sent → held_parts new ≡ held_parts old
+    pub gives : PortSendGives (held_parts old) (held_parts new)
+    pub does : SendDoes (held_parts old) (held_parts new)
 
 -- what came back to the message that is out is taken
-pub record Receives (came : Option (List ℕ)) (old : IolPort) (number : ℕ) (new : IolPort) :
+pub record HandleReceives (came : Option (List ℕ)) (old : IolPort) (number : ℕ) (new : IolPort) :
     Type 0 where
   pub number_is : number ≡ 0
-  pub gives : ReceiveGives (parts_of old) came (parts_of new)
-  pub does : ReceiveDoes (parts_of old) came (parts_of new)
+  pub gives : PortReceiveGives (held_parts old) came (held_parts new)
+  pub does : ReceiveDoes (held_parts old) came (held_parts new)
 
 -- what came of the wake that is out is taken
-pub record Wakes (rate : Option Rate) (old : IolPort) (number : ℕ) (new : IolPort) : Type 0 where
+pub record HandleWakes (rate : Option Rate) (old : IolPort) (number : ℕ) (new : IolPort) : Type
+    0 where
   pub number_is : number ≡ 0
-  pub gives : WakeGives (parts_of old) (is_some rate) (parts_of new)
-  pub does : WakeDoes (parts_of old) (is_some rate) (parts_of new)
+  pub gives : WakeGives (held_parts old) (is_some rate) (held_parts new)
+  pub does : WakeDoes (held_parts old) (is_some rate) (held_parts new)

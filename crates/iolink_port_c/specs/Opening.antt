@@ -6,7 +6,7 @@ use Rattle.iol_mode.specs.declared.configuration.Devices.{Devices}
 use Rattle.iol_mode.specs.declared.configuration.Devices.TheVariants.{Own, Any}
 use Rattle.iol_port.specs.CorePort.{IsNewFor, CoreOpensFor}
 use Rattle.iolink_port_c.specs.declared.held.IolPort.{IolPort}
-use Rattle.iolink_port_c.specs.Calls.{parts_of}
+use Rattle.iolink_port_c.specs.Calls.{held_parts}
 use Rattle.iolink_port_c.specs.JournalCalls.{KeepsNone}
 
 -- the entries of the journal, the busy replies, the tickets outstanding, the last ticket given
@@ -26,7 +26,7 @@ devices_of number =
 
 -- What an opening answers and leaves: 253 where the handle is open, 254 where no devices have that
 -- number or a limit isn't in its range, 24 where there is no memory, else 0
-pub record Opens (devices : Option Devices) (limits : Limits) (old : IolPort) (number : ℕ)
+pub record HandleOpens (devices : Option Devices) (limits : Limits) (old : IolPort) (number : ℕ)
     (new : IolPort) : Type 0 where
   pub once : IsTrue old.is_open → (number ≡ 253) × (new ≡ old)
   pub unknown : IsFalse old.is_open → devices ≡ None → (number ≡ 254) × (new ≡ old)
@@ -35,6 +35,6 @@ pub record Opens (devices : Option Devices) (limits : Limits) (old : IolPort) (n
       → number ≡ 24
   pub refused : ¬ (number ≡ 0) → new ≡ old
   pub opened : number ≡ 0 → new.is_open ≡ true
-  pub parts : number ≡ 0 → IfSome devices (λ those. IsNewFor those limits (parts_of new))
-  pub opens : number ≡ 0 → IfSome devices (λ those. CoreOpensFor those limits (parts_of new))
+  pub parts : number ≡ 0 → IfSome devices (λ those. IsNewFor those limits (held_parts new))
+  pub opens : number ≡ 0 → IfSome devices (λ those. CoreOpensFor those limits (held_parts new))
   pub journal : number ≡ 0 → KeepsNone new

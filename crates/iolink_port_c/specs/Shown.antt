@@ -14,18 +14,18 @@ use Rattle.iol_steps.specs.declared.mode.Mode.{Mode}
 use Rattle.iol_steps.specs.declared.mode.Mode.TheVariants.{Down, Startup, Preoperate, Operate}
 use Rattle.iol_app.specs.declared.core_data.Status.{Status}
 use Rattle.iol_port.specs.declared.counters.Counters.{Counters}
-use Rattle.iolink_handle.specs.Shown.{AreShown, IsRequest}
+use Rattle.iolink_handle.specs.Shown.{AreShown, RequestIsShown}
 use Rattle.iolink_port_c.specs.declared.state.IolStatus.{IolStatus}
 use Rattle.iolink_port_c.specs.declared.outcome.IolOutcome.{IolOutcome}
 use Rattle.iolink_port_c.specs.declared.archive.IolEntry.{IolEntry}
 use Rattle.iolink_port_c.specs.declared.counters.IolCounters.{IolCounters}
 
 -- a mode's number
-abbrev pub mode_number : Mode → ℕ
-mode_number Down = 1
-mode_number Startup = 2
-mode_number Preoperate = 3
-mode_number Operate = 4
+abbrev pub port_mode_number : Mode → ℕ
+port_mode_number Down = 1
+port_mode_number Startup = 2
+port_mode_number Preoperate = 3
+port_mode_number Operate = 4
 
 -- the number of the fault that led down, 0 for none
 abbrev pub why_shown : Option Why → ℕ
@@ -33,9 +33,9 @@ why_shown None = 0
 why_shown (Some why) = why_number why
 
 -- a status as C is shown it
-abbrev pub IsShown : Status → IolStatus → Type 0
-IsShown status out =
-    (out.mode ≡ mode_number status.mode) × (out.why ≡ why_shown status.why)
+abbrev pub StatusIsShown : Status → IolStatus → Type 0
+StatusIsShown status out =
+    (out.mode ≡ port_mode_number status.mode) × (out.why ≡ why_shown status.why)
     × (out.event_form ≡ status.event_form)
 
 -- an answer's kind
@@ -76,8 +76,8 @@ outcome_octets (Done answer) = answer_octets answer
 outcome_octets other = []
 
 -- an outcome as C is shown it
-abbrev pub IsOutcome : Outcome → IolOutcome → Type 0
-IsOutcome outcome out =
+abbrev pub OutcomeIsShown : Outcome → IolOutcome → Type 0
+OutcomeIsShown outcome out =
     (out.kind ≡ outcome_kind outcome) × (out.cause ≡ outcome_cause outcome)
     × AreShown (outcome_octets outcome) out.length out.octets
 
@@ -91,13 +91,13 @@ HasNoOutcome out = out.outcome.kind ≡ 0
 -- an entry of a journal as C is shown it
 abbrev pub IsEntry : Entry → IolEntry → Type 0
 IsEntry (entry.Submitted ticket request) out = (out.kind ≡ 1) × (out.ticket ≡ ticket.0)
-    × IsRequest request out.request × HasNoOutcome out
+    × RequestIsShown request out.request × HasNoOutcome out
 IsEntry (entry.Urgent ticket request) out = (out.kind ≡ 2) × (out.ticket ≡ ticket.0)
-    × IsRequest request out.request × HasNoOutcome out
+    × RequestIsShown request out.request × HasNoOutcome out
 IsEntry (entry.Taken ticket) out = (out.kind ≡ 8) × (out.ticket ≡ ticket.0) × HasNoRequest out
     × HasNoOutcome out
 IsEntry (entry.Answered ticket outcome) out = (out.kind ≡ 9) × (out.ticket ≡ ticket.0)
-    × IsOutcome outcome out.outcome × HasNoRequest out
+    × OutcomeIsShown outcome out.outcome × HasNoRequest out
 IsEntry (entry.Withdrawn ticket) out = (out.kind ≡ 12) × (out.ticket ≡ ticket.0) × HasNoRequest out
     × HasNoOutcome out
 IsEntry (entry.Collected ticket) out = (out.kind ≡ 16) × (out.ticket ≡ ticket.0) × HasNoRequest out

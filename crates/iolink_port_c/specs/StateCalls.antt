@@ -9,25 +9,26 @@ use Rattle.iol_port.specs.EveryWire.{RestartGives, SetOutputGives, ClearOutputGi
 use Rattle.iol_port.specs.Replies.{nothing_reply, event_reply}
 use Rattle.iolink_port_c.specs.declared.held.IolPort.{IolPort}
 use Rattle.iolink_port_c.specs.declared.state.IolEvent.{IolEvent}
-use Rattle.iolink_port_c.specs.Calls.{parts_of, CallDoes, number_of}
+use Rattle.iolink_port_c.specs.Calls.{held_parts, CallDoes, answer_number}
 
 -- the link is left in down
-pub record Restarts (old : IolPort) (number : ℕ) (new : IolPort) : Type 0 where
+pub record HandleRestarts (old : IolPort) (number : ℕ) (new : IolPort) : Type 0 where
   pub number_is : number ≡ 0
-  pub gives : RestartGives (parts_of old) (parts_of new)
+  pub gives : RestartGives (held_parts old) (held_parts new)
   pub does : CallDoes old call.Restart answered.Nothing new
 
 -- an output is wanted, or refused
-pub record SetsOutput (octets : List ℕ) (old : IolPort) (number : ℕ) (new : IolPort) : Type 0 where
+pub record HandleSetsOutput (octets : List ℕ) (old : IolPort) (number : ℕ)
+    (new : IolPort) : Type 0 where
   pub answer : Result (Unit {0}) PortFault
-  pub number_is : number ≡ number_of answer
-  pub gives : SetOutputGives (parts_of old) octets answer (parts_of new)
+  pub number_is : number ≡ answer_number answer
+  pub gives : SetOutputGives (held_parts old) octets answer (held_parts new)
   pub does : CallDoes old (call.SetOutput octets) (nothing_reply answer) new
 
 -- no output is wanted
-pub record ClearsOutput (old : IolPort) (number : ℕ) (new : IolPort) : Type 0 where
+pub record HandleClearsOutput (old : IolPort) (number : ℕ) (new : IolPort) : Type 0 where
   pub number_is : number ≡ 0
-  pub gives : ClearOutputGives (parts_of old) (parts_of new)
+  pub gives : ClearOutputGives (held_parts old) (held_parts new)
   pub does : CallDoes old call.ClearOutput answered.Nothing new
 
 -- an event as C is shown it
@@ -35,11 +36,11 @@ abbrev pub IsEvent : Event → IolEvent → Type 0
 IsEvent event out = (out.qualifier ≡ event.qualifier) × (out.code ≡ event.code)
 
 -- the event that was kept longest is handed out, or none is and nothing is written for C
-pub record TakesEvent (old : IolPort) (number : ℕ) (before after : IolEvent)
+pub record HandleTakesEvent (old : IolPort) (number : ℕ) (before after : IolEvent)
     (new : IolPort) : Type 0 where
   pub answer : Result Event PortFault
-  pub number_is : number ≡ number_of answer
-  pub gives : TakeEventGives (parts_of old) answer (parts_of new)
+  pub number_is : number ≡ answer_number answer
+  pub gives : TakeEventGives (held_parts old) answer (held_parts new)
   pub does : CallDoes old call.TakeEvent (event_reply answer) new
   pub shown : IfOk answer (λ event. IsEvent event after)
   pub unwritten : OnErr answer (after ≡ before)

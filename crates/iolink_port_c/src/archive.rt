@@ -1,13 +1,13 @@
 //! The journal, entry by entry.
 ghost use Rattle.std.specs.Prelude.{◌≡◌, ◌+◌, slice_get, IsSome, IsNone, [], IsTrue, IsFalse};
 ghost use Rattle.std.specs.Vec.{vec_capacity};
-ghost use Rattle.iol_book.specs.BookModel.{may_archive, archived, memory_archived};
+ghost use Rattle.iol_book.specs.BookModel.{may_archive, book_after_archive, memory_archived};
 ghost use Rattle.iol_port.specs.EveryWire.{IsBookCall};
-ghost use Rattle.iolink_port_c.specs.Calls.{parts_of, LeavesClosed};
-ghost use Rattle.iolink_port_c.specs.JournalCalls.{Archives, RefusesArchive, KeepsNone};
+ghost use Rattle.iolink_port_c.specs.Calls.{held_parts, LeavesClosed};
+ghost use Rattle.iolink_port_c.specs.JournalCalls.{HandleArchives, RefusesArchive, KeepsNone};
 ghost use Rattle.iolink_port_c.specs.Shown.{IsEntry, IsNext, HasNoRequest, HasNoOutcome};
 
-use crate::held::{IolPort, Master};
+use crate::held::{IolPort, PortWithJournal};
 use crate::outcome::{IolOutcome, show_outcome};
 use iol_book::{Entry, Ticket};
 use iolink_handle::{CLOSED, IolRequest, show_request};
@@ -48,17 +48,17 @@ pub extern "C" fn iol_port_archive(alloc: Global, handle: &mut IolPort, count: &
     ensures closed { LeavesClosed result handle.old handle.new count.old count.new }
     ensures stays { handle.new.is_open ≡ handle.old.is_open }
     ensures refused { IsTrue handle.old.is_open →
-        IsFalse (may_archive (parts_of handle.old).book.state) →
+        IsFalse (may_archive (held_parts handle.old).book.state) →
         RefusesArchive handle.old result count.new handle.new }
     ensures done { IsTrue handle.old.is_open →
-        IsTrue (may_archive (parts_of handle.old).book.state) →
-        Archives handle.old result count.new handle.new }
+        IsTrue (may_archive (held_parts handle.old).book.state) →
+        HandleArchives handle.old result count.new handle.new }
     ensures book { IsTrue handle.old.is_open →
-        (parts_of handle.new).book.state ≡ archived (parts_of handle.old).book.state }
+        (held_parts handle.new).book.state ≡ book_after_archive (held_parts handle.old).book.state }
     ensures memory { IsTrue handle.old.is_open →
-        (parts_of handle.new).book.memory ≡ memory_archived (parts_of handle.old).book }
+        (held_parts handle.new).book.memory ≡ memory_archived (held_parts handle.old).book }
     ensures rest { IsTrue handle.old.is_open
-        → IsBookCall (parts_of handle.old) (parts_of handle.new) }
+        → IsBookCall (held_parts handle.old) (held_parts handle.new) }
 {
     let answer = handle.with(alloc, |master| match master.port.archive() {
         Ok(entries) => {
@@ -105,7 +105,7 @@ pub extern "C" fn iol_port_entry(alloc: Global, handle: &mut IolPort, out: &mut 
     0
 }
 
-fn next_entry(alloc: Global, master: &mut Master) -> Option<Entry>
+fn next_entry(alloc: Global, master: &mut PortWithJournal) -> Option<Entry>
     ensures port { master.new.port ≡ master.old.port }
     ensures entry { result ≡ slice_get master.old.journal.items master.old.read }
     ensures next { IsSome result → master.new ≡ record master.old { read = master.old.read + 1 } }

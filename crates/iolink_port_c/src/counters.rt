@@ -2,7 +2,7 @@
 ghost use Rattle.std.specs.Prelude.{◌≡◌, IsTrue};
 ghost use Rattle.iol_port.specs.declared.call.Call.TheVariants as call;
 ghost use Rattle.iol_port.specs.declared.call.Answered.TheVariants as answered;
-ghost use Rattle.iolink_port_c.specs.Calls.{parts_of, LeavesClosed, CallDoes};
+ghost use Rattle.iolink_port_c.specs.Calls.{held_parts, LeavesClosed, CallDoes};
 ghost use Rattle.iolink_port_c.specs.Shown.{counters_shown};
 
 use crate::held::IolPort;
@@ -58,9 +58,9 @@ pub extern "C" fn iol_port_counters(
     ensures stays { handle.new.is_open ≡ handle.old.is_open }
     ensures same { handle.new.held.value ≡ handle.old.held.value }
     ensures counters { IsTrue handle.old.is_open →
-        (result ≡ 0) × (out.new ≡ counters_shown (parts_of handle.old).counters) }
+        (result ≡ 0) × (out.new ≡ counters_shown (held_parts handle.old).counters) }
     ensures does { IsTrue handle.old.is_open → CallDoes handle.old
-        call.Counters (answered.Counters (parts_of handle.old).counters) handle.new }
+        call.Counters (answered.Counters (held_parts handle.old).counters) handle.new }
 {
     match handle.with(alloc, |master| *master.port.counters()) {
         Some(counters) => *out = shown(&counters),

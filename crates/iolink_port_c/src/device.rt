@@ -6,9 +6,9 @@ ghost use Rattle.iol_port.specs.declared.call.Call.TheVariants as call;
 ghost use Rattle.iol_port.specs.declared.call.Answered.TheVariants as answered;
 ghost use Rattle.iol_port.specs.EveryWire.{page_shown};
 ghost use Rattle.iolink_handle.specs.Shown.{AreShown};
-ghost use Rattle.iolink_port_c.specs.Calls.{parts_of, LeavesClosed, CallDoes, Guards, GuardsOut};
+ghost use Rattle.iolink_port_c.specs.Calls.{held_parts, LeavesClosed, CallDoes, GuardsPort, GuardsOut};
 ghost use Rattle.iolink_port_c.specs.DeviceCalls.{identity_at, largest_device, counting_number};
-ghost use Rattle.iolink_port_c.specs.DeviceCalls.{IsCycleOf, Expects, Paces};
+ghost use Rattle.iolink_port_c.specs.DeviceCalls.{IsCycleOf, HandleExpects, Paces};
 
 use crate::held::IolPort;
 use iol_page::{CycleFault, CycleTime, Identity, Page};
@@ -37,12 +37,12 @@ pub extern "C" fn iol_port_expect(
     device: u32,
     counts: &mut u8,
 ) -> u8
-    ensures guards { Guards result handle.old handle.new }
+    ensures guards { GuardsPort result handle.old handle.new }
     ensures unwritten { ¬ (result ≡ 0) → counts.new ≡ counts.old }
     ensures range { IsTrue handle.old.is_open → largest_device < device →
         (result ≡ 254) × (handle.new ≡ handle.old) }
     ensures expects { IsTrue handle.old.is_open → device ≤ largest_device →
-        Expects (Some (identity_at vendor device)) handle.old result counts.new handle.new }
+        HandleExpects (Some (identity_at vendor device)) handle.old result counts.new handle.new }
 {
     if device > LARGEST_DEVICE {
         return refusal_by(handle, OUT_OF_RANGE);
@@ -58,7 +58,7 @@ pub extern "C" fn iol_port_expect(
 pub extern "C" fn iol_port_expect_any(alloc: Global, handle: &mut IolPort, counts: &mut u8) -> u8
     ensures guards { GuardsOut result handle.old handle.new counts.old counts.new }
     ensures expects { IsTrue handle.old.is_open →
-        Expects None handle.old result counts.new handle.new }
+        HandleExpects None handle.old result counts.new handle.new }
 {
     let answer = handle.with(alloc, |master| master.port.expect_any());
     show_counting(answer, counts)
@@ -76,7 +76,7 @@ pub extern "C" fn iol_port_set_cycle(
     micros: u32,
     counts: &mut u8,
 ) -> u8
-    ensures guards { Guards result handle.old handle.new }
+    ensures guards { GuardsPort result handle.old handle.new }
     ensures unwritten { ¬ (result ≡ 0) → counts.new ≡ counts.old }
     ensures range { IsTrue handle.old.is_open → longest_cycle < micros →
         (result ≡ 39) × (handle.new ≡ handle.old) }
@@ -140,9 +140,10 @@ pub extern "C" fn iol_port_page(alloc: Global, handle: &mut IolPort, out: &mut I
     ensures stays { handle.new.is_open ≡ handle.old.is_open }
     ensures same { handle.new.held.value ≡ handle.old.held.value }
     ensures page { IsTrue handle.old.is_open → (result ≡ 0)
-        × AreShown (unwrap_or (page_shown (parts_of handle.old)) []) out.new.length out.new.octets }
+        × AreShown (unwrap_or (page_shown (held_parts handle.old)) []) out.new.length
+        out.new.octets }
     ensures does { IsTrue handle.old.is_open → CallDoes handle.old
-        call.Page (answered.Page (page_shown (parts_of handle.old))) handle.new }
+        call.Page (answered.Page (page_shown (held_parts handle.old))) handle.new }
 {
     match handle.with(alloc, |master| master.port.page()) {
         Some(page) => show_page(page, out),

@@ -1,7 +1,7 @@
 //! What a handle of C holds.
 ghost use Rattle.std.specs.Prelude.{◌≡◌, Bool, true, false, is_some, IfSome, IfNone};
 ghost use Rattle.std.specs.Fn.{FnOnceReturnsAtMut};
-ghost use Rattle.iolink_port_c.specs.declared.held.Master.{Master};
+ghost use Rattle.iolink_port_c.specs.declared.held.PortWithJournal.{PortWithJournal};
 
 use core::mem::replace_with;
 use iol_book::Entry;
@@ -14,7 +14,7 @@ use std::ptr::null_mut;
 /// What lies behind the pointer: the port, and the journal that was handed out
 /// last, of which C reads one entry after the other.
 #[derive(Drop)]
-pub struct Master {
+pub struct PortWithJournal {
     pub port: PortCore<Global>,
     pub journal: Vec<Entry, Global>,
     pub read: usize,
@@ -23,40 +23,40 @@ pub struct Master {
 /// A pointer, with the box behind it where it holds one.
 #[derive(Drop)]
 #[repr(C)]
-pub struct Held {
+pub struct PortPointer {
     at: *mut (),
     pub ghost is_held: { Bool },
-    pub ghost value: { Master },
+    pub ghost value: { PortWithJournal },
 }
 
-impl Model for Held {
-    ghost use Rattle.iolink_handle.specs.Heap.{held};
-    ghost use Rattle.iolink_port_c.specs.contracts.held.Master.{the_row};
+impl Model for PortPointer {
+    ghost use Rattle.iolink_handle.specs.Heap.{handle_owns};
+    ghost use Rattle.iolink_port_c.specs.contracts.held.PortWithJournal.{the_row};
 
-    ghost also_owns = { λ h. held the_row h.is_held h.at h.value };
+    ghost also_owns = { λ h. handle_owns the_row h.is_held h.at h.value };
 }
 
-impl Held {
-    fn of_loose(loose: Loose<Master>) -> Held
+impl PortPointer {
+    fn of_loose(loose: Loose<PortWithJournal>) -> PortPointer
         ensures value { result.value ≡ loose.value }
         ensures holds { result.is_held ≡ true }
     {
         let Loose { at } = loose;
-        Held { at: at as *mut () }
+        PortPointer { at: at as *mut () }
     }
 
     /// The box, beside the pointer to nothing that is left.
-    fn take(self) -> (Held, Loose<Master>)
+    fn take(self) -> (PortPointer, Loose<PortWithJournal>)
         requires { self.is_held ≡ true }
         ensures last { result.0.value ≡ self.value }
         ensures shut { result.0.is_held ≡ false }
         ensures value { result.1.value ≡ self.value }
     {
-        let Held { at } = self;
+        let PortPointer { at } = self;
         (
-            Held { at: null_mut() },
+            PortPointer { at: null_mut() },
             Loose {
-                at: at as *mut Master,
+                at: at as *mut PortWithJournal,
             },
         )
     }
@@ -66,24 +66,24 @@ impl Held {
 #[derive(Drop)]
 #[repr(C)]
 pub struct IolPort {
-    pub held: Held,
+    pub held: PortPointer,
     pub is_open: bool,
     pub ghost same: { held.is_held ≡ is_open },
 }
 
 impl IolPort {
-    pub(crate) fn of(master: Box<Master>) -> IolPort
+    pub(crate) fn of(master: Box<PortWithJournal>) -> IolPort
         ensures value { result.held.value ≡ master.value }
         ensures opened { result.is_open ≡ true }
     {
         IolPort {
-            held: Held::of_loose(Loose::of(master)),
+            held: PortPointer::of_loose(Loose::of(master)),
             is_open: true,
         }
     }
 
     /// The box, beside the closed handle that is left.
-    pub(crate) fn take(self, alloc: Global) -> (IolPort, Box<Master>)
+    pub(crate) fn take(self, alloc: Global) -> (IolPort, Box<PortWithJournal>)
         requires { self.is_open ≡ true }
         ensures last { result.0.held.value ≡ self.held.value }
         ensures shut { result.0.is_open ≡ false }
@@ -99,7 +99,11 @@ impl IolPort {
     }
 
     /// What `f` makes of the port behind the handle, none where the handle is closed.
-    pub(crate) fn with<R, F: FnOnce(&mut Master) -> R>(&mut self, alloc: Global, f: F) -> Option<R>
+    pub(crate) fn with<R, F: FnOnce(&mut PortWithJournal) -> R>(
+        &mut self,
+        alloc: Global,
+        f: F,
+    ) -> Option<R>
         requires { F.IsAlwaysCallable f }
         ensures open { is_some result ≡ self.old.is_open }
         ensures stays { self.new.is_open ≡ self.old.is_open }

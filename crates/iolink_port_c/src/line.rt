@@ -1,16 +1,16 @@
 //! The line: what goes out, and what came.
 ghost use Rattle.std.specs.Prelude.{◌≡◌, ◌≤◌, ◌<◌, length, IsTrue};
-ghost use Rattle.iol_port.specs.declared.awaited.Awaited.{Awaited};
-ghost use Rattle.iol_port.specs.CorePort.{awaited};
-ghost use Rattle.iolink_port_c.specs.Calls.{parts_of, IsNotAsked, Guards, GuardsOut};
+ghost use Rattle.iol_port.specs.declared.awaited.AwaitedAnswer.{AwaitedAnswer};
+ghost use Rattle.iol_port.specs.CorePort.{awaited_answer};
+ghost use Rattle.iolink_port_c.specs.Calls.{held_parts, IsNotAsked, GuardsPort, GuardsOut};
 ghost use Rattle.iolink_port_c.specs.Calls.{rate_of, answer_of};
-ghost use Rattle.iolink_port_c.specs.LineCalls.{Sends, Receives, Wakes};
+ghost use Rattle.iolink_port_c.specs.LineCalls.{HandleSends, HandleReceives, HandleWakes};
 
 use crate::held::IolPort;
 use iol_app::Asked;
 use iol_link::Rate;
 use iol_mseq::Message;
-use iol_port::Awaited;
+use iol_port::AwaitedAnswer;
 use iolink_handle::{CLOSED, NOT_ASKED, OUT_OF_RANGE, put};
 use std::alloc::Global;
 
@@ -36,7 +36,7 @@ pub struct IolMessage {
 #[unsafe(no_mangle)]
 pub extern "C" fn iol_port_asks(alloc: Global, handle: &mut IolPort, out: &mut IolMessage) -> u8
     ensures guards { GuardsOut result handle.old handle.new out.old out.new }
-    ensures sends { IsTrue handle.old.is_open → Sends handle.old result out.new handle.new }
+    ensures sends { IsTrue handle.old.is_open → HandleSends handle.old result out.new handle.new }
 {
     match handle.with(alloc, |master| master.port.send()) {
         Some(Asked::Wake) => out.length = 0,
@@ -61,15 +61,15 @@ pub extern "C" fn iol_port_asks(alloc: Global, handle: &mut IolPort, out: &mut I
 /// wake waits for its answer; nothing changed then.
 #[unsafe(no_mangle)]
 pub extern "C" fn iol_port_turn_woken(alloc: Global, handle: &mut IolPort, rate: u8) -> u8
-    ensures guards { Guards result handle.old handle.new }
+    ensures guards { GuardsPort result handle.old handle.new }
     ensures range { IsTrue handle.old.is_open → 3 < rate →
         (result ≡ 254) × (handle.new ≡ handle.old) }
     ensures refused { IsTrue handle.old.is_open → rate ≤ 3 →
-        ¬ (awaited (parts_of handle.old) ≡ Awaited.Wake) →
+        ¬ (awaited_answer (held_parts handle.old) ≡ AwaitedAnswer.Wake) →
         IsNotAsked result handle.old handle.new }
     ensures wakes { IsTrue handle.old.is_open → rate ≤ 3 →
-        awaited (parts_of handle.old) ≡ Awaited.Wake →
-        Wakes (rate_of rate) handle.old result handle.new }
+        awaited_answer (held_parts handle.old) ≡ AwaitedAnswer.Wake →
+        HandleWakes (rate_of rate) handle.old result handle.new }
 {
     if !handle.is_open {
         return CLOSED;
@@ -79,11 +79,11 @@ pub extern "C" fn iol_port_turn_woken(alloc: Global, handle: &mut IolPort, rate:
     }
     let rate = rate_named(rate);
     let code = handle.with(alloc, |master| match master.port.awaits() {
-        Awaited::Wake => {
+        AwaitedAnswer::Wake => {
             master.port.receive_wake(rate);
             0
         }
-        Awaited::Nothing | Awaited::Reply => NOT_ASKED,
+        AwaitedAnswer::Nothing | AwaitedAnswer::Reply => NOT_ASKED,
     });
     code.unwrap_or(CLOSED)
 }
@@ -107,15 +107,15 @@ fn rate_named(number: u8) -> Option<Rate>
 /// no message waits for its answer; nothing changed then.
 #[unsafe(no_mangle)]
 pub extern "C" fn iol_port_turn_answered(alloc: Global, handle: &mut IolPort, octets: &[u8]) -> u8
-    ensures guards { Guards result handle.old handle.new }
+    ensures guards { GuardsPort result handle.old handle.new }
     ensures long { IsTrue handle.old.is_open → 66 < length octets.now →
         (result ≡ 254) × (handle.new ≡ handle.old) }
     ensures refused { IsTrue handle.old.is_open → length octets.now ≤ 66 →
-        ¬ (awaited (parts_of handle.old) ≡ Awaited.Reply) →
+        ¬ (awaited_answer (held_parts handle.old) ≡ AwaitedAnswer.Reply) →
         IsNotAsked result handle.old handle.new }
     ensures receives { IsTrue handle.old.is_open → length octets.now ≤ 66 →
-        awaited (parts_of handle.old) ≡ Awaited.Reply →
-        Receives (answer_of octets.now) handle.old result handle.new }
+        awaited_answer (held_parts handle.old) ≡ AwaitedAnswer.Reply →
+        HandleReceives (answer_of octets.now) handle.old result handle.new }
 {
     if !handle.is_open {
         return CLOSED;
@@ -125,11 +125,11 @@ pub extern "C" fn iol_port_turn_answered(alloc: Global, handle: &mut IolPort, oc
     };
     let answer = if came.is_empty() { None } else { Some(came) };
     let code = handle.with(alloc, |master| match master.port.awaits() {
-        Awaited::Reply => {
+        AwaitedAnswer::Reply => {
             master.port.receive(&answer);
             0
         }
-        Awaited::Nothing | Awaited::Wake => NOT_ASKED,
+        AwaitedAnswer::Nothing | AwaitedAnswer::Wake => NOT_ASKED,
     });
     code.unwrap_or(CLOSED)
 }

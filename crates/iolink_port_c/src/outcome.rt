@@ -1,7 +1,7 @@
 //! How a request ended, as C sees it.
 ghost use Rattle.std.specs.Prelude.{◌≡◌};
 ghost use Rattle.iolink_handle.specs.Shown.{AreShown};
-ghost use Rattle.iolink_port_c.specs.Shown.{IsOutcome, answer_kind, answer_octets, cause_number};
+ghost use Rattle.iolink_port_c.specs.Shown.{OutcomeIsShown, answer_kind, answer_octets, cause_number};
 
 use iol_book::Outcome;
 use iol_isdu::{Answer, Cause};
@@ -35,7 +35,7 @@ pub struct IolOutcome {
 }
 
 pub(crate) fn show_outcome(outcome: &Outcome, out: &mut IolOutcome)
-    ensures { IsOutcome outcome.now out.new }
+    ensures { OutcomeIsShown outcome.now out.new }
 {
     out.cause = 0;
     out.length = 0;

@@ -1,10 +1,10 @@
 //! Opening and closing.
 ghost use Rattle.std.specs.Prelude.{◌≡◌, ◌↔◌, Some, false, IfSome, IsSome, IsTrue, IsFalse};
 ghost use Rattle.iol_mode.specs.declared.configuration.Devices.TheVariants.{Own};
-ghost use Rattle.iolink_port_c.specs.Calls.{IsRefused};
-ghost use Rattle.iolink_port_c.specs.Opening.{AreInRange, Opens, devices_of, limits_of};
+ghost use Rattle.iolink_port_c.specs.Calls.{ClosedPortIsRefused};
+ghost use Rattle.iolink_port_c.specs.Opening.{AreInRange, HandleOpens, devices_of, limits_of};
 
-use crate::held::{IolPort, Master};
+use crate::held::{IolPort, PortWithJournal};
 use core::mem::replace_with;
 use iol_book::{BusyLimit, JournalLimit, Limits, QueueLimit};
 use iol_mode::Devices;
@@ -33,7 +33,8 @@ pub extern "C" fn iol_port_open(
     queue: u8,
     given: u64,
 ) -> u8
-    ensures { Opens (Some Own) (limits_of journal busy queue given) handle.old result handle.new }
+    ensures { HandleOpens (Some Own) (limits_of journal busy queue given) handle.old result
+        handle.new }
 {
     open_for(alloc, handle, Devices::Own, journal, busy, queue, given)
 }
@@ -50,7 +51,7 @@ pub extern "C" fn iol_port_open_for(
     queue: u8,
     given: u64,
 ) -> u8
-    ensures { Opens (devices_of devices) (limits_of journal busy queue given)
+    ensures { HandleOpens (devices_of devices) (limits_of journal busy queue given)
         handle.old result handle.new }
 {
     if handle.is_open {
@@ -72,7 +73,7 @@ fn open_for(
     queue: u8,
     given: u64,
 ) -> u8
-    ensures { Opens (Some devices) (limits_of journal busy queue given)
+    ensures { HandleOpens (Some devices) (limits_of journal busy queue given)
         handle.old result handle.new }
 {
     if handle.is_open {
@@ -85,7 +86,7 @@ fn open_for(
         Ok(port) => port,
         Err(fault) => return fault.code(),
     };
-    let master = Master {
+    let master = PortWithJournal {
         port,
         journal: Vec::new(alloc),
         read: 0,
@@ -127,7 +128,7 @@ fn devices_of(number: u8) -> Option<Devices>
 #[unsafe(no_mangle)]
 pub extern "C" fn iol_port_close(alloc: Global, handle: &mut IolPort) -> u8
     ensures shut { handle.new.is_open ≡ false }
-    ensures once { IsFalse handle.old.is_open → IsRefused result handle.old handle.new }
+    ensures once { IsFalse handle.old.is_open → ClosedPortIsRefused result handle.old handle.new }
     ensures done { IsTrue handle.old.is_open → result ≡ 0 }
 {
     if !handle.is_open {

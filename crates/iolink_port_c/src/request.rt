@@ -1,11 +1,11 @@
 //! Requests: entered, collected, taken back and cut off.
 ghost use Rattle.std.specs.Prelude.{◌≡◌, ◌≤◌, ◌<◌, length, IsTrue};
 ghost use Rattle.std.specs.Prelude.{IfOk, IfErr, IfSome, IfNone};
-ghost use Rattle.iol_isdu.specs.Fault.{fault_number as isdu_number};
+ghost use Rattle.iol_isdu.specs.Fault.{isdu_fault_number};
 ghost use Rattle.iolink_port_c.specs.declared.request.Urgency.{Urgency};
-ghost use Rattle.iolink_port_c.specs.RequestCalls.{Enters, Collects, Withdraws, Cancels};
+ghost use Rattle.iolink_port_c.specs.RequestCalls.{HandleEnters, HandleCollects, HandleWithdraws, HandleCancels};
 ghost use Rattle.iolink_port_c.specs.RequestCalls.{read_at, write_at};
-ghost use Rattle.iolink_port_c.specs.Calls.{number_of, Guards, GuardsOut};
+ghost use Rattle.iolink_port_c.specs.Calls.{answer_number, GuardsPort, GuardsOut};
 
 use crate::held::IolPort;
 use crate::outcome::{IolOutcome, show_outcome};
@@ -33,9 +33,9 @@ fn enter(
 ) -> u8
     ensures guards { GuardsOut result handle.old handle.new ticket.old ticket.new }
     ensures refused { IsTrue handle.old.is_open → IfErr request (λ why.
-        (result ≡ isdu_number why) × (ticket.new ≡ 0) × (handle.new ≡ handle.old)) }
+        (result ≡ isdu_fault_number why) × (ticket.new ≡ 0) × (handle.new ≡ handle.old)) }
     ensures enters { IsTrue handle.old.is_open → IfOk request (λ request.
-        Enters urgency request handle.old result ticket.new handle.new) }
+        HandleEnters urgency request handle.old result ticket.new handle.new) }
 {
     if !handle.is_open {
         return CLOSED;
@@ -62,7 +62,7 @@ fn enter(
 /// 0, or the number of the refusal: 252 where the handle is closed.
 pub(crate) fn code_of(answer: Option<Result<(), PortFault>>) -> u8
     ensures closed { IfNone answer (result ≡ 252) }
-    ensures number { IfSome answer (λ answer. result ≡ number_of answer) }
+    ensures number { IfSome answer (λ answer. result ≡ answer_number answer) }
 {
     match answer {
         Some(Ok(())) => 0,
@@ -84,7 +84,7 @@ pub extern "C" fn iol_port_read(
 ) -> u8
     ensures guards { GuardsOut result handle.old handle.new ticket.old ticket.new }
     ensures enters { IsTrue handle.old.is_open →
-        Enters Urgency.Ordinary (read_at index sub) handle.old result ticket.new handle.new }
+        HandleEnters Urgency.Ordinary (read_at index sub) handle.old result ticket.new handle.new }
 {
     let read = Ok(Request::read(Place { index, sub }));
     enter(alloc, handle, read, Urgency::Ordinary, ticket)
@@ -102,7 +102,7 @@ pub extern "C" fn iol_port_read_urgent(
 ) -> u8
     ensures guards { GuardsOut result handle.old handle.new ticket.old ticket.new }
     ensures enters { IsTrue handle.old.is_open →
-        Enters Urgency.Urgent (read_at index sub) handle.old result ticket.new handle.new }
+        HandleEnters Urgency.Urgent (read_at index sub) handle.old result ticket.new handle.new }
 {
     let read = Ok(Request::read(Place { index, sub }));
     enter(alloc, handle, read, Urgency::Urgent, ticket)
@@ -124,7 +124,7 @@ pub extern "C" fn iol_port_write(
     ensures long { IsTrue handle.old.is_open → 232 < length octets.now →
         (result ≡ 9) × (ticket.new ≡ 0) × (handle.new ≡ handle.old) }
     ensures enters { IsTrue handle.old.is_open → length octets.now ≤ 232 →
-        Enters Urgency.Ordinary (write_at index sub octets.now)
+        HandleEnters Urgency.Ordinary (write_at index sub octets.now)
         handle.old result ticket.new handle.new }
 {
     let write = Request::write(Place { index, sub }, octets);
@@ -146,7 +146,7 @@ pub extern "C" fn iol_port_write_urgent(
     ensures long { IsTrue handle.old.is_open → 232 < length octets.now →
         (result ≡ 9) × (ticket.new ≡ 0) × (handle.new ≡ handle.old) }
     ensures enters { IsTrue handle.old.is_open → length octets.now ≤ 232 →
-        Enters Urgency.Urgent (write_at index sub octets.now)
+        HandleEnters Urgency.Urgent (write_at index sub octets.now)
         handle.old result ticket.new handle.new }
 {
     let write = Request::write(Place { index, sub }, octets);
@@ -165,7 +165,7 @@ pub extern "C" fn iol_port_collect(
 ) -> u8
     ensures guards { GuardsOut result handle.old handle.new out.old out.new }
     ensures collects { IsTrue handle.old.is_open →
-        Collects ticket handle.old result out.old out.new handle.new }
+        HandleCollects ticket handle.old result out.old out.new handle.new }
 {
     match handle.with(alloc, |master| master.port.collect(Ticket(ticket))) {
         Some(Ok(outcome)) => {
@@ -183,9 +183,9 @@ pub extern "C" fn iol_port_collect(
 /// outstanding, and 27 where it waits no longer.
 #[unsafe(no_mangle)]
 pub extern "C" fn iol_port_withdraw(alloc: Global, handle: &mut IolPort, ticket: u64) -> u8
-    ensures guards { Guards result handle.old handle.new }
+    ensures guards { GuardsPort result handle.old handle.new }
     ensures withdraws { IsTrue handle.old.is_open →
-        Withdraws ticket handle.old result handle.new }
+        HandleWithdraws ticket handle.old result handle.new }
 {
     code_of(handle.with(alloc, |master| master.port.withdraw(Ticket(ticket))))
 }
@@ -194,9 +194,9 @@ pub extern "C" fn iol_port_withdraw(alloc: Global, handle: &mut IolPort, ticket:
 /// closed, 25 where no such ticket is outstanding, and 36 where it waits or has an outcome.
 #[unsafe(no_mangle)]
 pub extern "C" fn iol_port_cancel(alloc: Global, handle: &mut IolPort, ticket: u64) -> u8
-    ensures guards { Guards result handle.old handle.new }
+    ensures guards { GuardsPort result handle.old handle.new }
     ensures cancels { IsTrue handle.old.is_open →
-        Cancels ticket handle.old result handle.new }
+        HandleCancels ticket handle.old result handle.new }
 {
     code_of(handle.with(alloc, |master| master.port.cancel(Ticket(ticket))))
 }

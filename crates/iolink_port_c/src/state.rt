@@ -3,19 +3,19 @@ ghost use Rattle.std.specs.Prelude.{◌≡◌, unwrap_or, [], IsTrue};
 ghost use Rattle.iol_port.specs.declared.call.Call.TheVariants as call;
 ghost use Rattle.iol_port.specs.declared.call.Answered.TheVariants as answered;
 ghost use Rattle.iol_image.specs.Image.{IsImage};
-ghost use Rattle.iol_port.specs.declared.awaited.Awaited.{Awaited};
-ghost use Rattle.iol_port.specs.CorePort.{awaited};
+ghost use Rattle.iol_port.specs.declared.awaited.AwaitedAnswer.{AwaitedAnswer};
+ghost use Rattle.iol_port.specs.CorePort.{awaited_answer};
 ghost use Rattle.iol_port.specs.View.{status_of};
 ghost use Rattle.iolink_handle.specs.Shown.{AreShown};
-ghost use Rattle.iolink_port_c.specs.Shown.{IsShown};
-ghost use Rattle.iolink_port_c.specs.Calls.{parts_of, LeavesClosed, IsNotAsked, CallDoes, Guards, GuardsOut};
-ghost use Rattle.iolink_port_c.specs.StateCalls.{Restarts, SetsOutput, ClearsOutput, TakesEvent};
+ghost use Rattle.iolink_port_c.specs.Shown.{StatusIsShown};
+ghost use Rattle.iolink_port_c.specs.Calls.{held_parts, LeavesClosed, IsNotAsked, CallDoes, GuardsPort, GuardsOut};
+ghost use Rattle.iolink_port_c.specs.StateCalls.{HandleRestarts, HandleSetsOutput, HandleClearsOutput, HandleTakesEvent};
 
 use crate::held::IolPort;
 use crate::request::code_of;
 use iol_app::{Mode, Status};
 use iol_image::Image;
-use iol_port::Awaited;
+use iol_port::AwaitedAnswer;
 use iolink_handle::{CLOSED, IolImage, NOT_ASKED, show_image};
 use std::alloc::Global;
 
@@ -25,20 +25,20 @@ use std::alloc::Global;
 /// its answer; nothing changed then. Bring the answer first: it may be that nothing came.
 #[unsafe(no_mangle)]
 pub extern "C" fn iol_port_restart(alloc: Global, handle: &mut IolPort) -> u8
-    ensures guards { Guards result handle.old handle.new }
+    ensures guards { GuardsPort result handle.old handle.new }
     ensures refused { IsTrue handle.old.is_open →
-        ¬ (awaited (parts_of handle.old) ≡ Awaited.Nothing) →
+        ¬ (awaited_answer (held_parts handle.old) ≡ AwaitedAnswer.Nothing) →
         IsNotAsked result handle.old handle.new }
     ensures restarts { IsTrue handle.old.is_open →
-        awaited (parts_of handle.old) ≡ Awaited.Nothing →
-        Restarts handle.old result handle.new }
+        awaited_answer (held_parts handle.old) ≡ AwaitedAnswer.Nothing →
+        HandleRestarts handle.old result handle.new }
 {
     let code = handle.with(alloc, |master| match master.port.awaits() {
-        Awaited::Nothing => {
+        AwaitedAnswer::Nothing => {
             master.port.restart();
             0
         }
-        Awaited::Wake | Awaited::Reply => NOT_ASKED,
+        AwaitedAnswer::Wake | AwaitedAnswer::Reply => NOT_ASKED,
     });
     code.unwrap_or(CLOSED)
 }
@@ -49,11 +49,11 @@ pub extern "C" fn iol_port_restart(alloc: Global, handle: &mut IolPort) -> u8
 /// no start-up has told the lengths yet, and 29 for another number of octets than the device has.
 #[unsafe(no_mangle)]
 pub extern "C" fn iol_port_set_output(alloc: Global, handle: &mut IolPort, octets: &[u8]) -> u8
-    ensures guards { Guards result handle.old handle.new }
+    ensures guards { GuardsPort result handle.old handle.new }
     ensures sized { IsTrue handle.old.is_open → ¬ IsImage octets.now →
         (result ≡ 29) × (handle.new ≡ handle.old) }
     ensures sets { IsTrue handle.old.is_open → IsImage octets.now →
-        SetsOutput octets.now handle.old result handle.new }
+        HandleSetsOutput octets.now handle.old result handle.new }
 {
     if !handle.is_open {
         return CLOSED;
@@ -68,8 +68,8 @@ pub extern "C" fn iol_port_set_output(alloc: Global, handle: &mut IolPort, octet
 /// Wants no output of the device: 0, or 252 where the handle is closed.
 #[unsafe(no_mangle)]
 pub extern "C" fn iol_port_clear_output(alloc: Global, handle: &mut IolPort) -> u8
-    ensures guards { Guards result handle.old handle.new }
-    ensures clears { IsTrue handle.old.is_open → ClearsOutput handle.old result handle.new }
+    ensures guards { GuardsPort result handle.old handle.new }
+    ensures clears { IsTrue handle.old.is_open → HandleClearsOutput handle.old result handle.new }
 {
     match handle.with(alloc, |master| master.port.clear_output()) {
         Some(()) => 0,
@@ -84,10 +84,10 @@ pub extern "C" fn iol_port_image(alloc: Global, handle: &mut IolPort, out: &mut 
     ensures stays { handle.new.is_open ≡ handle.old.is_open }
     ensures same { handle.new.held.value ≡ handle.old.held.value }
     ensures image { IsTrue handle.old.is_open → (result ≡ 0)
-        × AreShown (unwrap_or (parts_of handle.old).station.session.image [])
+        × AreShown (unwrap_or (held_parts handle.old).station.session.image [])
         out.new.length out.new.octets }
     ensures does { IsTrue handle.old.is_open → CallDoes handle.old
-        call.Look (answered.Image (parts_of handle.old).station.session.image) handle.new }
+        call.Look (answered.Image (held_parts handle.old).station.session.image) handle.new }
 {
     let image = handle.with(alloc, |master| match master.port.image() {
         Some(image) => Some(image.clone().unwrap()),
@@ -113,7 +113,7 @@ pub struct IolEvent {
 pub extern "C" fn iol_port_take_event(alloc: Global, handle: &mut IolPort, out: &mut IolEvent) -> u8
     ensures guards { GuardsOut result handle.old handle.new out.old out.new }
     ensures takes { IsTrue handle.old.is_open →
-        TakesEvent handle.old result out.old out.new handle.new }
+        HandleTakesEvent handle.old result out.old out.new handle.new }
 {
     match handle.with(alloc, |master| master.port.take_event()) {
         Some(Ok(event)) => {
@@ -145,9 +145,9 @@ pub extern "C" fn iol_port_status(alloc: Global, handle: &mut IolPort, out: &mut
     ensures stays { handle.new.is_open ≡ handle.old.is_open }
     ensures same { handle.new.held.value ≡ handle.old.held.value }
     ensures status { IsTrue handle.old.is_open →
-        (result ≡ 0) × IsShown (status_of (parts_of handle.old).station) out.new }
+        (result ≡ 0) × StatusIsShown (status_of (held_parts handle.old).station) out.new }
     ensures does { IsTrue handle.old.is_open → CallDoes handle.old
-        call.Status (answered.Status (status_of (parts_of handle.old).station)) handle.new }
+        call.Status (answered.Status (status_of (held_parts handle.old).station)) handle.new }
 {
     match handle.with(alloc, |master| master.port.status()) {
         Some(status) => show_status(&status, out),
@@ -157,7 +157,7 @@ pub extern "C" fn iol_port_status(alloc: Global, handle: &mut IolPort, out: &mut
 }
 
 fn show_status(status: &Status, out: &mut IolStatus)
-    ensures { IsShown status.now out.new }
+    ensures { StatusIsShown status.now out.new }
 {
     out.mode = match status.mode {
         Mode::Down => 1,

@@ -4,7 +4,7 @@ use Rattle.refusing_alloc.specs.declared.refusal.Refusal.{Refusal}
 use Rattle.refusing_alloc.specs.declared.refusal.Refusal.TheVariants.{Never, Only, From}
 
 -- the request of this number is refused
-abbrev pub IsRefused : Refusal → ℕ → Type 0
-IsRefused Never n = ⊥
-IsRefused (Only number) n = n ≡ number
-IsRefused (From number) n = number ≤ n
+abbrev pub RefusesRequest : Refusal → ℕ → Type 0
+RefusesRequest Never n = ⊥
+RefusesRequest (Only number) n = n ≡ number
+RefusesRequest (From number) n = number ≤ n

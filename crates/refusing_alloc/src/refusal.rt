@@ -20,11 +20,11 @@ pub(crate) struct Numbers {
 }
 
 impl Numbers {
-    ghost use Rattle.refusing_alloc.specs.Refused.{IsRefused};
+    ghost use Rattle.refusing_alloc.specs.Refused.{RefusesRequest};
 
     /// What the refusal says of each number below the largest.
     pub(crate) fn of(refusal: Refusal) -> Numbers
-        ensures { (n : ℕ) → n < u64.MAX → IsRefused refusal n
+        ensures { (n : ℕ) → n < u64.MAX → RefusesRequest refusal n
             ↔ ((result.first ≤ n) × (n < result.end)) }
     {
         let (first, end) = match refusal {

@@ -47,7 +47,7 @@ pub use Rattle.std.specs.contracts.impls.GlobalAllocator.TheImpl.{ghosts, dict}
 pub use Rattle.std.proofs.impls.GlobalAllocator.TheImpl.Met.{passed}
 pub use Rattle.std.proofs.raw_atomic.Walks.{proved, proved_at, leaves}
 pub use Rattle.std_alloc.specs.Box.Ownership.{box_owns}
-pub use Rattle.iolink_handle.specs.Heap.{block, held}
+pub use Rattle.iolink_handle.specs.Heap.{block, handle_owns}
 use types.Kit.{Item, Goal, Step, step, mean}
 use mathlib.Core.Bool.{◌&&◌}
 use denote.RawPtr.{rawptr_pure}

@@ -1,6 +1,6 @@
 use Rattle.std.proofs.Common.{arith}
 use Rattle.iol_clients.proofs.Folds.{whole, summed, mapped}
-use Rattle.iol_clients.specs.Counts.{accepted_at, seen, Collected}
+use Rattle.iol_clients.specs.Counts.{accepted_at, client_state, NotesClientTickets}
 use Rattle.iol_clients.proofs.collect.count_port.Goals as goal
 
 pub loop-client-preserved : goal.loop-client-preserved
@@ -14,8 +14,8 @@ loop-client-preserved g c =
           accepted_at c.args.port client.desk) _ _ before.tickets collect.tickets;
       few = omega (arith, before.few, collect.tickets, collect.few);
       counted = mapped _ _ _ _ is c.loop-client-test.true _ _ _
-          (Collected g.W.Wire.facts c.args.port)
-          (λ client. seen client.desk client.tickets.items) before.counted
+          (NotesClientTickets g.W.Wire.facts c.args.port)
+          (λ client. client_state client.desk client.tickets.items) before.counted
           (rw c.deref_mut.ensures.value at collect.collected);
     }
 

@@ -1,5 +1,5 @@
 use Rattle.std.proofs.Common.{◌≡◌, All, map, length, vec_len}
-use Rattle.iol_clients.specs.Counts.{AddsUp, seen, AreCounted}
+use Rattle.iol_clients.specs.Counts.{AddsUp, client_state, AreCounted}
 use Rattle.iol_clients.proofs.collect.count_ports.Given as goal
 
 abbrev pub invariant-loop-port : goal.invariant-loop-port
@@ -8,5 +8,5 @@ invariant-loop-port g l = record {
   items : length l.counts.items ≡ l.port;
   up : All (λ port. AddsUp port.requests) l.counts.items;
   counted : AreCounted g.W.Wire.facts 1
-      (map (λ client. seen client.desk client.tickets.items) l.clients) l.counts.items;
+      (map (λ client. client_state client.desk client.tickets.items) l.clients) l.counts.items;
 }

@@ -1,14 +1,14 @@
 use Rattle.std.proofs.Common.{◌≡◌, Some, [], refl, sym, ◌∙◌, append-nil}
 use Rattle.std.specs.String.{string_bytes}
 use Rattle.iol_script.specs.Text.{numbered_lines}
-use Rattle.iol_script.specs.CheckLines.{line_form, parsed_form}
+use Rattle.iol_script.specs.CheckLines.{check_form, parsed_form}
 use Rattle.iol_commands.proofs.CheckedLemmas.{prints_more}
 use Rattle.iol_commands.proofs.check_command.checked.Goals as goal
 
 pub loop-number-preserved : goal.loop-number-preserved
 loop-number-preserved g c =
     let form = parsed_form c.in-Some-parse.line in
-    let fits : line_form c.in-Some.line.now ≡ Some form = sym c.in-Some-parse.ensures in
+    let fits : check_form c.in-Some.line.now ≡ Some form = sym c.in-Some-parse.ensures in
     let is = c.in-Some.ensures.steps in
     let answered = c.in_ok-answer.ensures in
     record {

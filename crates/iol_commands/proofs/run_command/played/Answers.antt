@@ -1,6 +1,6 @@
 use Rattle.std.proofs.Common.{◌≡◌, [], refl, rules}
 use Rattle.std.specs.String.{string_bytes}
-use Rattle.iol_app.specs.StationState.{wire_of}
+use Rattle.iol_app.specs.StationState.{link_wire}
 use Rattle.iol_script.specs.Script.{value_of}
 use Rattle.iol_sim.specs.Params.{Stores}
 use Rattle.iol_sim.specs.Sim.{sim_facts}
@@ -23,7 +23,7 @@ returns-clause-printed g c =
       last = last;
       made = plays.made;
       alike = runs_alike (sim_facts Stores) script (first_wire script) _ _ _ last _ plays.answers
-          (wire_of last.station.link) is port.opening (λ has. rw has.one refl) refl refl
+          (link_wire last.station.link) is port.opening (λ has. rw has.one refl) refl refl
           port.stands plays.runs refl;
       granted = plays.granted;
       text_is = rw (c.in_ok-print_records.ensures, wrote, none, plays.text_is, c.wire.ensures)

@@ -1,13 +1,13 @@
 use Rattle.std.proofs.Common.{◌≡◌, ◌++◌, refl, ◌∙◌}
 use Rattle.std.proofs.lemmas.Result.{on_ok_weaker}
-use Rattle.iol_app.specs.StationState.{wire_of}
+use Rattle.iol_app.specs.StationState.{link_wire}
 use Rattle.iol_script.specs.Script.{calls_in, value_of}
 use Rattle.iol_script.specs.Text.{numbered_lines}
 use Rattle.iol_sim.specs.Params.{Stores}
 use Rattle.iol_sim.specs.Sim.{sim_facts}
 use Rattle.iol_tap.specs.Tapped.{tap_facts}
 use Rattle.iol_commands.specs.RunPlayed.{records_text}
-use Rattle.iol_commands.specs.TracePrinted.{TracesOut, first_tap, stage}
+use Rattle.iol_commands.specs.TracePrinted.{TracesOut, first_tap, trace_stage}
 use Rattle.iol_commands.proofs.RunLemmas.{runs_alike}
 use Rattle.iol_commands.proofs.TraceLemmas.{whole_written}
 use Rattle.iol_commands.proofs.trace_command.traced.Goals as goal
@@ -27,11 +27,11 @@ returns-clause-printed g c =
       answers = traced.answers;
       first = c.in-Ok.port.parts;
       opens = rw (port.opening, is) at port.parts;
-      last = stage c.follow.new.self.number last;
+      last = trace_stage c.follow.new.self.number last;
       calls_text = followed.text;
       traces = rw c.new-tracer.ensures.number at traced.traces;
       alike = runs_alike (tap_facts (sim_facts Stores)) script (first_tap script) _ _ _ last calls
-          traced.answers (wire_of last.station.link).wire is port.opening (λ has. rw has.one refl)
+          traced.answers (link_wire last.station.link).wire is port.opening (λ has. rw has.one refl)
           refl refl port.stands traced.runs refl;
       text_is = rw (c.wire-2.ensures, c.wire.ensures) refl;
     } in

@@ -2,7 +2,7 @@ use Rattle.std.proofs.Common.{◌≡◌, ◌∙◌, ℕ, List, sym, ap, arith}
 use Rattle.std.specs.Prelude.{Ok}
 use Rattle.std.proofs.lemmas.Grind.{common_steps}
 use Rattle.iol_octets.specs.declared.flow_control.Flow.{Flow}
-use Rattle.iol_segment.specs.Join.{Joining, taken}
+use Rattle.iol_segment.specs.Join.{Joining, join_step}
 use Rattle.iol_segment.specs.declared.took.Took.TheVariants.{More}
 use Rattle.iol_far.specs.Isdu.{Receiving, isdu_written}
 use Rattle.iol_device.specs.Inside.{GoesOn}
@@ -10,8 +10,8 @@ use Rattle.iol_device.proofs.isdu.take.Goals as goal
 
 -- a segment that goes on with a text leaves it being received
 went_on : (j : Joining) (flow : Flow) (octets : List ℕ) → GoesOn flow j
-    → (taken j flow octets).took ≡ Ok More
-    → Receiving (taken j flow octets).joining.text (taken j flow octets).joining.count
+    → (join_step j flow octets).took ≡ Ok More
+    → Receiving (join_step j flow octets).joining.text (join_step j flow octets).joining.count
     ≡ isdu_written (Receiving j.text j.count) flow octets
 went_on j flow octets goes more = grind (arith, common_steps)
 

@@ -1,7 +1,7 @@
 use Rattle.std.proofs.Common.{◌≡◌, drop}
-use Rattle.iol_judge.specs.Judged.{united}
+use Rattle.iol_judge.specs.Judged.{united_state}
 use Rattle.iol_judge.proofs.next.unite.Given as goal
 
 abbrev pub invariant-loop-other : goal.invariant-loop-other
-invariant-loop-other l = united l.states l.fn.kept
-    ≡ united (drop l.other-index l.states) l.kept
+invariant-loop-other l = united_state l.states l.fn.kept
+    ≡ united_state (drop l.other-index l.states) l.kept

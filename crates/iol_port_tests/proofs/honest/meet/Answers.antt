@@ -1,13 +1,13 @@
 use Rattle.std.proofs.Common.{◌≡◌, ◌∙◌, ap}
 use Rattle.iol_app.specs.declared.asked.Outgoing.{Outgoing}
-use Rattle.iol_line.specs.Honestly.{HonestPort}
+use Rattle.iol_line.specs.Honestly.{HonestParts}
 use Rattle.iol_port_tests.proofs.honest.meet.Goals as goal
 
 pub answered_by-requires-clause-premise : goal.answered_by-requires-clause-premise
 answered_by-requires-clause-premise c =
-    let port : HonestPort = c.send.new.self in
+    let port : HonestParts = c.send.new.self in
     let far_is : port.at.far ≡ c.args.device.now.far =
-    ap (λ (p : HonestPort). p.at.far) c.send.ensures.moves ∙ c.requires.far in
+    ap (λ (p : HonestParts). p.at.far) c.send.ensures.moves ∙ c.requires.far in
     rw (
       far_is,
       ← ap (λ (out : Outgoing). out.octets.items) c.in-Exchange.ensures.says.1,

@@ -3,7 +3,7 @@ use Rattle.std.proofs.Common.{refl, sym, subst, ◌∙◌, rules}
 use Rattle.iol_book.specs.declared.limits.Limits.{Limits}
 use Rattle.iol_port.specs.CorePort.{IsNewFor, CoreOpensFor}
 use Rattle.iolink_port_c.specs.Opening.{limits_of}
-use Rattle.iolink_port_c.specs.declared.held.Master.{Master}
+use Rattle.iolink_port_c.specs.declared.held.PortWithJournal.{PortWithJournal}
 use Rattle.iolink_port_c.proofs.port.open_for.Goals as goal
 
 pub returns-in-Ok-new : goal.returns-in-Ok-new
@@ -17,10 +17,10 @@ returns-in-Ok-new c =
       lacks = λ closed some ranges not_zero. absurd (not_zero refl);
       refused = λ not_zero. absurd (not_zero refl);
       opened = search rules;
-      parts = λ zero. subst (λ (m : Master). IsNewFor c.args.devices limits m.port)
+      parts = λ zero. subst (λ (m : PortWithJournal). IsNewFor c.args.devices limits m.port)
           held (subst (λ (those : Limits). IsNewFor c.args.devices those c.in-Ok.port)
           c.in-Some.ensures.value c.in-Ok.ensures.parts);
-      opens = λ zero. subst (λ (m : Master). CoreOpensFor c.args.devices limits m.port)
+      opens = λ zero. subst (λ (m : PortWithJournal). CoreOpensFor c.args.devices limits m.port)
           held (subst (λ (those : Limits). CoreOpensFor c.args.devices those c.in-Ok.port)
           c.in-Some.ensures.value c.in-Ok.ensures.opens);
       journal = search rules;

@@ -3,11 +3,11 @@ use Rattle.std.proofs.lemmas.Grind.{common_steps}
 use Rattle.std.proofs.Common.{arith}
 use Rattle.iol_mode.specs.declared.states.State.{State}
 use Rattle.iol_app.specs.State.{SessionState}
-use Rattle.iol_app.specs.StationState.{StateFits}
+use Rattle.iol_app.specs.StationState.{SessionFits}
 use Rattle.iol_app.specs.Core.{IsRightIn}
 use Rattle.iol_app.proofs.core_data.Core.device_is_right.Goals as goal
 
-right_in : (state : State) (t : SessionState) → StateFits state t → IsRightIn state t
+right_in : (state : State) (t : SessionState) → SessionFits state t → IsRightIn state t
 right_in state t h = grind (arith, common_steps)
 
 pub returns : goal.returns

@@ -4,14 +4,14 @@ use Rattle.std.proofs.lemmas.Grind.{common_steps}
 use Rattle.iol_link.specs.Attempts.{Sending}
 use Rattle.iol_mode.specs.declared.states.State.{State}
 use Rattle.iol_mode.specs.declared.states.State.TheVariants.{Operate as AtOperate}
-use Rattle.iol_mode.specs.Exchanges.{StandsOn, putting}
-use Rattle.iol_mode.specs.Messages.{unsent}
-use Rattle.iol_app.specs.declared.session.Exchange.{Exchange}
+use Rattle.iol_mode.specs.Exchanges.{StandsOn, state_with_out}
+use Rattle.iol_mode.specs.Messages.{new_sending}
+use Rattle.iol_app.specs.declared.session.Purpose.{Purpose}
 use Rattle.iol_app.specs.Due.{due_of}
-use Rattle.iol_app.specs.State.{SessionState, IsMessageFor, sending}
-use Rattle.iol_app.specs.StationState.{StateFits}
-use Rattle.iol_app.specs.Core.{Core, core_out}
-use Rattle.iol_app.specs.Pieces.{IsSent}
+use Rattle.iol_app.specs.State.{SessionState, IsMessageFor, session_sending}
+use Rattle.iol_app.specs.StationState.{SessionFits}
+use Rattle.iol_app.specs.Core.{CoreState, core_out}
+use Rattle.iol_app.specs.Pieces.{SendsMessage}
 use Rattle.iol_app.proofs.Pieces.{no_exchange, new_sends, sent_reads}
 use Rattle.iol_app.proofs.core_data.Core.put_due.Goals as goal
 
@@ -19,26 +19,26 @@ pub returns-then-is_none : goal.returns-then-is_none
 returns-then-is_none c =
     let layouts = c.in-Operate.operate.layouts in
     let t : SessionState = c.self.inside.session in
-    let due : Exchange = due_of t c.args.room in
+    let due : Purpose = due_of t c.args.room in
     let made = c.new_message in
     let m = made.new.message in
     let none : c.in-Operate.operate.out ≡ None = grind (arith, common_steps) in
     let free : State = AtOperate (record { out = None; layouts = layouts }) in
     let state_is : c.self.inside.state ≡ free = c.in-Operate.is
     ∙ ap (λ (o : Option Sending). AtOperate (record { out = o; layouts = layouts })) none in
-    let next : Core = core_out layouts (unsent m) (sending due t) due t.current in
+    let next : CoreState = core_out layouts (new_sending m) (session_sending due t) due t.current in
     let put_is : c.put_out.new.self ≡ next.state = c.put_out.ensures.state
-    ∙ ap (putting m) state_is in
-    let new : Core = record { state = c.put_out.new.self; session = made.new.self } in
+    ∙ ap (state_with_out m) state_is in
+    let new : CoreState = record { state = c.put_out.new.self; session = made.new.self } in
     let new_is : new ≡ next =
     λ i. record { state = put_is i; session = made.ensures.session i } in
-    let old : Core = record { state = free; session = t } in
+    let old : CoreState = record { state = free; session = t } in
     let old_is : c.args.self.now ≡ old = sym c.self.view_is
     ∙ (λ i. record { state = state_is i; session = t }) in
-    let joined : StateFits free t = rw state_is at c.self.invariant.1 in
-    let is : IsMessageFor due (sending due t) m =
+    let joined : SessionFits free t = rw state_is at c.self.invariant.1 in
+    let is : IsMessageFor due (session_sending due t) m =
     record { head = made.ensures.due.head; octets = made.ensures.due.od } in
-    let sent : IsSent c.args.room old next = record {
+    let sent : SendsMessage c.args.room old next = record {
       message = m;
       is = refl;
       due = is;

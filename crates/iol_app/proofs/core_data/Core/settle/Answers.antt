@@ -4,7 +4,7 @@ use Rattle.std.proofs.Common.{◌≡◌, arith}
 use Rattle.iol_far.specs.Octets.{octets_in}
 use Rattle.iol_link.specs.Attempts.{attempt_in}
 use Rattle.iol_mode.specs.States.{NextMode, NextModeFits, outcome_with}
-use Rattle.iol_mode.specs.Exchanges.{judged}
+use Rattle.iol_mode.specs.Exchanges.{mode_after_reply}
 use Rattle.iol_app.proofs.Settling.{outcome_state, settled_fits}
 use Rattle.iol_app.proofs.Pieces.{judged_next}
 use Rattle.iol_app.proofs.Verdicts.{brought_is}
@@ -16,7 +16,8 @@ outcome c = outcome_with (attempt_in c.receives-attempt.result) c.receives-attem
 
 -- it is judged by what start-ups ask
 is_judged : (c : goal.After-brought) → outcome c
-    ≡ judged c.self.inside.session.configuration c.self.inside.state (octets_in c.args.came.now)
+    ≡ mode_after_reply c.self.inside.session.configuration c.self.inside.state
+    (octets_in c.args.came.now)
 is_judged c = rw c.configuration.ensures at c.receives-attempt.ensures.state
 
 fits : (c : goal.After-brought) → NextModeFits (outcome c)

@@ -2,14 +2,14 @@
 use Rattle.std.proofs.Common.{true, false}
 use Rattle.iol_steps.specs.declared.said.Said.TheVariants.{Idle}
 use Rattle.iol_app.specs.Asking.{asked_in}
-use Rattle.iol_app.specs.Pieces.{IsOut}
+use Rattle.iol_app.specs.Pieces.{IsOutAsAsked}
 use Rattle.iol_app.proofs.Stepping.{Woken, sent_down, woken_turn, wake_stands, exchange_turn, exchange_stands}
 use Rattle.iol_app.proofs.core_data.Core.turn.Given as given
 use Rattle.iol_app.proofs.core_data.Core.turn.Goals as goal
 
 -- the message that is out is the one asked for
 is_out : (g : given.Over) (c : goal.After-exchange g)
-    → IsOut true (asked_in c.args.self.now.state c.args.self.now.session c.args.room)
+    → IsOutAsAsked true (asked_in c.args.self.now.state c.args.self.now.session c.args.room)
     c.put_next.new.self.state
 is_out g c = rw c.if-put_next.true at c.put_next.ensures.out
 
@@ -26,7 +26,7 @@ returns-then-put_next-clause-stands g c =
 
 -- in down nothing goes out, a wake is asked for, and the core is as it was
 is_down : (g : given.Over) (c : goal.After-of_wake g)
-    → IsOut false (asked_in c.args.self.now.state c.args.self.now.session c.args.room)
+    → IsOutAsAsked false (asked_in c.args.self.now.state c.args.self.now.session c.args.room)
     c.put_next.new.self.state
 is_down g c = rw c.if-put_next.false at c.put_next.ensures.out
 

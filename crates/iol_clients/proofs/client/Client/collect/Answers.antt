@@ -4,13 +4,13 @@ use Rattle.std.specs.List.{FoldsTo}
 use Rattle.iol_book.specs.declared.entries.Outcome.{Outcome}
 use Rattle.iol_book.specs.declared.entries.Outcome.TheVariants.{Done}
 use Rattle.iol_port.specs.declared.fault.PortFault.{PortFault}
-use Rattle.iol_clients.specs.declared.counts.Counted.{Counted}
-use Rattle.iol_clients.specs.Counts.{noted, Notes}
+use Rattle.iol_clients.specs.declared.counts.RequestCounts.{RequestCounts}
+use Rattle.iol_clients.specs.Counts.{counts_with_ticket, Notes}
 use Rattle.iol_clients.proofs.Folds.{folded}
 use Rattle.iol_clients.proofs.client.Client.collect.Goals as goal
 
-one_noted : (c : Counted) (answer : Result Outcome PortFault)
-    → (noted c answer).tickets ≡ c.tickets + 1
+one_noted : (c : RequestCounts) (answer : Result Outcome PortFault)
+    → (counts_with_ticket c answer).tickets ≡ c.tickets + 1
 one_noted c (Ok (Done answer)) = refl
 one_noted c answer = refl
 

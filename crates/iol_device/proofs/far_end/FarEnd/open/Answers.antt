@@ -5,7 +5,7 @@ use Rattle.std.proofs.lemmas.Grind.{common_steps}
 use Rattle.iol_mseq.specs.Shape.{Shape, startup_shape}
 use Rattle.iol_page.specs.Page.{layouts_of, IsPlain, IsAskedBy, PagesAskForLayouts}
 use Rattle.iol_page.specs.declared.page.Layouts.{Layouts}
-use Rattle.iol_far.specs.declared.mode.Mode.TheVariants.{Startup, Preoperate, Operate}
+use Rattle.iol_far.specs.declared.mode.DeviceMode.TheVariants.{Startup, Preoperate, Operate}
 use Rattle.iol_far.specs.Codec.{layout_by, layout_in}
 use Rattle.iol_device.specs.Inside.{IsSound}
 use Rattle.iol_device.proofs.far_end.FarEnd.open.Goals as goal

@@ -1,5 +1,5 @@
 use Rattle.std.proofs.Common.{◌≡◌, ℕ, ◌+◌, List, [], ◌∷◌, refl, sym, ◌∙◌, arith}
-use Rattle.iol_port.specs.View.{Port}
+use Rattle.iol_port.specs.View.{PortValue}
 use Rattle.iol_master.specs.Tickets.{HasGiven, HaveGiven}
 use Rattle.iol_master.proofs.master.Master.close.Goals as goal
 
@@ -9,11 +9,11 @@ plus_none given = omega arith
 swapped : (one others : ℕ) → others + one ≡ one + others
 swapped one others = omega arith
 
-module _ {W : Type 0} (p : Port W) (given : ℕ) (has : HasGiven p given) where
+module _ {W : Type 0} (p : PortValue W) (given : ℕ) (has : HasGiven p given) where
   first : HaveGiven (p ∷ []) given
   first = (given, 0, has, refl, plus_none given)
 
-  also : (ports : List (Port W)) (others : ℕ) → HaveGiven ports others
+  also : (ports : List (PortValue W)) (others : ℕ) → HaveGiven ports others
       → HaveGiven (p ∷ ports) (others + given)
   also ports others have = (given, others, has, have, swapped given others)
 

@@ -1,7 +1,7 @@
 use Rattle.std.proofs.Common.{refl, sym, ap, ◌∙◌, rules}
 use Rattle.std.specs.Result.{result_err}
 use Rattle.iol_port.proofs.CallLemmas.{cancel_does, cancel_refused}
-use Rattle.iol_port.specs.CorePort.{at_end, bare}
+use Rattle.iol_port.specs.CorePort.{at_end, station_without_wire}
 use Rattle.iol_port.proofs.port_core.PortCore.cancel.Goals as goal
 
 pub returns-in-Ok : goal.returns-in-Ok
@@ -9,9 +9,9 @@ returns-in-Ok g c =
     rw (← c.self.view_is)
     (record {
       does = λ far n. record {
-        follows = cancel_does (at_end far n) _ c.args.ticket (bare c.abort.new.self)
+        follows = cancel_does (at_end far n) _ c.args.ticket (station_without_wire c.abort.new.self)
             (sym c.in_flight.ensures.answer ∙ ap (λ r. result_err r) c.in-Ok.is)
-            (ap bare c.abort.ensures.core) c.abort.ensures.cancel;
+            (ap station_without_wire c.abort.ensures.core) c.abort.ensures.cancel;
         book = refl;
       };
       gives = search rules;

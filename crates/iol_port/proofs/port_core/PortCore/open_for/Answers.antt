@@ -1,8 +1,8 @@
 -- A port that is new stands for the abstract port that is opened, with every far end.
 use Rattle.std.proofs.Common.{false, sym, subst, arith}
 use Rattle.std.proofs.lemmas.Grind.{common_steps}
-use Rattle.iol_app.specs.Core.{Core, IsAttempted}
-use Rattle.iol_port.specs.CorePort.{at_end, bare}
+use Rattle.iol_app.specs.Core.{CoreState, IsAttempted}
+use Rattle.iol_port.specs.CorePort.{at_end, station_without_wire}
 use Rattle.iol_port.proofs.RunLemmas.{opened_stands}
 use Rattle.iol_port.proofs.port_core.PortCore.open_for.Goals as goal
 
@@ -11,11 +11,11 @@ returns-in-Ok-clause-opens g c far n well =
     let core = c.new.ensures.core in
     opened_stands (at_end far n) c.args.devices c.args.limits.now tt
     (record {
-      station = bare c.new.result;
+      station = station_without_wire c.new.result;
       book = c.in-Ok.book;
       kept = c.new-in-Ok.result.items;
       sent = false;
       counters = c.zero.result;
     })
     (grind (arith, common_steps, core, c.in-Ok.ensures, c.new-in-Ok.ensures, c.zero.ensures))
-    (subst (λ (k : Core). IsAttempted k.state) (sym core) tt) c.new.ensures.steps well
+    (subst (λ (k : CoreState). IsAttempted k.state) (sym core) tt) c.new.ensures.steps well

@@ -2,12 +2,12 @@
 use Rattle.std.proofs.Common.{◌≡◌, ◌∙◌, ◌++◌, refl, ap, inl}
 use Rattle.iol_far.specs.Octets.{octets_in}
 use Rattle.iol_app.specs.declared.event_work.EventRoom.TheVariants.{Left, Full}
-use Rattle.iol_app.specs.Core.{Core, came_of}
+use Rattle.iol_app.specs.Core.{CoreState, came_of}
 use Rattle.iol_mode.specs.States.{is_reset}
 use Rattle.iol_steps.specs.Step.{resets, book_said}
 use Rattle.iol_port.specs.Steps.{book_through}
-use Rattle.iol_port.specs.View.{Parts}
-use Rattle.iol_port.specs.CorePort.{awaited, bare}
+use Rattle.iol_port.specs.View.{PortParts}
+use Rattle.iol_port.specs.CorePort.{awaited_answer, station_without_wire}
 use Rattle.iol_port.proofs.CorePorts.{parts_in, reply_out, receive_does, heard_reset}
 use Rattle.iol_port.proofs.TieLemmas.{ends_ask, turn_tied, settled_limit}
 use Rattle.iol_port.proofs.port_core.PortCore.receive.Given as given
@@ -19,11 +19,12 @@ settle-requires-clause-asked g c =
 
 pub invariant_of-self : goal.invariant_of-self
 invariant_of-self g c =
-    let p : Parts (Unit {0}) = parts_in c.self.inside in
-    turn_tied p p.station (bare c.receive-brought.new.self) p.book.state c.settle.new.kept.items
+    let p : PortParts (Unit {0}) = parts_in c.self.inside in
+    turn_tied p p.station (station_without_wire c.receive-brought.new.self) p.book.state
+    c.settle.new.kept.items
     c.settle.new.book c.resets-reset.result Full c.receive-brought.new.said c.self.invariant
     (inl (refl, refl))
-    (ap (λ (k : Core). k.session.limit) c.receive-brought.ensures.taken.is
+    (ap (λ (k : CoreState). k.session.limit) c.receive-brought.ensures.taken.is
     ∙ settled_limit (came_of c.self.inside.core (octets_in c.args.came.now))
     c.self.inside.core.session)
     c.receive-brought.ensures.told.request c.receive-brought.ensures.told.reading
@@ -54,8 +55,8 @@ returns-clause-gives g c =
 
 pub returns-clause-does : goal.returns-clause-does
 returns-clause-does g c =
-    let p : Parts (Unit {0}) = parts_in c.self.inside in
-    let out = reply_out p c.self.invariant (ap awaited c.self.view_is ∙ c.requires) in
+    let p : PortParts (Unit {0}) = parts_in c.self.inside in
+    let out = reply_out p c.self.invariant (ap awaited_answer c.self.view_is ∙ c.requires) in
     rw (← c.self.view_is) (receive_does p _ (octets_in c.args.came.now)
     c.receive-brought.new.said out.0 c.receive-brought.ensures.steps refl
     (record { posts = book_is g c; keeps = c.settle.ensures.kept }))

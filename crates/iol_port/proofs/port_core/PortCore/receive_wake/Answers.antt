@@ -5,10 +5,10 @@ use Rattle.iol_mode.specs.States.{is_reset}
 use Rattle.iol_steps.specs.Step.{resets, book_said}
 use Rattle.iol_steps.specs.declared.said.Said.TheVariants.{Idle}
 use Rattle.iol_app.specs.declared.event_work.EventRoom.TheVariants.{Left, Full}
-use Rattle.iol_app.specs.Core.{Core}
+use Rattle.iol_app.specs.Core.{CoreState}
 use Rattle.iol_port.specs.Steps.{book_through}
-use Rattle.iol_port.specs.View.{Parts}
-use Rattle.iol_port.specs.CorePort.{awaited, bare}
+use Rattle.iol_port.specs.View.{PortParts}
+use Rattle.iol_port.specs.CorePort.{awaited_answer, station_without_wire}
 use Rattle.iol_port.proofs.CorePorts.{parts_in, wake_out, wake_does, heard_reset}
 use Rattle.iol_port.proofs.TieLemmas.{turn_tied, woken_limit}
 use Rattle.iol_port.proofs.port_core.PortCore.receive_wake.Given as given
@@ -16,10 +16,11 @@ use Rattle.iol_port.proofs.port_core.PortCore.receive_wake.Goals as goal
 
 pub invariant_of-self : goal.invariant_of-self
 invariant_of-self g c =
-    let p : Parts (Unit {0}) = parts_in c.self.inside in
-    turn_tied p p.station (bare c.receive_wake.new.self) p.book.state c.settle.new.kept.items
+    let p : PortParts (Unit {0}) = parts_in c.self.inside in
+    turn_tied p p.station (station_without_wire c.receive_wake.new.self) p.book.state
+    c.settle.new.kept.items
     c.settle.new.book c.resets-reset.result Full Idle c.self.invariant (inl (refl, refl))
-    (ap (λ (k : Core). k.session.limit) c.receive_wake.ensures.core
+    (ap (λ (k : CoreState). k.session.limit) c.receive_wake.ensures.core
     ∙ woken_limit (is_some c.args.rate) c.self.inside.core.session)
     c.receive_wake.ensures.told.request c.receive_wake.ensures.told.reading
     (λ room. absurd (let k : Full ≡ Left = room in cc)) c.settle.ensures.book
@@ -48,8 +49,8 @@ returns-clause-gives g c =
 
 pub returns-clause-does : goal.returns-clause-does
 returns-clause-does g c =
-    let p : Parts (Unit {0}) = parts_in c.self.inside in
-    let out = wake_out p (ap awaited c.self.view_is ∙ c.requires) in
+    let p : PortParts (Unit {0}) = parts_in c.self.inside in
+    let out = wake_out p (ap awaited_answer c.self.view_is ∙ c.requires) in
     rw (← c.self.view_is) (wake_does p _ (is_some c.args.rate) out.0
     c.receive_wake.ensures.steps refl
     (record { posts = book_is g c; keeps = c.settle.ensures.kept }))

@@ -4,13 +4,13 @@ use Rattle.std.proofs.lemmas.Grind.{common_steps}
 use Rattle.iol_steps.specs.Step.{Reset, book_said}
 use Rattle.iol_app.specs.Due.{is_ready}
 use Rattle.iol_app.specs.StationState.{StationState, is_operating}
-use Rattle.iol_app.specs.Asking.{prepared}
+use Rattle.iol_app.specs.Asking.{station_with_request}
 use Rattle.iol_app.specs.Seen.{station_of}
 use Rattle.iol_isdu.specs.declared.values.Request.{Request}
 use Rattle.iol_book.specs.BookModel.{next_taken}
 use Rattle.iol_port.specs.Asks.{event_room, lacks_isdu, to_begin}
-use Rattle.iol_port.specs.View.{Parts, BeginsNext}
-use Rattle.iol_port.specs.CorePort.{bare, parts_over}
+use Rattle.iol_port.specs.View.{PortParts, BeginsNext}
+use Rattle.iol_port.specs.CorePort.{station_without_wire, parts_over}
 use Rattle.iol_port.proofs.AskLemmas.{book_told, turn_begun_asked}
 use Rattle.iol_port.proofs.CorePorts.{parts_in, begins_over, takes_over}
 use Rattle.iol_port.proofs.Denying.{turn_denies}
@@ -26,12 +26,13 @@ settle-requires-clause-asked g c =
     c.turn-brought.ensures.turn.told.ends
 
 free : (g : given.Over) (c : goal.After-settle g) → c.self.inside.sent ≡ false
-free g c = ap (λ (q : Parts (Unit {0})). q.sent) c.self.view_is ∙ c.requires.free
+free g c = ap (λ (q : PortParts (Unit {0})). q.sent) c.self.view_is ∙ c.requires.free
 
 pub invariant_of-self : goal.invariant_of-self
 invariant_of-self g c =
     rw (free g c)
-    (turn_tied (parts_in c.self.inside) (bare c.begin_next.new.core) (bare c.turn-brought.new.self)
+    (turn_tied (parts_in c.self.inside) (station_without_wire c.begin_next.new.core)
+    (station_without_wire c.turn-brought.new.self)
     c.begin_next.new.book.state c.settle.new.kept.items c.settle.new.book _ _
     c.turn-brought.new.said c.self.invariant c.begin_next.ensures.next
     (turn_limit g.W.Wire.facts _ (station_of c.args.wire.now c.begin_next.new.core)
@@ -41,10 +42,10 @@ invariant_of-self g c =
     (λ room. grind (arith, common_steps)) c.settle.ensures.book c.settle.ensures.kept)
 
 -- and what was begun, over the wire
-abbrev before : (g : given.Over) (c : goal.After-settle g) → Parts g.row.W.Denot
+abbrev before : (g : given.Over) (c : goal.After-settle g) → PortParts g.row.W.Denot
 before g c = parts_over c.args.wire.now (parts_in c.self.inside)
 
-abbrev after : (g : given.Over) (c : goal.After-settle g) → Parts g.row.W.Denot
+abbrev after : (g : given.Over) (c : goal.After-settle g) → PortParts g.row.W.Denot
 after g c = record {
   station = station_of c.turn-brought.new.wire c.turn-brought.new.self;
   book = c.settle.new.book;
@@ -92,13 +93,13 @@ returns-clause-clean g c =
 
 pub returns-clause-gives : goal.returns-clause-gives
 returns-clause-gives g c =
-    let p : Parts g.row.W.Denot = before g c in
+    let p : PortParts g.row.W.Denot = before g c in
     let said = c.turn-brought.new.said in
     let next : Option Request = to_begin (lacks_isdu p.station.session.isdu)
     (next_taken p.book.state.standing) in
     let room : c.event_room-room.result ≡ event_room p.kept = c.event_room-room.ensures
-    ∙ ap (λ (q : Parts (Unit {0})). event_room q.kept) (sym c.self.view_is) in
-    let exact : mid g c ≡ prepared next p.station c.event_room-room.result =
+    ∙ ap (λ (q : PortParts (Unit {0})). event_room q.kept) (sym c.self.view_is) in
+    let exact : mid g c ≡ station_with_request next p.station c.event_room-room.result =
     rw c.begin_next.ensures.exact refl in
     rw (← c.self.view_is)
     (record {

@@ -1,5 +1,5 @@
 use Rattle.std.proofs.Common.{◌≡◌, Ok, Err, length, inl, refl, ap, arith, rules}
-use Rattle.iol_script.specs.Plan.{draft_after, whole_plan}
+use Rattle.iol_script.specs.Plan.{plan_draft_after, whole_plan}
 use Rattle.iol_script.specs.Text.{line_read}
 use Rattle.iol_script.proofs.LinesRead.{read-bad}
 use Rattle.iol_script.proofs.PlanLemmas.{few_lines}
@@ -8,12 +8,12 @@ use Rattle.iol_script.proofs.plan.Plan.read.Goals as goal
 pub returns-in_default-clause-bad_line : goal.returns-in_default-clause-bad_line
 returns-in_default-clause-bad_line c =
     let number = c.in-Some.number in
-    let bad : line_read draft_after (Ok c.loop-number.draft) (number, c.in-Some.line.now)
+    let bad : line_read plan_draft_after (Ok c.loop-number.draft) (number, c.in-Some.line.now)
     ≡ Err number =
     search rules in (
       number,
       refl,
-      ap (whole_plan _) (read-bad draft_after _ c.loop-number.draft _ _ _ number
+      ap (whole_plan _) (read-bad plan_draft_after _ c.loop-number.draft _ _ _ number
           c.loop-number.invariant.1 c.in-Some.ensures.steps bad),
     )
 

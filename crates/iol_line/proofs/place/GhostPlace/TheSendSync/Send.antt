@@ -1,6 +1,6 @@
 -- A place owns nothing, so it may go to any thread.
 use denote.Param.Send.{IsSend}
-use Rattle.iol_line.specs.contracts.place.Place.{the_row}
+use Rattle.iol_line.specs.contracts.place.GhostPlace.{the_row}
 
 pub send : IsSend the_row
 send = record {

@@ -1,5 +1,5 @@
 use Rattle.iol_capture.proofs.ReadLemmas.{fed}
-use Rattle.iol_capture.proofs.opened.Opened.take_octet.Goals as goal
+use Rattle.iol_capture.proofs.opened.CaptureReader.take_octet.Goals as goal
 
 pub returns-then-octet-eq10 : goal.returns-then-octet-eq10
 returns-then-octet-eq10 c =
