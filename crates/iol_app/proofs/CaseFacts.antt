@@ -4,6 +4,7 @@ use Rattle.std.proofs.lemmas.Grind.{common_steps}
 use Rattle.std.proofs.Common.{◌≡◌, ℕ, zero, suc, ◌+◌, ◌%◌, min, Bool, true, false, ◌==◌, ◌&&◌, List, [], ◌∷◌, ◌++◌, length, refl, ap, arith, Option, Some, ◌⊎◌}
 use Rattle.std.specs.Prelude.{IfSome, IsTrue, if◌then◌else◌, slice_index, bytes_eq, replicate, None, IsSome}
 use Rattle.std.proofs.lemmas.Bool.Decides.{nat_tests}
+use Rattle.iol_octets.specs.Zeros.{are_zeros}
 use Rattle.iol_octets.specs.declared.flow_control.Flow.TheVariants.{Count}
 use Rattle.iol_isdu.specs.Answers.{is_read, answer_fault}
 use Rattle.iol_isdu.specs.declared.values.Request.{Request}
@@ -25,7 +26,7 @@ use Rattle.iol_app.specs.declared.request.Current.{Current}
 use Rattle.iol_app.specs.declared.request.RequestProgress.TheVariants.{Refused}
 use Rattle.iol_app.specs.declared.session.Purpose.{Purpose}
 use Rattle.iol_app.specs.declared.session.Purpose.TheVariants.{Request as NextMessage}
-use Rattle.iol_app.specs.Requests.{text_of, segment_progress, sent_anew, one_more_busy, waiting_abort, current_after_refusal, are_all_zeros, forgotten_by, ReplyEffect, GoesOn, HasText, effect_of_segment, effect_of_count_read, IsJoining, effect_of_text}
+use Rattle.iol_app.specs.Requests.{text_of, segment_progress, sent_anew, one_more_busy, waiting_abort, current_after_refusal, forgotten_by, ReplyEffect, GoesOn, HasText, effect_of_segment, effect_of_count_read, IsJoining, effect_of_text}
 use Rattle.iol_app.specs.Moves.{before_last, progress_of, segment_move}
 use Rattle.iol_app.specs.Ends.{BusyAt, AbortAt}
 use Rattle.iol_app.proofs.Joining.{taken_next}
@@ -90,12 +91,12 @@ pub vain_some : (devices : Devices) (current : Current) (tries k : ℕ) → devi
 vain_some devices current tries k any some = grind (arith, common_steps)
 
 -- zeros where a text would end
-pub zeros : (octets : List ℕ) → are_all_zeros octets ≡ bytes_eq octets (replicate (length octets) 0)
+pub zeros : (octets : List ℕ) → are_zeros octets ≡ bytes_eq octets (replicate (length octets) 0)
 zeros [] = refl
 zeros (octet ∷ octets) = ap (λ (b : Bool). (octet == 0) && b) (zeros octets)
 
 staged_forgotten : (count : Option ℕ) (octets od : List ℕ) (at : Stage) → forgotten_by
-    (stage_step count octets at).took od ≡ true → (are_all_zeros od ≡ true) × (is_open at ≡ false)
+    (stage_step count octets at).took od ≡ true → (are_zeros od ≡ true) × (is_open at ≡ false)
 staged_forgotten count octets od at e = grind (arith, common_steps)
 
 -- such are none of an answer, or are as a device sends them that has forgotten it
@@ -113,9 +114,9 @@ abbrev pub EndsText : Bool → Current → ReplyEffect → Type 0
 EndsText again current (GoesOn next) = next ≡ current_after_refusal current
 EndsText again current (HasText text) = again ≡ false
 
-none_zeros : (text od : List ℕ) (k : ℕ) → are_all_zeros od ≡ bytes_eq od (replicate (length od) 0)
+none_zeros : (text od : List ℕ) (k : ℕ) → are_zeros od ≡ bytes_eq od (replicate (length od) 0)
     → may_be_none UntilSent (suc k) text od ≡ true
-    → (are_all_zeros od ≡ true) × (is_open (stage (text ++ od)) ≡ false)
+    → (are_zeros od ≡ true) × (is_open (stage (text ++ od)) ≡ false)
 none_zeros text od k same e = grind (arith, common_steps)
 
 finished_ends : (again : Bool) (current : Current) (text : List ℕ) (fault : Option IsduFault)
@@ -124,7 +125,7 @@ finished_ends : (again : Bool) (current : Current) (text : List ℕ) (fault : Op
 finished_ends again current text fault = grind (arith, common_steps)
 
 staged_ends : (again : Bool) (current : Current) (had : ℕ)
-    (count : Option ℕ) (octets od : List ℕ) (at : Stage) → are_all_zeros od ≡ true
+    (count : Option ℕ) (octets od : List ℕ) (at : Stage) → are_zeros od ≡ true
     → is_open at ≡ false → let t : JoinStep = stage_step count octets at in
     EndsText again current (if again && forgotten_by t.took od
     then GoesOn (current_after_refusal current) else effect_of_segment had t.took t.joining current)

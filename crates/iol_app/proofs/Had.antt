@@ -20,7 +20,6 @@ use Rattle.iol_far.specs.Local.{locals, input_size}
 use Rattle.iol_far.specs.declared.kind.Recalls.{Recalls}
 use Rattle.iol_far.specs.Level.{Progress, Quiet, Clear, Written, Stands as FarStands, Move, Begin, Leave, IsOutOnce, after, base_after, turned_link, IsIdle, IsSettled, IsLevelBefore}
 use Rattle.iol_far.specs.Laws.{IsRegular, ReplySays, confirms as octets_confirm}
-use Rattle.iol_segment.specs.TextLaws.{segments_up_to}
 use Rattle.iol_link.specs.Honest.{Clean}
 use Rattle.iol_mode.specs.Stands.{StateStands, operate_link, IsAccepted}
 use Rattle.iol_mode.specs.States.{NextMode, InOperate, StateFits, next_state}

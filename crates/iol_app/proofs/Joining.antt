@@ -17,7 +17,7 @@ use Rattle.iol_segment.specs.declared.took.Took.TheVariants.{Repeat, More, Whole
 use Rattle.iol_segment.specs.declared.took.JoinFault.{JoinFault}
 use Rattle.iol_segment.specs.Cut.{Cutting}
 use Rattle.iol_segment.specs.JoinLaws.{count_at}
-use Rattle.iol_app.specs.Requests.{ReplyEffect, GoesOn, HasText, effect_of_text, effect_of_segment, effect_of_start_read, effect_of_count_read, current_after_refusal, forgotten_by, IsJoining, IsCurrent}
+use Rattle.iol_app.specs.Requests.{ReplyEffect, GoesOn, HasText, effect_of_text, effect_of_segment, effect_of_count_read, current_after_refusal, forgotten_by, IsJoining, IsCurrent}
 
 -- octets before them aren't whole either
 open_before : (xs ys : List ℕ) → stage (xs ++ ys) ≡ Open → stage xs ≡ Open

@@ -32,7 +32,6 @@ use Rattle.iol_app.specs.Moves.{progress_at_begin, before_last, asked_for, progr
 use Rattle.iol_app.specs.Ends.{BusyAt}
 use Rattle.iol_app.proofs.Joining.{more_follow}
 use Rattle.iol_app.proofs.Cutting.{is_pair}
-use Rattle.iol_isdu.specs.declared.values.Cause.{Cause}
 
 -- The flow of a COUNT
 

@@ -10,7 +10,6 @@ use Rattle.iol_mseq.specs.Replies.{answered_od}
 use Rattle.iol_mseq.specs.declared.reply.Reply.{Reply}
 use Rattle.iol_mseq.specs.declared.master.MasterMsg.{MasterMsg}
 use Rattle.iol_isdu.specs.declared.values.Request.{Request}
-use Rattle.iol_isdu.specs.declared.values.Cause.{Cause}
 use Rattle.iol_isdu.specs.Texts.{request_front}
 use Rattle.iol_mseq.specs.Parts.{first_of_zeros}
 use Rattle.iol_segment.specs.Cut.{Cutting}

@@ -180,9 +180,8 @@ confirm_out (Some exchange) = confirms_events exchange
 -- what the message out has to do with the rest: the far end takes it in OPERATE's layout, for the
 -- move that the request's progress asks for; the reading wants it; it carries the image sent
 pub record OutStands (layouts : Layouts) (out : Sending) (exchange : Purpose) (w : Work)
-    (reading : ReadingState) (page : List ℕ) (kind : Kind) (link : FarLink)
-    (sent : Option ImageOctets) : Type
-    0 where
+    (reading : ReadingState) (page : List ℕ) (kind : Kind)
+    (link : FarLink) (sent : Option ImageOctets) : Type 0 where
   pub mode : (accepting_link link (master_text layouts.run out.message)).mode ≡ FarOperate
   pub goes :
       IsSent page layouts.run.od link (progress_in w)

@@ -1,5 +1,5 @@
 -- What the messages of OPERATE say (IEC 61131-9, A.1.2 and 7.3.6).
-use Rattle.std.specs.Prelude.{◌≡◌, ℕ, ◌+◌, ◌%◌, Bool, true, false, List, [], Option, Some, None}
+use Rattle.std.specs.Prelude.{◌≡◌, ℕ, ◌+◌, Bool, true, false, List, [], Option, Some, None}
 use Rattle.iol_octets.specs.SegmentNumber.{segment_number}
 use Rattle.iol_octets.specs.Control.{control_of}
 use Rattle.iol_octets.specs.declared.control.Mc.{Mc}

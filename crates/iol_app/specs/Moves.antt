@@ -1,6 +1,6 @@
 -- How far a session has come, as the level of both ends of the link sees it: laws
 -- of the definitions.
-use Rattle.std.specs.Prelude.{◌≡◌, ℕ, zero, suc, ◌+◌, ◌*◌, ◌%◌, ◌<◌, Bool, true, false, ◌&&◌, List, ◌++◌, length, Option, Some, None, IsTrue}
+use Rattle.std.specs.Prelude.{◌≡◌, ℕ, zero, suc, ◌+◌, ◌*◌, ◌<◌, Bool, true, false, ◌&&◌, List, ◌++◌, length, Option, Some, None, IsTrue}
 use Rattle.iol_octets.specs.SegmentNumber.{segment_number}
 use Rattle.iol_mseq.specs.Shape.{Shape}
 use Rattle.iol_isdu.specs.Answers.{BeginsWithAnswer, is_read}

@@ -49,8 +49,8 @@ IsOutAsAsked true asked state =
 IsOutAsAsked false asked state = IsDown state × (asked ≡ Wake)
 
 -- a new message for what is due is out from now on
-pub record NewOut (layouts : Layouts) (t : SessionState) (room : EventRoom) (new : CoreState) : Type
-    0 where
+pub record NewOut (layouts : Layouts) (t : SessionState)
+    (room : EventRoom) (new : CoreState) : Type 0 where
   pub message : MasterMsg
   pub is : new ≡ core_out layouts (new_sending message) (session_sending (due_of t room) t)
       (due_of t room)

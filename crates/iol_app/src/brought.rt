@@ -3,8 +3,8 @@ ghost use Rattle.std.specs.Prelude.{◌≡◌, is_some, IsSome};
 ghost use Rattle.iol_mseq.specs.Texts.{master_text};
 ghost use Rattle.iol_far.specs.Octets.{octets_in};
 ghost use Rattle.iol_link.specs.Attempts.{attempt_in};
-ghost use Rattle.iol_mode.specs.Exchanges.{IsSending, tries_of, tries_in, text_out, layout_out};
-ghost use Rattle.iol_mode.specs.Stands.{text_in};
+ghost use Rattle.iol_mode.specs.Exchanges.{IsSending, tries_in, text_out, layout_out};
+ghost use Rattle.iol_mode.specs.Stands.{text_in, sending_tries};
 ghost use Rattle.iol_app.specs.Asking.{reply_size};
 ghost use Rattle.iol_app.specs.Brought.{verdict_by, woken_by};
 
@@ -76,7 +76,7 @@ impl Out {
     /// That of OPERATE.
     fn in_operate(operate: &Operate) -> Out
         requires { IsSome operate.now.out }
-        ensures tries { result.tries ≡ tries_of operate.now.out }
+        ensures tries { result.tries ≡ sending_tries operate.now.out }
         ensures reply { result.reply ≡ reply_size operate.now.layouts.run
             (text_in operate.now.layouts.run operate.now.out) }
     {

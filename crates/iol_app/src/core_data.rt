@@ -1,14 +1,13 @@
 //! A core: the link in its mode, and the session over it, without the wire.
-ghost use Rattle.std.specs.Prelude.{◌≡◌, None, Some, Bool, true, false, is_some, IsSome, IsTrue, OnOk, OnErr, ◌&&◌, ◌≢◌};
+ghost use Rattle.std.specs.Prelude.{◌≡◌, None, Some, false, is_some, IsSome, IsTrue, OnOk, OnErr, ◌&&◌, ◌≢◌};
 ghost use Rattle.std.specs.Result.{result_err};
 ghost use Rattle.std.specs.Option.{option_copied, option_map};
 ghost use Rattle.iol_far.specs.Octets.{octets_in};
 ghost use Rattle.iol_link.specs.Attempts.{attempt_in};
-ghost use Rattle.iol_link.specs.WireFacts.{Wakes};
 ghost use Rattle.iol_mode.specs.States.{IsDown, is_reset, outcome_with};
-ghost use Rattle.iol_mode.specs.Exchanges.{IsSending, StandsOn, WakeStands, text_out};
+ghost use Rattle.iol_mode.specs.Exchanges.{IsSending, StandsOn, WakeStands};
 ghost use Rattle.iol_app.specs.EventReading.{is_refused};
-ghost use Rattle.iol_app.specs.State.{aborted_in, session_after_begin, session_wanting, session_expecting, session_with_cycle, output_refusal};
+ghost use Rattle.iol_app.specs.State.{aborted_in, session_after_begin, session_expecting, session_with_cycle, output_refusal};
 ghost use Rattle.iol_app.specs.Requests.{request_under_way, request_after};
 ghost use Rattle.iol_app.specs.Due.{is_ready};
 ghost use Rattle.iol_app.specs.Reports.{SaidFits};

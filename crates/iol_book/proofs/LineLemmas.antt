@@ -1,9 +1,8 @@
--- What one more entry says: one more step (the part `replayed` of `IsSound`, the clauses `state`
--- and
--- `replayed` of each call). The lines of a journal that a book keeps, and what they say, after one
--- more entry and after edits of its lists: the part `lines`, and the clauses that look a ticket up
--- (`answer` of `collect_into` and of `withdraw`). Last the place of a key in a list of pairs, and
--- the list without it: the clauses of `place_in` and `outcome_at`.
+-- What one more entry says: one more step (the part `replayed` of `IsSoundBook`, the clauses
+-- `state` and `replayed` of each call). The lines of a journal that a book keeps, and what they
+-- say, after one more entry and after edits of its lists: the part `lines`, and the clauses that
+-- look a ticket up (`answer` of `collect_into` and of `withdraw`). Last the place of a key in a
+-- list of pairs, and the list without it: the clauses of `place_in` and `outcome_at`.
 use Rattle.std.proofs.Common.{◌≡◌, ℕ, Bool, true, false, List, [], ◌∷◌, ◌++◌, length, Option, None, Some, is_some, refl, ap, cond, drop, suc, zero, arith, ◌+◌, sym, nat_lt, add-one, add_comm, get_or}
 use Rattle.std.specs.Prelude.{slice_get, not, IfSome, IfNone}
 use Rattle.std.specs.Option.{option_map, option_to_list}

@@ -52,8 +52,8 @@ IsLineAt ticket lines place = (other : Ticket × ℕ)
 
 -- the request that is taken, by its line
 abbrev pub taken_at : List Entry → Option (Ticket × ℕ) → Option (Ticket × Request)
-taken_at entries taken = option_map (λ line. (line.0, entry_request (slice_get entries line.1)))
-    taken
+taken_at entries taken =
+    option_map (λ line. (line.0, entry_request (slice_get entries line.1))) taken
 
 -- where the outstanding tickets stand, by their lines
 abbrev pub standing_at : List Entry → TicketLines → TicketLines → Option (Ticket × ℕ)

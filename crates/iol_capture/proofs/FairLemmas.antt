@@ -7,6 +7,7 @@ use Rattle.std.specs.Prelude.{IfSome}
 use Rattle.iol_far.specs.Far.{Far}
 use Rattle.iol_far.specs.Octets.{octets_in}
 use Rattle.iol_link.specs.Honest.{HonestExchange}
+use Rattle.iol_judge.specs.Judged.{one_more}
 use Rattle.iol_judge.specs.declared.verdict.Odd.{Odd}
 use Rattle.iol_judge.specs.declared.verdict.Verdict.{Verdict}
 use Rattle.iol_judge.specs.Seen.{whole_page}
@@ -17,7 +18,7 @@ use Rattle.iol_capture.specs.declared.telling.Telling.TheVariants as telling
 use Rattle.iol_capture.specs.declared.trace_line.TraceLine.{TraceLine}
 use Rattle.iol_capture.specs.declared.trace_line.TraceLine.TheVariants.{Other, Page, Wake, Sent, Came}
 use Rattle.iol_capture.specs.TraceLines.{trace_form}
-use Rattle.iol_capture.specs.Judging.{Judging, judging_after_exchange, judging_in_call, came_to, new_judging, plus_one, or_bad_form, page_told, judging_after_line, wake_told}
+use Rattle.iol_capture.specs.Judging.{Judging, judging_after_exchange, judging_in_call, came_to, new_judging, or_bad_form, page_told, judging_after_line, wake_told}
 use Rattle.iol_capture.specs.HonestCapture.{CapturesNeverBlamed, IsFromHonest, IsHonestTrace}
 use Rattle.iol_capture.proofs.ReadLemmas.{judged_from, stays_bad}
 
@@ -98,7 +99,7 @@ module _ (law : NeverBlamed) (judging : Judging) where
   lines_go [] number old h e =
       let same : old ≡ judging = grind arith in subst (λ (j : Judging). Goes j []) same h
   lines_go (line ∷ lines) number old h e =
-      form_goes (trace_form line) old (plus_one number) lines (lines_go lines) h e
+      form_goes (trace_form line) old (one_more number) lines (lines_go lines) h e
 
 module _ (law : NeverBlamed) where
   capture_ends : (odd : Odd) (text : List ℕ) (judging : Judging) → IsFromHonest odd text judging

@@ -5,7 +5,7 @@ use Rattle.std.specs.Prelude.{IfOk, map, option_and_then}
 use Rattle.std.specs.List.{cons_option}
 use Rattle.std.specs.Option.{option_map_or}
 use Rattle.std.specs.Result.{result_map_both}
-use Rattle.iol_judge.specs.Judged.{JudgeState, new_judge}
+use Rattle.iol_judge.specs.Judged.{JudgeState, new_judge, one_more}
 use Rattle.iol_judge.specs.Admitted.{told_all}
 use Rattle.iol_script.specs.Text.{lines_of}
 use Rattle.iol_splitter.specs.declared.fault.SplitFault.{SplitFault}
@@ -18,7 +18,7 @@ use Rattle.iol_splitter.specs.State.{Splitting, new_splitter}
 use Rattle.iol_splitter.specs.Steps.{SplitStep}
 use Rattle.iol_splitter.specs.Written.{all_split, stream_of, with_told}
 use Rattle.iol_capture.specs.declared.telling.Telling.TheVariants.{Octets}
-use Rattle.iol_capture.specs.Judging.{Judging, plus_one, or_bad_form}
+use Rattle.iol_capture.specs.Judging.{Judging, or_bad_form}
 use Rattle.iol_capture.specs.Octets.{Hearing, new_hearing, octet_line_form, passed_by_octet, passed_by_request, hearing_after_line, step_heard}
 use Rattle.iol_capture.specs.HonestCapture.{IsUnblamed, OctetTextsNeverBlamed, stream_item_of, shown_stream}
 use Rattle.iol_capture.proofs.ReadLemmas.{judged_from, stays_bad}
@@ -75,7 +75,7 @@ module _ (judging : Judging) where
   lines_split : (lines : List (List ℕ)) → Later lines
   lines_split [] number old e = grind arith
   lines_split (line ∷ lines) number old e =
-      form_splits (octet_line_form line) old (plus_one number) lines (lines_split lines) e
+      form_splits (octet_line_form line) old (one_more number) lines (lines_split lines) e
 
 -- The law
 

@@ -1,8 +1,6 @@
--- A capture that is read in pieces: the line that is open, and what an `ReaderState` makes of one
--- more
--- octet, of the end, and of one more piece of a reader. The calls of `ReaderState`, and
--- `judge_capture`,
--- need them.
+-- A capture that is read in pieces: the line that is open, and what a `ReaderState` makes of one
+-- more octet, of the end, and of one more piece of a reader. The calls of `CaptureReader`, and
+-- `judge_capture`, need them.
 use Rattle.std.proofs.Common.{◌≡◌, ℕ, ◌<◌, Bool, false, ◌==◌, Option, Result, Ok, Err, OnOk, List, [], ◌∷◌, ◌++◌, length, fold, refl, append-nil, append_assoc, length-append, arith}
 use Rattle.std.proofs.lemmas.Bool.{or_parts}
 use Rattle.std.proofs.lemmas.Bool.Decides.{nat_tests}
@@ -10,6 +8,7 @@ use Rattle.std.specs.Io.KnownBytes.{Consumes}
 use Rattle.std.specs.List.{list_any, onto_first}
 use Rattle.std.specs.Result.{result_and, result_map_both}
 use Rattle.std.proofs.KnownBytes.{Consumes-trans}
+use Rattle.iol_judge.specs.Judged.{one_more}
 use Rattle.iol_judge.specs.declared.verdict.Odd.{Odd}
 use Rattle.iol_script.specs.Text.{lines_of}
 use Rattle.iol_capture.specs.declared.fault.CaptureFault.{CaptureFault}
@@ -18,7 +17,7 @@ use Rattle.iol_capture.specs.declared.fault.LineFault.{LineFault}
 use Rattle.iol_capture.specs.declared.fault.LineFault.TheVariants.{BadForm}
 use Rattle.iol_capture.specs.declared.telling.CaptureForm.{CaptureForm}
 use Rattle.iol_capture.specs.declared.telling.Telling.{Telling}
-use Rattle.iol_capture.specs.Judging.{Judging, plus_one}
+use Rattle.iol_capture.specs.Judging.{Judging}
 use Rattle.iol_capture.specs.Capture.{IsOpenLine, ReaderState, capture_judged, judging_at_end, judging_after_rest, capture_after_line, read_as}
 
 -- The line that is open, and the lines of the text behind it
@@ -84,7 +83,7 @@ fed (Err fault) old new c is h read empty rest = grind (arith, lines_ended, stay
 
 -- another one, behind 1,024: no room is left
 pub overfull : (inside old : ReaderState) (c number : ℕ) → inside ≡ old → IsOpenLine inside.line
-    → (c ≡ 10 → ⊥) → length inside.line ≡ 1024 → number ≡ plus_one inside.reading.lines
+    → (c ≡ 10 → ⊥) → length inside.line ≡ 1024 → number ≡ one_more inside.reading.lines
     → (rest : List ℕ) → judging_after_rest old (c ∷ rest) ≡ Err (Line number BadForm)
 overfull inside old c number same h other full is rest =
     let no_feed : (c == 10) ≡ false = grind (arith, nat_tests) in

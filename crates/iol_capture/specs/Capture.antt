@@ -2,6 +2,7 @@
 use Rattle.std.specs.Prelude.{◌≡◌, ℕ, false, ◌==◌, is_some, Result, Ok, Err, List, [], ◌++◌, fold, if◌then◌else◌}
 use Rattle.std.specs.List.{list_any}
 use Rattle.std.specs.Result.{result_map_both}
+use Rattle.iol_judge.specs.Judged.{one_more}
 use Rattle.iol_judge.specs.declared.verdict.Odd.{Odd}
 use Rattle.iol_script.specs.Text.{lines_of}
 use Rattle.iol_capture.specs.declared.fault.LineFault.{LineFault}
@@ -13,7 +14,7 @@ use Rattle.iol_capture.specs.declared.telling.CaptureForm.TheVariants as form
 use Rattle.iol_capture.specs.declared.telling.Telling.{Telling}
 use Rattle.iol_capture.specs.declared.telling.Telling.TheVariants.{Trace, Octets}
 use Rattle.iol_capture.specs.TraceLines.{trace_form}
-use Rattle.iol_capture.specs.Judging.{Judging, new_judging, plus_one, or_bad_form, judging_after_line}
+use Rattle.iol_capture.specs.Judging.{Judging, new_judging, or_bad_form, judging_after_line}
 use Rattle.iol_capture.specs.Octets.{heard_whole, new_hearing, octet_line_form, hearing_after_line}
 
 -- A judge, told lines in one form or the other
@@ -51,14 +52,14 @@ read_as number told =
 -- the capture after one more line, or the first bad line
 abbrev pub capture_after_line : Result ReadPart CaptureFault → List ℕ → Result ReadPart CaptureFault
 capture_after_line (Ok reading) line =
-    read_as (plus_one reading.lines) (line_told reading.telling line)
+    read_as (one_more reading.lines) (line_told reading.telling line)
 capture_after_line (Err fault) line = Err fault
 
 -- A text
 
 -- the end stands for a line
 abbrev pub judging_at_end : Result ReadPart CaptureFault → Result Judging CaptureFault
-judging_at_end (Ok reading) = result_map_both (λ judging. judging) (Line (plus_one reading.lines))
+judging_at_end (Ok reading) = result_map_both (λ judging. judging) (Line (one_more reading.lines))
     (judging_if_whole reading.telling)
 judging_at_end (Err fault) = Err fault
 

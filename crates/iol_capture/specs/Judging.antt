@@ -1,5 +1,5 @@
 -- A judge, told the lines of a trace.
-use Rattle.std.specs.Prelude.{ℕ, ◌+◌, ◌-◌, ◌^◌, min, Bool, true, false, ◌==◌, ◌||◌, nat_lt, Option, Some, None, is_some, Result, Ok, Err, List, [], ◌∷◌, ◌++◌, length, if◌then◌else◌}
+use Rattle.std.specs.Prelude.{ℕ, ◌+◌, Bool, true, false, ◌==◌, ◌||◌, nat_lt, Option, Some, None, is_some, Result, Ok, Err, List, [], ◌∷◌, ◌++◌, length, if◌then◌else◌}
 use Rattle.std.specs.Option.{option_map_or}
 use Rattle.std.specs.Result.{result_map_both}
 use Rattle.iol_far.specs.Octets.{octets_in}
@@ -10,7 +10,7 @@ use Rattle.iol_judge.specs.declared.verdict.Verdict.TheVariants.{Unjudged, Hones
 use Rattle.iol_judge.specs.declared.verdict.Wake.{Wake as WakeAnswer}
 use Rattle.iol_judge.specs.declared.verdict.Wake.TheVariants.{Unanswered}
 use Rattle.iol_judge.specs.Seen.{whole_page}
-use Rattle.iol_judge.specs.Judged.{JudgeState, new_judge, judge_after_exchange, judge_after_wake}
+use Rattle.iol_judge.specs.Judged.{JudgeState, new_judge, judge_after_exchange, judge_after_wake, one_more}
 use Rattle.iol_splitter.specs.declared.passed.SplitItem.{SplitItem}
 use Rattle.iol_splitter.specs.declared.passed.SplitItem.TheVariants as passed
 use Rattle.iol_capture.specs.declared.fault.LineFault.{LineFault}
@@ -53,16 +53,12 @@ new_judging odd = record {
 
 -- Counts
 
--- one more, up to the largest that is shown
-abbrev pub plus_one : ℕ → ℕ
-plus_one count = min (count + 1) (2 ^ 64 - 1)
-
 abbrev pub counts_after_exchange : Verdict → ExchangeCounts → Option (List ℕ) → ExchangeCounts
-counts_after_exchange Unjudged counts came = record counts { unjudged = plus_one counts.unjudged }
+counts_after_exchange Unjudged counts came = record counts { unjudged = one_more counts.unjudged }
 counts_after_exchange Honest counts None =
-    record counts { judged = plus_one counts.judged; lost = plus_one counts.lost }
+    record counts { judged = one_more counts.judged; lost = one_more counts.lost }
 counts_after_exchange Honest counts (Some octets) =
-    record counts { judged = plus_one counts.judged }
+    record counts { judged = one_more counts.judged }
 counts_after_exchange verdict counts came = counts
 
 -- Calls of the wire
@@ -89,8 +85,8 @@ judging_in_call judging number = record judging {
 abbrev pub judging_at_next_call : Judging → ℕ → Result Judging LineFault
 judging_at_next_call judging number =
     if is_some judging.sent then Err ReplyMissing else
-    if is_call_number judging.call number then Ok (judging_in_call judging number) else Err
-    WrongNumber
+    if is_call_number judging.call number then Ok (judging_in_call judging number)
+    else Err WrongNumber
 
 -- a wake-up request was made
 abbrev pub wake_told : Judging → WakeAnswer → Judging
@@ -119,8 +115,8 @@ judging_after_exchange judging sent came = record judging {
 abbrev pub came_to : Option (List ℕ) → Judging → ℕ → Option (List ℕ) → Result Judging LineFault
 came_to None judging number came = Err MessageMissing
 came_to (Some sent) judging number came =
-    if number == judging.call then Ok (judging_after_exchange judging sent came) else Err
-    WrongNumber
+    if number == judging.call then Ok (judging_after_exchange judging sent came)
+    else Err WrongNumber
 
 abbrev pub page_told : Judging → List ℕ → Judging
 page_told judging octets = record judging {
@@ -158,7 +154,7 @@ passed_on judging (passed.Wake answer) = wake_told judging answer
 
 -- in the next call
 abbrev pub passed_next : Judging → SplitItem → Judging
-passed_next judging what = passed_on (judging_in_call judging (plus_one judging.call)) what
+passed_next judging what = passed_on (judging_in_call judging (one_more judging.call)) what
 
 -- A wake-up request that isn't shown may have been made, and not answered. The judge is told one,
 -- the watch looks at the read that may be its test read.

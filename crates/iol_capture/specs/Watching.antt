@@ -1,9 +1,9 @@
 -- A watch of the master's side, told the calls that a judge is told.
 use Rattle.std.specs.Prelude.{◌≡◌, ℕ, Bool, true, false, ◌&&◌, ◌||◌, ◌==◌, if◌then◌else◌, List, ◌∷◌, Option, Some, None, is_none}
+use Rattle.iol_link.specs.Honest.{test_read}
 use Rattle.iol_judge.specs.declared.verdict.Wake.{Wake}
 use Rattle.iol_judge.specs.declared.verdict.Wake.TheVariants.{Answered}
 use Rattle.iol_judge.specs.Seen.{whole_page}
-use Rattle.iol_splitter.specs.Lengths.{test_read_octets}
 use Rattle.iol_watch.specs.declared.verdict.MasterVerdict.{MasterVerdict}
 use Rattle.iol_watch.specs.declared.verdict.MasterVerdict.TheVariants.{NotByTheRules}
 use Rattle.iol_watch.specs.Watched.{WatchState, watch_after_exchange, new_watch, watch_with_page, watch_after_wake}
@@ -76,4 +76,4 @@ exchange_watched watching call sent came =
 abbrev pub UnseenWakesAreFair : Type 0
 UnseenWakesAreFair = (watching : Watching) (call : ℕ) (came : Option (List ℕ))
     → watching.tests ≡ true → is_blamed watching.watched.verdict ≡ false
-    → is_blamed (exchange_watched watching call test_read_octets came).watched.verdict ≡ false
+    → is_blamed (exchange_watched watching call test_read came).watched.verdict ≡ false

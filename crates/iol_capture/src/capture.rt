@@ -1,5 +1,5 @@
 //! A capture, read from a reader to its end.
-ghost use Rattle.std.specs.Prelude.{◌≡◌, ◌≢◌, ℕ, Err, Ok, IfOk, IfErr, IfSome};
+ghost use Rattle.std.specs.Prelude.{◌≡◌, ◌≢◌, Err, Ok, IfOk, IfErr, IfSome};
 ghost use Rattle.iol_capture.specs.Capture.{capture_judged};
 ghost use Rattle.iol_capture.specs.declared.fault.CaptureFault.TheVariants.{ReadFailed};
 

@@ -1,8 +1,9 @@
 //! A judge, told the lines of a trace.
-ghost use Rattle.std.specs.Prelude.{◌≡◌, ◌≤◌, ◌<◌, Ok, is_some, option_copied};
+ghost use Rattle.std.specs.Prelude.{◌≡◌, ◌<◌, Ok, is_some, option_copied};
 ghost use Rattle.std.specs.Result.{result_and};
 ghost use Rattle.iol_far.specs.Octets.{octets_in};
-ghost use Rattle.iol_capture.specs.Judging.{judging_after_exchange, judging_at_next_call, judging_in_call, came_to, counts_after_exchange, is_call_number, is_verdict_open, maybe_woken, new_judging, no_counts, plus_one, judging_with_page, passed_next, passed_on, judging_after_line, wake_told, with_odd};
+ghost use Rattle.iol_judge.specs.Judged.{one_more};
+ghost use Rattle.iol_capture.specs.Judging.{judging_after_exchange, judging_at_next_call, judging_in_call, came_to, counts_after_exchange, is_call_number, is_verdict_open, maybe_woken, new_judging, no_counts, judging_with_page, passed_next, passed_on, judging_after_line, wake_told, with_odd};
 
 use crate::fault::LineFault;
 use crate::trace_line::TraceLine;
@@ -57,7 +58,7 @@ impl ExchangeCounts {
 
 /// One more, up to the largest number.
 pub(crate) fn one_more(count: u64) -> u64
-    ensures { result ≡ plus_one count }
+    ensures { result ≡ one_more count }
 {
     count.saturating_add(1)
 }

@@ -1,5 +1,5 @@
 //! A capture that is read in pieces: the lines that ended, and the line that is open.
-ghost use Rattle.std.specs.Prelude.{◌≡◌, ◌≤◌, ◌∷◌, ◌++◌, [], ℕ, List, Ok, OnOk};
+ghost use Rattle.std.specs.Prelude.{◌≡◌, ◌∷◌, ◌++◌, [], ℕ, List, Ok, OnOk};
 ghost use Rattle.std.specs.Result.{result_and};
 ghost use Rattle.iol_capture.specs.Capture.{IsOpenLine, judging_at_end, judging_after_rest, capture_after_line, new_opened};
 

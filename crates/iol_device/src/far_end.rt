@@ -1,14 +1,16 @@
 //! What a device is without its application.
 ghost use Rattle.std.specs.Prelude.{◌≡◌, true, ◌+◌, ◌-◌, ◌<◌, ◌≤◌, ◌↔◌, ◌==◌, ◌++◌, length, slice_index, Option, Some, None, IsTrue, IsErr, IfErr, OnErr, option_copied, option_map, IfNone, OnSome, false, is_some, IsOk, unwrap_or, if◌then◌else◌, []};
+ghost use Rattle.iol_device.specs.Pulses.{is_that};
 
 use crate::app::App;
-use crate::commands::{Waiting, command_in, is_confirm, is_that, mode_asked};
-use crate::data::{copy_of, flow_of, message_in, message_of, take_image};
+use crate::data::{copy_of, message_of, take_image};
 use crate::fault::DeviceFault;
 use crate::isdu::{IsduSide, is_kind_of};
 use crate::record::{Kept, Record};
 use iol_event::{Event, EventMemory};
-use iol_far::{Carried, DeviceMode, Kind};
+use iol_far::{
+    Carried, DeviceMode, Kind, ModeCommand, command_in, flow_of, is_confirm, message_in, mode_asked,
+};
 use iol_image::Image;
 use iol_isdu::{Answer, Request};
 use iol_mseq::{
@@ -24,7 +26,7 @@ use std::marker::Model;
 pub(crate) struct FarEnd<R: Record = Kept> {
     awake: bool,
     mode: DeviceMode,
-    waits: Option<Waiting>,
+    waits: Option<ModeCommand>,
     isdu: IsduSide,
     events: EventMemory,
     input: Option<Image>,
@@ -50,7 +52,7 @@ impl<R: Record> Model for FarEnd<R> {
     ghost view = { λ d. record {
       awake = d.awake;
       mode = d.mode;
-      waits = option_map (λ w. record { into = w.into; octets = w.octets.items }) d.waits;
+      waits = d.waits;
       isdu = d.isdu.state;
       kind = d.isdu.kind;
       counted = d.isdu.counted;
@@ -151,11 +153,8 @@ impl<R: Record> FarEnd<R> {
     }
 
     /// Whether a command that waits asks for another mode, as its octets say.
-    fn is_asked(&self, command: &Waiting) -> bool
-        ensures { result ≡ is_asked self.now (record {
-          into = command.now.into;
-          octets = command.now.octets.items;
-        }) }
+    fn is_asked(&self, command: &ModeCommand) -> bool
+        ensures { result ≡ is_asked self.now command.now }
     {
         command.into != self.mode && self.is_said(command.into, &command.octets)
     }
@@ -329,7 +328,7 @@ impl<R: Record> FarEnd<R> {
         if let Some(into) = self.known_mode(mode_asked(command))
             && into != self.mode
         {
-            self.waits = Some(Waiting {
+            self.waits = Some(ModeCommand {
                 into,
                 octets: message_of(octets),
             });
@@ -642,5 +641,15 @@ impl<A: Allocator + Copy> FarEnd<Kept<A>> {
         ensures { result.now ≡ self.now.carried }
     {
         self.carried.carried()
+    }
+}
+
+/// Whether that mode is asked for.
+fn is_that(asked: Option<DeviceMode>, mode: DeviceMode) -> bool
+    ensures { result ≡ is_that asked mode }
+{
+    match asked {
+        Some(asked) => asked == mode,
+        None => false,
     }
 }

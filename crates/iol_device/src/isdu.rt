@@ -1,11 +1,9 @@
 //! The request under way, and the answer to it (IEC 61131-9, 7.3.6).
-ghost use Rattle.std.specs.Prelude.{◌≡◌, ◌<◌, ◌≤◌, ◌+◌, ◌++◌, ◌%◌, true, false, is_some, None, Some, List, ℕ, IsTrue, IfSome, IsSome, option_copied, length};
+ghost use Rattle.std.specs.Prelude.{◌≡◌, ◌<◌, ◌≤◌, ◌+◌, ◌++◌, true, false, is_some, None, Some, ℕ, IsTrue, IfSome, IsSome, option_copied, length};
 ghost use Rattle.iol_segment.specs.Join.{is_whole};
-ghost use Rattle.iol_segment.specs.Cut.{flow_at};
-ghost use Rattle.iol_octets.specs.Flow.{IsFlow};
 ghost use Rattle.iol_octets.specs.declared.flow_control.Flow.{Flow};
 ghost use Rattle.iol_isdu.specs.Parse.{request_of};
-ghost use Rattle.iol_far.specs.Isdu.{Empty, Receiving, IsduState, Answered, isdu_written, isdu_read, isdu_data, whole_or_empty, answer_text_to, isdu_after_answer, handed_request, fits, remaining_isdu, handed_over, written_over, written_by, counted_by};
+ghost use Rattle.iol_far.specs.Isdu.{Empty, Receiving, Answered, isdu_written, isdu_read, isdu_data, whole_or_empty, answer_text_to, isdu_after_answer, handed_request, fits, remaining_isdu, handed_over, written_over, written_by, counted_by};
 ghost use Rattle.iol_far.specs.Record.{takes_more};
 ghost use Rattle.iol_device.specs.App.{Reacts};
 ghost use Rattle.iol_device.specs.Pulses.{is_isdu_empty};

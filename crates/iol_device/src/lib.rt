@@ -11,7 +11,6 @@
 #![tactic(auto)]
 
 mod app;
-mod commands;
 mod data;
 mod device;
 mod far_end;

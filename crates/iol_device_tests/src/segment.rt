@@ -1,5 +1,5 @@
 //! Tests of segments: texts of each length, cut and joined by each size, and laws.
-ghost use Rattle.std.specs.Prelude.{◌≡◌, ◌≤◌, IfOk};
+ghost use Rattle.std.specs.Prelude.{◌≤◌, IfOk};
 ghost use Rattle.iol_isdu.specs.Answers.{AnswersKind, is_read};
 
 use iol_isdu::{

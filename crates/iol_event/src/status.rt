@@ -1,7 +1,7 @@
 //! The StatusCode of the diagnosis channel.
 ghost use Rattle.std.specs.Prelude.{◌≡◌, ◌+◌, ◌-◌, ◌^◌, ◌<◌, ◌≤◌, ◌==◌, EachIndex, slice_index};
 ghost use Rattle.std.specs.Int.{bit_at};
-ghost use Rattle.iol_event.specs.Reading.{marks, marked_places, is_readable};
+ghost use Rattle.iol_event.specs.Reading.{marked_places, is_readable};
 
 use arrayvec::ArrayVec;
 

@@ -216,8 +216,8 @@ far_after_message far octets message = record far {
 
 -- the octet at a page address
 abbrev pub page_octet_of : Far → ℕ → ℕ
-page_octet_of far address = if address == 1 then far.cycle_time else sheet.page_octet far.page
-    address
+page_octet_of far address =
+    if address == 1 then far.cycle_time else sheet.page_octet far.page address
 
 -- the on-request data of the reply to a read
 -- DEV-7

@@ -1,6 +1,6 @@
 -- How far the two ends of the link have come with a request, and with their modes, whatever the
 -- kind of device.
-use Rattle.std.specs.Prelude.{◌≡◌, ◌⊎◌, ℕ, zero, suc, ◌*◌, ◌%◌, ◌<◌, ◌≤◌, Bool, true, false, not, ◌&&◌, List, ◌++◌, length, replicate, Option, Some, None, slice_index, if◌then◌else◌, ◌==◌, nat_le, bytes_eq, IfSome, IsTrue, [], ◌∷◌}
+use Rattle.std.specs.Prelude.{◌≡◌, ◌⊎◌, ℕ, zero, suc, ◌*◌, ◌<◌, ◌≤◌, Bool, true, false, not, ◌&&◌, List, ◌++◌, length, replicate, Option, Some, None, slice_index, if◌then◌else◌, ◌==◌, nat_le, bytes_eq, IfSome, IsTrue, [], ◌∷◌}
 use Rattle.iol_octets.specs.SegmentNumber.{segment_number}
 use Rattle.iol_octets.specs.declared.control.Channel.{Channel}
 use Rattle.iol_octets.specs.declared.control.Channel.TheVariants.{Process, Page, Diagnosis, Isdu}
@@ -214,8 +214,7 @@ turned_link page link octets message =
     record {
       mode = (accepting_link link octets).mode;
       waits = waits_after (accepting_link link octets).mode (accepting_link link octets).waits
-          octets
-          (known_mode page (mode_asked (command_in message)));
+          octets (known_mode page (mode_asked (command_in message)));
     }
 
 -- a request is begun only where the page has ISDU

@@ -30,13 +30,13 @@ use Rattle.iol_judge.specs.declared.reason.Reason.{Reason}
 use Rattle.iol_judge.specs.declared.reason.Reason.TheVariants.{AnswerPadding, InvalidNotZero}
 use Rattle.iol_judge.specs.declared.transfer.Transfer.{Transfer}
 use Rattle.iol_judge.specs.declared.transfer.Transfer.TheVariants as known
-use Rattle.iol_judge.specs.Octets.{are_zeros}
 use Rattle.iol_judge.specs.Answers.{ahead_fault, behind_fault, first_had, had_with, is_busy, next_fault, open_fault, same_fault, segment_fault, text_fault, text_fault_at, ahead_told, ahead_with, one_ahead}
 use Rattle.iol_judge.specs.Transfers.{asked_told, transfer_fault, transfer_told_by, transfer_told}
 use Rattle.iol_judge.specs.UnderWay.{AreHad, IsUnderWay, IsAnswered, IsAnswerAsked, AreAhead, later_ones}
 use Rattle.iol_segment.proofs.TextLaws.{joined-front}
 use Rattle.iol_judge.proofs.Sending.{begun_fits, first_grow, length_first, part_of_first, pointwise_self, zeros_behind, zeros_within, length_later, part_of_later, total_of_first, AreTexts, below_by, has_octets, same_by}
 use Rattle.std.proofs.lemmas.Bool.Decides.{nat_tests}
+use Rattle.iol_octets.specs.Zeros.{are_zeros}
 use Rattle.iol_mseq.specs.Shape.{Shape}
 use Rattle.iol_mseq.specs.Replies.{reply_in}
 use Rattle.iol_mseq.specs.declared.reply.Reply.{Reply}

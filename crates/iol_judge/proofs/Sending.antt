@@ -9,15 +9,16 @@ use Rattle.std.proofs.lemmas.List.{length-append, length-drop, drop_at, drop-app
 use Rattle.std.proofs.Math.Nat.{mul-le-mul_right}
 use Rattle.iol_segment.specs.Cut.{segment, SegmentsHaveSize}
 use Rattle.iol_segment.specs.TextLaws.{segments_up_to, HoldsLength, TextLaws}
-use Rattle.iol_judge.specs.Octets.{are_zeros}
 use Rattle.iol_judge.specs.UnderWay.{first_ones, later_ones, AreHad, IsUnderWay, IsAnswered}
 use Rattle.std.proofs.lemmas.Bool.Decides.{nat_tests}
+use Rattle.iol_far.specs.Level.{is_open}
+use Rattle.iol_octets.specs.Zeros.{are_zeros}
 use Rattle.iol_isdu.specs.declared.fault.IsduFault.{IsduFault}
 use Rattle.iol_isdu.specs.declared.fault.IsduFault.TheVariants.{BadIsduLength, Truncated}
 use Rattle.iol_isdu.specs.Answers.{answer_accepts, answer_fault, kind_fault, is_read}
 use Rattle.iol_isdu.specs.Frame.{first_of, total_at}
 use Rattle.iol_judge.specs.declared.reason.Reason.TheVariants.{AnswerKind}
-use Rattle.iol_judge.specs.Answers.{is_answered_by, open_fault, total_begun, is_next_count, is_stage_open, was_sent}
+use Rattle.iol_judge.specs.Answers.{is_answered_by, open_fault, total_begun, is_next_count, was_sent}
 use Rattle.iol_segment.proofs.Growing.{total-bounds, total_at-more}
 use Rattle.iol_segment.proofs.TextLaws.{joined-front, joined-whole}
 use Rattle.iol_judge.specs.Transfers.{longest_answer, answered_read, first_again, further, missed_further, or_ended, sent_again, while_further}
@@ -318,12 +319,12 @@ module _ (size : ℕ) (law : AreTexts size) (request : Request) (answer : Answer
   joined_had same = rw (← same) at are.octets
 
   -- there is a next segment where the octets had are no whole text
-  open_within : suc sent ≡ are.many → is_stage_open (stage had.text.items) ≡ true
+  open_within : suc sent ≡ are.many → is_open (stage had.text.items) ≡ true
       → (sent + 1) * size < length its_text
   open_within same e = grind (arith, common_steps, by_lt, joined_had, holds)
 
   -- and none where they are
-  closed_within : suc sent ≡ are.many → is_stage_open (stage had.text.items) ≡ false
+  closed_within : suc sent ≡ are.many → is_open (stage had.text.items) ≡ false
       → length its_text ≤ (sent + 1) * size
   closed_within same e = grind (arith, common_steps, by_le, joined_had, holds)
 
@@ -357,10 +358,10 @@ module _ (size : ℕ) (law : AreTexts size) (request : Request) (answer : Answer
       let next = had.at + size in
       let octets = had.text.items in
       cond_both (nat_lt (length octets) next) (missed_further had.read (total_at octets) next) (if
-      nat_lt next (length octets) then GoesOn else if is_stage_open (stage octets) then GoesOn
+      nat_lt next (length octets) then GoesOn else if is_open (stage octets) then GoesOn
       else Ends)
       Says (λ p. missed_says _ refl) (λ p. cond_both (nat_lt next (length octets)) GoesOn
-      (if is_stage_open (stage octets) then GoesOn else Ends) Says (λ b.
+      (if is_open (stage octets) then GoesOn else Ends) Says (λ b.
       let less = ltb-true next (length octets) b in
       let before : suc sent < are.many =
       below_by size law.some (suc sent) are.many (omega (arith, length_had)) in
@@ -370,7 +371,7 @@ module _ (size : ℕ) (law : AreTexts size) (request : Request) (answer : Answer
       let ge = ltb-false next (length octets) b in
       let same : suc sent ≡ are.many =
       same_by size law.some (suc sent) are.many (omega (arith, length_had)) in
-      cond_both (is_stage_open (stage octets)) GoesOn Ends Says (open_within same)
+      cond_both (is_open (stage octets)) GoesOn Ends Says (open_within same)
       (closed_within same)))
 
   module _ (hands_over : HandsOver) (counted : Option ℕ) where

@@ -1,8 +1,9 @@
 -- What is known of an answer, once a segment was sent.
 use Rattle.std.specs.Bool.{beq}
-use Rattle.std.specs.Prelude.{ℕ, ◌+◌, ◌-◌, ◌/◌, ◌%◌, Bool, true, false, ◌&&◌, ◌||◌, ◌==◌, nat_eq, nat_lt, nat_le, bytes_eq, if◌then◌else◌, List, [], ◌++◌, length, drop, slice_index, Option, Some, None, is_some, option_and_then, Result, Ok, Err}
+use Rattle.std.specs.Prelude.{ℕ, ◌+◌, ◌-◌, ◌/◌, Bool, ◌&&◌, ◌||◌, ◌==◌, nat_eq, nat_lt, nat_le, bytes_eq, if◌then◌else◌, List, [], ◌++◌, length, drop, slice_index, Option, Some, None, is_some, option_and_then, Result, Ok, Err}
 use Rattle.std.specs.List.{starts_with}
 use Rattle.std.specs.Option.{option_eq, option_or}
+use Rattle.iol_octets.specs.Zeros.{are_zeros}
 use Rattle.iol_octets.specs.SegmentNumber.{segment_number}
 use Rattle.iol_isdu.specs.Answers.{answer_accepts, answer_fault, answers_read}
 use Rattle.iol_isdu.specs.Frame.{total_at}
@@ -14,7 +15,6 @@ use Rattle.iol_judge.specs.declared.had.HadSegments.{HadSegments}
 use Rattle.iol_judge.specs.declared.had.TheConstants.{MOST_AHEAD, MOST_HAD}
 use Rattle.iol_judge.specs.declared.reason.Reason.{Reason}
 use Rattle.iol_judge.specs.declared.reason.Reason.TheVariants.{BusyAgain, AnswerKind, AnswerLength, AnswerSum, AnswerPadding, SegmentChanged}
-use Rattle.iol_judge.specs.Octets.{are_zeros}
 
 abbrev pub first_had : Bool → List ℕ → HadSegments
 first_had read od =
@@ -38,10 +38,6 @@ was_sent had count = nat_lt 0 had.at && count == had.count
 -- the segment behind it has
 abbrev pub is_next_count : HadSegments → ℕ → Bool
 is_next_count had count = count == segment_number (had.count + 1)
-
-abbrev pub is_stage_open : Stage → Bool
-is_stage_open Open = true
-is_stage_open found = false
 
 -- busy: 01 and zeros
 abbrev pub is_busy : List ℕ → Bool

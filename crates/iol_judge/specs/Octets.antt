@@ -1,10 +1,6 @@
--- Octets that may be known, and zeros.
-use Rattle.std.specs.Prelude.{ℕ, Bool, false, not, ◌||◌, ◌==◌, nat_eq, List, Option, Some, None, is_none}
-use Rattle.std.specs.List.{list_all}
+-- Octets that may be known.
+use Rattle.std.specs.Prelude.{ℕ, Bool, false, not, ◌||◌, ◌==◌, nat_eq, Option, Some, None, is_none}
 use Rattle.std.specs.Option.{option_eq}
-
-abbrev pub are_zeros : List ℕ → Bool
-are_zeros octets = list_all (λ octet. octet == 0) octets
 
 -- what is known in the first is known in the second
 abbrev pub is_known_in : Option ℕ → Option ℕ → Bool

@@ -1,6 +1,7 @@
 -- Which replies a device in a kept state may have sent.
 use Rattle.std.specs.Prelude.{ℕ, ◌+◌, ◌-◌, min, Bool, true, false, ◌&&◌, ◌||◌, ◌==◌, nat_le, if◌then◌else◌, List, length, drop, slice_index, Option, Some, None, is_some, Ok, Err}
 use Rattle.std.specs.Option.{option_or}
+use Rattle.iol_octets.specs.Zeros.{are_zeros}
 use Rattle.iol_octets.specs.declared.control.Channel.{Channel}
 use Rattle.iol_octets.specs.declared.control.Channel.TheVariants.{Process, Page, Diagnosis, Isdu}
 use Rattle.iol_octets.specs.declared.control.Mc.{Mc}
@@ -18,7 +19,7 @@ use Rattle.iol_judge.specs.Numbers.{earlier}
 use Rattle.iol_judge.specs.declared.taken.Explanation.{Explanation}
 use Rattle.iol_judge.specs.declared.taken.Explanation.TheVariants.{By, Not}
 use Rattle.iol_judge.specs.declared.events.ShownEvents.{ShownEvents}
-use Rattle.iol_judge.specs.Octets.{are_zeros, is_other}
+use Rattle.iol_judge.specs.Octets.{is_other}
 use Rattle.iol_judge.specs.Transfers.{transfer_fault, transfer_told}
 use Rattle.iol_judge.specs.Events.{flag_fault, flag_told, events_fault, events_told}
 use Rattle.iol_judge.specs.Seen.{is_of_page, octet_seen}

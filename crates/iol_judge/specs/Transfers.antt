@@ -3,6 +3,8 @@ use Rattle.std.specs.Bool.{beq}
 use Rattle.std.specs.Prelude.{ℕ, ◌+◌, Bool, true, false, not, ◌&&◌, ◌==◌, nat_eq, nat_lt, nat_le, bytes_eq, if◌then◌else◌, List, [], ◌∷◌, ◌++◌, length, Option, Some, None, is_some, option_map, Result, Ok, Err}
 use Rattle.std.specs.Option.{option_eq}
 use Rattle.std.specs.Result.{result_ok}
+use Rattle.iol_far.specs.Level.{is_open}
+use Rattle.iol_octets.specs.Zeros.{are_zeros}
 use Rattle.iol_octets.specs.declared.control.Channel.{Channel}
 use Rattle.iol_octets.specs.declared.control.Channel.TheVariants.{Isdu}
 use Rattle.iol_octets.specs.declared.flow_control.Flow.{Flow}
@@ -29,8 +31,7 @@ use Rattle.iol_judge.specs.declared.reason.Reason.TheVariants.{NoAnswerDue, NotB
 use Rattle.iol_judge.specs.declared.transfer.Transfer.{Transfer}
 use Rattle.iol_judge.specs.declared.transfer.Transfer.TheVariants.{Quiet, Receiving, Whole, Handed, Asked, Answered, Perhaps, Free}
 use Rattle.iol_judge.specs.declared.transfer.TheConstants.{LONGEST, LONGEST_TO_READ, LONGEST_TO_WRITE, SHORTEST}
-use Rattle.iol_judge.specs.Octets.{are_zeros}
-use Rattle.iol_judge.specs.Answers.{first_had, had_with, is_busy, is_next_count, is_stage_open, none_had, same_had, segment_fault, text_fault, was_sent}
+use Rattle.iol_judge.specs.Answers.{first_had, had_with, is_busy, is_next_count, none_had, same_had, segment_fault, text_fault, was_sent}
 
 -- what the first allows whatever the second does
 abbrev pub covers_transfer : Transfer → Transfer → Bool
@@ -115,7 +116,7 @@ further had next =
     if nat_lt (length had.text.items) next
     then missed_further had.read (total_at had.text.items) next else
     if nat_lt next (length had.text.items) then GoesOn else
-    if is_stage_open (stage had.text.items) then GoesOn else Ends
+    if is_open (stage had.text.items) then GoesOn else Ends
 
 -- this is known where the answer goes on, and nothing is under way where it ends
 abbrev pub while_further : Further → HadSegments → Transfer

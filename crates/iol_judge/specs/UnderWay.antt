@@ -1,5 +1,5 @@
 -- Which ISDU states of a device are as known of its transfer.
-use Rattle.std.specs.Prelude.{◌≡◌, ◌⊎◌, ◌<◌, ℕ, zero, suc, ◌+◌, ◌*◌, ◌%◌, Bool, List, [], ◌++◌, length, Option, Some, None, IfSome, IsTrue}
+use Rattle.std.specs.Prelude.{◌≡◌, ◌⊎◌, ◌<◌, ℕ, zero, suc, ◌+◌, ◌*◌, Bool, List, [], ◌++◌, length, Option, Some, None, IfSome, IsTrue}
 use Rattle.iol_octets.specs.SegmentNumber.{segment_number}
 use Rattle.iol_isdu.specs.Answers.{is_read}
 use Rattle.iol_segment.specs.Cut.{segment}

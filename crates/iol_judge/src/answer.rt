@@ -1,11 +1,12 @@
 //! The text of an answer.
-ghost use Rattle.std.specs.Prelude.{◌≡◌, ◌/◌, drop, length, slice_index};
+ghost use Rattle.std.specs.Prelude.{◌≡◌, ◌/◌, slice_index};
 ghost use Rattle.iol_isdu.specs.Answers.{is_read};
 ghost use Rattle.iol_judge.specs.Answers.{begun_fault, text_fault, whole_fault};
 
-use crate::octets::{are_zeros, first_octet};
+use crate::octets::first_octet;
 use crate::reason::Reason;
 use iol_isdu::{IsduFault, Octets, Place, Request, read_answer, total_of};
+use iol_octets::are_zeros;
 
 /// The least total length that stands in an ExtLength.
 const SHORTEST_LONG: usize = 17;

@@ -1,21 +1,22 @@
 //! What is known of an answer, once a segment was sent.
-ghost use Rattle.std.specs.Prelude.{◌≡◌, ◌⊎◌, ◌<◌, ◌≤◌, ◌++◌, true, ◌&&◌, ◌==◌, nat_lt};
+ghost use Rattle.std.specs.Prelude.{◌≡◌, ◌⊎◌, ◌<◌, ◌≤◌, ◌++◌, true, ◌&&◌, ◌==◌};
 ghost use Rattle.std.specs.Option.{option_eq};
+ghost use Rattle.iol_far.specs.Level.{is_open};
 ghost use Rattle.iol_isdu.specs.Frame.{total_at};
 ghost use Rattle.iol_segment.specs.Join.{stage};
-ghost use Rattle.iol_judge.specs.Answers.{ahead_fault, ahead_told, ahead_with, first_had, had_with, is_ahead, is_busy, is_next_count, is_stage_open, next_fault, none_had, one_ahead, padding_fault, place_ahead, same_fault, same_had, segment_fault, was_sent};
+ghost use Rattle.iol_judge.specs.Answers.{ahead_fault, ahead_told, ahead_with, first_had, had_with, is_ahead, is_busy, is_next_count, next_fault, none_had, one_ahead, padding_fault, place_ahead, same_fault, same_had, segment_fault, was_sent};
 ghost use Rattle.iol_judge.specs.declared.had.Further.TheVariants.{Ends};
 ghost use Rattle.iol_judge.specs.declared.had.TheConstants.{MOST_HAD};
 ghost use Rattle.iol_judge.specs.Transfers.{further, missed_further};
 
 use crate::answer::text_fault;
-use crate::octets::{are_zeros, first_octet, rest_of};
+use crate::octets::{first_octet, rest_of};
 use crate::reason::Reason;
 use crate::transfer::{LONGEST_TO_READ, LONGEST_TO_WRITE, SHORTEST};
 use arrayvec::ArrayVec;
 use iol_isdu::{IsduFault, total_of};
 use iol_mseq::ReplyView;
-use iol_octets::segment_number;
+use iol_octets::{are_zeros, segment_number};
 
 /// The most octets that are kept of an answer: the longest text, and a segment.
 pub(crate) const MOST_HAD: usize = 270;
@@ -218,7 +219,7 @@ impl HadSegments {
 
     /// Whether the octets that were had are no whole text.
     pub fn is_open(&self) -> bool
-        ensures { result ≡ is_stage_open (stage self.now.text.items) }
+        ensures { result ≡ is_open (stage self.now.text.items) }
     {
         match total_of(&self.text) {
             Ok(total) => total > self.text.len(),

@@ -1,5 +1,5 @@
 //! The judge.
-ghost use Rattle.std.specs.Prelude.{◌≡◌, option_copied, if◌then◌else◌, [], Ok, Err};
+ghost use Rattle.std.specs.Prelude.{◌≡◌, option_copied, [], Ok, Err};
 ghost use Rattle.iol_judge.specs.Seen.{whole_page};
 ghost use Rattle.iol_judge.specs.Family.{no_kinds};
 ghost use Rattle.iol_judge.specs.Judged.{concluded_lost, judge_after_exchange, kinds_left, kinds_with, new_judge, page_after_reply, judge_after_wake};
@@ -139,7 +139,6 @@ impl Judge {
 
 impl Judge {
     ghost use Rattle.std.specs.Prelude.{◌∷◌};
-    ghost use Rattle.iol_judge.specs.Seen.{layouts_seen};
     ghost use Rattle.iol_judge.specs.State.{first_state};
     ghost use Rattle.iol_judge.specs.Judged.{each_in_turn, judge_after_reply, judge_without_reply, with_oddity, woken_into};
     ghost use Rattle.iol_judge.specs.declared.verdict.Verdict.TheVariants.{Honest};

@@ -10,44 +10,9 @@ use crate::kinds::Kinds;
 use crate::octets::first_octet;
 use crate::transfer::Transfer;
 use arrayvec::ArrayVec;
-use iol_far::{DeviceMode, HandsOver, Kind, Recalls};
-use iol_mseq::Message;
+use iol_far::{DeviceMode, HandsOver, Kind, ModeCommand, Recalls};
 use iol_octets::{Channel, Mc};
 use std::marker::Model;
-
-/// A command into another mode, with its octets, until a message comes in that mode's layout.
-#[derive(Debug, Drop)]
-pub(crate) struct ModeCommand {
-    pub into: DeviceMode,
-    pub octets: Message,
-}
-
-impl Model for ModeCommand {
-    ghost use Rattle.iol_far.specs.Far.{WaitingCommand};
-
-    ghost Value = { WaitingCommand };
-
-    ghost view = { λ w. record { into = w.into; octets = w.octets.items } };
-
-    ghost inverse = { λ w. record { into = w.into; octets = record { items = w.octets } } };
-}
-
-impl ModeCommand {
-    fn is(&self, other: &ModeCommand) -> bool
-        ensures { result ≡ is_command self.now other.now }
-    {
-        self.into == other.into && self.octets.as_slice() == other.octets.as_slice()
-    }
-
-    pub fn copy(&self) -> ModeCommand
-        ensures { result ≡ self.now }
-    {
-        ModeCommand {
-            into: self.into,
-            octets: self.octets.clone().unwrap(),
-        }
-    }
-}
 
 /// What one state stands for, told apart by kinds: of each kind two at most.
 pub(crate) type Parts = ArrayVec<KeptState, 8>;
@@ -241,8 +206,14 @@ impl KeptState {
     {
         match (&self.waits, &other.waits) {
             (None, None) => true,
-            (Some(a), Some(b)) => a.is(b),
+            (Some(a), Some(b)) => is_command(a, b),
             _ => false,
         }
     }
+}
+
+fn is_command(a: &ModeCommand, b: &ModeCommand) -> bool
+    ensures { result ≡ is_command a.now b.now }
+{
+    a.into == b.into && a.octets.as_slice() == b.octets.as_slice()
 }

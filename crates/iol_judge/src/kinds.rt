@@ -1,5 +1,5 @@
 //! Sets of kinds of device.
-ghost use Rattle.std.specs.Prelude.{◌≡◌, ◌&&◌, ◌||◌, not};
+ghost use Rattle.std.specs.Prelude.{◌≡◌, ◌&&◌, ◌||◌};
 
 use iol_far::{HandsOver, Kind, Recalls};
 

@@ -1,7 +1,5 @@
 //! The states that come of an exchange.
-ghost use Rattle.std.specs.Prelude.{◌≡◌, [], Ok, Err, ◌≤◌, ◌++◌, ◌∷◌, length, drop};
-ghost use Rattle.std.specs.Result.{result_err};
-ghost use Rattle.arrayvec.specs.ArrayVec.{array_vec_len};
+ghost use Rattle.std.specs.Prelude.{◌≡◌, [], Ok, Err};
 ghost use Rattle.iol_judge.specs.State.{all_parts};
 ghost use Rattle.iol_judge.specs.Judged.{states_with, added_whole, each_in_turn, has_state, lost_into, lost_part, replied_into, replied_part, result_with, uncovered_states, united_state, woken_into};
 

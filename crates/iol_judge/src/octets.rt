@@ -1,19 +1,11 @@
 //! Octets.
 ghost use Rattle.std.specs.Prelude.{◌≡◌, drop, slice_index};
-ghost use Rattle.iol_judge.specs.Octets.{are_zeros};
 
 /// The first octet, 0 where there is none.
 pub(crate) fn first_octet(octets: &[u8]) -> u8
     ensures { result ≡ slice_index octets.now 0 }
 {
     octets.first().copied().unwrap_or(0)
-}
-
-/// Whether all octets are zeros.
-pub fn are_zeros(octets: &[u8]) -> bool
-    ensures { result ≡ are_zeros octets.now }
-{
-    octets.iter().all(|octet| *octet == 0)
 }
 
 /// The octets behind the first.

@@ -1,5 +1,5 @@
 //! Which replies can be read.
-ghost use Rattle.std.specs.Prelude.{◌≡◌, nat_lt, ◌-◌, length, slice_index};
+ghost use Rattle.std.specs.Prelude.{◌≡◌, ◌-◌};
 ghost use Rattle.iol_judge.specs.Replies.{is_read_with, can_be_read};
 
 use crate::octets::first_octet;

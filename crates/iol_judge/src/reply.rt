@@ -4,13 +4,13 @@ ghost use Rattle.iol_mseq.specs.Replies.{reply_in};
 ghost use Rattle.iol_judge.specs.Replies.{data_fault, data_oddity, explanation_of, explained_by, earlier_reason, held_against, state_after_reply, no_zeros, page_fault, page_oddity, fault_in_reply, reply_oddity};
 
 use crate::kept::KeptState;
-use crate::octets::{are_zeros, first_octet, rest_of};
+use crate::octets::{first_octet, rest_of};
 use crate::reason::Reason;
 use crate::seen::SeenPage;
 use crate::taken::{Explanation, TakenMessage};
 use crate::verdict::Odd;
 use iol_mseq::{Layout, MasterView, ReplyView, view_reply};
-use iol_octets::{Channel, Mc};
+use iol_octets::{Channel, Mc, are_zeros};
 
 /// Whether a state explains the reply that came, by what it makes of the message.
 pub(crate) fn explain(

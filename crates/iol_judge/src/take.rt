@@ -1,20 +1,18 @@
 //! What a message makes of a kept state.
-ghost use Rattle.std.specs.Prelude.{◌≡◌, ◌≤◌, length, slice_index, OnSome};
-ghost use Rattle.iol_far.specs.Codec.{message_in};
-ghost use Rattle.iol_far.specs.Far.{command_in, is_confirm, mode_asked, waits_after};
+ghost use Rattle.std.specs.Prelude.{◌≡◌, ◌≤◌, length, slice_index};
+ghost use Rattle.iol_far.specs.Far.{waits_after};
 ghost use Rattle.iol_far.specs.Level.{accepting_link};
 ghost use Rattle.iol_judge.specs.Transfers.{isdu_known, transfer_in};
 ghost use Rattle.iol_judge.specs.Taking.{cycle_after, mode_known, mode_layout, taken_by_state};
 
-use crate::kept::{KeptState, ModeCommand};
+use crate::kept::KeptState;
 use crate::open::Open;
 use crate::seen::KnownLayouts;
 use crate::taken::TakenMessage;
 use crate::transfer::Transfer;
-use iol_far::DeviceMode;
-use iol_mseq::{Layout, MasterView, Message, first, view_master};
+use iol_far::{DeviceMode, ModeCommand, command_in, is_confirm, message_in, mode_asked};
+use iol_mseq::{Layout, MasterView, Message, first};
 use iol_octets::Channel;
-use iol_page::MasterCommand;
 
 impl KeptState {
     /// The mode in whose layout it takes these octets, with the command that waits there.
@@ -61,7 +59,7 @@ impl KeptState {
             mode,
             waits: waits_after(mode, waits, octets, asked),
             cycle: cycle_after(self.cycle, &message),
-            events: self.events.after(is_confirm(&message)),
+            events: self.events.after(is_confirm(message.mc())),
             transfer: self.transfer_in(octets).after(
                 self.kinds.one(),
                 isdu_of(layouts),
@@ -96,40 +94,6 @@ pub fn layout_in(layouts: &KnownLayouts, mode: DeviceMode) -> Result<Layout, Ope
         (DeviceMode::Preoperate, Ok(layouts)) => Ok(layouts.pre.unwrap_or(Layout::startup())),
         (DeviceMode::Operate, Ok(layouts)) => Ok(layouts.run),
         (_, Err(why)) => Err(*why),
-    }
-}
-
-/// The message that octets are in a layout.
-#[tactic(auto, unfolding(iol_far::specs::Codec::message_in))]
-pub fn message_in<'a>(layout: &Layout, octets: &'a [u8]) -> Option<MasterView<'a>>
-    ensures value { result ≡ message_in layout.now octets.now }
-    ensures length { OnSome result (length octets.now ≤ 66) }
-{
-    let _ = layout.od();
-    view_master(layout, octets).ok()
-}
-
-/// The master command that a message is.
-pub fn command_in(message: &MasterView<'_>) -> Option<MasterCommand>
-    ensures { result ≡ command_in message.now }
-{
-    let mc = message.mc();
-    if !mc.read && mc.channel == Channel::Page && mc.address == 0 {
-        MasterCommand::from_octet(first(message.od()))
-    } else {
-        None
-    }
-}
-
-/// The mode that a command asks for.
-pub fn mode_asked(command: Option<MasterCommand>) -> Option<DeviceMode>
-    ensures { result ≡ mode_asked command }
-{
-    match command {
-        Some(MasterCommand::DeviceStartup) => Some(DeviceMode::Startup),
-        Some(MasterCommand::DevicePreoperate) => Some(DeviceMode::Preoperate),
-        Some(MasterCommand::DeviceOperate) => Some(DeviceMode::Operate),
-        _ => None,
     }
 }
 
@@ -175,13 +139,4 @@ fn cycle_after(old: Option<u8>, message: &MasterView<'_>) -> Option<u8>
     } else {
         old
     }
-}
-
-/// Whether a message is the confirm of events.
-fn is_confirm(message: &MasterView<'_>) -> bool
-    ensures { result ≡ is_confirm message.now.mc.channel message.now.mc.read
-        message.now.mc.address }
-{
-    let mc = message.mc();
-    mc.channel == Channel::Diagnosis && !mc.read && mc.address == 0
 }

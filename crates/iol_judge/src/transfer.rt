@@ -7,12 +7,11 @@ ghost use Rattle.iol_judge.specs.Transfers.{answered_read, asked_again, transfer
 
 use crate::answer::text_fault;
 use crate::had::{Further, HadOctets, HadSegments, is_busy};
-use crate::octets::are_zeros;
 use crate::reason::Reason;
 use iol_far::{HandsOver, Kind, Recalls};
 use iol_isdu::{IsduFault, Request, Text, read_request, total_of};
 use iol_mseq::{MasterView, ReplyView};
-use iol_octets::{Channel, Mc, segment_number};
+use iol_octets::{Channel, Mc, are_zeros, segment_number};
 
 /// The address of START on the ISDU channel. Below it are those of COUNT.
 const START: u8 = 0x10;

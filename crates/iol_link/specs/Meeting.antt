@@ -31,8 +31,8 @@ pub record LinkMet (page : List ℕ) (link : FarLink) (octets : List ℕ) (messa
   pub reply_is : reply ≡ reply_to far layout message
 
 -- after none: one attempt more
-pub record LinkMissed (link : FarLink) (octets : List ℕ) (tries silence : ℕ) (far : Far) : Type
-    0 where
+pub record LinkMissed (link : FarLink) (octets : List ℕ)
+    (tries silence : ℕ) (far : Far) : Type 0 where
   pub few : tries + 1 ≤ silence
   pub linked : IsLinked far.page link octets (tries + 1) far
 

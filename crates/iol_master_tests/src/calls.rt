@@ -1,5 +1,4 @@
 //! Calls of a port under its lock in a master, and what they are to answer.
-ghost use Rattle.std.specs.Prelude.{◌≡◌};
 ghost use Rattle.std.specs.Sync.Mutex.{mutex_guard_value};
 ghost use Rattle.iol_port.specs.declared.call.Call.TheVariants as call;
 ghost use Rattle.iol_port.specs.View.{Does};

@@ -1,5 +1,5 @@
 //! Masters over the simulated wire: workers and clients at once.
-ghost use Rattle.std.specs.Prelude.{◌≡◌, ◌≤◌, All, vec_len};
+ghost use Rattle.std.specs.Prelude.{◌≤◌, All, vec_len};
 ghost use Rattle.iol_master.specs.Tickets.{HasGiven};
 ghost use Rattle.iol_master.specs.Ledgers.{IsBlankFor};
 

@@ -1,6 +1,6 @@
 //! A master of 32 ports with unequal answers, whose gate says no to each at a turn of its own, and
 //! a desk with more than a thousand submits.
-ghost use Rattle.std.specs.Prelude.{◌≡◌, ◌≤◌, All, vec_len};
+ghost use Rattle.std.specs.Prelude.{◌≤◌, All, vec_len};
 ghost use Rattle.iol_master.specs.Tickets.{HasGiven};
 ghost use Rattle.iol_master.specs.Ledgers.{IsBlankFor};
 

@@ -20,7 +20,7 @@ use Rattle.iol_mode.specs.declared.configuration.Devices.TheVariants.{Own}
 use Rattle.iol_mode.specs.declared.states.State.{State}
 use Rattle.iol_mode.specs.declared.states.State.TheVariants.{Down as AtDown, Startup as AtStartup, Preoperate as AtPreoperate, Operate as AtOperate}
 use Rattle.iol_mode.specs.States.{NextMode, InDown, InOperate, StateFits, any_device, is_behind, sending_after_try, operate_by, outcome_with, startup_turned, preoperate_turned, sending_of, next_state, mode_after_wake}
-use Rattle.iol_mode.specs.Stands.{IsOperating, IsAccepted, IsTold, StateStands, text_in}
+use Rattle.iol_mode.specs.Stands.{IsOperating, IsAccepted, IsTold, StateStands, text_in, sending_tries}
 use Rattle.iol_mode.specs.Turns.{IsMet, IsRisen}
 use Rattle.iol_mode.specs.Kinds.{SeesPulses, IsHonestFor}
 
@@ -50,16 +50,11 @@ layout_out (AtStartup s) = startup_shape
 layout_out (AtPreoperate s) = s.pre
 layout_out (AtOperate s) = s.layouts.run
 
--- how many attempts in a row at the message that is out brought no good reply
-abbrev pub tries_of : Option Sending → ℕ
-tries_of None = 0
-tries_of (Some sent) = sent.tries
-
 abbrev pub tries_in : State → ℕ
 tries_in (AtDown s) = 0
 tries_in (AtStartup s) = s.sent.tries
 tries_in (AtPreoperate s) = s.sent.tries
-tries_in (AtOperate s) = tries_of s.out
+tries_in (AtOperate s) = sending_tries s.out
 
 -- in OPERATE the message that is out stays so, else this one is out from now on
 abbrev pub state_with_out : MasterMsg → State → State

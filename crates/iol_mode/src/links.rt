@@ -1,7 +1,6 @@
 //! A link, and what a turn makes of it.
-ghost use Rattle.std.specs.Prelude.{ℕ, ◌≡◌, ◌<◌, Option, Some, None, true, IsTrue, IfSome, is_some};
+ghost use Rattle.std.specs.Prelude.{◌≡◌, ◌<◌, Option, Some, None, true, IsTrue, IfSome, is_some};
 ghost use Rattle.std.specs.Option.{option_copied, option_map};
-ghost use Rattle.arrayvec.specs.ArrayVec.{ArrayVec};
 ghost use Rattle.iol_mseq.specs.Shape.{startup_shape};
 ghost use Rattle.iol_mseq.specs.Master.{HasMasterParts};
 ghost use Rattle.iol_mseq.specs.Texts.{master_text};
@@ -15,7 +14,7 @@ ghost use Rattle.iol_mode.specs.States.{StateFits, IsDown, Takes, is_behind, is_
 ghost use Rattle.iol_mode.specs.Stands.{OutcomeStands, IsTold};
 ghost use Rattle.iol_mode.specs.Next.{wire_of, outcome_of, step_layouts, message_out};
 ghost use Rattle.iol_mode.specs.Turns.{IsStartTurn, IsStartTried, IsOperateTurn, IsRise, IsCycle, IsEnd};
-ghost use Rattle.iol_mode.specs.Exchanges.{IsSending, text_out, IsJudged, ExchangeGives, IsExchanged};
+ghost use Rattle.iol_mode.specs.Exchanges.{IsSending, text_out, IsJudged, IsExchanged};
 
 use crate::configuration::{Configuration, Devices};
 use crate::exchange::laws;

@@ -18,6 +18,7 @@ mod flow_control;
 mod laws;
 mod numbering;
 mod od_length;
+mod zeros;
 
 pub use check_octets::{Cks, Ckt, SequenceType};
 pub use checksum::{checksum6, has_checksum6};
@@ -27,3 +28,4 @@ pub use flow_control::Flow;
 pub use laws::{checksums_fit, control_octets_are_read_back, one_flip_is_seen};
 pub use numbering::segment_number;
 pub use od_length::OdLength;
+pub use zeros::are_zeros;

@@ -1,5 +1,5 @@
 //! Cycle times (IEC 61131-9, B.1.3).
-ghost use Rattle.std.specs.Prelude.{◌≡◌, ◌≤◌, ◌<◌, ◌↔◌, Some, None, IfOk, IfErr, IsOk};
+ghost use Rattle.std.specs.Prelude.{◌≡◌, ◌≤◌, ◌<◌, ◌↔◌, IfOk, IsOk};
 ghost use Rattle.std.specs.Result.{result_err};
 
 use thiserror::Error;

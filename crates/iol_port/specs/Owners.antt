@@ -61,8 +61,7 @@ owners_after (Done answer) owners =
     record owners { current = first_with (owner_with_outcome (outcome.Done answer)) owners.current }
 owners_after (Unknown cause) owners =
     record owners {
-      current = first_with (owner_with_outcome (outcome.Unknown cause))
-          owners.current;
+      current = first_with (owner_with_outcome (outcome.Unknown cause)) owners.current;
     }
 owners_after step owners = owners
 

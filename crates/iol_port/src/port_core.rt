@@ -5,7 +5,7 @@ ghost use Rattle.std.specs.Result.{result_map_both};
 ghost use Rattle.iol_far.specs.Octets.{octets_in};
 ghost use Rattle.iol_app.specs.Seen.{LinkStands, core_of};
 ghost use Rattle.iol_book.specs.declared.fault.BookFault.TheVariants.{OutOfMemory};
-ghost use Rattle.iol_book.specs.BookModel.{IsReplayed, book_after_submit};
+ghost use Rattle.iol_book.specs.BookModel.{IsReplayed};
 ghost use Rattle.iol_app.specs.Asking.{IsCall};
 ghost use Rattle.iol_app.specs.Pieces.{IsAskedOut};
 ghost use Rattle.iol_port.specs.declared.fault.PortFault.TheVariants as fault;

@@ -1,5 +1,5 @@
 //! A device with one parameter, and a simulated wire to it.
-ghost use Rattle.std.specs.Prelude.{⊤, ◌≡◌, IfSome};
+ghost use Rattle.std.specs.Prelude.{⊤};
 
 use iol_device::{App, Device, Kept};
 use iol_isdu::{Answer, Octets, Place, Request};

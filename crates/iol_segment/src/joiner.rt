@@ -1,5 +1,5 @@
 //! Segments, joined into a text (IEC 61131-9, 7.3.6).
-ghost use Rattle.std.specs.Prelude.{◌≡◌, ◌<◌, ◌+◌, ◌++◌, true, false, None, Some, Ok, Err, IfOk, IfSome, IsOk, OnOk, IsTrue, length};
+ghost use Rattle.std.specs.Prelude.{◌≡◌, ◌<◌, ◌+◌, ◌++◌, true, false, None, Some, Ok, Err, IfOk, IsOk, OnOk, IsTrue};
 ghost use Rattle.std.specs.Result.{result_err, result_ok};
 ghost use Rattle.iol_isdu.specs.declared.values.Request.{Request};
 ghost use Rattle.iol_isdu.specs.declared.values.Answer.{Answer};

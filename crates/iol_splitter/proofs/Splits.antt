@@ -3,6 +3,7 @@
 use Rattle.std.proofs.Common.{◌≡◌, ℕ, ◌+◌, ◌<◌, ◌≤◌, false, List, [], ◌∷◌, ◌++◌, length, arith, refl, sym, ◌∙◌, ap, subst, append_assoc, append-nil, length-append}
 use Rattle.std.specs.Prelude.{Option, Some, None, Result, Ok}
 use Rattle.std.proofs.lemmas.Bool.Decides.{nat_tests}
+use Rattle.iol_link.specs.Honest.{test_read}
 use Rattle.iol_mseq.specs.Shape.{Shape}
 use Rattle.iol_splitter.specs.declared.fault.SplitFault.{SplitFault}
 use Rattle.iol_splitter.specs.declared.passed.SplitItem.{SplitItem}
@@ -10,7 +11,7 @@ use Rattle.iol_splitter.specs.declared.message.Meaning.{Meaning}
 use Rattle.iol_splitter.specs.declared.message.Meaning.TheVariants.{Part, Whole, TestRead, ReadOrTest}
 use Rattle.iol_splitter.specs.declared.splitter.Phase.{Phase}
 use Rattle.iol_splitter.specs.declared.splitter.Phase.TheVariants.{Asleep, Waking, Message, Reply}
-use Rattle.iol_splitter.specs.Lengths.{test_read_octets, meaning_in, reply_length}
+use Rattle.iol_splitter.specs.Lengths.{meaning_in, reply_length}
 use Rattle.iol_splitter.specs.State.{Splitting, new_splitter}
 use Rattle.iol_splitter.specs.Steps.{SplitStep, good_step}
 use Rattle.iol_splitter.specs.Splitting.{answered_with, untold_at_end, exchange_of, is_in_message, layout_begun, looked_as, octet_split, line_after_request, wake_split}
@@ -232,14 +233,14 @@ module _ (state : Splitting) (seeks : IsSeeking state.phase) (t : TimedTestRead)
   control_heard no_sent no_answer before = grind (arith, nat_tests)
 
   check_heard : octet_split (seeking (0xA2 ∷ []) [] t.control) t.check 0
-      ≡ good_step (seeking test_read_octets [] t.check) None
+      ≡ good_step (seeking test_read [] t.check) None
   check_heard = grind (arith, nat_tests)
 
-  value_heard : octet_split (seeking test_read_octets [] t.check) t.value.time t.value.octet
-      ≡ good_step (seeking test_read_octets (t.value.octet ∷ []) t.value.time) None
+  value_heard : octet_split (seeking test_read [] t.check) t.value.time t.value.octet
+      ≡ good_step (seeking test_read (t.value.octet ∷ []) t.value.time) None
   value_heard = grind (arith, nat_tests)
 
-  status_heard : octet_split (seeking test_read_octets (t.value.octet ∷ []) t.value.time)
+  status_heard : octet_split (seeking test_read (t.value.octet ∷ []) t.value.time)
       t.status.time
       t.status.octet ≡ good_step (line_in_startup (record state { last = t.status.time }))
       (Some (passed.Wake Answered))
@@ -250,7 +251,7 @@ module _ (state : Splitting) (seeks : IsSeeking state.phase) (t : TimedTestRead)
     abbrev reply : List StreamItem
     reply = Octet t.value ∷ Octet t.status ∷ stream_of items
 
-    read_answered : all_split (seeking test_read_octets [] t.check) reply
+    read_answered : all_split (seeking test_read [] t.check) reply
         ≡ told_of (passed.Wake Answered) items
     read_answered =
         let value = value_heard in

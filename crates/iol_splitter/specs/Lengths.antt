@@ -1,5 +1,6 @@
 -- What the octets of a message are, by the layout.
-use Rattle.std.specs.Prelude.{ℕ, ◌+◌, Bool, not, ◌&&◌, ◌==◌, nat_lt, nat_le, if◌then◌else◌, List, [], ◌∷◌, length, slice_index, bytes_eq}
+use Rattle.std.specs.Prelude.{ℕ, ◌+◌, Bool, not, ◌&&◌, ◌==◌, nat_lt, nat_le, if◌then◌else◌, List, [], length, slice_index, bytes_eq}
+use Rattle.iol_link.specs.Honest.{test_read}
 use Rattle.iol_octets.specs.CheckOctets.{type_bits}
 use Rattle.iol_mseq.specs.Shape.{Shape}
 use Rattle.iol_mseq.specs.Master.{sent_od}
@@ -21,12 +22,8 @@ message_length layout octets = 2 + layout.pd_out + sent_od layout (slice_index o
 abbrev pub reply_length : Shape → List ℕ → ℕ
 reply_length layout sent = answered_od layout (is_read_message sent) + layout.pd_in + 1
 
--- a read of page address 0x02 in STARTUP
-abbrev pub test_read_octets : List ℕ
-test_read_octets = 0xA2 ∷ 0 ∷ []
-
 abbrev pub is_test_read : List ℕ → Bool
-is_test_read octets = bytes_eq octets test_read_octets
+is_test_read octets = bytes_eq octets test_read
 
 -- What octets are that a message in this layout begins with. A test read stands behind a wake-up
 -- request, and is a message in a layout of M-sequence type 0 alone; there it may be any read

@@ -1,5 +1,6 @@
 -- Exchanges as they are written on a line, and the law: they are split again (IEC 61131-9, A.3).
 use Rattle.std.specs.Prelude.{◌≡◌, ℕ, ◌+◌, ◌*◌, ◌<◌, ◌≤◌, ◌==◌, true, if◌then◌else◌, List, [], ◌∷◌, ◌++◌, length, map, Option, Some, None, Result, Ok, Err}
+use Rattle.iol_link.specs.Honest.{test_read}
 use Rattle.iol_mseq.specs.Shape.{Shape}
 use Rattle.iol_link.specs.declared.wire.Rate.{Rate}
 use Rattle.iol_judge.specs.declared.verdict.Wake.TheVariants.{Answered, Unanswered}
@@ -11,7 +12,7 @@ use Rattle.iol_splitter.specs.declared.passed.SplitItem.TheVariants as passed
 use Rattle.iol_splitter.specs.declared.splitter.Phase.{Phase}
 use Rattle.iol_splitter.specs.declared.splitter.Phase.TheVariants.{Asleep, Reply, Rest}
 use Rattle.iol_splitter.specs.Times.{bit_time}
-use Rattle.iol_splitter.specs.Lengths.{meaning_in, reply_length, test_read_octets}
+use Rattle.iol_splitter.specs.Lengths.{meaning_in, reply_length}
 use Rattle.iol_splitter.specs.State.{Splitting, new_splitter}
 use Rattle.iol_splitter.specs.Steps.{SplitStep}
 use Rattle.iol_splitter.specs.Waking.{is_test_reply, line_in_startup}
@@ -133,8 +134,8 @@ IsSpeaking phase = ⊥
 -- once a message went over the line, and this came back
 abbrev pub exchanged_with : Splitting → Splitting
 exchanged_with state =
-    if length state.answer == reply_length state.layout state.sent then line_at_rest state else
-    state
+    if length state.answer == reply_length state.layout state.sent then line_at_rest state
+    else state
 
 abbrev pub line_after_exchange : Splitting → Shape → TimedExchange → Splitting
 line_after_exchange state layout w = exchanged_with (record state {
@@ -181,7 +182,7 @@ abbrev pub IsUnshown : Phase → Splitting → ℕ → Type 0
 IsUnshown Asleep state time =
     (state.last ≤ time) × (state.sent ≡ []) × (state.answer ≡ [])
 IsUnshown phase state time =
-    IsSpeaking phase × IsBehindPause state time × Means state test_read_octets TestRead
+    IsSpeaking phase × IsBehindPause state time × Means state test_read TestRead
 
 -- Captures
 

@@ -2,33 +2,16 @@
 ghost use Rattle.std.specs.Prelude.{◌≡◌, ◌≤◌, length};
 ghost use Rattle.iol_splitter.specs.Linking.{mode_into};
 
-use iol_far::DeviceMode;
-use iol_judge::{KnownLayouts, command_in, mode_asked};
+use iol_far::{DeviceMode, ModeCommand, command_in, mode_asked};
+use iol_judge::KnownLayouts;
 use iol_mseq::{MasterView, Message};
 use std::marker::Model;
-
-/// A command into another mode that had a good reply, with its octets.
-#[derive(Debug, Drop)]
-pub(crate) struct AnsweredCommand {
-    into: DeviceMode,
-    octets: Message,
-}
-
-impl Model for AnsweredCommand {
-    ghost use Rattle.iol_far.specs.Far.{WaitingCommand};
-
-    ghost Value = { WaitingCommand };
-
-    ghost view = { λ w. record { into = w.into; octets = w.octets.items } };
-
-    ghost inverse = { λ w. record { into = w.into; octets = record { items = w.octets } } };
-}
 
 /// The mode whose layout is spoken, and the command into another one that was answered.
 #[derive(Debug, Drop)]
 pub(crate) struct Spoken {
     mode: DeviceMode,
-    waits: Option<AnsweredCommand>,
+    waits: Option<ModeCommand>,
 }
 
 impl Model for Spoken {
@@ -76,7 +59,7 @@ impl Spoken {
         if let Some(into) = asked
             && into != self.mode
         {
-            self.waits = Some(AnsweredCommand {
+            self.waits = Some(ModeCommand {
                 into,
                 octets: Message::try_from(octets).unwrap(),
             });

@@ -1,8 +1,8 @@
 -- The process data out of a master: which octets a new message may carry.
 use Rattle.std.specs.Prelude.{ℕ, Bool, true, false, ◌||◌, bytes_eq, if◌then◌else◌, List, Option, Some, Result, Ok, Err}
+use Rattle.iol_octets.specs.Zeros.{are_zeros}
 use Rattle.iol_page.specs.declared.master_command.MasterCommand.{MasterCommand}
 use Rattle.iol_page.specs.declared.master_command.MasterCommand.TheVariants.{ProcessDataOutputOperate, DeviceOperate}
-use Rattle.iol_judge.specs.Octets.{are_zeros}
 use Rattle.iol_watch.specs.declared.fault.Blame.{Blame}
 use Rattle.iol_watch.specs.declared.fault.Blame.TheVariants.{OutputOctets}
 use Rattle.iol_watch.specs.declared.output.CarriedOutput.{CarriedOutput}

@@ -1,12 +1,12 @@
 -- The ISDU transfer of a master: which message is due there, and what its reply tells.
 use Rattle.std.specs.Prelude.{ℕ, Bool, true, false, ◌&&◌, ◌==◌, nat_le, if◌then◌else◌, List, ◌++◌, length, drop, slice_index, Option, Some, None, is_some, Result, Ok, Err}
+use Rattle.iol_octets.specs.Zeros.{are_zeros}
 use Rattle.iol_octets.specs.declared.flow_control.Flow.{Flow}
 use Rattle.iol_octets.specs.declared.flow_control.Flow.TheVariants.{Start, Count, Idle1, Idle2, Abort, Reserved}
 use Rattle.iol_isdu.specs.declared.values.Request.{Request}
 use Rattle.iol_isdu.specs.Answers.{answer_fault, is_read}
 use Rattle.iol_isdu.specs.Parse.{request_of}
 use Rattle.iol_segment.specs.Join.{Open, Complete, Wrong, stage, next_count}
-use Rattle.iol_judge.specs.Octets.{are_zeros}
 use Rattle.iol_watch.specs.declared.fault.Blame.{Blame}
 use Rattle.iol_watch.specs.declared.fault.Blame.TheVariants.{NotDue, RequestText, NotInLine}
 use Rattle.iol_watch.specs.declared.transfer.MasterTransfer.{MasterTransfer}

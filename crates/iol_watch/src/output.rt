@@ -5,8 +5,9 @@ ghost use Rattle.iol_watch.specs.Outputs.{aged_output, allows_octets, output_aft
 ghost use Rattle.iol_watch.specs.Results.{result_or_blame};
 
 use crate::fault::Blame;
-use iol_judge::{are_zeros, command_in};
+use iol_far::command_in;
 use iol_mseq::{MasterView, Part, part_of};
+use iol_octets::are_zeros;
 use iol_page::MasterCommand;
 
 /// What the messages before carried as process data out.

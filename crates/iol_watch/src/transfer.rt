@@ -6,10 +6,11 @@ ghost use Rattle.iol_watch.specs.Transfers.{abort_sent, answer_begun, answer_joi
 
 use crate::fault::Blame;
 use arrayvec::ArrayVec;
+use iol_far::flow_of;
 use iol_isdu::{IsduFault, Request, Text, read_answer, read_request, total_of};
-use iol_judge::{are_zeros, next_count, request_of};
+use iol_judge::{next_count, request_of};
 use iol_mseq::{MasterView, ReplyView, first};
-use iol_octets::{Flow, Mc};
+use iol_octets::{Flow, Mc, are_zeros};
 
 /// How many octets the longest text has.
 const LONGEST: usize = 238;
@@ -177,14 +178,6 @@ impl MasterTransfer {
             other => other,
         }
     }
-}
-
-/// The flow that a message on the ISDU channel has.
-#[tactic(auto, unfolding(iol_far::specs::Codec::flow_of))]
-fn flow_of(mc: Mc) -> Flow
-    ensures { result ≡ flow_of mc.address }
-{
-    Flow::from_address(mc.address)
 }
 
 /// Octets behind those of a text.

@@ -5,7 +5,7 @@ ghost use Rattle.iolink_device_c.specs.Shown.{shown_mode};
 
 use crate::held::IolDevice;
 use core::mem::replace_with;
-use iol_device::{Apart, Device, Mode, Unkept};
+use iol_device::{Apart, Device, DeviceMode, Unkept};
 use iolink_handle::CLOSED;
 use std::alloc::Global;
 
@@ -40,9 +40,9 @@ fn shown_mode(device: &Device<Apart, Unkept>) -> u8
         return ASLEEP;
     }
     match device.mode() {
-        Mode::Startup => 2,
-        Mode::Preoperate => 3,
-        Mode::Operate => 4,
+        DeviceMode::Startup => 2,
+        DeviceMode::Preoperate => 3,
+        DeviceMode::Operate => 4,
     }
 }
 

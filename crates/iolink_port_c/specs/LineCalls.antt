@@ -44,8 +44,8 @@ pub record HandleReceives (came : Option (List ℕ)) (old : IolPort) (number : �
   pub does : ReceiveDoes (held_parts old) came (held_parts new)
 
 -- what came of the wake that is out is taken
-pub record HandleWakes (rate : Option Rate) (old : IolPort) (number : ℕ) (new : IolPort) : Type
-    0 where
+pub record HandleWakes (rate : Option Rate) (old : IolPort)
+    (number : ℕ) (new : IolPort) : Type 0 where
   pub number_is : number ≡ 0
   pub gives : WakeGives (held_parts old) (is_some rate) (held_parts new)
   pub does : WakeDoes (held_parts old) (is_some rate) (held_parts new)

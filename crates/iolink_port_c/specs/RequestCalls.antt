@@ -1,5 +1,6 @@
 -- What the calls of C on requests answer and leave, where the handle is open.
 use Rattle.std.specs.Prelude.{◌≡◌, ℕ, List, Result, Ok, Err, IfOk, OnErr}
+use Rattle.iol_port.specs.Steps.{ticket_of}
 use Rattle.iol_isdu.specs.declared.values.Request.{Request}
 use Rattle.iol_isdu.specs.declared.values.Request.TheVariants.{Read, Write}
 use Rattle.iol_book.specs.declared.entries.Ticket.{Ticket}
@@ -23,10 +24,6 @@ read_at index sub = Read (record { index = index; sub = sub })
 
 abbrev pub write_at : ℕ → ℕ → List ℕ → Request
 write_at index sub octets = Write (record { index = index; sub = sub }) (record { items = octets })
-
--- a ticket by its number
-abbrev pub ticket_numbered : ℕ → Ticket
-ticket_numbered number = record { 0 = number }
 
 -- the number of the ticket that was given, or 0 for a refusal
 abbrev pub ticket_out : Result Ticket PortFault → ℕ
@@ -58,8 +55,8 @@ pub record HandleCollects (ticket : ℕ) (old : IolPort) (number : ℕ) (before 
     (new : IolPort) : Type 0 where
   pub answer : Result Outcome PortFault
   pub number_is : number ≡ answer_number answer
-  pub gives : CollectGives (held_parts old) (ticket_numbered ticket) answer (held_parts new)
-  pub does : CallDoes old (call.Collect (ticket_numbered ticket)) (outcome_reply answer) new
+  pub gives : CollectGives (held_parts old) (ticket_of ticket) answer (held_parts new)
+  pub does : CallDoes old (call.Collect (ticket_of ticket)) (outcome_reply answer) new
   pub shown : IfOk answer (λ outcome. OutcomeIsShown outcome after)
   pub unwritten : OnErr answer (after ≡ before)
 
@@ -67,12 +64,12 @@ pub record HandleCollects (ticket : ℕ) (old : IolPort) (number : ℕ) (before 
 pub record HandleWithdraws (ticket : ℕ) (old : IolPort) (number : ℕ) (new : IolPort) : Type 0 where
   pub answer : Result (Unit {0}) PortFault
   pub number_is : number ≡ answer_number answer
-  pub gives : WithdrawGives (held_parts old) (ticket_numbered ticket) answer (held_parts new)
-  pub does : CallDoes old (call.Withdraw (ticket_numbered ticket)) (nothing_reply answer) new
+  pub gives : WithdrawGives (held_parts old) (ticket_of ticket) answer (held_parts new)
+  pub does : CallDoes old (call.Withdraw (ticket_of ticket)) (nothing_reply answer) new
 
 -- the request under way is asked to be cut off, or not
 pub record HandleCancels (ticket : ℕ) (old : IolPort) (number : ℕ) (new : IolPort) : Type 0 where
   pub answer : Result (Unit {0}) PortFault
   pub number_is : number ≡ answer_number answer
-  pub gives : CancelGives (held_parts old) (ticket_numbered ticket) answer (held_parts new)
-  pub does : CallDoes old (call.Cancel (ticket_numbered ticket)) (nothing_reply answer) new
+  pub gives : CancelGives (held_parts old) (ticket_of ticket) answer (held_parts new)
+  pub does : CallDoes old (call.Cancel (ticket_of ticket)) (nothing_reply answer) new
