@@ -3,6 +3,8 @@ import glob
 import os
 import subprocess
 
+from difference import difference
+
 ROOT = os.path.dirname(os.path.dirname(os.path.dirname(os.path.realpath(__file__))))
 PAGE = f"file://{ROOT}/web/trace.html"
 
@@ -13,11 +15,16 @@ def read(path):
 
 
 def unlike(is_there, wanted):
-    return "" if is_there == wanted else f"is {is_there!r}, and not {wanted!r}"
+    if is_there == wanted:
+        return ""
+    if isinstance(is_there, str) and isinstance(wanted, str) and "\n" in wanted:
+        told = difference(wanted.splitlines(True), is_there.splitlines(True))
+        return "\n".join(["it is not what is wanted (-), but (+)", *told])
+    return f"is {is_there!r}, and not {wanted!r}"
 
 
 def missing(part, text):
-    return "" if part in text else f"{part!r} is not in {text!r}"
+    return "" if part in text else f"{part!r} is not in {text[:400]!r}"
 
 
 class Room:
