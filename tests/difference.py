@@ -54,4 +54,4 @@ def lines_of(path):
 
 
 if __name__ == "__main__":
-    print("\n".join(difference(*map(lines_of, sys.argv[1:3]))))
+    sys.stdout.writelines(f"{it}\n" for it in difference(*map(lines_of, sys.argv[1:3])))
