@@ -1,4 +1,5 @@
 """Counts what stands in a trace, line by line. It shares nothing with the page."""
+import collections
 import re
 
 FORMS = {
@@ -43,12 +44,28 @@ def counted(text):
     return said
 
 
-def cut_off_and_carried(text):
+ASKED = r"(?:urgent )?(read|write) (\d+) (\d+)(?: (\S+))?"
+CARRIED = r"carried (read|write) (\d+) (\d+)(?: ([0-9A-F -]+))?: .*"
+
+
+def requests_in(form, lines):
+    """How often each request stands in lines of a form, with its octets without spaces."""
+    found = filter(None, (re.fullmatch(form, it) for it in lines))
+    return collections.Counter((*it.groups()[:3], (it[4] or "").replace(" ", "")) for it in found)
+
+
+def more_than_asked(script, text):
+    """How often more a request was carried out than the script asks for it, all requests together."""
+    left = requests_in(CARRIED, text.splitlines()) - requests_in(ASKED, script.splitlines())
+    return sum(left.values())
+
+
+def cut_off_and_carried(script, text):
     """How many requests the record has that no outcome `done` tells of; None if a ticket has no outcome."""
     lines = text.splitlines()
     if many(FORMS["requests"], lines) != many(OUTCOME, lines):
         return None
-    return many(FORMS["carried"], lines) - many(DONE, lines)
+    return many(FORMS["carried"], lines) - many(DONE, lines) - more_than_asked(script, text)
 
 
 VERDICT = r"not honest at (\d+): .*|can't say from (\d+) on: .*|(can't say): .*|honest .*"

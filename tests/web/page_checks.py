@@ -4,10 +4,10 @@ import re
 import time
 import xml.etree.ElementTree
 
-from counting import counted, cut_off_and_carried
+from counting import counted, cut_off_and_carried, more_than_asked
 from large import check_large
-from records import check_records
-from trace_page import ROOT, missing, read, unlike
+from records import CHECKS as RECORDS
+from trace_page import ROOT, missing, read, script_of, unlike
 from verdicts import CHECKS as VERDICTS
 
 IDS = r"\b(?:OCT|CHK|MSG|LAY|PAGE|ISDU|SEG|DEV|EVT|WIRE|LINK|REQ|PD|BOOK|PORT)-\d+\b"
@@ -45,26 +45,36 @@ def check_traces(room):
     if len(texts) < 40:
         yield "rows", f"only {len(texts)} traces were found"
     for name, text in texts.items():
+        script = script_of(name)
+        again = more_than_asked(script, text)
         room.open_text(text)
         yield f"{name}: fault", room.fault()
-        yield f"{name}: counts", unlike(room.counts(), counted(text))
-        yield f"{name}: record", record_wrong(room, text)
+        yield f"{name}: counts", unlike(room.counts(), {**counted(text), **({"again": again} if again else {})})
+        yield f"{name}: record", record_wrong(room, script, text)
         yield f"{name}: events", events_wrong(room, text)
         without = room.window.run("page.state.trace.requests.filter((it) => !it.ticket).length")
         yield f"{name}: tickets", "" if without == 0 else f"{without} requests have none"
 
 
-def record_wrong(room, text):
+FOUND = """(({kind, requests}) => {
+  const extra = (it) => Math.max(0, it.times.least - 1);
+  const isCutOff = (it) => it.carried === 'yes' && it.end !== 'done';
+  return [kind !== null, requests.filter(isCutOff).length, requests.reduce((all, it) => all + extra(it), 0)];
+})(page.state.trace)"""
+
+
+def record_wrong(room, script, text):
     """Whether the page finds in the record what it has to hold. The order tells it for each of these texts."""
-    fits, found = room.window.run("(({recordFits, counts}) => [recordFits, counts.surprises])(page.state.trace)")
+    fits, cut_off, again = room.window.run(FOUND)
     if "\naway " in text:
         return "the page fits one record to two devices" if fits else ""
     if not fits:
         return "the page says that the record doesn't fit"
-    wanted = cut_off_and_carried(text)
-    if wanted in (None, found):
-        return ""
-    return f"{wanted} were cut off and carried out, and the page finds {found}"
+    wanted = cut_off_and_carried(script, text)
+    if wanted not in (None, cut_off):
+        return f"{wanted} were cut off and carried out, and the page finds {cut_off}"
+    wanted = more_than_asked(script, text)
+    return "" if again == wanted else f"{wanted} were carried out again, and the page finds {again}"
 
 
 def events_wrong(room, text):
@@ -399,7 +409,7 @@ def check_silence(room):
 
 
 CHECKS = [
-    check_examples, check_traces, check_records, check_broken, check_odd_lines, check_story, check_details, check_keys,
+    check_examples, check_traces, *RECORDS, check_broken, check_odd_lines, check_story, check_details, check_keys,
     check_pointer, check_touch, check_find, check_paste_and_drop, check_picture_file, check_table, check_rules,
     check_contrast, check_pictures, *VERDICTS, check_large, check_silence,
 ]

@@ -27,6 +27,12 @@ def missing(part, text):
     return "" if part in text else f"{part!r} is not in {text[:400]!r}"
 
 
+def script_of(row):
+    """The script of a row, which may be empty."""
+    path = f"{ROOT}/tests/rows/{row}/stdin"
+    return read(path) if os.path.exists(path) else ""
+
+
 class Room:
     """The open page, the program, and a folder for files."""
 
@@ -35,16 +41,15 @@ class Room:
         self.program = program
         self.folder = folder
 
-    def trace_of(self, path):
-        """What `iolink trace` prints for a file, or None if it refuses it."""
-        with open(path, "rb") as it:
-            ran = subprocess.run([self.program, "trace"], stdin=it, capture_output=True, check=False)
+    def trace_of(self, script):
+        """What `iolink trace` prints for a script, or None if it refuses it."""
+        ran = subprocess.run([self.program, "trace"], input=script.encode(), capture_output=True, check=False)
         return ran.stdout.decode() if ran.returncode == 0 else None
 
     def examples(self):
         """The names of the examples, with their traces; None is no script of `trace`."""
         paths = sorted(glob.glob(f"{ROOT}/examples/*"))
-        return {os.path.basename(it): self.trace_of(it) for it in paths}
+        return {os.path.basename(it): self.trace_of(read(it)) for it in paths}
 
     def row_traces(self):
         """The traces that the rows want, by name."""
@@ -58,9 +63,10 @@ class Room:
             has = set(os.listdir(row))
             if "stdin" not in has or has & {"each", "memory", "output", "status"}:
                 continue
-            trace = self.trace_of(f"{row}/stdin")
+            name = os.path.relpath(row, f"{ROOT}/tests/rows")
+            trace = self.trace_of(script_of(name))
             if trace is not None:
-                made[os.path.relpath(row, f"{ROOT}/tests/rows")] = trace
+                made[name] = trace
         return made
 
     def file_of(self, text, name="given"):
