@@ -1,6 +1,8 @@
 """The checks of the page. Each gives pairs: what was checked, and what is wrong with it, or ''."""
+import glob
 import os
 import re
+import subprocess
 import time
 import xml.etree.ElementTree
 
@@ -19,6 +21,19 @@ PAIRS = [
 ]
 PICTURES = ["trace_cable_pulled.png", "trace_one_read.png"]
 MOST_OCTETS = 150_000
+MOST_LINES, WIDTH = 800, 100
+
+
+def check_made(_room):
+    """The page is what web/make makes of web/src, whose files are below 800 lines."""
+    ran = subprocess.run([f"{ROOT}/web/make", "--check"], capture_output=True, text=True, check=False)
+    yield "web/make --check", (ran.stdout + ran.stderr).strip()
+    for path in sorted(glob.glob(f"{ROOT}/web/src/*")):
+        lines = read(path).splitlines() if os.path.isfile(path) else []
+        wide = [number for number, line in enumerate(lines, 1) if len(line) > WIDTH]
+        name = os.path.relpath(path, ROOT)
+        yield f"{name}: length", "" if len(lines) < MOST_LINES else f"{len(lines)} lines"
+        yield f"{name}: width", "" if not wide else f"lines {wide} are wider than {WIDTH}"
 
 
 def check_examples(room):
@@ -409,7 +424,7 @@ def check_silence(room):
 
 
 CHECKS = [
-    check_examples, check_traces, *RECORDS, check_broken, check_odd_lines, check_story, check_details, check_keys,
+    check_made, check_examples, check_traces, *RECORDS, check_broken, check_odd_lines, check_story, check_details, check_keys,
     check_pointer, check_touch, check_find, check_paste_and_drop, check_picture_file, check_table, check_rules,
     check_contrast, check_pictures, *VERDICTS, check_large, check_silence,
 ]

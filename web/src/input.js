@@ -1,0 +1,185 @@
+// Keys, wheel, pointer.
+
+const KEYS = {
+  ArrowRight: (event) => step(event.shiftKey ? 10 : 1),
+  ArrowLeft: (event) => step(event.shiftKey ? -10 : -1),
+  Home: () => step(-count()),
+  End: () => step(count()),
+  PageDown: () => move(plot() * 0.8),
+  PageUp: () => move(-plot() * 0.8),
+  '+': () => zoom(1.5), '=': () => zoom(1.5), '-': () => zoom(1 / 1.5),
+  0: () => look(0, 0),
+  l: nextMissed,
+  n: () => goToFound(1),
+  p: () => goToFound(-1),
+  '/': () => byId('find-text').focus(),
+  Enter: () => {
+    if (state.chosen !== null) showLine(state.trace.exchanges[state.chosen].line);
+  },
+};
+
+function onKey(event) {
+  if (event.ctrlKey || event.metaKey || event.altKey) return;
+  const act = KEYS[event.key] ?? KEYS[event.key.toLowerCase()];
+  if (!act) return;
+  event.preventDefault();
+  act(event);
+}
+
+function onWheel(event) {
+  event.preventDefault();
+  const unit = event.deltaMode === 1 ? 16 : 1;
+  if (event.ctrlKey) {
+    zoom(Math.exp(-event.deltaY * unit * 0.003), event.offsetX);
+    return;
+  }
+  const isAcross = Math.abs(event.deltaX) > Math.abs(event.deltaY);
+  move((isAcross ? event.deltaX : event.deltaY) * unit);
+}
+
+const pointers = new Map();
+let dragged = 0;
+
+function onDown(event) {
+  if (event.button > 0) return;
+  byId('picture').setPointerCapture(event.pointerId);
+  if (pointers.size === 0) dragged = 0;
+  pointers.set(event.pointerId, xOf(event));
+}
+
+const xOf = (event) => event.clientX - byId('picture').getBoundingClientRect().left;
+
+/** One pointer moves the picture, two zoom it. */
+function onMove(event) {
+  const x = xOf(event);
+  if (!pointers.has(event.pointerId)) {
+    if (event.pointerType !== 'touch') point(placeAt(x));
+    return;
+  }
+  const before = pointers.get(event.pointerId);
+  const other = [...pointers].find(([id]) => id !== event.pointerId)?.[1];
+  pointers.set(event.pointerId, x);
+  dragged += Math.abs(x - before);
+  if (other === undefined) {
+    if (dragged > CLICK) move(before - x);
+    return;
+  }
+  const [was, is] = [Math.abs(before - other), Math.abs(x - other)];
+  if (was > 10 && is > 10) zoom(is / was, (x + other) / 2);
+}
+
+function onUp(event) {
+  const was = pointers.delete(event.pointerId);
+  if (!was || event.type === 'pointercancel' || dragged > CLICK || pointers.size > 0) return;
+  const at = placeAt(xOf(event));
+  if (at !== null) choose(at);
+}
+
+function onStrip(event) {
+  if (event.buttons === 0 || !state.trace) return;
+  const { left, width } = byId('whole').getBoundingClientRect();
+  const at = ((event.clientX - left) / width) * count();
+  look(at - plot() / state.view.scale / 2, state.view.scale);
+}
+
+function listenToPicture() {
+  const picture = byId('picture');
+  picture.addEventListener('keydown', onKey);
+  picture.addEventListener('wheel', onWheel, { passive: false });
+  picture.addEventListener('pointerdown', onDown);
+  picture.addEventListener('pointermove', onMove);
+  picture.addEventListener('pointerup', onUp);
+  picture.addEventListener('pointercancel', onUp);
+  picture.addEventListener('pointerleave', () => point(null));
+  byId('whole').addEventListener('pointerdown', onStrip);
+  byId('whole').addEventListener('pointermove', onStrip);
+}
+
+function listenToTools() {
+  const on = (id, kind, act) => byId(id).addEventListener(kind, act);
+  on('example', 'change', (event) => {
+    if (openExample(event.target.value)) location.hash = `example=${event.target.value}`;
+  });
+  on('choose', 'click', () => byId('file').click());
+  on('file', 'change', ({ target }) => {
+    openFile(target.files[0]);
+    target.value = '';
+  });
+  on('paste', 'click', () => byId('paste-dialog').showModal());
+  on('paste-dialog', 'close', ({ target }) => {
+    const text = byId('paste-text').value;
+    if (target.returnValue === 'draw' && text) open(text, 'pasted text');
+  });
+  on('find', 'submit', (event) => { event.preventDefault(); find(); });
+  on('find-what', 'change', (event) => {
+    const forms = { octets: 'D4 41', ticket: '1', index: '16/0', exchange: '18', verdict: '' };
+    byId('find-text').placeholder = forms[event.target.value];
+  });
+  on('narrower', 'click', () => zoom(1 / 1.5));
+  on('wider', 'click', () => zoom(1.5));
+  on('fit', 'click', () => look(0, 0));
+  on('save', 'click', save);
+  on('print', 'click', () => print());
+  on('theme', 'click', turnTheme);
+  on('text-panel', 'scroll', showText);
+}
+
+function listenToTabs() {
+  const tabs = [...document.querySelectorAll('[role="tab"]')];
+  tabs.forEach((tab, at) => {
+    tab.addEventListener('click', () => selectTab(tab.id.slice(4)));
+    tab.addEventListener('keydown', (event) => {
+      const by = { ArrowRight: 1, ArrowLeft: -1 }[event.key];
+      if (!by) return;
+      const next = tabs[(at + by + tabs.length) % tabs.length];
+      selectTab(next.id.slice(4));
+      next.focus();
+    });
+  });
+}
+
+function listenToPage() {
+  const isTyped = (target) => target.closest?.('input, textarea');
+  document.addEventListener('paste', (event) => {
+    const text = event.clipboardData.getData('text');
+    if (text && !isTyped(event.target)) open(text, 'pasted text');
+  });
+  document.addEventListener('dragover', (event) => {
+    event.preventDefault();
+    document.body.classList.add('is-target');
+  });
+  document.addEventListener('dragleave', () => document.body.classList.remove('is-target'));
+  document.addEventListener('drop', (event) => {
+    event.preventDefault();
+    document.body.classList.remove('is-target');
+    const text = event.dataTransfer.getData('text');
+    if (event.dataTransfer.files[0]) openFile(event.dataTransfer.files[0]);
+    else if (text) open(text, 'dropped text');
+  });
+  addEventListener('hashchange', followAddress);
+  document.addEventListener('click', (event) => {
+    // The address doesn't change if it is that of the link already.
+    if (event.target.closest?.('a[href^="#"]')?.hash === location.hash) followAddress();
+  });
+  new ResizeObserver(() => {
+    if (!state.trace || byId('picture').clientWidth === state.width) return;
+    measure();
+    look(state.view.from, state.view.scale);
+    drawWhole();
+  }).observe(byId('picture'));
+}
+
+function begin() {
+  const names = examples.map((it) => it.dataset.example);
+  byId('example').append(...names.map((it) => new Option(it, it)));
+  listenToPicture();
+  listenToTools();
+  listenToTabs();
+  listenToPage();
+  selectTab('requests');
+  followAddress();
+  if (!state.trace) openExample(examples[0].dataset.example);
+}
+
+page.show = open;
+begin();

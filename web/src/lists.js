@@ -1,0 +1,222 @@
+// Choosing.
+
+/** The address of an exchange or a line; it names the example, if one is open. */
+function addressOf(kind, number) {
+  const example = state.name.startsWith('example ') ? `example=${state.name.slice(8)}&` : '';
+  return `#${example}${kind}=${number}`;
+}
+
+const linkTo = (exchange) => addressOf('exchange', exchange.number);
+
+function choose(at, { quiet = false } = {}) {
+  state.chosen = at;
+  state.pointed = null;
+  showDetail();
+  if (at !== null) {
+    reveal(at);
+    markRows();
+    if (!quiet) sayExchange(state.trace.exchanges[at]);
+    if (!quiet) history.replaceState(null, '', linkTo(state.trace.exchanges[at]));
+  }
+  redraw();
+}
+
+function point(at) {
+  if (state.pointed === at) return;
+  state.pointed = at;
+  showDetail();
+  redraw();
+}
+
+function step(by) {
+  if (count() === 0) return;
+  choose(Math.min(count() - 1, Math.max(0, (state.chosen ?? 0) + by)));
+}
+
+function nextMissed() {
+  const { exchanges } = state.trace;
+  const next = exchanges.find((it) => it.at > (state.chosen ?? -1)
+    && (it.fate === 'lost' || it.fate === 'damaged' || it.fate === 'nowake'));
+  if (next) choose(next.at);
+  else say('None behind this one.');
+}
+
+const placeOf = (number) => page.placeOf(state.trace.exchanges, number);
+
+/** Follows the address: an example, an exchange, a line of the text. */
+function followAddress() {
+  const asked = new URLSearchParams(location.hash.slice(1));
+  const example = asked.get('example');
+  if (example && state.name !== `example ${example}`) openExample(example);
+  if (!state.trace) return;
+  if (asked.has('exchange')) choose(placeOf(Number(asked.get('exchange'))) ?? state.chosen);
+  if (!asked.has('line')) return;
+  showLine(Number(asked.get('line')));
+  history.replaceState(null, '', addressOf('line', asked.get('line')));
+}
+
+// Lists: requests and exchanges by pages, the text as far as it is seen.
+
+class Pages {
+  static SIZE = 50;
+
+  constructor(panel, caption, columns, all, row) {
+    Object.assign(this, { panel: byId(panel), caption, columns, all, row, first: 0 });
+    this.panel.addEventListener('click', (event) => {
+      const by = event.target.dataset?.turn;
+      if (by) this.show(this.first + Number(by) * Pages.SIZE);
+    });
+  }
+
+  show(wanted) {
+    const list = this.all();
+    const last = Math.max(0, Math.ceil(list.length / Pages.SIZE) - 1) * Pages.SIZE;
+    this.first = Math.min(last, Math.max(0, wanted - (wanted % Pages.SIZE)));
+    const part = list.slice(this.first, this.first + Pages.SIZE);
+    const end = this.first + part.length;
+    const range = part.length ? `${this.first + 1} to ${end} of ${list.length}` : 'none';
+    const heads = this.columns.map((it) => `<th scope="col">${it}</th>`).join('');
+    const pager = `<p class="pager"><button type="button" data-turn="-1">Before</button>
+      <button type="button" data-turn="1">Next</button></p>`;
+    this.panel.innerHTML = `${list.length > Pages.SIZE ? pager : ''}<table>
+      <caption>${this.caption}, ${range}</caption><thead><tr>${heads}</tr></thead>
+      <tbody>${part.map(this.row).join('')}</tbody></table>`;
+  }
+}
+
+const exchangeLink = (at) => {
+  const exchange = state.trace.exchanges[at];
+  return exchange ? `<a href="#exchange=${exchange.number}">${exchange.number}</a>` : '–';
+};
+
+function markedRecord(request, record) {
+  if (!request?.isSurprise) return record;
+  const kind = request.isTwice ? 'twice' : 'once';
+  return `<strong class="${kind}">${page.signOf(request)} ${record}</strong>`;
+}
+
+function ticketRow(ticket) {
+  const { request, submitted, outcome, number } = ticket;
+  const line = (submitted ?? outcome).line;
+  const order = request?.byOrder ? ' <small>by order</small>' : '';
+  const place = request ? `${exchangeLink(request.first)} to ${exchangeLink(request.last)}` : '–';
+  const record = request ? safe(page.recordOf(request)) : 'not told';
+  return `<tr><td class="number"><a href="#line=${line}">${number}</a>${order}</td>
+    <td>${request ? safe(page.requestName(request.text)) : '–'}</td>
+    <td class="number">${place}</td><td>${safe(page.toldOf(ticket))}</td>
+    <td>${markedRecord(request, record)}</td></tr>`;
+}
+
+/** What `judge` found, as a note: the verdict where it names the exchange. */
+function noteOfFinding({ at, finding }) {
+  const { verdict } = state.trace;
+  if (finding === 'guilty') return `<strong>§ ${safe(page.verdictShort(verdict))}</strong>`;
+  if (finding !== 'unjudged') return '';
+  return at === verdict.at ? safe(page.verdictShort(verdict)) : 'not judged';
+}
+
+/** What it found of the master, or odd, as notes. */
+function otherNotes({ at }) {
+  const { master, odd } = state.trace;
+  const notes = odd.filter((it) => it.at === at).map((it) => `odd: ${page.reasonShort(it)}`);
+  const isNamed = master?.number !== undefined && master.at === at;
+  return (isNamed ? [page.masterShort(master), ...notes] : notes).map(safe);
+}
+
+function exchangeRow(exchange) {
+  const { sent, came, rate, repeats, fate, losesLink } = exchange;
+  const message = sent ? sent.text : 'wake-up';
+  const reply = rate ?? (came ? came.text : fate === 'open' ? 'no line' : 'none');
+  const again = repeats >= 0 ? `repeats ${exchangeLink(repeats)}` : '';
+  const ticket = exchange.request?.ticket ? `ticket ${exchange.request.ticket.number}` : '';
+  const lost = losesLink ? 'link lost' : '';
+  const notes = [noteOfFinding(exchange), ...otherNotes(exchange), again, ticket, lost];
+  return `<tr data-at="${exchange.at}" class="${exchange.at === state.chosen ? 'is-chosen' : ''}">
+    <td class="number">${exchangeLink(exchange.at)}</td><td>${page.modeName(exchange.mode)}</td>
+    <td class="mono">${message}</td><td class="mono">${reply}</td>
+    <td>${notes.filter(Boolean).join(', ')}</td></tr>`;
+}
+
+const tables = {
+  requests: new Pages('requests-panel', 'Requests',
+    ['Ticket', 'Request', 'On the line', 'Told the client', 'Device’s record'],
+    () => state.trace.tickets, ticketRow),
+  exchanges: new Pages('exchanges-panel', 'Exchanges and wake-ups',
+    ['Number', 'Mode', 'Message', 'Reply', 'Note'], () => state.trace.exchanges, exchangeRow),
+};
+
+function markRows() {
+  const { first } = tables.exchanges;
+  const { chosen } = state;
+  if (chosen < first || chosen >= first + Pages.SIZE) tables.exchanges.show(chosen);
+  for (const row of byId('exchanges-panel').querySelectorAll('tr[data-at]')) {
+    row.classList.toggle('is-chosen', Number(row.dataset.at) === chosen);
+  }
+  revealLine(state.trace.exchanges[chosen].line);
+}
+
+const LINE = 18;
+
+/** The places that `judge` names. */
+function namedPlaces() {
+  const { verdict, master, odd } = state.trace;
+  return [verdict, master, ...odd].filter((it) => it && it.at !== null);
+}
+
+/** The exchange that a line of the text belongs to: of `judge`, the one that it names. */
+function exchangeOfLine(number) {
+  const { exchanges } = state.trace;
+  const said = namedPlaces().find((it) => it.line === number);
+  if (said) return exchanges[said.at];
+  let [low, high] = [0, exchanges.length];
+  while (low < high) {
+    const middle = (low + high) >> 1;
+    if (exchanges[middle].line <= number) low = middle + 1;
+    else high = middle;
+  }
+  return exchanges[Math.max(0, low - 1)];
+}
+
+function showText() {
+  const view = byId('text-panel');
+  const { starts, fault } = state.trace;
+  byId('text').style.height = `${starts.length * LINE}px`;
+  const first = Math.max(0, Math.floor(view.scrollTop / LINE) - 10);
+  const end = Math.min(starts.length, first + 60);
+  const chosen = state.chosen === null ? null : state.trace.exchanges[state.chosen];
+  let out = '';
+  for (let number = first + 1; number <= end; number += 1) {
+    const exchange = exchangeOfLine(number);
+    const isChosen = chosen && exchange === chosen && number >= chosen.line;
+    const kind = number === fault?.line ? 'is-bad' : isChosen ? 'is-chosen' : '';
+    out += `<div class="${kind}"><a href="#exchange=${exchange?.number}" aria-label="line ${number
+    }, draw it">${number}</a><span>${safe(lineText(number).slice(0, 400))}</span></div>`;
+  }
+  byId('text-lines').style.top = `${first * LINE}px`;
+  byId('text-lines').innerHTML = out;
+}
+
+/** Scrolls the text so that a line is seen, if it is not. */
+function revealLine(number) {
+  const view = byId('text-panel');
+  const top = (number - 1) * LINE;
+  const isSeen = top >= view.scrollTop && top + 2 * LINE <= view.scrollTop + view.clientHeight;
+  if (!isSeen) view.scrollTop = Math.max(0, top - 5 * LINE);
+  showText();
+}
+
+function showLine(number) {
+  selectTab('text');
+  revealLine(number);
+}
+
+function selectTab(name) {
+  for (const tab of document.querySelectorAll('[role="tab"]')) {
+    const isChosen = tab.id === `tab-${name}`;
+    tab.setAttribute('aria-selected', isChosen);
+    tab.tabIndex = isChosen ? 0 : -1;
+    byId(tab.getAttribute('aria-controls')).hidden = !isChosen;
+  }
+  const chosen = state.trace?.exchanges[state.chosen];
+  if (name === 'text' && chosen) revealLine(chosen.line);
+}

@@ -1,0 +1,406 @@
+// Reads what `iolink trace` prints, and what `iolink judge` prints of it, which stands in front of
+// the trace or behind it. It knows nothing of pictures.
+//
+// A line that begins with a number is of OF_THE_LINE or JUDGED_CALLS, by its second word; any other
+// is of CALLS or OF_JUDGE, by its first. Each has a reader there: the lines of another command are
+// added to them alone.
+const page = (globalThis.page ??= {});
+
+const OCTETS = '[0-9A-F]{2}(?: [0-9A-F]{2})*';
+const REFUSED = 'refused (\\d+ \\w+)';
+const MESSAGE = new RegExp(
+  `^(${OCTETS})?: (?:(read|write) (process|page|diagnosis|isdu) ([01][0-9A-F])`
+  + `(?: out (${OCTETS}))?(?: od (${OCTETS}))?|${REFUSED})$`,
+);
+const REPLY = new RegExp(
+  `^(${OCTETS})?: (?:(?:od (${OCTETS})|ack)(?: in (${OCTETS}))?`
+  + ` event ([01]) pd (valid|invalid)|${REFUSED})$`,
+);
+const ANSWER = `read (?:${OCTETS}|-)|written|refused [0-9A-F]{2} [0-9A-F]{2}`;
+const CAUSES = 'LinkLost|Restarted|BusyTooLong|Protocol|Cancelled';
+const OUTCOME = new RegExp(
+  `^(\\d+)(?: (?:done (${ANSWER})|unknown (${CAUSES})|(withdrawn|noisdu)))?$`,
+);
+const REQUEST = `read \\d+ \\d+|write \\d+ \\d+ (?:${OCTETS}|-)`;
+const CARRIED = new RegExp(`^(${REQUEST}): (${ANSWER})$`);
+const STATUS = /^(down|startup|preoperate|operate)( (?!eventform)\w+)?( eventform)?$/;
+/** A reason of `judge`: its number, its name, and in words what was found. */
+const REASON = '(\\d+) (\\w+): ([^()]+?)';
+const RULES = ' \\(([A-Z]+-\\d+(?:, [A-Z]+-\\d+)*)\\)';
+const GUILTY = new RegExp(`^honest at (\\d+): ${REASON}${RULES}$`);
+const OPEN = new RegExp(`^say from (\\d+) on: ${REASON}(?:${RULES})?$`);
+const UNHEARD = 'say: no wake-up request was answered';
+const ODD = new RegExp(`^: ${REASON}${RULES}$`);
+const AT_FAULT = new RegExp(`^not by the rules at (\\d+): ${REASON}${RULES}$`);
+const UNSURE = /^can't be judged from (\d+) on: ([^()]+)$/;
+const UNWATCHED = "can't be judged: no wake-up request was made";
+const KIND = '(?:first|last) (?:keeps|forgets)';
+const KINDS = new RegExp(`^${KIND}(?: or ${KIND}){0,2}$`);
+
+/** Why a line can't be read. */
+class BadLine extends Error {}
+
+function matched(pattern, rest, wanted) {
+  const found = pattern.exec(rest);
+  if (!found) throw new BadLine(`wanted: ${wanted}`);
+  return found;
+}
+
+/** A call of the line, as read. The fields below `came` are what follows from the lines before. */
+class Exchange {
+  came = null;
+  at = 0;
+  mode = '';
+  role = '';
+  fate = '';
+  repeats = -1;
+  attempt = 1;
+  losesLink = false;
+  isInDoubt = false;
+  step = null;
+  request = null;
+  reading = null;
+  finding = '';
+
+  constructor(number, line, rate, sent) {
+    this.number = number;
+    this.line = line;
+    this.rate = rate;
+    this.sent = sent;
+  }
+}
+
+/** What was read so far: calls of the line, answers to a client's calls, the device's record. */
+class Reader {
+  exchanges = [];
+  calls = [];
+  carried = [];
+  record = null;
+  /** How many requests the device carried out that isn't plugged in at the end, and which. */
+  away = null;
+  carriedAway = [];
+  /** What `judge` said, and how many exchanges came before those that it judged. */
+  verdict = null;
+  unjudged = { count: 0, line: null };
+  /** What it said of the master; where it passed something over, and how often. */
+  master = null;
+  /** The kinds that the device may be of, where it can't be of each. */
+  kinds = null;
+  odd = [];
+  oddities = null;
+  /** Whose lines were read, in turn. */
+  parts = [];
+  starts = [];
+  line = 0;
+  /** Messages and replies by their text: most of a trace repeats a few of them. */
+  messages = new Map();
+  replies = new Map();
+
+  begin(number) {
+    const before = this.exchanges.at(-1);
+    if (this.awaits()) {
+      throw new BadLine(`wanted: ${before.number} < .., the reply to line ${before.line}`);
+    }
+    if (before && number !== before.number + 1) {
+      throw new BadLine(`wanted: number ${before.number + 1}, lines are missing before it`);
+    }
+    if (this.record !== null) throw new BadLine('wanted: carried .., behind the record');
+  }
+
+  /** Whether the last message has no line for its reply yet. */
+  awaits() {
+    const last = this.exchanges.at(-1);
+    return last !== undefined && last.sent !== null && last.came === undefined;
+  }
+
+  call(kind, more) {
+    if (this.awaits()) this.begin(0);
+    if (this.record !== null) throw new BadLine('wanted: carried .., behind the record');
+    this.calls.push({ kind, line: this.line, at: this.exchanges.length, ...more });
+  }
+
+  /** Lines of `trace` and of `judge` don't mix. */
+  part(whose) {
+    if (this.parts.at(-1) === whose) return;
+    if (this.parts.includes(whose)) {
+      throw new BadLine('wanted: the verdict of `judge` behind the whole trace, or before it');
+    }
+    this.parts.push(whose);
+  }
+
+  judge(kind, more) {
+    if (this.awaits()) this.begin(0);
+    if (this.verdict) throw new BadLine('wanted: one verdict of `judge`');
+    this.verdict = { kind, line: this.line, unjudged: this.unjudged, ...more };
+  }
+
+  /** Such a line stands before the verdict; of some there is one. */
+  before(isThere, form) {
+    if (this.verdict || isThere) throw new BadLine(`wanted: ${form}, before the verdict`);
+  }
+}
+
+/** The value for a text, which is made once. */
+function once(known, rest, make) {
+  let value = known.get(rest);
+  if (value === undefined) known.set(rest, (value = make(rest)));
+  return value;
+}
+
+const numbers = (octets) => (octets ? octets.split(' ').map((it) => parseInt(it, 16)) : []);
+
+function messageOf(rest) {
+  const form = 'OCTETS: read|write CHANNEL ADDRESS[ out OCTETS][ od OCTETS]';
+  const [, octets = '', way, channel, address, out, od, refused] = matched(MESSAGE, rest, form);
+  if (way === 'write' ? od === undefined : od !== undefined) throw new BadLine(`wanted: ${form}`);
+  return {
+    octets, text: rest.slice(rest.indexOf(': ') + 2), refused, channel, out, od,
+    data: numbers(od), write: way === 'write', address: address ? parseInt(address, 16) : null,
+  };
+}
+
+function replyOf(rest) {
+  const form = 'OCTETS: od OCTETS|ack[ in OCTETS] event 0|1 pd valid|invalid, or none';
+  const [, octets = '', od, input, event, pd, refused] = matched(REPLY, rest, form);
+  const text = rest.slice(rest.indexOf(': ') + 2);
+  const [flag, valid] = [event === '1', pd === 'valid'];
+  return { octets, text, refused, od, data: numbers(od), input, event: flag, valid };
+}
+
+function readWake(reader, rest, number) {
+  const [rate] = matched(/^(?:COM[123]|none)$/, rest, 'COM1, COM2, COM3 or none');
+  reader.begin(number);
+  reader.exchanges.push(new Exchange(number, reader.line, rate, null));
+}
+
+function readSent(reader, rest, number) {
+  const sent = once(reader.messages, rest, messageOf);
+  reader.begin(number);
+  const exchange = new Exchange(number, reader.line, null, sent);
+  exchange.came = undefined;
+  reader.exchanges.push(exchange);
+}
+
+function readCame(reader, rest, number) {
+  const last = reader.exchanges.at(-1);
+  if (!reader.awaits() || last.number !== number) {
+    throw new BadLine(`wanted: message ${number} before its reply`);
+  }
+  last.came = rest === 'none' ? null : once(reader.replies, rest, replyOf);
+}
+
+function readTicket(reader, rest) {
+  const found = matched(OUTCOME, rest, 'T, T done .., T unknown CAUSE, T withdrawn or T noisdu');
+  const [, number, done, unknown, other] = found;
+  const ticket = Number(number);
+  if (done) reader.call('outcome', { ticket, end: 'done', answer: done });
+  else if (unknown) reader.call('outcome', { ticket, end: 'unknown', cause: unknown });
+  else if (other) reader.call('outcome', { ticket, end: other });
+  else reader.call('ticket', { ticket });
+}
+
+function readStatus(reader, rest) {
+  const form = 'down[ NAME], startup, preoperate or operate[, eventform]';
+  const [, mode, why = ''] = matched(STATUS, rest, form);
+  reader.call('status', { mode, why: why.trim(), text: rest });
+}
+
+function readEvent(reader, rest) {
+  const [, qualifier, code] = matched(/^([0-9A-F]{2}) ([0-9A-F]{4})$/, rest, 'event QQ CCCC');
+  reader.call('event', { qualifier, code });
+}
+
+function readRecord(reader, rest) {
+  const [count] = matched(/^\d+$/, rest, 'record N');
+  reader.call('record', { text: rest });
+  reader.record = Number(count);
+}
+
+/** The record of a second device, behind that of the first. */
+function readAway(reader, rest) {
+  const [count] = matched(/^\d+$/, rest, 'away N');
+  if (reader.record === null || reader.carried.length < reader.record || reader.away !== null) {
+    throw new BadLine('wanted: away N behind the record');
+  }
+  reader.away = Number(count);
+}
+
+function readCarried(reader, rest) {
+  const [, request, answer] = matched(CARRIED, rest, 'carried REQUEST: ANSWER');
+  if (reader.record === null) throw new BadLine('wanted: record N before what was carried out');
+  const isAway = reader.away !== null;
+  const carried = isAway ? reader.carriedAway : reader.carried;
+  const count = isAway ? reader.away : reader.record;
+  if (carried.length === count) throw new BadLine(`wanted: the end, behind ${count} of the record`);
+  carried.push({ request, answer, line: reader.line });
+}
+
+function readUnjudged(reader, rest) {
+  const [count] = matched(/^[1-9]\d*$/, rest, 'unjudged N');
+  reader.before(reader.unjudged.line !== null, 'unjudged N once');
+  reader.unjudged = { count: Number(count), line: reader.line };
+}
+
+function readHonest(reader, rest) {
+  const form = 'honest N exchanges, M lost';
+  const [, judged, lost] = matched(/^(\d+) exchanges, (\d+) lost$/, rest, form);
+  reader.judge('honest', { judged: Number(judged), lost: Number(lost) });
+}
+
+/** A reason, and the rules that it rests on. */
+const reasonOf = ([number, name, text, rules]) => (
+  { reason: `${number} ${name}`, text, rules: rules?.split(', ') ?? [] });
+
+function reasoned(reader, kind, [, at, ...reason]) {
+  reader.judge(kind, { number: Number(at), ...reasonOf(reason) });
+}
+
+function readGuilty(reader, rest) {
+  const form = 'not honest at N: NUMBER NAME: TEXT (RULE)';
+  reasoned(reader, 'guilty', matched(GUILTY, rest, form));
+}
+
+function readCantSay(reader, rest) {
+  const form = `can't say from N on: NUMBER NAME: TEXT, perhaps (RULE), or can't ${UNHEARD}`;
+  if (rest === UNHEARD) reader.judge('unheard', {});
+  else reasoned(reader, 'open', matched(OPEN, rest, form));
+}
+
+/** What is said of the master, by its first fault. */
+function readMaster(reader, rest) {
+  const form = 'master by the rules, not by the rules at N: .., or can\'t be judged';
+  reader.before(reader.master, `once ${form}`);
+  const say = (kind, more) => { reader.master = { kind, line: reader.line, ...more }; };
+  if (rest === 'by the rules') return say('fair');
+  if (rest === UNWATCHED) return say('unwatched');
+  const unsure = UNSURE.exec(rest);
+  if (unsure) return say('unsure', { number: Number(unsure[1]), text: unsure[2] });
+  const [, at, ...reason] = matched(AT_FAULT, rest, form);
+  return say('fault', { number: Number(at), ...reasonOf(reason) });
+}
+
+/** The kinds that are left, where some aren't. */
+function readKinds(reader, rest) {
+  const form = 'kind first|last keeps|forgets or ..';
+  reader.before(reader.kinds, `once ${form}`);
+  matched(KINDS, rest, form);
+  reader.kinds = { line: reader.line, names: rest.split(' or ') };
+}
+
+/** An exchange in which something is odd, and passed over. */
+function readOdd(reader, rest, number) {
+  const form = 'N odd: NUMBER NAME: TEXT (RULE)';
+  reader.before(false, form);
+  const [, ...reason] = matched(ODD, rest, form);
+  reader.odd.push({ number, line: reader.line, ...reasonOf(reason) });
+}
+
+function readOddCount(reader, rest) {
+  const [count] = matched(/^[1-9]\d*$/, rest, 'odd N');
+  if (!reader.verdict || reader.oddities !== null) {
+    throw new BadLine('wanted: odd N once, behind the verdict');
+  }
+  reader.oddities = Number(count);
+}
+
+/** A call's answer that is only shown. */
+const shown = (kind, pattern, form) => (reader, rest) => {
+  matched(pattern, rest, form);
+  reader.call(kind, { text: rest });
+};
+
+const OF_THE_LINE = new Map([['wake', readWake], ['>', readSent], ['<', readCame]]);
+
+const CALLS = new Map([
+  ['ticket', readTicket],
+  ['ok', shown('ok', /^(?:later)?$/, 'ok or ok later')],
+  ['page', shown('page', new RegExp(`^(?:${OCTETS}|none)$`), 'page OCTETS or page none')],
+  ['image', shown('image', new RegExp(`^(?:${OCTETS}|none)$`), 'image OCTETS or image none')],
+  ['event', readEvent],
+  ['status', readStatus],
+  ['counters', shown('counters', /^\w+ \d+(?: \w+ \d+)*$/, 'counters NAME N ..')],
+  ['archived', shown('archived', /^\d+$/, 'archived N')],
+  ['refused', shown('refused', /^\d+ \w+$/, 'refused N NAME')],
+  ['record', readRecord],
+  ['carried', readCarried],
+  ['away', readAway],
+]);
+
+const OF_JUDGE = new Map([
+  ['unjudged', readUnjudged], ['honest', readHonest], ['not', readGuilty], ["can't", readCantSay],
+  ['master', readMaster], ['kind', readKinds], ['odd', readOddCount],
+]);
+
+const JUDGED_CALLS = new Map([['odd', readOdd]]);
+
+const isDigit = (code) => code >= 48 && code <= 57;
+
+/** A text's first word, and what stands behind it. A colon ends a word too, and stays. */
+function split(text) {
+  let end = 0;
+  while (end < text.length && text[end] !== ' ' && text[end] !== ':') end += 1;
+  return [text.slice(0, end), text.slice(text[end] === ' ' ? end + 1 : end)];
+}
+
+function readLine(reader, line) {
+  if (line === '') return;
+  const [word, behind] = split(line);
+  const number = isDigit(line.charCodeAt(0)) ? Number(word) : null;
+  const [key, rest] = number === null ? [word, behind] : split(behind);
+  const ofJudge = (number === null ? OF_JUDGE : JUDGED_CALLS).get(key);
+  const form = ofJudge ?? (number === null ? CALLS : OF_THE_LINE).get(key);
+  if (!form || Number.isNaN(number)) throw new BadLine('no line of `trace` or `judge` begins so');
+  reader.part(ofJudge ? 'judge' : 'trace');
+  form(reader, rest, number);
+}
+
+/** The place of the exchange or wake-up with a number, or null if there is none. */
+page.placeOf = function placeOf(exchanges, number) {
+  const at = number - (exchanges[0]?.number ?? 1);
+  return at >= 0 && at < exchanges.length ? at : null;
+};
+
+/** A line of `judge` that isn't of this trace, or null. It may stand in front of the trace. */
+function strayLine({ verdict, master, odd, unjudged, exchanges, starts }, text) {
+  const fault = (at, why) => (
+    { line: at, text: text.slice(starts[at - 1], starts[at]).trimEnd(), why, isStray: true });
+  const named = [...odd, master, verdict].filter((it) => it?.number !== undefined);
+  const stray = named.find((it) => page.placeOf(exchanges, it.number) === null);
+  if (stray) return fault(stray.line, `wanted: a number of the trace, it has no ${stray.number}`);
+  const most = exchanges.filter((it) => it.sent).length;
+  if (!verdict || unjudged.count <= most) return null;
+  return fault(unjudged.line, `wanted: at most the ${most} exchanges of the trace`);
+}
+
+/** Reads a text up to the first line that it can't read, which it names as `fault`. */
+page.read = function read(text) {
+  const reader = new Reader();
+  let fault = null;
+  for (let start = 0; start < text.length;) {
+    const feed = text.indexOf('\n', start);
+    const end = feed < 0 ? text.length : feed;
+    reader.starts.push(start);
+    reader.line += 1;
+    if (!fault) fault = tryLine(reader, text.slice(start, text[end - 1] === '\r' ? end - 1 : end));
+    start = end + 1;
+  }
+  const { exchanges, calls, carried, record, away, carriedAway, starts } = reader;
+  const stray = fault ? null : strayLine(reader, text);
+  const { verdict, master, kinds, odd, oddities } = stray ? new Reader() : reader;
+  fault ??= stray;
+  return {
+    text, exchanges, calls, carried, record, away, carriedAway, starts, verdict, master, kinds,
+    odd, oddities, fault,
+  };
+};
+
+/** Reads a line, and returns why it can't. */
+function tryLine(reader, line) {
+  try {
+    readLine(reader, line);
+    return null;
+  } catch (error) {
+    if (!(error instanceof BadLine)) throw error;
+    return { line: reader.line, text: line, why: error.message };
+  }
+}
