@@ -8,7 +8,7 @@ use Rattle.iol_mseq.specs.Master.{HasMasterParts}
 use Rattle.iol_mseq.specs.Texts.{master_text}
 use Rattle.iol_mseq.specs.declared.reply.Reply.{Reply}
 use Rattle.iol_mseq.specs.declared.master.MasterMsg.{MasterMsg}
-use Rattle.iol_page.specs.Page.{layouts_of, knows_isdu, is_old, is_present, IsAskedBy, PagesAskForLayouts}
+use Rattle.iol_page.specs.Page.{layouts_of, is_interleaved, knows_isdu, is_old, is_present, IsAskedBy, PagesAskForLayouts}
 use Rattle.iol_page.specs.Identity.{identity_of, is_expected}
 use Rattle.iol_page.specs.declared.page.Layouts.{Layouts}
 use Rattle.iol_page.specs.declared.master_command.MasterCommand.{MasterCommand}
@@ -32,7 +32,7 @@ use Rattle.iol_mode.specs.declared.why.Why.{Why}
 use Rattle.iol_mode.specs.Next.{IsEntered, read_by}
 use Rattle.iol_mode.specs.declared.states.StartupStep.{StartupStep}
 use Rattle.iol_mode.specs.Stands.{startup_link, preoperate_link, entering_link, StepLevel, StateStands, StepStands}
-use Rattle.iol_mode.specs.States.{NextMode, InDown, NextModeFits, StateFits, next_state, is_behind, is_reset, StepFits, is_starting, startup_at, step_behind, step_after, told_of, page_taken, taken_where, mode_after_check, startup_by, startup_turned, preoperate_by, preoperate_after, preoperate_turned}
+use Rattle.iol_mode.specs.States.{NextMode, InDown, NextModeFits, StateFits, next_state, is_behind, is_reset, StepFits, is_starting, startup_at, step_behind, step_after, told_of, is_left_out, layouts_taken, page_taken, taken_where, mode_after_check, startup_by, startup_turned, preoperate_by, preoperate_after, preoperate_turned}
 use Rattle.iol_mode.specs.Turns.{IsRisen}
 use Rattle.iol_steps.specs.declared.mode.Mode.{Mode}
 use Rattle.iol_steps.specs.declared.mode.Mode.TheVariants.{Down as ModeDown, Startup as ModeStartup, Operate as ModeOperate}
@@ -63,6 +63,8 @@ use Rattle.iol_app.specs.Core.{CoreState, Ghost, BothEndsStand, CallGives, Outpu
 use Rattle.iol_app.proofs.FarSide.{Goes, IsGoing, Level, OutputsAt, outputs_sent, outputs_after, opens_after, silent, replied, IsReplied}
 use Rattle.std.proofs.lemmas.Bool.Decides.{nat_tests}
 use Rattle.iol_mode.specs.declared.configuration.Configuration.{Configuration}
+use Rattle.iol_mode.specs.declared.configuration.Devices.{Devices}
+use Rattle.iol_mode.specs.declared.configuration.Devices.TheVariants.{Own, Any}
 use Rattle.iol_page.specs.declared.fault.PageFault.{PageFault}
 use Rattle.iol_page.specs.declared.fault.PageFault.TheVariants.{Revision, BadPdLength, UnsupportedCode}
 use Rattle.iol_event.specs.declared.event.Event.{Event}
@@ -492,6 +494,12 @@ record Known : Type 0 where
   heard : TextsAreHeard
   asks : PagesAskForLayouts
 
+-- of two pages that ask for interleaved process data both are left out, or none
+left_at : (devices : Devices) (read page : List ℕ) → is_left_out devices read ≡ true
+    → is_interleaved page ≡ true → is_left_out devices page ≡ true
+left_at Own read page out asked = absurd (cc)
+left_at Any read page out asked = asked
+
 module _ (known : Known) (session : SessionState) (valid : IsSession (still session))
     (g : Ghost) (far far' : Far) (n n' : ℕ) (came : Option (List ℕ)) where
   open known use {laws, heard, asks}
@@ -586,14 +594,16 @@ module _ (known : Known) (session : SessionState) (valid : IsSession (still sess
           → (layouts_of far'.page ≡ Ok page.layouts) × (page.page ≡ far'.page)
       behind_told page p q = grind (arith, common_steps)
 
-      by_taken : (asked : Result Layouts PageFault) (octets : List ℕ)
+      by_layouts : (b : Bool) (layouts : Layouts) (octets : List ℕ)
+          → is_left_out asks_now.devices octets ≡ b
           → is_expected asks_now.expected octets ≡ true
-          → Rising start (page_taken asks_now asked octets)
-      by_taken (Err fault) octets known risen =
-          let asked : layouts_of g.page ≡ Err fault =
-          rw (page_new start) at (risen.fault fault refl) in
-          down start true good.silence_is (may_fault fault (ap fault_in asked)) risen
-      by_taken (Ok layouts) octets known risen =
+          → Rising start (layouts_taken b asks_now layouts octets)
+      -- the device would use other layouts
+      by_layouts true layouts octets out known risen =
+          let asked : is_interleaved g.page ≡ true =
+          rw (page_new start) at (risen.interleaved refl) in
+          down start true good.silence_is (left_at asks_now.devices octets g.page out asked) risen
+      by_layouts false layouts octets out known risen =
           let read : PageFacts = told_of asks_now layouts octets in
           let behind = rw (page_new start) at
           (behind_told read layouts.pre risen.both.stands.step) in
@@ -602,6 +612,16 @@ module _ (known : Known) (session : SessionState) (valid : IsSession (still sess
           by start true good.silence_is (behind_session read layouts.pre)
           (tells start _ (behind_page read layouts.pre) read refl refl behind.0
           (asked_by layouts behind.0).isdu behind.1 right valid) risen
+
+      by_taken : (asked : Result Layouts PageFault) (octets : List ℕ)
+          → is_expected asks_now.expected octets ≡ true
+          → Rising start (page_taken asks_now asked octets)
+      by_taken (Err fault) octets known risen =
+          let asked : layouts_of g.page ≡ Err fault =
+          rw (page_new start) at (risen.fault fault refl) in
+          down start true good.silence_is (may_fault fault (ap fault_in asked)) risen
+      by_taken (Ok layouts) octets known risen =
+          by_layouts (is_left_out asks_now.devices octets) layouts octets refl known risen
 
       -- another device is there than the one that is expected
       by_wrong : (octets : List ℕ) → is_expected asks_now.expected octets ≡ false

@@ -66,6 +66,7 @@ const TABLE: &str = "\
 7 BadPdLength
 2 UnsupportedCode
 38 WrongDevice
+40 Interleaved
 39 BadCycleTime
 29 WrongImageLength
 34 NoLayout
@@ -190,6 +191,7 @@ fn add_ends(table: &mut Table) {
             vendor: 1,
             device: 2,
         }),
+        Why::Interleaved,
     ] {
         table.add(fault.code(), fault);
     }

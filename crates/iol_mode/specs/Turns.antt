@@ -20,7 +20,7 @@ use Rattle.iol_mode.specs.declared.states.State.TheVariants.{Startup as AtStartu
 use Rattle.iol_mode.specs.declared.states.Operate.{Operate}
 use Rattle.iol_mode.specs.States.{NextMode, any_device, is_behind, NextModeFits, OperateFits, startup_turned, preoperate_turned, operate_by, operate_turned, sending_of}
 use Rattle.iol_mode.specs.Stands.{OperateStands, OutcomeStands, IsOperating, IsAccepted}
-use Rattle.iol_mode.specs.Next.{MetFits, LostFits, FaultFits, DeviceFits, EnteredFits}
+use Rattle.iol_mode.specs.Next.{MetFits, LostFits, FaultFits, DeviceFits, InterleavedFits, EnteredFits}
 
 -- how the new mode stands to the far end, also right after a good reply, and what a lost link needs
 pub record IsMet (outcome : NextMode) (silence : ℕ) (far : Far) : Type 0 where
@@ -29,14 +29,15 @@ pub record IsMet (outcome : NextMode) (silence : ℕ) (far : Far) : Type 0 where
   pub lost : LostFits outcome silence
 
 -- in a start-up also: once the device was reset the record stands still; a page fault is one of
--- the far end's page, as is an identity that isn't expected, and the turn that enters OPERATE
--- tells how
+-- the far end's page, as is an identity that isn't expected and what is asked of interleaved
+-- process data, and the turn that enters OPERATE tells how
 pub record IsRisen (reset : Bool) (outcome : NextMode) (silence : ℕ) (old far : Far) :
     Type 0 where
   pub both : IsMet outcome silence far
   pub still : IsTrue reset → far.carried ≡ old.carried
   pub fault : FaultFits outcome far
   pub device : DeviceFits outcome far
+  pub interleaved : InterleavedFits outcome far
   pub entered : EnteredFits outcome silence far
 
 -- the attempt alone says what becomes of OPERATE

@@ -25,6 +25,12 @@ const VENDOR: u8 = 0x07;
 /// The first of the three octets of DeviceID.
 const DEVICE: u8 = 0x09;
 
+/// The OPERATE code that means interleaved process data, where there are enough octets.
+const INTERLEAVING_CODE: u8 = 0;
+
+/// The fewest octets of process data one way that are interleaved.
+const FEWEST_INTERLEAVED: u8 = 3;
+
 /// RevisionID of V1.0.
 const VERSION_1_0: u8 = 0x10;
 
@@ -64,7 +70,7 @@ impl Page {
     ghost use Rattle.std.specs.Result.{result_err};
     ghost use Rattle.iol_page.specs.Cycle.{cycle_fault};
     ghost use Rattle.iol_page.specs.Identity.{identity_of, is_expected};
-    ghost use Rattle.iol_page.specs.Page.{layouts_of, page_octet};
+    ghost use Rattle.iol_page.specs.Page.{is_interleaved, layouts_of, page_octet};
 
     /// The page with these octets, that of address 0x02 first.
     pub fn from_octets(octets: &[u8; 10]) -> Page
@@ -163,6 +169,26 @@ impl Page {
                 isdu: capability.isdu,
             }),
             _ => Err(PageFault::UnsupportedCode),
+        }
+    }
+
+    /// Whether the page asks for interleaved process data (IEC 61131-9, A.2.6): its OPERATE code
+    /// is 0, and its process data have three or more octets one way. `layouts` reads such a page
+    /// as one without.
+    ///
+    /// Rule PAGE-9.
+    pub fn is_interleaved(&self) -> bool
+        ensures { result ≡ is_interleaved self.now }
+    {
+        let code = Capability::from_octet(self.octet(CAPABILITY)).run;
+        let pd_in = PdLength::from_octet(self.octet(PROCESS_DATA_IN));
+        let pd_out = PdLength::from_octet(self.octet(PROCESS_DATA_OUT));
+        match (pd_in, pd_out) {
+            (Ok(pd_in), Ok(pd_out)) => {
+                code == INTERLEAVING_CODE
+                    && (pd_in.0 >= FEWEST_INTERLEAVED || pd_out.0 >= FEWEST_INTERLEAVED)
+            }
+            _ => false,
         }
     }
 }
