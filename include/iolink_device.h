@@ -3,7 +3,7 @@
  * A handle is a struct of yours, all zero before it is opened: `iol_device device = {0};`. It says itself whether it is
  * open, so a call of a closed handle, and a second close, are refused and do nothing.
  *
- * Every call answers the number of a refusal, 0 where there is none: 1 to 39 are the library's, and
+ * Every call answers the number of a refusal, 0 where there is none: 1 to 40 are the library's, and
  *   252  the handle is closed
  *   253  the handle is open already
  * Beside each call stand its refusals, in the order in which they are tested: the first that holds is answered. Every

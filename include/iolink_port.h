@@ -3,7 +3,7 @@
  * A handle is a struct of yours, all zero before it is opened: `iol_port port = {0};`. It says itself whether it is
  * open, so a call of a closed handle, and a second close, are refused and do nothing.
  *
- * Every call answers the number of a refusal, 0 where there is none: 1 to 39 are the library's, and
+ * Every call answers the number of a refusal, 0 where there is none: 1 to 40 are the library's, and
  *   252  the handle is closed
  *   253  the handle is open already
  *   254  a number is out of its range
@@ -200,6 +200,7 @@ uint8_t iol_port_take_event(iol_port *port, iol_event *out);
  *   18  no device answered the wake
  *   19  three attempts in a row brought no good reply
  *   38  another device is expected than the one that is there
+ *   40  its page asks for interleaved process data, at a port for any device
  *    8  the RevisionID of its page is neither 0x11 nor 0x10
  *    7  ProcessDataIn or ProcessDataOut of its page is no length
  *    2  the M-sequence codes of its page have no layout */
@@ -207,6 +208,15 @@ typedef struct { uint8_t mode; uint8_t why; bool event_form; } iol_status;
 
 /* How the link is. 252. */
 uint8_t iol_port_status(iol_port *port, iol_status *out);
+
+/* Why a session ended: `why` is a number as of iol_status, or 0; with 38 `vendor` and `device` are the VendorID and the
+ * DeviceID that were found, else 0. */
+typedef struct { uint8_t why; uint16_t vendor; uint32_t device; } iol_loss;
+
+/* Why the last session ended, until OPERATE is reached: start-ups that follow don't hide it, as they do in the status.
+ * `why` is 0 if iol_port_restart ended it, in OPERATE, and before any session ended. A wake-up request in vain, 18, ends
+ * no session. 252. */
+uint8_t iol_port_last_loss(iol_port *port, iol_loss *out);
 
 /* ---- what was counted, for diagnosis */
 

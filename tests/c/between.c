@@ -19,7 +19,7 @@ static const char *const state_names[STATES] = {
 
 enum call {
     NOTHING, READ, READ_URGENT, WRITE, WRITE_URGENT, CANCEL, WITHDRAW, COLLECT, TAKE_EVENT, SET_OUTPUT, CLEAR_OUTPUT,
-    RESTART, STATUS, IMAGE, ARCHIVE, ENTRY, EXPECT, EXPECT_ANY, SET_CYCLE, PAGE, COUNTERS,
+    RESTART, STATUS, IMAGE, ARCHIVE, ENTRY, EXPECT, EXPECT_ANY, SET_CYCLE, PAGE, COUNTERS, LAST_LOSS,
     CALLS
 };
 
@@ -34,7 +34,7 @@ static const char *const call_names[CALLS] = {
     [ARCHIVE] = "archive",           [ENTRY] = "entry",
     [EXPECT] = "expect",             [EXPECT_ANY] = "expect_any",
     [SET_CYCLE] = "set_cycle",       [PAGE] = "page",
-    [COUNTERS] = "counters",
+    [COUNTERS] = "counters",         [LAST_LOSS] = "last_loss",
 };
 
 /* The first octet of a message on the ISDU channel (IEC 61131-9, A.1.2, 7.3.6); a count stands in its low four bits. */
@@ -253,8 +253,10 @@ static uint8_t look(enum call call)
     iol_entry entry;
     iol_page found;
     iol_counters counters;
+    iol_loss loss;
     switch (call) {
     case COUNTERS: return iol_port_counters(&port, &counters);
+    case LAST_LOSS: return iol_port_last_loss(&port, &loss);
     case PAGE: return iol_port_page(&port, &found);
     case STATUS: return iol_port_status(&port, &status);
     case IMAGE: return iol_port_image(&port, &image);

@@ -183,6 +183,16 @@ static void closed_to_counters(void)
     IS(memcmp(&counters, &before, sizeof counters), 0);
 }
 
+static void closed_to_last_loss(void)
+{
+    iol_port none = {0};
+    iol_loss loss = {5, 5, 5};
+    IS(iol_port_last_loss(&none, &loss), IOL_CLOSED);
+    IS(loss.why, 5);
+    IS(loss.vendor, 5);
+    IS(loss.device, 5);
+}
+
 /* Where it is closed, that is tested before the numbers are. */
 static void closed_to_devices(void)
 {
@@ -631,6 +641,7 @@ int main(void)
     closed_handles();
     closed_to_devices();
     closed_to_counters();
+    closed_to_last_loss();
     opened_for();
     refusals_at_opening();
     open_both(plain);

@@ -76,6 +76,7 @@ static bool called(iol_port *port)
     iol_event event;
     iol_page page;
     iol_counters counters;
+    iol_loss loss;
     uint32_t entries;
     uint8_t counts;
     bool given = iol_port_read(port, 16, 0, &ticket) == 0;
@@ -86,6 +87,7 @@ static bool called(iol_port *port)
     iol_port_archive(port, &entries);
     iol_port_page(port, &page);
     iol_port_counters(port, &counters);
+    iol_port_last_loss(port, &loss);
     iol_port_set_cycle(port, next() % 200000, &counts);
     if (next() % 256 == 0)
         iol_port_restart(port);

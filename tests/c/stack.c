@@ -19,6 +19,7 @@ enum { KB = 1024, OF_OPENING = 8 * KB, OF_CALL = 4 * KB, ROOM = 64 * KB, SKIPPED
     X(iol_port_withdraw) X(iol_port_cancel) X(iol_port_restart) X(iol_port_set_output) X(iol_port_clear_output)        \
     X(iol_port_image) X(iol_port_take_event) X(iol_port_status) X(iol_port_archive) X(iol_port_entry)                  \
     X(iol_port_expect) X(iol_port_expect_any) X(iol_port_set_cycle) X(iol_port_page) X(iol_port_counters)              \
+    X(iol_port_last_loss)                                                                                              \
     X(iol_device_open) X(iol_device_close) X(iol_device_hear) X(iol_device_wake) X(iol_device_power_cycle)             \
     X(iol_device_handed) X(iol_device_answer_read) X(iol_device_answer_written) X(iol_device_answer_refused)           \
     X(iol_device_raise) X(iol_device_set_input) X(iol_device_clear_input) X(iol_device_output)                         \
@@ -188,6 +189,7 @@ static void configured(void)
 {
     iol_page page;
     iol_counters counters;
+    iol_loss loss;
     uint8_t counts;
     uint32_t micros;
     CALL(iol_port_expect, &port, 0x1234, 0x108, &counts);
@@ -200,6 +202,7 @@ static void configured(void)
     turns(20, 0);
     CALL(iol_port_page, &port, &page);
     CALL(iol_port_counters, &port, &counters);
+    CALL(iol_port_last_loss, &port, &loss);
 }
 
 /* Replies and messages of octets that no one means. */

@@ -35,6 +35,7 @@ static bool expects;      /* the port expects the first one */
 static uint64_t tickets[WRITES];
 static int downs; /* how often the link went down for the wrong device */
 static bool lost; /* it went down for a loss */
+static iol_loss ended_for; /* why the last session ended, as the statuses told it */
 static int wrong;
 
 static void is(long long got, long long wanted, const char *what, int line)
@@ -70,6 +71,17 @@ static void work(void)
     IS(iol_device_answer_written(&there->device, number), 0);
 }
 
+/* The port still tells why the last session ended, whatever start-up is under way. */
+static void last_loss_is(iol_loss wanted)
+{
+    iol_loss loss;
+    memset(&loss, 5, sizeof loss);
+    IS(iol_port_last_loss(&port, &loss), 0);
+    IS(loss.why, wanted.why);
+    IS(loss.vendor, wanted.vendor);
+    IS(loss.device, wanted.device);
+}
+
 /* The mode of the link, after a turn. Of one that is down it is noted why; only the second device is a wrong one. */
 static int mode(void)
 {
@@ -77,11 +89,15 @@ static int mode(void)
     IS(iol_port_status(&port, &status), 0);
     if (status.mode == 1 && status.why == WRONG_DEVICE) {
         IS(expects && there == &ends[SECOND], true);
+        ended_for = (iol_loss){WRONG_DEVICE, VENDOR, DEVICE + 1};
         downs++;
     } else if (status.mode == 1) {
         IS(status.why, LOST);
+        ended_for = (iol_loss){LOST, 0, 0};
         lost = true;
-    }
+    } else if (status.mode == 4)
+        ended_for = (iol_loss){0, 0, 0};
+    last_loss_is(ended_for);
     return status.mode;
 }
 
@@ -135,6 +151,7 @@ static void open_all(bool expecting)
     memset(ends, 0, sizeof ends);
     downs = 0;
     lost = false;
+    ended_for = (iol_loss){0, 0, 0};
     expects = expecting;
     for (i = 0; i < DEVICES; i++)
         IS(iol_device_open(&ends[i].device, pages[i]), 0);

@@ -9,7 +9,7 @@ use Rattle.iol_isdu.specs.declared.values.Answer.TheVariants as answer
 use Rattle.iol_event.specs.declared.event.Event.{Event}
 use Rattle.iol_far.specs.declared.carried.Carried.{Carried}
 use Rattle.iol_mode.specs.declared.why.Why.{Why}
-use Rattle.iol_mode.specs.declared.why.Why.TheVariants.{NoWake, Lost, Revision, PdLength, Code, WrongDevice}
+use Rattle.iol_mode.specs.declared.why.Why.TheVariants.{NoWake, Lost, Revision, PdLength, Code, WrongDevice, Interleaved}
 use Rattle.iol_steps.specs.declared.mode.Mode.{Mode}
 use Rattle.iol_steps.specs.declared.mode.Mode.TheVariants.{Down, Startup, Preoperate, Operate}
 use Rattle.iol_app.specs.declared.core_data.Status.{Status}
@@ -106,6 +106,7 @@ why_name (Revision octet) = codes "Revision"
 why_name PdLength = codes "BadPdLength"
 why_name Code = codes "UnsupportedCode"
 why_name (WrongDevice found) = codes "WrongDevice"
+why_name Interleaved = codes "Interleaved"
 
 abbrev pub why_text : Option Why → List ℕ
 why_text None = []
@@ -119,6 +120,22 @@ link_text mode why = codes "status " ++ mode_name mode ++ why_text why
 abbrev pub state_text : Status → List ℕ
 state_text status = link_text status.mode status.why
     ++ (if status.event_form then codes " eventform" else []) ++ codes "\n"
+
+-- a DeviceID in six hexadecimal digits
+abbrev pub device_id_text : ℕ → List ℕ
+device_id_text device = hexadecimal (device / 65536 % 256) ++ hexadecimal (device / 256 % 256)
+    ++ hexadecimal (device % 256)
+
+-- the VendorID and the DeviceID of the device that was found in the place of the expected one
+abbrev pub found_text : Why → List ℕ
+found_text (WrongDevice found) =
+    codes " " ++ code_text found.vendor ++ codes " " ++ device_id_text found.device
+found_text why = []
+
+-- the line that says why the last session ended
+abbrev pub loss_text : Option Why → List ℕ
+loss_text None = codes "last none\n"
+loss_text (Some why) = codes "last " ++ why_name why ++ found_text why ++ codes "\n"
 
 -- Refusals
 
@@ -179,6 +196,7 @@ printed_answer call (answered.Archived count) = number_text (codes "archived ") 
 printed_answer call (answered.Counts counting) = counting_text counting
 printed_answer call (answered.Page page) = page_text page
 printed_answer call (answered.Counters counters) = counters_text counters
+printed_answer call (answered.LastLoss loss) = loss_text loss
 printed_answer call answered.Nothing = nothing_text call
 
 -- what is printed for calls, each with its answer

@@ -6,6 +6,7 @@ ghost use Rattle.iol_commands.specs.RunPrinted.{listed_text, place_text, printed
 ghost use Rattle.iol_commands.specs.RunPrinted.{outcome_text, ticket_text, collected_text};
 ghost use Rattle.iol_commands.specs.RunPrinted.{image_text, code_text, event_text};
 ghost use Rattle.iol_commands.specs.RunPrinted.{mode_name, why_name, why_text};
+ghost use Rattle.iol_commands.specs.RunPrinted.{device_id_text, found_text, loss_text};
 ghost use Rattle.iol_commands.specs.RunPrinted.{link_text, state_text};
 ghost use Rattle.iol_commands.specs.RunPrinted.{book_fault_name, output_fault_name};
 ghost use Rattle.iol_commands.specs.RunPrinted.{port_fault_name, refused_text};
@@ -182,6 +183,7 @@ fn why_name(why: Why) -> &'static str
         Why::PdLength => "BadPdLength",
         Why::Code => "UnsupportedCode",
         Why::WrongDevice(_) => "WrongDevice",
+        Why::Interleaved => "Interleaved",
     }
 }
 
@@ -193,6 +195,45 @@ fn print_why<A: Allocator>(output: &mut String<A>, why: Option<Why>) -> Result<(
         output.push_str(why_name(why))?;
     }
     Ok(())
+}
+
+/// A DeviceID in six hexadecimal digits.
+#[tactic(auto, using(crate::proofs::PrintedLemmas::joined))]
+fn print_device_id<A: Allocator>(output: &mut String<A>, device: u32) -> Result<(), AllocError>
+    ensures { Prints result output.old output.new (device_id_text device) }
+{
+    let [_, high, middle, low] = device.to_be_bytes();
+    print_hexadecimal(output, high)?;
+    print_hexadecimal(output, middle)?;
+    print_hexadecimal(output, low)
+}
+
+/// The device that was found in the place of the expected one, if this is why.
+#[tactic(auto, using(crate::proofs::PrintedLemmas::joined))]
+fn print_found<A: Allocator>(output: &mut String<A>, why: Why) -> Result<(), AllocError>
+    ensures { Prints result output.old output.new (found_text why) }
+{
+    let Why::WrongDevice(found) = why else {
+        return Ok(());
+    };
+    output.push_str(" ")?;
+    print_code(output, found.vendor)?;
+    output.push_str(" ")?;
+    print_device_id(output, found.device)
+}
+
+/// Why the last session ended.
+#[tactic(auto, using(crate::proofs::PrintedLemmas::joined))]
+fn print_loss<A: Allocator>(output: &mut String<A>, loss: Option<Why>) -> Result<(), AllocError>
+    ensures { Prints result output.old output.new (loss_text loss) }
+{
+    let Some(why) = loss else {
+        return output.push_str("last none\n");
+    };
+    output.push_str("last ")?;
+    output.push_str(why_name(why))?;
+    print_found(output, why)?;
+    output.push_str("\n")
 }
 
 /// The mode of a link, and the fault for which it is down.
@@ -319,6 +360,7 @@ pub(crate) fn print_answer<A: Allocator>(
         Answered::Counts(counting) => output.push_str(counting_line(*counting)),
         Answered::Page(page) => print_page(output, page.as_ref()),
         Answered::Counters(counters) => print_counters(output, counters),
+        Answered::LastLoss(loss) => print_loss(output, *loss),
         Answered::Nothing => print_nothing(output, call),
     }
 }

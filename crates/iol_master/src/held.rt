@@ -6,7 +6,7 @@ ghost use Rattle.iol_book.specs.BookModel.{IsReplayed};
 ghost use Rattle.iol_port.specs.View.{IsRun, OpensWell, KeepsRecord};
 ghost use Rattle.iol_port.specs.Called.{Collects, Withdraws, Cancels, Restarts, SetsOutput, ClearsOutput};
 ghost use Rattle.iol_port.specs.Called.{Expects, SetsCycle, TakesEvent, Archives, Turns, PublishesAfter};
-ghost use Rattle.iol_port.specs.Called.{ShowsPage, ShowsCounters, ShowsImage, ShowsStatus, MakesCall, PortOnlyLooks};
+ghost use Rattle.iol_port.specs.Called.{ShowsPage, ShowsCounters, ShowsLastLoss, ShowsImage, ShowsStatus, MakesCall, PortOnlyLooks};
 ghost use Rattle.iol_port.specs.Claim.{Claim};
 ghost use Rattle.iol_port.specs.WireCalls.{ComesFrom};
 ghost use Rattle.iol_port.specs.RightDevice.{IsForRightDevice};
@@ -22,6 +22,7 @@ use iol_event::Event;
 use iol_image::Image;
 use iol_isdu::Request;
 use iol_link::Wire;
+use iol_mode::Why;
 use iol_page::{CycleTime, Identity, Page};
 use iol_port::{Counters, Counting, Port, PortFault};
 use std::alloc::Global;
@@ -245,6 +246,14 @@ impl<W: Wire, K: Ledger, A: Handle> Held<W, K, A> {
         ensures { ShowsCounters (PortOnlyLooks W.facts self.now) self.now.parts result.now }
     {
         self.port.counters()
+    }
+
+    /// Why the port's last session ended, until OPERATE is reached; see
+    /// [`PortCore::last_loss`](iol_port::PortCore::last_loss).
+    pub fn last_loss(&self) -> Option<Why>
+        ensures { ShowsLastLoss (PortOnlyLooks W.facts self.now) self.now.parts result }
+    {
+        self.port.last_loss()
     }
 
     /// The device's input by the last good reply in OPERATE: one whole image, or none where it was

@@ -11,7 +11,7 @@ ghost use Rattle.iol_port.specs.declared.fault.PortFault.TheVariants as fault;
 ghost use Rattle.iol_port.specs.declared.call.Answered.TheVariants as answered;
 ghost use Rattle.iol_port.specs.Called.{Submits, SubmitsUrgent, Collects, Withdraws, Cancels, SetsOutput, ClearsOutput};
 ghost use Rattle.iol_port.specs.Called.{Expects, SetsCycle, TakesEvent, Archives, CoreCalled};
-ghost use Rattle.iol_port.specs.Called.{ShowsPage, ShowsCounters, ShowsImage, ShowsStatus};
+ghost use Rattle.iol_port.specs.Called.{ShowsPage, ShowsCounters, ShowsLastLoss, ShowsImage, ShowsStatus};
 ghost use Rattle.iol_port.specs.declared.awaited.AwaitedAnswer.TheVariants as AwaitedAnswer;
 ghost use Rattle.iol_port.specs.CorePort.{awaited_answer};
 ghost use Rattle.iol_master.specs.Ledgers.{IsBlankFor};
@@ -26,6 +26,7 @@ use iol_event::Event;
 use iol_image::Image;
 use iol_isdu::Request;
 use iol_link::{Rate, Wire};
+use iol_mode::Why;
 use iol_mseq::Message;
 use iol_page::{CycleTime, Identity, Page};
 use iol_port::{AwaitedAnswer, Counters, Counting, PortCore, PortFault};
@@ -261,6 +262,14 @@ impl<K: Ledger, A: Allocator + Copy> LinePort<K, A> {
             result.now }
     {
         self.port.counters()
+    }
+
+    /// Why the port's last session ended, until OPERATE is reached; see
+    /// [`PortCore::last_loss`](iol_port::PortCore::last_loss).
+    pub fn last_loss(&self) -> Option<Why>
+        ensures { ShowsLastLoss (CoreCalled self.now.parts self.now.parts) self.now.parts result }
+    {
+        self.port.last_loss()
     }
 
     /// The device's input by the last good reply in OPERATE: one whole image, or none where it was

@@ -54,6 +54,7 @@ parts_in inside = record {
   kept = inside.kept.items;
   sent = inside.sent;
   counters = inside.counters;
+  last_loss = inside.last_loss;
 }
 
 -- What waits for its answer

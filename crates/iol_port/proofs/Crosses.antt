@@ -29,7 +29,10 @@ core_send A h a f =
         book.the_send A h a f,
         (
           search (crosses, sendable) depth 20,
-          (search (crosses, sendable) depth 20, (counters.the_field_send, tt)),
+          (
+            search (crosses, sendable) depth 20,
+            (counters.the_field_send, (search (crosses, sendable) depth 20, tt)),
+          ),
         ),
       ),
     )))

@@ -93,6 +93,7 @@ module _ (a b : PortState) where
   piece_did (Whole call.TakeEvent) reply e =
       did (Stays (drop 1 a.kept) a.images a.terms.expected) (grind (arith, common_steps))
   piece_did (Whole call.Counters) reply (k, e) = stayed e.1
+  piece_did (Whole call.LastLoss) reply (loss, e) = stayed e.1
   piece_did (Whole call.Turn) reply (_, (t, all, work, _, _, _)) =
       Moves (moment_in a t) t.steps (grind (arith, common_steps))
   piece_did (Whole _) reply e = stayed e.1

@@ -11,6 +11,7 @@ use Rattle.iol_book.specs.declared.entries.Entry.{Entry}
 use Rattle.iol_book.specs.declared.entries.Outcome.{Outcome}
 use Rattle.iol_book.specs.BookModel.{book_after_submit, book_after_urgent}
 use Rattle.iol_link.specs.WireFacts.{WireFacts}
+use Rattle.iol_mode.specs.declared.why.Why.{Why}
 use Rattle.iol_steps.specs.Step.{ImageOctets}
 use Rattle.iol_app.specs.StationState.{link_wire}
 use Rattle.iol_app.specs.Asking.{IsCall}
@@ -90,6 +91,9 @@ module _ {V : Type 0} (Carries : Carrier) (p : PortParts V) where
   abbrev pub ShowsCounters : Counters → Type 0
   ShowsCounters counters = Carries call.Counters (answered.Counters counters)
       (counters ≡ p.counters)
+
+  abbrev pub ShowsLastLoss : Option Why → Type 0
+  ShowsLastLoss loss = Carries call.LastLoss (answered.LastLoss loss) (loss ≡ p.last_loss)
 
   abbrev pub ShowsImage : Option ImageOctets → Type 0
   ShowsImage image = Carries call.Look (answered.Image image) (image ≡ p.station.session.image)

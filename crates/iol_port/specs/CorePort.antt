@@ -23,7 +23,7 @@ use Rattle.iol_port.specs.declared.call.Call.{Call}
 use Rattle.iol_port.specs.declared.call.Answered.{Answered}
 use Rattle.iol_port.specs.declared.call.Answered.TheVariants as answered
 use Rattle.iol_port.specs.Asks.{event_room}
-use Rattle.iol_port.specs.EveryWire.{KeepsMemory, station_begun, book_begun}
+use Rattle.iol_port.specs.EveryWire.{KeepsMemory, loss_left, station_begun, book_begun}
 use Rattle.iol_port.specs.Run.{PortState, Piece, Send, Receive, PieceOf, port_at_opening}
 use Rattle.iol_port.specs.Counters.{call_counted, said_counted}
 use Rattle.iol_port.specs.Steps.{book_through, kept_through}
@@ -39,6 +39,7 @@ parts_over wire p = record {
   kept = p.kept;
   sent = p.sent;
   counters = p.counters;
+  last_loss = p.last_loss;
 }
 
 -- a core as a station over no wire
@@ -138,6 +139,7 @@ pub record PortSendGives (old new : PortParts (Unit {0})) : Type 0 where
   pub sent : new.sent ≡ true
   -- an exchange counts once it is answered
   pub counters : new.counters ≡ old.counters
+  pub last_loss : new.last_loss ≡ old.last_loss
 
 -- what came back is judged by what was sent and by what start-ups ask, and what that says goes
 -- to the book and to the kept events; both are counted. A reset of the device ends what a request
@@ -160,6 +162,7 @@ pub record PortReceiveGives (old : PortParts (Unit {0})) (came : Option (List �
   pub sent : new.sent ≡ false
   pub counters : new.counters
       ≡ said_counted said (call_counted (brought_in old.station.link.state came) old.counters)
+  pub last_loss : new.last_loss ≡ loss_left old new
 
 -- a start-up begins where the wake was answered, which ends what a request that was cut off
 -- may still do where that has reset the device; else the link is still down
@@ -173,3 +176,4 @@ pub record WakeGives (old : PortParts (Unit {0})) (answered : Bool) (new : PortP
   pub kept : new.kept ≡ old.kept
   pub sent : new.sent ≡ false
   pub counters : new.counters ≡ call_counted (woken_by answered) old.counters
+  pub last_loss : new.last_loss ≡ loss_left old new

@@ -19,6 +19,7 @@ use Rattle.iol_book.specs.Replay.{same_ticket}
 use Rattle.iol_book.specs.BookModel.{BookState, BookValue, MemoryGrows, memory_archived, RefusesFor, submit_refusal, book_after_submit, book_after_urgent, next_ticket, next_taken, book_after_take, book_after_denial, waits, collect_answer, book_after_collect, withdraw_refusal, book_after_withdrawal, flight_refusal, may_archive, book_after_archive}
 use Rattle.iol_mode.specs.Exchanges.{tries_in}
 use Rattle.iol_mode.specs.States.{is_reset}
+use Rattle.iol_mode.specs.declared.why.Why.{Why}
 use Rattle.iol_steps.specs.declared.mode.Mode.TheVariants.{Down}
 use Rattle.iol_steps.specs.declared.said.Said.{Said}
 use Rattle.iol_steps.specs.Step.{ImageOctets, resets, book_said, reports_said}
@@ -41,6 +42,7 @@ use Rattle.iol_port.specs.Replies.{by_book, ticket_reply, outcome_reply, nothing
 use Rattle.iol_port.specs.Run.{counting_of}
 use Rattle.iol_port.specs.Sound.{request_taken}
 use Rattle.iol_port.specs.Counters.{call_counted, said_counted, restart_counted}
+use Rattle.iol_port.specs.LastLoss.{loss_after}
 use Rattle.iol_port.specs.Steps.{book_through, kept_through}
 use Rattle.iol_port.specs.View.{PortParts, status_of}
 
@@ -186,6 +188,11 @@ module _ {W : Type 0} where
               record old.station { session = session.session_with_cycle cycle old.station.session };
         }
 
+  -- why the last session ended, behind a call from one to the other
+  abbrev pub loss_left : PortParts W → PortParts W → Option Why
+  loss_left old new = loss_after (mode_of old.station.link) (mode_of new.station.link)
+      (why_down new.station.link) old.last_loss
+
   -- the wire stays, the link is down and has no fault; the request under way is cut
   -- off, and there is no image
   -- PORT-6
@@ -201,6 +208,7 @@ module _ {W : Type 0} where
     pub sent : new.sent ≡ old.sent
     pub counters : new.counters
         ≡ restart_counted (request_taken old.book.state.standing.taken) old.counters
+    pub last_loss : new.last_loss ≡ loss_left old new
 
   -- whether the next turn would send IDLE 1, so that it takes or denies the next request
   -- REQ-2
@@ -244,6 +252,7 @@ module _ {W : Type 0} where
       pub memory : KeepsMemory old new
       pub kept : new.kept ≡ kept_through (reports_said said) old.kept
       pub counters : new.counters ≡ said_counted said (call_counted brought old.counters)
+      pub last_loss : new.last_loss ≡ loss_left old new
       -- each new outcome NoIsdu is that of a request which this turn denied
       pub denies : (ticket : Ticket) → HasNoIsdu new.book.state ticket
           → HasNoIsdu old.book.state ticket ⊎ IsDenied old new ticket
@@ -281,6 +290,8 @@ module _ {W : Type 0} where
         (result : Counting) × (reply ≡ answered.Counts result)
         × SetCycleGives old cycle result new
     PortCallGives old call.Counters reply new = (reply ≡ answered.Counters old.counters)
+        × (new ≡ old)
+    PortCallGives old call.LastLoss reply new = (reply ≡ answered.LastLoss old.last_loss)
         × (new ≡ old)
     PortCallGives old call.Page reply new = (reply ≡ answered.Page (page_shown old)) × (new ≡ old)
     PortCallGives old call.TakeEvent reply new =

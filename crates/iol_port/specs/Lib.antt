@@ -1,6 +1,7 @@
 pub mod Faults
 pub mod Steps
 pub mod Counters
+pub mod LastLoss
 pub mod RightDevice
 pub mod Run
 pub mod Sound

@@ -29,6 +29,7 @@ mod copies;
 mod counters;
 mod fault;
 mod laws;
+mod loss;
 mod port;
 mod port_core;
 mod settle;

@@ -14,7 +14,7 @@ ghost use Rattle.iol_app.specs.StationState.{link_wire};
 ghost use Rattle.iol_port.specs.Asks.{asks_of, IsWireCall};
 ghost use Rattle.iol_port.specs.Called.{Submits, SubmitsUrgent, Collects, Withdraws, Cancels, Restarts, SetsOutput};
 ghost use Rattle.iol_port.specs.Called.{ClearsOutput, Expects, SetsCycle, TakesEvent, Archives, Turns, PublishesAfter};
-ghost use Rattle.iol_port.specs.Called.{ShowsPage, ShowsCounters, ShowsImage, ShowsStatus, MakesCall, PortOnlyLooks};
+ghost use Rattle.iol_port.specs.Called.{ShowsPage, ShowsCounters, ShowsLastLoss, ShowsImage, ShowsStatus, MakesCall, PortOnlyLooks};
 ghost use Rattle.iol_port.specs.Claim.{Claim};
 ghost use Rattle.iol_port.specs.EveryWire.{PortCallGives, RunGives};
 ghost use Rattle.iol_port.specs.RightDevice.{IsForRightDevice};
@@ -35,7 +35,7 @@ use iol_event::Event;
 use iol_image::Image;
 use iol_isdu::Request;
 use iol_link::Wire;
-use iol_mode::Devices;
+use iol_mode::{Devices, Why};
 use iol_page::{CycleTime, Identity, Page};
 use std::alloc::{Allocator, Global};
 use std::marker::Model;
@@ -280,6 +280,14 @@ impl<W: Wire, A: Handle> Port<W, A> {
         self.core.counters()
     }
 
+    /// Why the last session ended, until OPERATE is reached; see
+    /// [`PortCore::last_loss`](crate::PortCore::last_loss).
+    pub fn last_loss(&self) -> Option<Why>
+        ensures { ShowsLastLoss (PortOnlyLooks W.facts self.now) self.now.parts result }
+    {
+        self.core.last_loss()
+    }
+
     /// The device's input by the last good reply in OPERATE: one whole image, or
     /// none where it was not valid. None in every other mode.
     pub fn image(&self) -> Option<&Image>
@@ -379,6 +387,7 @@ impl<W: Wire, A: Handle> Port<W, A> {
             Call::Cycle(cycle) => Answered::Counts(self.set_cycle(*cycle)),
             Call::Page => Answered::Page(self.page()),
             Call::Counters => Answered::Counters(*self.counters()),
+            Call::LastLoss => Answered::LastLoss(self.last_loss()),
             Call::TakeEvent => match self.take_event() {
                 Ok(event) => Answered::Event(event),
                 Err(fault) => Answered::Refused(fault),

@@ -22,13 +22,14 @@ ghost use Rattle.iol_port.specs.Clean.{CleanTurn};
 ghost use Rattle.iol_port.specs.CorePort.{CoreOpens, CoreOpensFor, CoreKeeps, IsNew, IsNewFor, awaited_answer, parts_over, PortSendGives, SendDoes, PortReceiveGives, ReceiveDoes, WakeGives, WakeDoes};
 ghost use Rattle.iol_port.specs.Called.{Submits, SubmitsUrgent, Collects, Withdraws, Cancels, Restarts, SetsOutput};
 ghost use Rattle.iol_port.specs.Called.{ClearsOutput, Expects, SetsCycle, TakesEvent, Archives, CoreCalled};
-ghost use Rattle.iol_port.specs.Called.{ShowsPage, ShowsCounters, ShowsImage, ShowsStatus};
+ghost use Rattle.iol_port.specs.Called.{ShowsPage, ShowsCounters, ShowsLastLoss, ShowsImage, ShowsStatus};
 
 use crate::PortFault;
 use crate::awaited::AwaitedAnswer;
 use crate::call::Counting;
 use crate::counters::Counters;
 use crate::laws::clean_laws;
+use crate::loss::loss_after;
 use crate::settle::{KEPT, ROOM, begin_next, by_book, by_output, lacks_isdu, resets, settle};
 use arrayvec::ArrayVec;
 use iol_app::{Asked, Core, EventRoom, Status, WireResult};
@@ -37,7 +38,7 @@ use iol_event::Event;
 use iol_image::Image;
 use iol_isdu::{Cause, Request};
 use iol_link::{Rate, Wire};
-use iol_mode::Devices;
+use iol_mode::{Devices, Why};
 use iol_mseq::Message;
 use iol_page::{CycleTime, Identity, Page};
 use iol_steps::{Mode, Said};
@@ -71,6 +72,8 @@ pub struct PortCore<A: Allocator + Copy = Global> {
     /// What was sent last waits for its answer.
     sent: bool,
     counters: Counters,
+    /// Why the last session ended.
+    last_loss: Option<Why>,
 }
 
 impl<A: Allocator + Copy> Model for PortCore<A> {
@@ -85,6 +88,7 @@ impl<A: Allocator + Copy> Model for PortCore<A> {
       kept = p.kept.items;
       sent = p.sent;
       counters = p.counters;
+      last_loss = p.last_loss;
     } };
 
     ghost invariant = { λ p. IsTied (record {
@@ -93,6 +97,7 @@ impl<A: Allocator + Copy> Model for PortCore<A> {
       kept = p.kept.items;
       sent = p.sent;
       counters = p.counters;
+      last_loss = p.last_loss;
     }) };
 }
 
@@ -122,6 +127,7 @@ impl<A: Allocator + Copy> PortCore<A> {
                 kept: ArrayVec::new(),
                 sent: false,
                 counters: Counters::zero(),
+                last_loss: None,
             }),
             Err(fault) => Err(PortFault::Book(fault)),
         }
@@ -236,7 +242,10 @@ impl<A: Allocator + Copy> PortCore<A> {
         requires { awaited_answer self.old ≡ AwaitedAnswer.Nothing }
         ensures { Restarts (CoreCalled self.old self.new) self.old self.new }
     {
-        if self.core.restart() {
+        let began = self.core.status().mode;
+        let cut = self.core.restart();
+        self.last_loss = loss_after(began, self.core.status(), self.last_loss);
+        if cut {
             self.counters.unknown.cut(Cause::Restarted);
             self.book.post(Outcome::Unknown(Cause::Restarted));
         }
@@ -315,6 +324,18 @@ impl<A: Allocator + Copy> PortCore<A> {
         ensures { ShowsCounters (CoreCalled self.now self.now) self.now result.now }
     {
         &self.counters
+    }
+
+    /// Why the last session ended: `Lost`, a fault of the device's page, `Interleaved`, or
+    /// `WrongDevice` with the identity that was found. It stays so through the start-ups that
+    /// follow, until OPERATE is reached. None where a restart ended the session, in OPERATE, and
+    /// before any session ended. A wake-up request in vain ends none: `status` shows it.
+    ///
+    /// Rule PORT-13.
+    pub fn last_loss(&self) -> Option<Why>
+        ensures { ShowsLastLoss (CoreCalled self.now self.now) self.now result }
+    {
+        self.last_loss
     }
 
     /// From when on counts what start-ups are to ask.
@@ -434,9 +455,11 @@ impl<A: Allocator + Copy> PortCore<A> {
         ensures does { ReceiveDoes self.old (octets_in came.now) self.new }
     {
         let began = self.core.is_reset();
+        let mode = self.core.status().mode;
         let mut said = Said::Idle;
         let brought = self.core.receive(came, &mut said);
         self.sent = false;
+        self.last_loss = loss_after(mode, self.core.status(), self.last_loss);
         self.counters.turned(brought, &said);
         let reset = resets(began, self.core.is_reset());
         settle(&mut self.book, &mut self.kept, reset, said);
@@ -452,8 +475,10 @@ impl<A: Allocator + Copy> PortCore<A> {
         ensures does { WakeDoes self.old (is_some rate) self.new }
     {
         let began = self.core.is_reset();
+        let mode = self.core.status().mode;
         self.core.receive_wake(rate);
         self.sent = false;
+        self.last_loss = loss_after(mode, self.core.status(), self.last_loss);
         self.counters.turned(WireResult::of_wake(rate), &Said::Idle);
         let reset = resets(began, self.core.is_reset());
         settle(&mut self.book, &mut self.kept, reset, Said::Idle);
@@ -477,10 +502,12 @@ impl<A: Allocator + Copy> PortCore<A> {
     {
         clean_laws();
         let room = self.event_room();
+        let mode = self.core.status().mode;
         begin_next(&mut self.core, &mut self.book, room);
         let began = self.core.is_reset();
         let mut said = Said::Idle;
         let brought = self.core.turn(wire, room, &mut said);
+        self.last_loss = loss_after(mode, self.core.status(), self.last_loss);
         self.counters.turned(brought, &said);
         let reset = resets(began, self.core.is_reset());
         settle(&mut self.book, &mut self.kept, reset, said);

@@ -89,6 +89,8 @@ fn answer_bare(
         print_image(output, "image", port.image())
     } else if is(name, b"status") {
         print_status(output, port.status())
+    } else if is(name, b"last") {
+        print_loss(output, port.last_loss())
     } else if is(name, b"counters") {
         let counters = port.counters();
         writeln!(output, "{counters:?}")
@@ -201,8 +203,18 @@ fn print_why(output: &mut String, why: Why) -> Result<(), AllocError> {
     match why {
         Why::Revision(octet) => print_octets(output, &[octet]),
         Why::WrongDevice(Identity { vendor, device }) => write!(output, " {vendor} {device}"),
-        Why::NoWake | Why::Lost | Why::PdLength | Why::Code => Ok(()),
+        Why::NoWake | Why::Lost | Why::PdLength | Why::Code | Why::Interleaved => Ok(()),
     }
+}
+
+/// Why the last session ended.
+fn print_loss(output: &mut String, loss: Option<Why>) -> Result<(), AllocError> {
+    output.push_str("last")?;
+    match loss {
+        Some(why) => print_why(output, why)?,
+        None => output.push_str(" none")?,
+    }
+    output.push_str("\n")
 }
 
 /// The mode, why the link is down, and whether a StatusCode was refused.

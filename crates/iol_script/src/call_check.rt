@@ -46,6 +46,7 @@ fn is_bare(name: &[u8]) -> bool
         || is(name, b"event")
         || is(name, b"status")
         || is(name, b"counters")
+        || is(name, b"last")
         || is(name, b"archive")
 }
 

@@ -56,6 +56,7 @@ Then what happens on the wire, and the calls of the port, in any order:
   output H | output none | image          process data out; in
   event | status | archive | restart      as the port's calls of these names
   counters                                what the port counted since its opening
+  last                                    why the last session ended, until the next OPERATE
   expect VENDOR DEVICE | expect any       which device the port expects
   cycle MICROS | cycle least              the cycle time that it asks for
   page                                    the page of the device, as the port read it

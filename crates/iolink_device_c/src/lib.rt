@@ -7,7 +7,7 @@
 //! of a device that keeps no record, so that it takes no memory once it is open.
 //!
 //! Each export answers the number of a refusal, or 0. The numbers are those of the
-//! library, 1 to 39, and two of its own ([`iolink_handle`]).
+//! library, 1 to 40, and two of its own ([`iolink_handle`]).
 //!
 //! Definitions stand in `specs/Calls` and `specs/Shown`. Each export says of the handle what the
 //! call of its name says of the device, with numbers for answers.

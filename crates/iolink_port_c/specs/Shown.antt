@@ -9,6 +9,7 @@ use Rattle.iol_book.specs.declared.entries.Entry.TheVariants as entry
 use Rattle.iol_book.specs.declared.entries.Outcome.{Outcome}
 use Rattle.iol_book.specs.declared.entries.Outcome.TheVariants.{Done, Unknown, Withdrawn, NoIsdu}
 use Rattle.iol_mode.specs.declared.why.Why.{Why}
+use Rattle.iol_mode.specs.declared.why.Why.TheVariants.{WrongDevice}
 use Rattle.iol_mode.specs.Why.{why_number}
 use Rattle.iol_steps.specs.declared.mode.Mode.{Mode}
 use Rattle.iol_steps.specs.declared.mode.Mode.TheVariants.{Down, Startup, Preoperate, Operate}
@@ -19,6 +20,7 @@ use Rattle.iolink_port_c.specs.declared.state.IolStatus.{IolStatus}
 use Rattle.iolink_port_c.specs.declared.outcome.IolOutcome.{IolOutcome}
 use Rattle.iolink_port_c.specs.declared.archive.IolEntry.{IolEntry}
 use Rattle.iolink_port_c.specs.declared.counters.IolCounters.{IolCounters}
+use Rattle.iolink_port_c.specs.declared.loss.IolLoss.{IolLoss}
 
 -- a mode's number
 abbrev pub port_mode_number : Mode → ℕ
@@ -31,6 +33,13 @@ port_mode_number Operate = 4
 abbrev pub why_shown : Option Why → ℕ
 why_shown None = 0
 why_shown (Some why) = why_number why
+
+-- why the last session ended, as C is shown it: with the device that was found in the place of the
+-- expected one
+abbrev pub loss_shown : Option Why → IolLoss
+loss_shown (Some (WrongDevice found)) =
+    record { why = 38; vendor = found.vendor; device = found.device }
+loss_shown loss = record { why = why_shown loss; vendor = 0; device = 0 }
 
 -- a status as C is shown it
 abbrev pub StatusIsShown : Status → IolStatus → Type 0

@@ -7,7 +7,7 @@
 //! of what came.
 //!
 //! Each export answers the number of a refusal, or 0. The numbers are those of the
-//! library, 1 to 39, and four of its own ([`iolink_handle`]).
+//! library, 1 to 40, and four of its own ([`iolink_handle`]).
 #![tactic(auto)]
 
 mod archive;
@@ -15,6 +15,7 @@ mod counters;
 mod device;
 mod held;
 mod line;
+mod loss;
 mod outcome;
 mod port;
 mod request;

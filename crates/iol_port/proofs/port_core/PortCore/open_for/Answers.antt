@@ -1,5 +1,5 @@
 -- A port that is new stands for the abstract port that is opened, with every far end.
-use Rattle.std.proofs.Common.{false, sym, subst, arith}
+use Rattle.std.proofs.Common.{false, sym, subst, arith, None}
 use Rattle.std.proofs.lemmas.Grind.{common_steps}
 use Rattle.iol_app.specs.Core.{CoreState, IsAttempted}
 use Rattle.iol_port.specs.CorePort.{at_end, station_without_wire}
@@ -16,6 +16,7 @@ returns-in-Ok-clause-opens g c far n well =
       kept = c.new-in-Ok.result.items;
       sent = false;
       counters = c.zero.result;
+      last_loss = None;
     })
     (grind (arith, common_steps, core, c.in-Ok.ensures, c.new-in-Ok.ensures, c.zero.ensures))
     (subst (λ (k : CoreState). IsAttempted k.state) (sym core) tt) c.new.ensures.steps well

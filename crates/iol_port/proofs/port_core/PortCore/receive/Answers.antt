@@ -51,6 +51,11 @@ returns-clause-gives g c =
       kept = c.settle.ensures.kept;
       sent = refl;
       counters = c.turned.ensures ∙ (rw c.receive-brought.ensures.taken.settled.brought_is refl);
+      last_loss = c.loss_after-self-inside.ensures ∙ (rw (
+        c.status-mode.ensures.mode,
+        c.status.ensures.mode,
+        c.status.ensures.why,
+      ) refl);
     })
 
 pub returns-clause-does : goal.returns-clause-does

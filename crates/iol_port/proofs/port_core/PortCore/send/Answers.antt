@@ -55,6 +55,7 @@ both g c =
               kept = refl;
               sent = refl;
               counters = refl;
+              last_loss = refl;
             },
             send_does p _ (station_without_wire begun.new.core) begun.new.book.state (cc)
                 begun.ensures.next
@@ -73,6 +74,7 @@ both g c =
               kept = refl;
               sent = sent;
               counters = refl;
+              last_loss = refl;
             },
             again_does p sent,
           )

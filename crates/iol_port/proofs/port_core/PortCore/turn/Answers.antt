@@ -52,6 +52,7 @@ after g c = record {
   kept = c.settle.new.kept.items;
   sent = c.self.inside.sent;
   counters = c.turned.new.self;
+  last_loss = c.loss_after-self-inside.result;
 }
 
 abbrev mid : (g : given.Over) (c : goal.After-settle g) → StationState g.row.W.Denot
@@ -116,6 +117,11 @@ returns-clause-gives g c =
       memory = c.settle.ensures.memory ∙ c.begin_next.ensures.memory;
       kept = c.settle.ensures.kept;
       counters = c.turned.ensures;
+      last_loss = c.loss_after-self-inside.ensures ∙ (rw (
+        c.status-mode.ensures.mode,
+        c.status.ensures.mode,
+        c.status.ensures.why,
+      ) refl);
       denies = λ ticket has. turn_denies p (after g c) c.begin_next.new.book.state
           c.resets-reset.result said
           (ends_ask _ _ _ (begun_same _ _ _ _ c.begin_next.ensures.next c.self.invariant.same)
