@@ -11,7 +11,7 @@ use Rattle.iol_device.specs.Silence.{silent_after}
 abbrev pub device_after_hearing : {P : Type 0} → Running P → List ℕ → Running P
 device_after_hearing device octets = record device {
   far = (hear device.far octets).far;
-  number = number_after device.number device.far (hear device.far octets).far;
+  number = number_after device.number device.far octets;
   silent = silent_after device.silent device.far octets;
 }
 

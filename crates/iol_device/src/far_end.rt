@@ -1,5 +1,7 @@
 //! What a device is without its application.
 ghost use Rattle.std.specs.Prelude.{◌≡◌, true, ◌+◌, ◌-◌, ◌<◌, ◌≤◌, ◌↔◌, ◌==◌, ◌++◌, length, slice_index, Option, Some, None, IsTrue, IsErr, IfErr, OnErr, option_copied, option_map, IfNone, OnSome, false, is_some, IsOk, unwrap_or, if◌then◌else◌, []};
+ghost use Rattle.iol_far.specs.Codec.{flow_of};
+ghost use Rattle.iol_device.specs.Number.{is_start_write};
 ghost use Rattle.iol_device.specs.Pulses.{is_that};
 
 use crate::app::App;
@@ -16,7 +18,7 @@ use iol_isdu::{Answer, Request};
 use iol_mseq::{
     Layout, MasterView, Message, append, append_first, append_zeros, close_reply, first,
 };
-use iol_octets::{Channel, Mc, OdLength};
+use iol_octets::{Channel, Flow, Mc, OdLength};
 use iol_page::{Layouts, MasterCommand, Page, pages_ask_for_layouts};
 use std::alloc::Allocator;
 use std::marker::Model;
@@ -79,7 +81,7 @@ impl<R: Record> FarEnd<R> {
     ghost use Rattle.iol_far.specs.Isdu.{handed_request};
     ghost use Rattle.iol_far.specs.Local.{local, far_after_wake, is_input, has_room, LocalStep};
     ghost use Rattle.iol_device.specs.App.{IsCarriedOut};
-    ghost use Rattle.iol_device.specs.Number.{misfit};
+    ghost use Rattle.iol_device.specs.Number.{keeps_handed, misfit, number_after};
     ghost use Rattle.iol_device.specs.Silence.{says_valid, silent_after};
     ghost use Rattle.std.specs.Result.{result_err};
     ghost use Rattle.iol_device.specs.Inside.{new_mode};
@@ -229,26 +231,45 @@ impl<R: Record> FarEnd<R> {
     }
 
     /// What the far end does on hearing these octets. Answers whether it replies;
-    /// the reply is put into the buffer. A message that says that the output is
-    /// valid ends a silence.
+    /// the reply is put into the buffer. A message that hands a request over takes the
+    /// next number, and one that says that the output is valid ends a silence.
     ///
-    /// Rule DEV-2.
-    pub fn hear(&mut self, octets: &[u8], silent: &mut bool, reply: &mut Message) -> bool
+    /// Rules DEV-2, DEV-18.
+    pub fn hear(
+        &mut self,
+        octets: &[u8],
+        number: &mut u64,
+        silent: &mut bool,
+        reply: &mut Message,
+    ) -> bool
         requires { reply.old.items ≡ [] }
         ensures far { self.new ≡ (far.hear self.old octets.now).far }
         ensures reply { octets_in_buffer result reply.new ≡ (far.hear self.old octets.now).reply }
         ensures unanswered { result ≡ false → reply.new.items ≡ [] }
         ensures answers { result ≡ is_some (far.accepted_message self.old octets.now) }
         ensures unheard { result ≡ false → self.new ≡ self.old }
+        ensures number { number.new ≡ number_after number.old self.old octets.now }
         ensures silent { silent.new ≡ silent_after silent.old self.old octets.now }
     {
         let Some(message) = self.accept(octets) else {
             return false;
         };
         self.end_silence(&message, silent);
+        let keeps_handed = self.keeps_handed(&message);
         self.work_message(octets, &message);
+        if self.is_handed() && !keeps_handed {
+            *number = number.wrapping_add(1);
+        }
         self.reply(&message, reply);
         true
+    }
+
+    /// Whether a request that is handed over may stay so as this message comes.
+    fn keeps_handed(&self, message: &MasterView<'_>) -> bool
+        ensures { result ≡ keeps_handed self.now message.now }
+    {
+        // Most messages find none.
+        self.is_handed() && !is_start_write(message.mc())
     }
 
     /// A message in the present layout ends a silence if it says that the output is valid.
@@ -642,6 +663,13 @@ impl<A: Allocator + Copy> FarEnd<Kept<A>> {
     {
         self.carried.carried()
     }
+}
+
+/// Whether a message is a START write on the ISDU channel.
+fn is_start_write(mc: Mc) -> bool
+    ensures { result ≡ is_start_write mc.channel mc.read (flow_of mc.address) }
+{
+    mc.channel == Channel::Isdu && !mc.read && flow_of(mc) == Flow::Start
 }
 
 /// Whether that mode is asked for.

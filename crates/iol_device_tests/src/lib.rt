@@ -11,6 +11,8 @@ mod device;
 #[cfg(test)]
 mod event;
 #[cfg(test)]
+mod number;
+#[cfg(test)]
 mod refusing;
 #[cfg(test)]
 mod segment;

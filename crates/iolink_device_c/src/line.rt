@@ -31,7 +31,7 @@ pub extern "C" fn iol_device_hear(
     ensures far { IsTrue handle.old.is_open →
         (result ≡ 0) × (far_of handle.new ≡ (hear (far_of handle.old) octets.now).far) }
     ensures number { IsTrue handle.old.is_open → number_of handle.new
-        ≡ number_after (number_of handle.old) (far_of handle.old) (far_of handle.new) }
+        ≡ number_after (number_of handle.old) (far_of handle.old) octets.now }
     ensures silent { IsTrue handle.old.is_open → silent_of handle.new
         ≡ silent_after (silent_of handle.old) (far_of handle.old) octets.now }
     ensures length { IsTrue handle.old.is_open → out.new.length
