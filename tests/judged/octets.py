@@ -1,5 +1,7 @@
 """Calls as the UART decoder of a logic analyser shows them: an octet a line, with its time."""
-from rules import is_readable, with_checksum
+from itertools import takewhile
+
+from rules import EVENT_FLAG, is_readable, with_checksum
 from search import Wake
 
 # In nanoseconds, at COM3; an octet has 11 bits
@@ -12,25 +14,39 @@ TEST_READ = bytes([0xA2, 0x00])
 ANY_CYCLE = 0x17
 
 
-def test_reply(calls):
-    """What comes back to an answered test read: as a read of the trace had it."""
+def min_cycle(calls):
+    """MinCycleTime, as a read of the trace had it."""
     for call in calls:
         if not isinstance(call, Wake) and call.sent == TEST_READ and call.came:
             if is_readable(call.sent, call.came):
-                return call.came
-    return with_checksum(bytes([ANY_CYCLE, 0]), 1)
+                return call.came[0]
+    return ANY_CYCLE
 
 
-def octets_of(call, reply):
+def event_flag(calls):
+    """That of the first good reply before a wake-up request, 0 where there is none."""
+    for call in takewhile(lambda call: not isinstance(call, Wake), calls):
+        if is_readable(call.sent, call.came):
+            return call.came[-1] & EVENT_FLAG
+    return 0
+
+
+def test_reply(calls, place):
+    """What comes back to the answered test read of the wake-up request at this place."""
+    return with_checksum(bytes([min_cycle(calls), event_flag(calls[place + 1 :])]), 1)
+
+
+def octets_of(calls, place):
     """A call's message, or its test read, and what came back."""
+    call = calls[place]
     if isinstance(call, Wake):
-        return TEST_READ, reply if call.is_answered else b""
+        return TEST_READ, test_reply(calls, place) if call.is_answered else b""
     return call.sent, call.came or b""
 
 
 def exported(calls, shows_wakes):
     """The text that a decoder exports of these calls."""
-    lines, time, reply = [], PAUSE, test_reply(calls)
+    lines, time = [], PAUSE
 
     def show(octets, gap):
         nonlocal time
@@ -38,11 +54,11 @@ def exported(calls, shows_wakes):
             lines.append(f"{time // 10**9}.{time % 10**9:09} {octet:02X}\n")
             time += FRAME + gap
 
-    for call in calls:
+    for place, call in enumerate(calls):
         if shows_wakes and isinstance(call, Wake):
             lines.append(f"{time // 10**9}.{time % 10**9:09} wake\n")
             time += PAUSE
-        sent, came = octets_of(call, reply)
+        sent, came = octets_of(calls, place)
         show(sent, 0)
         time += RESPONSE
         show(came, GAP)

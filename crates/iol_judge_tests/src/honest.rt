@@ -16,11 +16,11 @@ use std::test::Fail;
 
 /// Numbers that look random, the same in each run.
 #[derive(Clone, Copy)]
-struct Random(u64);
+pub(crate) struct Random(pub u64);
 
 impl Random {
     /// A number below a limit that is above 0.
-    fn below(&mut self, limit: u64) -> u64
+    pub(crate) fn below(&mut self, limit: u64) -> u64
         requires { 0 < limit }
         ensures { result < limit }
     {
@@ -31,7 +31,7 @@ impl Random {
         (self.0 >> 33) % limit
     }
 
-    fn octet(&mut self) -> u8 {
+    pub(crate) fn octet(&mut self) -> u8 {
         self.below(256) as u8
     }
 }

@@ -13,6 +13,8 @@ mod kinds;
 #[cfg(test)]
 mod lies;
 #[cfg(test)]
+mod ports;
+#[cfg(test)]
 mod splits;
 #[cfg(test)]
 mod transfers;

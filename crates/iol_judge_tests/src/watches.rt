@@ -173,6 +173,51 @@ const IDLE: [Exchange; 2] = [
 /// ABORT of nothing.
 const NO_REQUEST: [Exchange; 1] = [(&[0xFF, 0x85, 0x00], None)];
 
+/// The first octets of an answer of three, of which the last is 0. The COUNT read for it gets no
+/// reply.
+const UP_TO_ZERO: [Exchange; 6] = [
+    (&[0x70, 0xA1, 0x00, 0x93], Some(&[0x12, 0x34, 0x3A])),
+    (&[0x61, 0xBC, 0x00, 0x10], Some(&[0x12, 0x34, 0x3A])),
+    (&[0x62, 0x80, 0x00, 0x83], Some(&[0x12, 0x34, 0x3A])),
+    (&[0xF0, 0x85, 0x00], Some(&[0xD3, 0x12, 0x34, 0x2E])),
+    (&[0xE1, 0x80, 0x00], Some(&[0xD3, 0x12, 0x34, 0x2E])),
+    (&[0xE2, 0xB0, 0x00], None),
+];
+
+/// 0 comes to the repeated COUNT read: the answer, or what a device sends that forgot it.
+const ZERO: Exchange = (&[0xE2, 0xB0, 0x00], Some(&[0x00, 0x12, 0x34, 0x3A]));
+
+/// A request begins, IDLE goes out, and ABORT.
+const BEGINS: Exchange = (&[0x70, 0xA1, 0x00, 0x93], None);
+
+const IDLES: Exchange = (&[0xF1, 0x94, 0x00], Some(&[0x00, 0x12, 0x34, 0x3A]));
+
+const GIVES_UP: Exchange = (&[0xFF, 0x85, 0x00], Some(&[0x00, 0x12, 0x34, 0x3A]));
+
+/// The same answer, while ProcessDataOutputOperate goes out twice between its segments, and the
+/// last octet comes at once.
+const ZERO_AT_ONCE: [Exchange; 8] = [
+    (&[0x70, 0xA1, 0x00, 0x93], Some(&[0x12, 0x34, 0x3A])),
+    (&[0x61, 0xBC, 0x00, 0x10], Some(&[0x12, 0x34, 0x3A])),
+    (&[0x62, 0x80, 0x00, 0x83], Some(&[0x12, 0x34, 0x3A])),
+    (&[0xF0, 0x85, 0x00], Some(&[0xD3, 0x12, 0x34, 0x2E])),
+    (&[0xE1, 0x80, 0x00], Some(&[0xD3, 0x12, 0x34, 0x2E])),
+    (&[0x20, 0xBF, 0x00, 0x98], None),
+    (&[0x20, 0xBF, 0x00, 0x98], Some(&[0x12, 0x34, 0x3A])),
+    ZERO,
+];
+
+/// An answer of five octets: the third is 0, and comes to a repeated COUNT read.
+const ZERO_INSIDE: [Exchange; 7] = [
+    (&[0x70, 0xA1, 0x00, 0x93], Some(&[0x12, 0x34, 0x3A])),
+    (&[0x61, 0xBC, 0x00, 0x10], Some(&[0x12, 0x34, 0x3A])),
+    (&[0x62, 0x80, 0x00, 0x83], Some(&[0x12, 0x34, 0x3A])),
+    (&[0xF0, 0x85, 0x00], Some(&[0xD5, 0x12, 0x34, 0x1D])),
+    (&[0xE1, 0x80, 0x00], Some(&[0xD5, 0x12, 0x34, 0x1D])),
+    (&[0xE2, 0xB0, 0x00], None),
+    ZERO,
+];
+
 /// More is asked for where no service was answered.
 const GOES_ON: [Exchange; 5] = [
     (&[0x70, 0xA1, 0x00, 0x93], Some(&[0x12, 0x34, 0x3A])),
@@ -357,6 +402,42 @@ fn messages_are_due(rt: HostRuntime) -> Result<(), Fail> {
     assert!(rt; is_blamed(&NO_REQUEST, Blame::NotDue));
     assert!(rt; is_blamed(&GOES_ON, Blame::NotDue));
     assert!(rt; is_blamed(&RESERVED, Blame::NotDue));
+    Ok(())
+}
+
+/// Whether in OPERATE this is by the rules behind those.
+fn is_fair(before: &[Exchange], next: &[Exchange]) -> bool {
+    let mut watch = operating();
+    tell(&mut watch, before);
+    tell(&mut watch, next);
+    watch.verdict() == MasterVerdict::ByTheRules
+}
+
+/// Whether it is called not due, where those before are by the rules.
+fn is_not_due(before: &[Exchange], next: &[Exchange]) -> bool {
+    let mut watch = operating();
+    tell(&mut watch, before);
+    let fair = watch.verdict() == MasterVerdict::ByTheRules;
+    tell(&mut watch, next);
+    fair && matches!(
+        watch.verdict(),
+        MasterVerdict::NotByTheRules(_, Blame::NotDue)
+    )
+}
+
+/// Zeros that end an answer at a repeated COUNT read end the request, or it is given up.
+/// Any other end of an answer ends it, and zeros inside of one don't.
+#[test]
+fn zeros_at_a_repeat_end_it_either_way(rt: HostRuntime) -> Result<(), Fail> {
+    for next in [BEGINS, IDLES, GIVES_UP] {
+        assert!(rt; is_fair(&UP_TO_ZERO, &[ZERO, next]));
+    }
+    assert!(rt; is_not_due(&UP_TO_ZERO, &[ZERO, IDLES, GIVES_UP]));
+    assert!(rt; is_not_due(&UP_TO_ZERO, &[ZERO, GIVES_UP, GIVES_UP]));
+    assert!(rt; is_not_due(&ZERO_AT_ONCE, &[GIVES_UP]));
+    assert!(rt; is_not_due(&ZERO_INSIDE, &[BEGINS]));
+    assert!(rt; is_not_due(&ZERO_INSIDE, &[IDLES]));
+    assert!(rt; is_fair(&ZERO_INSIDE, &[GIVES_UP]));
     Ok(())
 }
 

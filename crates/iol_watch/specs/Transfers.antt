@@ -1,5 +1,6 @@
 -- The ISDU transfer of a master: which message is due there, and what its reply tells.
 use Rattle.std.specs.Prelude.{ℕ, Bool, true, false, ◌&&◌, ◌==◌, nat_le, if◌then◌else◌, List, ◌++◌, length, drop, slice_index, Option, Some, None, is_some, Result, Ok, Err}
+use Rattle.arrayvec.specs.ArrayVec.{ArrayVec}
 use Rattle.iol_octets.specs.Zeros.{are_zeros}
 use Rattle.iol_octets.specs.declared.flow_control.Flow.{Flow}
 use Rattle.iol_octets.specs.declared.flow_control.Flow.TheVariants.{Start, Count, Idle1, Idle2, Abort, Reserved}
@@ -10,7 +11,7 @@ use Rattle.iol_segment.specs.Join.{Open, Complete, Wrong, stage, next_count}
 use Rattle.iol_watch.specs.declared.fault.Blame.{Blame}
 use Rattle.iol_watch.specs.declared.fault.Blame.TheVariants.{NotDue, RequestText, NotInLine}
 use Rattle.iol_watch.specs.declared.transfer.MasterTransfer.{MasterTransfer}
-use Rattle.iol_watch.specs.declared.transfer.MasterTransfer.TheVariants.{Quiet, Written, Asked, Doubted, Answered, Refused}
+use Rattle.iol_watch.specs.declared.transfer.MasterTransfer.TheVariants.{Quiet, Written, Asked, Doubted, Answered, Repeated, Undecided, Refused}
 use Rattle.iol_watch.specs.declared.transfer.TheConstants.{LONGEST, NO_SERVICE, BUSY, START_WRITE, START_READ}
 
 -- The request's segments
@@ -36,6 +37,7 @@ transfer_in_request octets last = elim (stage octets) [
 
 abbrev pub start_sent : Bool → MasterTransfer → List ℕ → Result MasterTransfer Blame
 start_sent true Quiet octets = transfer_in_request octets None
+start_sent true Undecided octets = transfer_in_request octets None
 start_sent isdu transfer octets = Err NotDue
 
 abbrev pub count_sent : MasterTransfer → ℕ → List ℕ → Result MasterTransfer Blame
@@ -50,9 +52,14 @@ abbrev pub start_asked : MasterTransfer → Result MasterTransfer Blame
 start_asked (Asked read) = Ok (Asked read)
 start_asked transfer = Err NotDue
 
-abbrev pub count_asked : MasterTransfer → ℕ → Result MasterTransfer Blame
-count_asked (Answered read text last) count =
+-- the next one is asked for, behind the one of this COUNT
+abbrev pub next_asked : Bool → ArrayVec ℕ → Option ℕ → ℕ → Result MasterTransfer Blame
+next_asked read text last count =
     if count == next_count last then Ok (Answered read text (Some count)) else Err NotInLine
+
+abbrev pub count_asked : MasterTransfer → ℕ → Result MasterTransfer Blame
+count_asked (Answered read text last) count = next_asked read text last count
+count_asked (Repeated read text last) count = next_asked read text last count
 count_asked transfer count = Err NotDue
 
 -- not all octets of an answer
@@ -81,7 +88,18 @@ asked_after_reply read octets =
 -- the same of a START read in place of a START write: of which the device has heard nothing
 abbrev pub doubted_told : Bool → List ℕ → MasterTransfer
 doubted_told read octets =
-    if slice_index octets 0 == NO_SERVICE then Quiet else asked_after_reply read octets
+    if slice_index octets 0 == NO_SERVICE then Undecided else asked_after_reply read octets
+
+-- zeros came to a COUNT read that went out again: where they end the answer, a device that forgot
+-- it would send them too
+abbrev pub ended_by_zeros : MasterTransfer → MasterTransfer
+ended_by_zeros Quiet = Undecided
+ended_by_zeros transfer = transfer
+
+abbrev pub repeated_told : Bool → ArrayVec ℕ → Option ℕ → List ℕ → MasterTransfer
+repeated_told read text last octets =
+    let told = transfer_in_answer read (text.items ++ octets) last in
+    if are_zeros octets then ended_by_zeros told else told
 
 -- once the good reply to a read on the ISDU channel brought these octets
 abbrev pub transfer_after_reply : MasterTransfer → List ℕ → MasterTransfer
@@ -89,6 +107,7 @@ transfer_after_reply (Asked read) octets = asked_after_reply read octets
 transfer_after_reply (Doubted read) octets = doubted_told read octets
 transfer_after_reply (Answered read text last) octets =
     transfer_in_answer read (text.items ++ octets) last
+transfer_after_reply (Repeated read text last) octets = repeated_told read text last octets
 transfer_after_reply transfer octets = transfer
 
 -- A message in place of a repeat
@@ -99,19 +118,23 @@ asks_instead (Asked read) out octets =
     (slice_index out 0 == START_WRITE) && (slice_index octets 0 == START_READ)
 asks_instead transfer out octets = false
 
--- once that goes out, and once it goes out again
+-- once that goes out
 abbrev pub transfer_in_doubt : MasterTransfer → MasterTransfer
 transfer_in_doubt (Asked read) = Doubted read
 transfer_in_doubt transfer = transfer
 
+-- once the message that is out goes out again: what came to it may have been the answer, or its
+-- last segment
 abbrev pub transfer_after_repeat : MasterTransfer → MasterTransfer
 transfer_after_repeat (Doubted read) = Asked read
+transfer_after_repeat (Answered read text last) = Repeated read text last
 transfer_after_repeat transfer = transfer
 
 -- A message
 
 abbrev pub idle_sent : MasterTransfer → Result MasterTransfer Blame
 idle_sent Quiet = Ok Quiet
+idle_sent Undecided = Ok Quiet
 idle_sent transfer = Err NotDue
 
 abbrev pub abort_sent : MasterTransfer → Result MasterTransfer Blame

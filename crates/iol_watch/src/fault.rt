@@ -43,7 +43,8 @@ pub enum Blame {
     /// - COUNT write without a request that was begun; START read without one that was written
     ///   whole, or once its answer has begun; COUNT read before that;
     /// - IDLE while a request is under way, ABORT while none is; behind "no service" or a refused
-    ///   answer all but ABORT;
+    ///   answer all but ABORT. Behind zeros that end an answer at a repeated COUNT read, and "no
+    ///   service" to a START read in place of a START write, none is, but ABORT is allowed;
     /// - a flow that is reserved;
     /// - a read of events without the Event flag in the last good reply, or behind a StatusCode
     ///   that was refused; one at another address than the reading's next;

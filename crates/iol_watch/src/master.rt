@@ -99,7 +99,8 @@ impl MasterState {
         match (&self.phase, &self.out) {
             (MasterPhase::Down, _) => Err(Blame::WakeDue),
             (_, Some(out)) if out.octets.as_slice() == octets => {
-                self.transfer.repeat();
+                let transfer = replace(&mut self.transfer, MasterTransfer::Quiet);
+                self.transfer = transfer.repeat();
                 Ok(())
             }
             (_, Some(out)) if self.transfer.asks_instead(out.octets.as_slice(), octets) => {

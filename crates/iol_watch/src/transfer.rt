@@ -2,7 +2,7 @@
 ghost use Rattle.std.specs.Prelude.{◌≡◌, ◌≤◌, ◌++◌, length};
 ghost use Rattle.iol_isdu.specs.Parse.{request_of};
 ghost use Rattle.iol_far.specs.Codec.{flow_of};
-ghost use Rattle.iol_watch.specs.Transfers.{abort_sent, answer_begun, answer_joined, transfer_in_answer, transfer_after_repeat, asked_after_reply, asks_instead, request_begun, count_asked, count_sent, transfer_in_doubt, doubted_told, idle_sent, transfer_after_message, start_asked, start_sent, transfer_after_reply, request_joined, transfer_in_request};
+ghost use Rattle.iol_watch.specs.Transfers.{abort_sent, answer_begun, answer_joined, transfer_in_answer, transfer_after_repeat, asked_after_reply, asks_instead, request_begun, count_asked, count_sent, transfer_in_doubt, doubted_told, idle_sent, repeated_told, transfer_after_message, start_asked, start_sent, transfer_after_reply, request_joined, transfer_in_request};
 
 use crate::fault::Blame;
 use arrayvec::ArrayVec;
@@ -47,6 +47,12 @@ pub(crate) enum MasterTransfer {
     /// Segments of the answer came, or the next one is asked for: whether it answers a read, their
     /// octets, and the last COUNT that was asked for.
     Answered(bool, Text, Option<u8>),
+    /// The same, while the message that is out, or the last one, went out again: a device may have
+    /// forgotten the answer that it began.
+    Repeated(bool, Text, Option<u8>),
+    /// None is under way, or one that is given up: the device has heard nothing of it, or may have
+    /// forgotten its answer. The master knows which.
+    Undecided,
     /// "No service" came, or what is no answer.
     Refused,
 }
@@ -76,7 +82,7 @@ impl MasterTransfer {
         ensures { result ≡ start_sent isdu self octets.now }
     {
         match self {
-            MasterTransfer::Quiet if isdu => written(octets, None),
+            MasterTransfer::Quiet | MasterTransfer::Undecided if isdu => written(octets, None),
             _ => Err(Blame::NotDue),
         }
     }
@@ -107,10 +113,11 @@ impl MasterTransfer {
         ensures { result ≡ count_asked self count }
     {
         match self {
-            MasterTransfer::Answered(read, text, last) if count == next_count(last) => {
+            MasterTransfer::Answered(read, text, last) | MasterTransfer::Repeated(read, text, last)
+                if count == next_count(last) => {
                 Ok(MasterTransfer::Answered(read, text, Some(count)))
             }
-            MasterTransfer::Answered(..) => Err(Blame::NotInLine),
+            MasterTransfer::Answered(..) | MasterTransfer::Repeated(..) => Err(Blame::NotInLine),
             _ => Err(Blame::NotDue),
         }
     }
@@ -119,7 +126,7 @@ impl MasterTransfer {
         ensures { result ≡ idle_sent self }
     {
         match self {
-            MasterTransfer::Quiet => Ok(MasterTransfer::Quiet),
+            MasterTransfer::Quiet | MasterTransfer::Undecided => Ok(MasterTransfer::Quiet),
             _ => Err(Blame::NotDue),
         }
     }
@@ -152,13 +159,17 @@ impl MasterTransfer {
         }
     }
 
-    /// Once the message that is out goes out again: what the device has isn't in doubt any more,
-    /// since a reply that got lost may have been the answer.
-    pub fn repeat(&mut self)
-        ensures { self.new ≡ transfer_after_repeat self.old }
+    /// Once the message that is out goes out again: a reply that got lost may have been the
+    /// answer, or its last segment.
+    pub fn repeat(self) -> MasterTransfer
+        ensures { result ≡ transfer_after_repeat self }
     {
-        if let MasterTransfer::Doubted(read) = *self {
-            *self = MasterTransfer::Asked(read);
+        match self {
+            MasterTransfer::Doubted(read) => MasterTransfer::Asked(read),
+            MasterTransfer::Answered(read, text, last) => {
+                MasterTransfer::Repeated(read, text, last)
+            }
+            other => other,
         }
     }
 
@@ -175,6 +186,7 @@ impl MasterTransfer {
                 &joined(&text, octets),
                 last,
             ),
+            MasterTransfer::Repeated(read, text, last) => repeated_told(read, &text, last, octets),
             other => other,
         }
     }
@@ -236,14 +248,26 @@ fn asked_told(read: bool, octets: &[u8]) -> MasterTransfer
 }
 
 /// The reply to a START read that went out in place of a START write: where the device has heard
-/// nothing of that, no request is under way.
+/// nothing of that, the request goes out anew, or is given up.
 fn doubted_told(read: bool, octets: &[u8]) -> MasterTransfer
     ensures { result ≡ doubted_told read octets.now }
 {
     if first(octets) == NO_SERVICE {
-        return MasterTransfer::Quiet;
+        return MasterTransfer::Undecided;
     }
     asked_told(read, octets)
+}
+
+/// The reply to a COUNT read that went out again: where zeros end the answer, a device that forgot
+/// it would send them too.
+fn repeated_told(read: bool, text: &Text, last: Option<u8>, octets: &[u8]) -> MasterTransfer
+    requires { length octets.now ≤ 32 }
+    ensures { result ≡ repeated_told read text.now last octets.now }
+{
+    match answered(read, &joined(text, octets), last) {
+        MasterTransfer::Quiet if are_zeros(octets) => MasterTransfer::Undecided,
+        told => told,
+    }
 }
 
 /// Of an answer these octets came, the last of them under this COUNT.
