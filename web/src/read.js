@@ -225,6 +225,16 @@ function readAway(reader, rest) {
   reader.away = Number(count);
 }
 
+/** How many events the devices refused, behind the records: shown behind the last exchange. */
+function readEvents(reader, rest) {
+  matched(/^refused [1-9]\d*$/, rest, 'events refused N');
+  const { exchanges, line, record, carried } = reader;
+  if (record === null || carried.length < record) {
+    throw new BadLine('wanted: events refused N behind the record');
+  }
+  reader.calls.push({ kind: 'events', line, at: exchanges.length, text: rest });
+}
+
 function readCarried(reader, rest) {
   const [, request, answer] = matched(CARRIED, rest, 'carried REQUEST: ANSWER');
   if (reader.record === null) throw new BadLine('wanted: record N before what was carried out');
@@ -324,6 +334,7 @@ const CALLS = new Map([
   ['record', readRecord],
   ['carried', readCarried],
   ['away', readAway],
+  ['events', readEvents],
 ]);
 
 const OF_JUDGE = new Map([

@@ -6,3 +6,4 @@ pub mod Taken
 pub mod ManyLemmas
 pub mod TraceLemmas
 pub mod CountersLemmas
+pub mod EndingLemmas

@@ -20,7 +20,7 @@ use Rattle.iol_port.specs.Run.{PortState, Run, port_at_opening}
 use Rattle.iol_port.specs.View.{PortParts, Runs, IsOpened, opening_for}
 use Rattle.iol_port.specs.EveryWire.{RunGives}
 use Rattle.iol_script.specs.Script.{ScriptValue, script_in, calls_in}
-use Rattle.iol_commands.specs.RunPrinted.{answers_text, record_text, away_text}
+use Rattle.iol_commands.specs.RunPrinted.{answers_text, record_text, away_text, refused_events_text}
 
 -- the far end of a new device of this kind and page, which may miss pulses or not
 abbrev pub first_far : Kind → Bool → List ℕ → Far
@@ -58,6 +58,7 @@ first_wire script = record {
   auto = true;
   silent = false;
   silence = 0;
+  refused_events = 0;
 }
 
 -- what is printed of the records at the end: that of the device that is plugged in, and
@@ -65,6 +66,10 @@ first_wire script = record {
 abbrev pub records_text : SimulatedWire (List ParameterEntry) → List ℕ
 records_text sim = record_text sim.device.far.carried
     ++ away_text (option_map (λ d. d.far.carried) sim.away)
+
+-- what is printed at the end, behind these calls: the records, and the events that were refused
+abbrev pub ending_text : List Call → SimulatedWire (List ParameterEntry) → List ℕ
+ending_text calls sim = records_text sim ++ refused_events_text calls sim.refused_events
 
 -- a script of one device, which sees each pulse where the port is for our own
 pub record HasItsDevice (script : ScriptValue) : Type 0 where
@@ -93,7 +98,7 @@ pub record RunsAlike (script : ScriptValue) (calls : List Call) (answers : List 
   pub run : Run (first_port script) calls answers after
   pub carried : wire.device.far.carried ≡ after.session.carried
 
--- What is printed for calls: what they answer, and then the records. They are made on a
+-- What is printed for calls: what they answer, and then the end. They are made on a
 -- new port over the script's wire; with one device, as the port wants it, the abstract port
 -- makes them alike.
 pub record PlaysOut (script : ScriptValue) (calls : List Call) (text : List ℕ) : Type 0 where
@@ -105,7 +110,8 @@ pub record PlaysOut (script : ScriptValue) (calls : List Call) (text : List ℕ)
   pub made : RunGives (sim_facts Stores) first calls answers last
   pub alike : HasItsDevice script → RunsAlike script calls answers (link_wire last.station.link)
   pub granted : list_any lacks_memory answers ≡ false
-  pub text_is : text ≡ answers_text calls answers ++ records_text (link_wire last.station.link)
+  pub text_is : text
+      ≡ answers_text calls answers ++ ending_text calls (link_wire last.station.link)
 
 -- what `run` prints for lines, which are a script
 abbrev pub PrintsRun : List (ℕ × List ℕ) → List ℕ → Type 0

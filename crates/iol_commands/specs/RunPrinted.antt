@@ -1,5 +1,6 @@
 -- What `run` prints for the answers to its calls, and for the device's record.
-use Rattle.std.specs.Prelude.{ℕ, ◌/◌, ◌%◌, if◌then◌else◌, Option, Some, None, List, [], ◌∷◌, ◌++◌, length, flat_map, codes}
+use Rattle.std.specs.Prelude.{ℕ, ◌/◌, ◌%◌, Bool, true, false, ◌&&◌, nat_lt, if◌then◌else◌, Option, Some, None, List, [], ◌∷◌, ◌++◌, length, flat_map, codes}
+use Rattle.std.specs.List.{list_any}
 use Rattle.std.specs.Fmt.{decimal}
 use Rattle.iol_isdu.specs.declared.values.Place.{Place}
 use Rattle.iol_isdu.specs.declared.values.Request.{Request}
@@ -226,3 +227,15 @@ away_text (Some entries) = number_text (codes "away ") (length entries) ++ codes
 abbrev pub record_text : List Carried → List ℕ
 record_text entries = number_text (codes "record ") (length entries) ++ codes "\n"
     ++ entries_text entries
+
+-- The events that were refused
+
+-- a call that asks for the counters
+abbrev pub is_counters : Call → Bool
+is_counters call.Counters = true
+is_counters other = false
+
+-- how many there are, where there is one and a call asks for the counters
+abbrev pub refused_events_text : List Call → ℕ → List ℕ
+refused_events_text calls count = if nat_lt 0 count && list_any is_counters calls
+    then number_text (codes "events refused ") count ++ codes "\n" else []

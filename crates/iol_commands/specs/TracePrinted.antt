@@ -21,7 +21,7 @@ use Rattle.iol_port.specs.View.{PortParts, Runs, IsOpened, opening_for, status_o
 use Rattle.iol_port.specs.EveryWire.{PortCallGives, page_shown}
 use Rattle.iol_script.specs.Script.{ScriptValue, script_in, calls_in}
 use Rattle.iol_commands.specs.Passing.{PrintsPassed}
-use Rattle.iol_commands.specs.RunPlayed.{HasItsDevice, RunsAlike, first_wire, records_text, lacks_memory}
+use Rattle.iol_commands.specs.RunPlayed.{HasItsDevice, RunsAlike, first_wire, ending_text, lacks_memory}
 use Rattle.iol_commands.specs.RunPrinted.{printed_answer}
 
 -- the layout of a mode, if a page asks for these; in down no message is sent
@@ -91,7 +91,7 @@ module _ {W : Type 0} (facts : WireFacts W) where
 abbrev pub first_tap : ScriptValue → TappedWire (SimulatedWire (List ParameterEntry))
 first_tap script = record { wire = first_wire script; last = None }
 
--- What is printed for calls: what passes and what they answer, and then the records. They
+-- What is printed for calls: what passes and what they answer, and then the end. They
 -- are made on a new port over a tap on the script's wire; with one device of our own kind the
 -- abstract port makes them alike.
 pub record TracesOut (script : ScriptValue) (calls : List Call) (text : List ℕ) : Type 0 where
@@ -103,7 +103,7 @@ pub record TracesOut (script : ScriptValue) (calls : List Call) (text : List ℕ
   pub calls_text : List ℕ
   pub traces : Traces (sim_facts Stores) (trace_stage 1 first) calls answers last calls_text
   pub alike : HasItsDevice script → RunsAlike script calls answers (wire_at last)
-  pub text_is : text ≡ calls_text ++ records_text (wire_at last)
+  pub text_is : text ≡ calls_text ++ ending_text calls (wire_at last)
 
 -- what `trace` prints for lines, which are a script
 abbrev pub PrintsTrace : List (ℕ × List ℕ) → List ℕ → Type 0

@@ -12,6 +12,7 @@
 
 mod check_command;
 mod counters_printing;
+mod ending;
 mod fault;
 mod judge_command;
 mod many_command;

@@ -9,9 +9,9 @@ ghost use Rattle.iol_commands.specs.declared.fault.ProgramFault.TheVariants.{Lin
 ghost use Rattle.iol_commands.specs.RunPlayed.{first_far, first_wire, new_device, PrintsRun};
 ghost use Rattle.iol_commands.specs.Input.{AnswersInput};
 
+use crate::ending::print_ending;
 use crate::fault::ProgramFault;
 use crate::playing::play_lines;
-use crate::run_printing::print_records;
 use crate::streams::{read_input, write_output};
 use iol_cell::Handle;
 use iol_device::{Device, Kept};
@@ -31,8 +31,9 @@ const ROOM: u32 = 1000;
 ///
 /// The input is read whole, up to 1,048,576 bytes. Its lines are then read from first to last. The
 /// calls are made from first to last, and a line is printed for each but a turn; then the record of
-/// the device is printed. The output is written at the end. The first fault that is met ends the
-/// call: nothing is written then, but where it is a write that fails part of the output may be.
+/// the device is printed, and how many events were refused. The output is written at the end. The
+/// first fault that is met ends the call: nothing is written then, but where it is a write that
+/// fails part of the output may be.
 pub fn run<A: Handle, R: Read, W: Write>(
     alloc: A,
     reader: &mut R,
@@ -69,7 +70,7 @@ fn played<A: Handle>(alloc: A, input: &[u8]) -> Result<String<A>, ProgramFault>
     };
     let mut output = String::new(alloc);
     play_lines(alloc, &mut output, &mut port, input)?;
-    print_records(&mut output, port.wire())?;
+    print_ending(&mut output, port.wire(), input)?;
     Ok(output)
 }
 

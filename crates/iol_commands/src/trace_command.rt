@@ -7,9 +7,9 @@ ghost use Rattle.iol_commands.specs.declared.fault.ProgramFault.TheVariants.{NoT
 ghost use Rattle.iol_commands.specs.TracePrinted.{PrintsTrace, TracesOut};
 ghost use Rattle.iol_commands.specs.Input.{AnswersInput};
 
+use crate::ending::print_ending;
 use crate::fault::ProgramFault;
 use crate::run_command::wire_of;
-use crate::run_printing::print_records;
 use crate::streams::{read_input, write_output};
 use crate::tracing::Tracer;
 use iol_cell::Handle;
@@ -67,6 +67,6 @@ fn traced<A: Handle, W: Write>(
     };
     let mut tracer = Tracer::new(alloc);
     tracer.follow(&mut port, writer, input)?;
-    print_records(&mut tracer.output, port.wire().wire())?;
+    print_ending(&mut tracer.output, port.wire().wire(), input)?;
     write_output(writer, tracer.output.as_str())
 }

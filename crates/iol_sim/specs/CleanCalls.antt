@@ -39,20 +39,21 @@ module _ {P : Type 0} (gives : Gives P) where
 
   -- what holds of each clean wire holds of every wire that is clean
   by_clean : (Q : SimulatedWire P → Type 0)
-      → ((device : Running P) (away : Option (Running P)) (silence : ℕ) → Q (record {
+      → ((device : Running P) (away : Option (Running P)) (silence refused : ℕ) → Q (record {
         device = device;
         away = away;
         steps = [];
         auto = true;
         silent = false;
         silence = silence;
+        refused_events = refused;
       })) → (old : SimulatedWire P) → IsTrue (is_clean old) → Q old
   by_clean Q holds old clean = by old.steps old.auto old.silent clean
     where
       by : (steps : List Step) (auto silent : Bool)
           → (is_ended steps && auto && not silent) ≡ true
           → Q (record old { steps = steps; auto = auto; silent = silent })
-      by [] true false e = holds old.device old.away old.silence
+      by [] true false e = holds old.device old.away old.silence old.refused_events
       by steps auto silent e = never e
 
   pub exchanges_cleanly : (old : SimulatedWire P) (sent : List ℕ) (answer : Option (ArrayVec ℕ))
@@ -61,8 +62,9 @@ module _ {P : Type 0} (gives : Gives P) where
   exchanges_cleanly old sent answer new clean =
       by_clean (λ (s : SimulatedWire P). SimExchanges gives s sent answer new
       → CleanExchange s.device.far sent (octets_in answer) new.device.far
-      × IsTrue (is_clean new)) (λ device away silence x.
-      let worked : ApplicationWorks gives (record { device = device; away = away }) x.ready =
+      × IsTrue (is_clean new)) (λ device away silence refused x.
+      let worked : ApplicationWorks gives
+      (record { device = device; away = away; refused_events = refused }) x.ready =
       subst (λ (d : DevicePair P). ApplicationWorks gives d x.ready) x.ready_is.steps
       x.ready_is.work in (
         record {
@@ -80,4 +82,4 @@ module _ {P : Type 0} (gives : Gives P) where
       → IsTrue (is_clean old) → SimWakes gives old answer new → IsTrue (is_clean new)
   wakes_cleanly old answer new clean =
       by_clean (λ (s : SimulatedWire P). SimWakes gives s answer new → IsTrue (is_clean new))
-      (λ device away silence x. ap (λ (s : SimulatedWire P). is_clean s) x.new_is) old clean
+      (λ device away silence refused x. ap (λ (s : SimulatedWire P). is_clean s) x.new_is) old clean

@@ -31,9 +31,12 @@ pub record SimulatedWire (P : Type 0) : Type 0 where
   pub silent : Bool
   -- how many exchanges in a row, up to now, brought no unaltered reply, counted up to 3
   pub silence : ℕ
+  -- how many events were raised that the device at the far end then refused
+  pub refused_events : ℕ
 
 abbrev pub sim_devices : {P : Type 0} → SimulatedWire P → DevicePair P
-sim_devices sim = record { device = sim.device; away = sim.away }
+sim_devices sim =
+    record { device = sim.device; away = sim.away; refused_events = sim.refused_events }
 
 -- whether it loses messages and replies, and does no worse: a line to one device. With two,
 -- another one may stand at the far end later
@@ -67,6 +70,7 @@ wire_before_call sim devices = record {
   auto = if sim.silent then sim.auto else auto_of sim.auto sim.steps;
   silent = is_silent (fate_now sim);
   silence = sim.silence;
+  refused_events = devices.refused_events;
 }
 
 -- the devices as the call finds them: the steps are done, unless the wire is silent,

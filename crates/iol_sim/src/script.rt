@@ -31,7 +31,7 @@ pub enum Step {
     Work,
     /// Whether it does so before each call from now on, behind the steps.
     Auto(bool),
-    /// The device raises an event; where it takes no further one, nothing happens.
+    /// The device raises an event; where it takes no further one, that is counted.
     Raise(Event),
     /// The device has this process data in; where it isn't of its length, nothing happens.
     Input(Image),

@@ -9,6 +9,7 @@ use crate::fault::SimFault;
 use crate::params::Params;
 use crate::script::{Fate, Step};
 use iol_device::{App, Device, Kept};
+use iol_event::Event;
 use iol_far::{page_and_room_stay, replies_are_read};
 use iol_link::{MAX_RETRY, Rate, Wire, damaged_replies_are_unread};
 use iol_mseq::Message;
@@ -50,6 +51,8 @@ struct LineStanding {
     silent: bool,
     /// The exchanges in a row that brought no unaltered reply, counted up to 3.
     silence: u8,
+    /// The events that were raised and that the device at the far end refused.
+    refused_events: u64,
 }
 
 impl<P: App, A: Allocator + Copy> Model for Sim<P, A> {
@@ -67,6 +70,7 @@ impl<P: App, A: Allocator + Copy> Model for Sim<P, A> {
       auto = sim.line.auto;
       silent = sim.line.silent;
       silence = sim.line.silence;
+      refused_events = sim.line.refused_events;
     } };
 
     ghost invariant = { λ sim. sim.line.silence ≤ most_attempts };
@@ -81,7 +85,7 @@ impl<P: App, A: Allocator + Copy> Sim<P, A> {
     ghost use Rattle.iol_link.specs.declared.wire.Rate.{Rate};
     ghost use Rattle.iol_sim.specs.declared.fault.SimFault.{SimFault};
     ghost use Rattle.iol_sim.specs.declared.script.Fate.{Fate};
-    ghost use Rattle.iol_sim.specs.Script.{fate_of, rest_of, auto_of, devices_after_swap, IsDone, AreDone};
+    ghost use Rattle.iol_sim.specs.Script.{fate_of, rest_of, auto_of, devices_after_raise, devices_after_swap, IsDone, AreDone};
     ghost use Rattle.iol_sim.specs.Sim.{sim_devices, fate_now, wire_before_call, IsReady, misses_pulse, device_after_wake, rate_by, reached_by, rate_found, device_after_exchange, reply_by, silence_by_fate};
 
     /// A wire to this device, with this script, which isn't copied.
@@ -100,6 +104,7 @@ impl<P: App, A: Allocator + Copy> Sim<P, A> {
           auto = true;
           silent = false;
           silence = 0;
+          refused_events = 0;
         }) }
         ensures refused { IfErr result (λ e. e.0 ≡ SimFault.OutOfMemory) }
         ensures device { IfErr result (λ e. e.1 ≡ device) }
@@ -111,6 +116,7 @@ impl<P: App, A: Allocator + Copy> Sim<P, A> {
                     auto: true,
                     silent: false,
                     silence: 0,
+                    refused_events: 0,
                 },
                 device,
                 away: None,
@@ -146,6 +152,7 @@ impl<P: App, A: Allocator + Copy> Sim<P, A> {
           auto = true;
           silent = false;
           silence = 0;
+          refused_events = 0;
         }) }
         ensures refused { IfErr result (λ e. e.0 ≡ SimFault.OutOfMemory) }
         ensures device { IfErr result (λ e. e.1 ≡ device) }
@@ -180,6 +187,14 @@ impl<P: App, A: Allocator + Copy> Sim<P, A> {
             Some(device) => Some(device.as_ref()),
             None => None,
         }
+    }
+
+    /// How many events were raised that the device at the far end then refused, as its event
+    /// memory was full. It stays at 2^64 - 1, and over a swap.
+    pub fn refused_events(&self) -> u64
+        ensures { result ≡ self.now.refused_events }
+    {
+        self.line.refused_events
     }
 
     /// A law of each such wire, without code of its own: the application of the
@@ -225,6 +240,21 @@ impl<P: App, A: Allocator + Copy> Sim<P, A> {
         }
     }
 
+    /// The device raises an event. One that it refuses is counted.
+    fn raise(&mut self, event: Event)
+        ensures devices { sim_devices self.new ≡ devices_after_raise (sim_devices self.old) event }
+        ensures rest { self.new
+            ≡ record self.old {
+              device = self.new.device;
+              refused_events = self.new.refused_events;
+            } }
+    {
+        if self.device.raise(event).is_err() {
+            let count = &mut self.line.refused_events;
+            *count = count.saturating_add(1);
+        }
+    }
+
     /// Does one step that is no fate.
     fn act(&mut self, step: &Step)
         ensures devices { IsDone P.carry_out_gives step.now (sim_devices self.old)
@@ -233,6 +263,7 @@ impl<P: App, A: Allocator + Copy> Sim<P, A> {
             ≡ record self.old {
               device = self.new.device;
               away = self.new.away;
+              refused_events = self.new.refused_events;
               auto = auto_of self.old.auto
                   (step.now ∷ []);
             } }
@@ -241,10 +272,8 @@ impl<P: App, A: Allocator + Copy> Sim<P, A> {
             Step::Fate(_) => {}
             Step::Work => self.device.work(),
             Step::Auto(on) => self.line.auto = *on,
+            Step::Raise(event) => self.raise(*event),
             // A refusal changes nothing.
-            Step::Raise(event) => {
-                let _ = self.device.raise(*event);
-            }
             Step::Input(image) => {
                 let _ = self.device.set_input(image);
             }
@@ -264,6 +293,7 @@ impl<P: App, A: Allocator + Copy> Sim<P, A> {
             ≡ record self.old {
               device = self.new.device;
               away = self.new.away;
+              refused_events = self.new.refused_events;
               steps = rest_of self.old.steps;
               auto =
                   auto_of self.old.auto self.old.steps;

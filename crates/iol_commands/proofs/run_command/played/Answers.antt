@@ -26,6 +26,6 @@ returns-clause-printed g c =
           (link_wire last.station.link) is port.opening (λ has. rw has.one refl) refl refl
           port.stands plays.runs refl;
       granted = plays.granted;
-      text_is = rw (c.in_ok-print_records.ensures, wrote, none, plays.text_is, c.wire.ensures)
+      text_is = rw (c.in_ok-print_ending.ensures, wrote, none, plays.text_is, c.wire.ensures)
           refl;
     }

@@ -6,7 +6,7 @@ use Rattle.iol_script.specs.Text.{numbered_lines}
 use Rattle.iol_sim.specs.Params.{Stores}
 use Rattle.iol_sim.specs.Sim.{sim_facts}
 use Rattle.iol_tap.specs.Tapped.{tap_facts}
-use Rattle.iol_commands.specs.RunPlayed.{records_text}
+use Rattle.iol_commands.specs.RunPlayed.{ending_text}
 use Rattle.iol_commands.specs.TracePrinted.{TracesOut, first_tap, trace_stage}
 use Rattle.iol_commands.proofs.RunLemmas.{runs_alike}
 use Rattle.iol_commands.proofs.TraceLemmas.{whole_written}
@@ -22,7 +22,7 @@ returns-clause-printed g c =
     at c.new-wire.ensures in
     let followed = c.in_ok-follow.ensures.traced in
     let traced = followed.traced in
-    let shown = records_text c.wire-2.result.now in
+    let shown = ending_text calls c.wire-2.result.now in
     let out : TracesOut script calls (followed.text ++ shown) = record {
       answers = traced.answers;
       first = c.in-Ok.port.parts;
@@ -39,6 +39,6 @@ returns-clause-printed g c =
       followed.text ++ shown,
       whole_written _ _ _ _ c.as_str.result.now followed.text shown
           (rw c.new-tracer.ensures.output at followed.flows)
-          (c.as_str.ensures.value ∙ c.in_ok-print_records.ensures) wrote,
+          (c.as_str.ensures.value ∙ c.in_ok-print_ending.ensures) wrote,
       out,
     )) c.write_output.ensures.ok
