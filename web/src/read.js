@@ -329,6 +329,7 @@ const CALLS = new Map([
   ['event', readEvent],
   ['status', readStatus],
   ['counters', shown('counters', /^\w+ \d+(?: \w+ \d+)*$/, 'counters NAME N ..')],
+  ['last', shown('last', /^(?:\w+|WrongDevice [0-9A-F]{4} [0-9A-F]{6})$/, 'last NAME|none')],
   ['archived', shown('archived', /^\d+$/, 'archived N')],
   ['refused', shown('refused', /^\d+ \w+$/, 'refused N NAME')],
   ['record', readRecord],
