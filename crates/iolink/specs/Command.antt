@@ -1,5 +1,6 @@
 -- The commands by their names.
-use Rattle.std.specs.Prelude.{ℕ, Option, Some, None, option_map, List, if◌then◌else◌, codes}
+use Rattle.std.specs.Prelude.{ℕ, Option, Some, None, option_map, List, [], ◌∷◌, ◌==◌, map, if◌then◌else◌, codes}
+use Rattle.std.specs.Char.{to_ascii_lowercase}
 use Rattle.std.specs.Str.{bytes_eq}
 use Rattle.iol_judge.specs.declared.verdict.Odd.{Odd}
 use Rattle.iol_link.specs.declared.wire.Rate.{Rate}
@@ -25,12 +26,19 @@ asked_named name form odd =
     if bytes_eq name (codes "judge") then Some (asked.Judge form odd) else
     option_map asked.Mode (mode_named name)
 
--- the rate of a word
+-- the rate by the digit of its name
+abbrev pub rate_of_digit : ℕ → Option Rate
+rate_of_digit digit =
+    if digit == 49 then Some Com1 else
+    if digit == 50 then Some Com2 else
+    if digit == 51 then Some Com3 else None
+
+-- the rate of a word, `com` in upper or lower case and a digit
 abbrev pub rate_named : List ℕ → Option Rate
-rate_named word =
-    if bytes_eq word (codes "com1") then Some Com1 else
-    if bytes_eq word (codes "com2") then Some Com2 else
-    if bytes_eq word (codes "com3") then Some Com3 else None
+rate_named (c ∷ o ∷ m ∷ digit ∷ []) =
+    if bytes_eq (map to_ascii_lowercase (c ∷ o ∷ m ∷ [])) (codes "com") then rate_of_digit digit
+    else None
+rate_named word = None
 
 -- the form of a capture, by the rate of its octets
 abbrev pub form_of : Option Rate → CaptureForm

@@ -86,16 +86,26 @@ fn octets_rate(words: &ArgMatches<'_>) -> Option<Rate> {
     rate_named(words.get_str(OCTETS)?)
 }
 
-ghost use Rattle.iolink.specs.Command.{form_of, rate_named};
+ghost use Rattle.iolink.specs.Command.{form_of, rate_named, rate_of_digit};
 
-/// The rate of a word.
+/// The rate of a word, in upper or lower case.
 fn rate_named(word: &str) -> Option<Rate>
     ensures { result ≡ rate_named word.now }
 {
     match word.as_bytes() {
-        b"com1" => Some(Rate::Com1),
-        b"com2" => Some(Rate::Com2),
-        b"com3" => Some(Rate::Com3),
+        [b'c' | b'C', b'o' | b'O', b'm' | b'M', digit] => rate_of_digit(*digit),
+        _ => None,
+    }
+}
+
+/// The rate by the digit of its name.
+fn rate_of_digit(digit: u8) -> Option<Rate>
+    ensures { result ≡ rate_of_digit digit }
+{
+    match digit {
+        b'1' => Some(Rate::Com1),
+        b'2' => Some(Rate::Com2),
+        b'3' => Some(Rate::Com3),
         _ => None,
     }
 }
@@ -116,6 +126,7 @@ fn octets_option<'a>(alloc: Global) -> Arg<'a> {
         .long(OCTETS)
         .value_name("RATE")
         .value_parser(["com1", "com2", "com3"].as_slice())
+        .ignore_case(true)
         .help("Reads what a decoder shows of a line with this rate")
 }
 
