@@ -1,11 +1,11 @@
 -- Whether words fit a form, of which no value is built: `write_fits`, `are_pairs` and
 -- `take_call` need these.
-use Rattle.std.proofs.Common.{◌≡◌, ◌+◌, true, false, Option, Some, None, is_some, ◌&&◌, refl}
+use Rattle.std.proofs.Common.{◌≡◌, true, false, Option, Some, None, is_some, ◌&&◌, refl}
 use Rattle.iol_port.specs.declared.call.Call.{Call}
 use Rattle.iol_script.specs.DraftInside.{after_form}
 use Rattle.iol_script.specs.Numerals.{of_both}
 use Rattle.iol_script.specs.RunLines.{one_call}
-use Rattle.iol_script.specs.Script.{DraftValue, in_bounds}
+use Rattle.iol_script.specs.Script.{DraftValue, in_bounds, with_calls}
 
 pub both_fit : {X Y Z : Type 0} (make : X → Y → Z) (x : Option X) (y : Option Y)
     → is_some (of_both make x y) ≡ is_some x && is_some y
@@ -20,7 +20,6 @@ no_call draft (Some call) e = cc
 no_call draft None e = refl
 
 pub one_more : (draft : DraftValue) (call : Option Call) → is_some call ≡ true
-    → in_bounds (record draft { calls = draft.calls + 1; begun = true })
-    ≡ after_form one_call draft call
+    → in_bounds (with_calls draft 1 0) ≡ after_form one_call draft call
 one_more draft (Some call) e = refl
 one_more draft None e = cc

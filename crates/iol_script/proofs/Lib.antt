@@ -8,3 +8,4 @@ pub mod OctetsLemmas
 pub mod PairsLemmas
 pub mod PlanLemmas
 pub mod ScriptLemmas
+pub mod FatesLemmas

@@ -2,7 +2,7 @@
 use Rattle.std.specs.Prelude.{◌≡◌, ◌≤◌, ℕ, Option, Some, None, Result, Err, IsOk, OnOk, length, option_map, option_and_then}
 use Rattle.std.specs.Option.{ForSome}
 use Rattle.iol_page.specs.Page.{layouts_of}
-use Rattle.iol_script.specs.Script.{DraftValue, script_after}
+use Rattle.iol_script.specs.Script.{DraftValue, fates_in, script_after}
 use Rattle.iol_script.specs.declared.draft.Draft.TheInside.{Inside}
 use Rattle.iol_script.specs.declared.fault.ScriptFault.{ScriptFault}
 use Rattle.iol_script.specs.declared.fault.ScriptFault.TheVariants.{Line}
@@ -27,11 +27,13 @@ module _ {A : Type 0} where
     other = fields.other;
     kind = fields.kind;
     misses_pulses = fields.misses_pulses;
+    in_order = fields.in_order;
     devices = fields.devices;
     limits = fields.limits;
     params = fields.params.items;
     steps = fields.steps.items;
     calls = fields.calls;
+    turns = fields.turns;
     begun = fields.begun;
   }
 
@@ -42,4 +44,6 @@ module _ {A : Type 0} where
     pub params : length fields.params.items ≤ 32
     pub given : ForSome fields.limits (λ limits. limits.given ≡ 0)
     pub steps : length fields.steps.items ≤ 1000000
+    pub fates : fields.fates ≡ fates_in fields.steps.items
     pub calls : fields.calls ≤ 1000000
+    pub turns : fields.turns ≤ fields.calls

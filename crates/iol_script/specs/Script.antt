@@ -1,5 +1,5 @@
 -- What the lines of `run` make, one after the other.
-use Rattle.std.specs.Prelude.{◌≡◌, ◌≤◌, ℕ, ◌+◌, Bool, true, false, Option, Some, None, is_none, unwrap_or, option_map, option_and_then, Result, Ok, IsOk, List, [], ◌∷◌, ◌++◌, length, replicate, fold, flat_map, nat_le, nat_lt, ◌&&◌, if◌then◌else◌}
+use Rattle.std.specs.Prelude.{◌≡◌, ◌≤◌, ℕ, ◌+◌, ◌-◌, Bool, true, false, Option, Some, None, is_none, unwrap_or, option_map, option_and_then, Result, Ok, IsOk, List, [], ◌∷◌, ◌++◌, length, replicate, fold, flat_map, nat_le, nat_lt, ◌&&◌, if◌then◌else◌}
 use Rattle.std.specs.Option.{ForSome, option_map_or}
 use Rattle.std.specs.Vec.{vec_len}
 use Rattle.iol_page.specs.Page.{layouts_of}
@@ -12,6 +12,7 @@ use Rattle.iol_mode.specs.declared.configuration.Devices.{Devices}
 use Rattle.iol_mode.specs.declared.configuration.Devices.TheVariants.{Own}
 use Rattle.iol_sim.specs.Params.{number_at_place}
 use Rattle.iol_sim.specs.declared.params.ParameterEntry.{ParameterEntry}
+use Rattle.iol_sim.specs.declared.script.Fate.TheVariants.{Clean}
 use Rattle.iol_sim.specs.declared.script.Step.{Step}
 use Rattle.iol_sim.specs.declared.script.Step.TheVariants.{Fate, Swap}
 use Rattle.iol_script.specs.Text.{line_read}
@@ -31,17 +32,20 @@ use Rattle.iol_script.specs.declared.script.Script.{Script}
 -- a script, as far as its lines are read
 pub record DraftValue : Type 0 where
   -- the page, that of a second device, the kind, for which devices the port is, and the limits,
-  -- where a line gave them; whether one said that the device may miss pulses
+  -- where a line gave them; whether one said that the device may miss pulses, and whether one said
+  -- that lines of the wire act where they stand
   pub page : Option (List ℕ)
   pub other : Option (List ℕ)
   pub kind : Option Kind
   pub misses_pulses : Bool
+  pub in_order : Bool
   pub devices : Option Devices
   pub limits : Option Limits
   pub params : List ParameterEntry
   pub steps : List Step
-  -- how many calls there are
+  -- how many calls there are, and how many of them are turns
   pub calls : ℕ
+  pub turns : ℕ
   -- whether a line of the wire or a call came: then no setting is taken any more
   pub begun : Bool
 
@@ -52,11 +56,13 @@ empty_draft = record {
   other = None;
   kind = None;
   misses_pulses = false;
+  in_order = false;
   devices = None;
   limits = None;
   params = [];
   steps = [];
   calls = 0;
+  turns = 0;
   begun = false;
 }
 
@@ -64,6 +70,15 @@ empty_draft = record {
 abbrev pub steps_of : WireLine → List Step
 steps_of (Fates fate n) = replicate n (Fate fate)
 steps_of (One step) = step ∷ []
+
+-- how many steps are fates
+abbrev pub is_fate : Step → Bool
+is_fate (Fate fate) = true
+is_fate other = false
+
+abbrev pub fates_in : List Step → ℕ
+fates_in [] = 0
+fates_in (step ∷ steps) = if is_fate step then 1 + fates_in steps else fates_in steps
 
 -- whether a line of the wire exchanges the devices
 abbrev pub is_swap : WireLine → Bool
@@ -74,6 +89,11 @@ is_swap other = false
 abbrev pub line_calls : CallLine → List Call
 line_calls (Once call) = call ∷ []
 line_calls (Turns n) = replicate n Turn
+
+-- how many turns a line makes
+abbrev pub line_turns : CallLine → ℕ
+line_turns (Once call) = 0
+line_turns (Turns n) = n
 
 -- one more parameter is taken at a place: it is one of 32 at places of their own
 abbrev pub takes_param : List ParameterEntry → Place → Bool
@@ -90,6 +110,8 @@ with_setting draft (setting.Other octets) = once draft.other (record draft { oth
 with_setting draft (setting.Kind kind) = once draft.kind (record draft { kind = Some kind })
 with_setting draft setting.MissesPulses =
     if draft.misses_pulses then None else Some (record draft { misses_pulses = true })
+with_setting draft setting.InOrder =
+    if draft.in_order then None else Some (record draft { in_order = true })
 with_setting draft (setting.Devices ds) = once draft.devices (record draft { devices = Some ds })
 with_setting draft (setting.Limits busy journal queue) = once draft.limits
     (record draft {
@@ -109,6 +131,23 @@ abbrev pub in_bounds : DraftValue → Option DraftValue
 in_bounds draft =
     if nat_le (length draft.steps) 1000000 && nat_le draft.calls 1000000 then Some draft else None
 
+-- how many of the turns so far have no fate, where lines of the wire act where they stand
+abbrev pub lacking_fates : DraftValue → ℕ
+lacking_fates draft = if draft.in_order then draft.turns - fates_in draft.steps else 0
+
+-- the draft with the steps of a line of the wire: in order, the turns above it that have no fate
+-- get a clean one first
+abbrev pub with_steps : DraftValue → WireLine → DraftValue
+with_steps draft wire = record draft {
+  steps = draft.steps ++ replicate (lacking_fates draft) (Fate Clean) ++ steps_of wire;
+  begun = true;
+}
+
+-- the draft with so many more calls, of which so many are turns
+abbrev pub with_calls : DraftValue → ℕ → ℕ → DraftValue
+with_calls draft count turns =
+    record draft { calls = draft.calls + count; turns = draft.turns + turns; begun = true }
+
 -- the draft after a line, where the line is good in its place: devices are exchanged
 -- only where there is a second one
 abbrev pub script_after : DraftValue → RunLine → Option DraftValue
@@ -116,9 +155,9 @@ script_after draft line.Skip = Some draft
 script_after draft (line.Setting setting) = if draft.begun then None else with_setting draft setting
 script_after draft (line.Wire wire) =
     if is_swap wire && is_none draft.other then None
-    else in_bounds (record draft { steps = draft.steps ++ steps_of wire; begun = true })
+    else in_bounds (with_steps draft wire)
 script_after draft (line.Call call) =
-    in_bounds (record draft { calls = draft.calls + length (line_calls call); begun = true })
+    in_bounds (with_calls draft (length (line_calls call)) (line_turns call))
 
 -- the draft after a line with its number, or the number of the first bad line: it
 -- fits no form, or is refused in its place

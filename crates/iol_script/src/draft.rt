@@ -1,9 +1,11 @@
 //! A script, as far as its lines are read.
-ghost use Rattle.std.specs.Prelude.{◌≡◌, ◌++◌, ◌+◌, ◌≤◌, ℕ, Some, None, Ok, Err, OnOk, OnErr, option_map, option_and_then, true, replicate};
+ghost use Rattle.std.specs.Prelude.{◌≡◌, ◌++◌, ◌+◌, ◌≤◌, ℕ, Some, None, Ok, Err, OnOk, option_map, option_and_then, true, length, replicate, vec_len, vec_capacity};
 ghost use Rattle.iol_script.specs.declared.fault.ScriptFault.TheVariants.{Line};
-ghost use Rattle.iol_script.specs.RunLines.{call_form, devices_form, kind_form, limits_form, one_call, page_line, page_octets, param_form, pulses_form, run_words, turns_form, wire_form};
+ghost use Rattle.iol_script.specs.RunLines.{call_form, devices_form, kind_form, limits_form, one_call, order_form, page_line, page_octets, param_form, pulses_form, run_words, turns_form, wire_form};
 ghost use Rattle.iol_script.specs.Text.{words_left};
+ghost use Rattle.iol_script.specs.Script.{steps_of};
 ghost use Rattle.iol_sim.specs.Params.{number_at_place};
+ghost use Rattle.iol_sim.specs.declared.script.Fate.TheVariants.{Clean};
 
 use crate::call_check::fits_call;
 use crate::call_line::turns_of;
@@ -11,7 +13,7 @@ use crate::fault::ScriptFault;
 use crate::fields::{end_of, is};
 use crate::parts::Words;
 use crate::script::Script;
-use crate::setting::{devices_of, kind_of, limits_of, page_of, param_of, pulses_of};
+use crate::setting::{devices_of, kind_of, limits_of, order_of, page_of, param_of, pulses_of};
 use crate::wire_line::{WireLine, parse_wire};
 use iol_book::Limits;
 use iol_far::Kind;
@@ -19,7 +21,7 @@ use iol_isdu::Place;
 use iol_mode::Devices;
 use iol_page::Page;
 use iol_sim::{Fate, ParameterEntry, Step};
-use std::alloc::{AllocError, Allocator};
+use std::alloc::Allocator;
 use std::marker::Model;
 
 /// The most parameters of a script.
@@ -42,11 +44,17 @@ pub(crate) struct Draft<A: Allocator> {
     other: Option<Page>,
     kind: Option<Kind>,
     misses_pulses: bool,
+    /// Whether each line of the wire acts behind the turns above it.
+    in_order: bool,
     devices: Option<Devices>,
     limits: Option<Limits>,
     params: Vec<ParameterEntry, A>,
     steps: Vec<Step, A>,
+    /// How many of the steps are fates.
+    fates: usize,
     calls: usize,
+    /// How many of the calls are turns.
+    turns: usize,
     /// Whether a line of the wire or a call came.
     begun: bool,
 }
@@ -67,7 +75,7 @@ impl<A: Allocator> Draft<A> {
     ghost use Rattle.iol_script.specs.DraftInside.{after_form, LineIsTaken};
     ghost use Rattle.iol_script.specs.declared.run_line.RunLine.{RunLine};
     ghost use Rattle.iol_script.specs.declared.setting.Setting.{Setting};
-    ghost use Rattle.iol_script.specs.Script.{IsScript, draft_after, empty_draft, in_bounds, script_after, script_of, takes_param, value_of};
+    ghost use Rattle.iol_script.specs.Script.{IsScript, draft_after, empty_draft, in_bounds, lacking_fates, script_after, script_of, takes_param, value_of, with_calls};
 
     /// No line is read.
     pub(crate) fn new(alloc: A) -> Draft<A>
@@ -80,11 +88,14 @@ impl<A: Allocator> Draft<A> {
             other: None,
             kind: None,
             misses_pulses: false,
+            in_order: false,
             devices: None,
             limits: None,
             params: Vec::new(alloc),
             steps: Vec::new(alloc),
+            fates: 0,
             calls: 0,
+            turns: 0,
             begun: false,
         }
     }
@@ -117,6 +128,8 @@ impl<A: Allocator> Draft<A> {
             self.take_kind(words).ok_or(bad)
         } else if is(name, b"pulses") {
             self.take_pulses(words).ok_or(bad)
+        } else if is(name, b"in") {
+            self.take_order(words).ok_or(bad)
         } else if is(name, b"devices") {
             self.take_devices(words).ok_or(bad)
         } else if is(name, b"limits") {
@@ -138,7 +151,7 @@ impl<A: Allocator> Draft<A> {
             ≡ option_and_then (script_after self.old) (page_line (words_left words.entry)) }
     {
         if end_of(words).is_some() {
-            self.add_calls(1)
+            self.add_calls(1, 0)
         } else {
             self.take_page(words)
         }
@@ -195,6 +208,19 @@ impl<A: Allocator> Draft<A> {
             return None;
         }
         self.misses_pulses = true;
+        Some(())
+    }
+
+    /// The words behind `in`.
+    fn take_order(&mut self, words: Words) -> Option<()>
+        ensures { option_map (λ _. self.new) result
+            ≡ after_form RunLine.Setting self.old (order_form (words_left words.entry)) }
+    {
+        order_of(words)?;
+        if self.begun || self.in_order {
+            return None;
+        }
+        self.in_order = true;
         Some(())
     }
 
@@ -267,7 +293,7 @@ impl<A: Allocator> Draft<A> {
             ≡ after_form RunLine.Call self.old (turns_form (words_left words.entry)) }
     {
         let count = turns_of(words)?;
-        self.add_calls(count)
+        self.add_calls(count, count)
     }
 
     /// The words of one call.
@@ -278,38 +304,54 @@ impl<A: Allocator> Draft<A> {
         if !fits_call(name, words) {
             return None;
         }
-        self.add_calls(1)
+        self.add_calls(1, 0)
     }
 
-    /// Steps are taken up to 1,000,000, and a swap only with a second device. The memory for
-    /// all of them is taken before the first.
+    /// Steps are taken up to 1,000,000, and a swap only with a second device. In order, as many
+    /// clean fates as turns above lack come before them. The memory for all of them is taken
+    /// before the first.
     fn add_steps(&mut self, number: u64, line: WireLine) -> Result<(), ScriptFault>
         ensures { LineIsTaken (script_after self.old (RunLine.Wire line)) number result self.new }
     {
         if line.is_swap() && self.other.is_none() {
             return Err(ScriptFault::Line(number));
         }
-        if self.steps.len() + line.count() as usize > STEPS {
+        let lacking = self.lacking_fates();
+        let count = lacking + line.count() as usize;
+        if self.steps.len() + count > STEPS {
             return Err(ScriptFault::Line(number));
         }
-        match line {
-            WireLine::Fates(fate, count) => push_fates(&mut self.steps, fate, count)?,
-            WireLine::One(step) => self.steps.push(step)?,
-        }
+        let fates = lacking + line.fates() as usize;
+        self.steps.reserve(count)?;
+        push_steps(&mut self.steps, lacking, line);
+        self.fates += fates;
         self.begun = true;
         Ok(())
     }
 
-    /// Calls are counted up to 1,000,000.
-    fn add_calls(&mut self, count: u32) -> Option<()>
+    /// How many of the turns above have no fate, where lines of the wire are in order.
+    fn lacking_fates(&self) -> usize
+        ensures { result ≡ lacking_fates self.now }
+    {
+        if self.in_order {
+            self.turns.saturating_sub(self.fates)
+        } else {
+            0
+        }
+    }
+
+    /// Calls are counted up to 1,000,000, and how many of them are turns.
+    fn add_calls(&mut self, count: u32, turns: u32) -> Option<()>
+        requires { turns ≤ count }
         ensures { option_map (λ _. self.new) result
-            ≡ in_bounds (record self.old { calls = self.old.calls + count; begun = true }) }
+            ≡ in_bounds (with_calls self.old count turns) }
     {
         let calls = self.calls + count as usize;
         if calls > CALLS {
             return None;
         }
         self.calls = calls;
+        self.turns += turns as usize;
         self.begun = true;
         Some(())
     }
@@ -333,19 +375,27 @@ impl<A: Allocator> Draft<A> {
     }
 }
 
-/// So many steps of this fate. Where there is no memory for all of them, there is none.
-fn push_fates<A: Allocator>(
-    steps: &mut Vec<Step, A>,
-    fate: Fate,
-    count: u32,
-) -> Result<(), AllocError>
-    ensures pushed { OnOk result (steps.new.items
-        ≡ steps.old.items ++ replicate count (Step.Fate fate)) }
-    ensures err { OnErr result (steps.new.items ≡ steps.old.items) }
+/// So many clean fates, and the steps of a line, for which there is room.
+fn push_steps<A: Allocator>(steps: &mut Vec<Step, A>, lacking: usize, line: WireLine)
+    requires { vec_len steps.old + (lacking + length (steps_of line)) ≤ vec_capacity steps.old }
+    ensures { steps.new.items
+        ≡ steps.old.items ++ replicate lacking (Step.Fate Clean) ++ steps_of line }
 {
-    steps.reserve(count as usize)?;
+    push_fates(steps, Fate::Clean, lacking);
+    match line {
+        WireLine::Fates(fate, count) => push_fates(steps, fate, count as usize),
+        WireLine::One(step) => steps.push_reserved(step),
+    }
+}
+
+/// So many steps of this fate, for which there is room.
+fn push_fates<A: Allocator>(steps: &mut Vec<Step, A>, fate: Fate, count: usize)
+    requires { vec_len steps.old + count ≤ vec_capacity steps.old }
+    ensures pushed { steps.new.items ≡ steps.old.items ++ replicate count (Step.Fate fate) }
+    ensures len { vec_len steps.new ≡ vec_len steps.old + count }
+    ensures room { vec_capacity steps.new ≡ vec_capacity steps.old }
+{
     for _ in 0..count {
         steps.push_reserved(Step::Fate(fate));
     }
-    Ok(())
 }

@@ -6,7 +6,9 @@ ghost use Rattle.iol_script.specs.Text.{words_left};
 use crate::call_line::{CallLine, parse_call, turns_of};
 use crate::fields::{end_of, is};
 use crate::parts::Words;
-use crate::setting::{Setting, devices_of, kind_of, limits_of, page_of, param_of, pulses_of};
+use crate::setting::{
+    Setting, devices_of, kind_of, limits_of, order_of, page_of, param_of, pulses_of,
+};
 use crate::wire_line::{WireLine, parse_wire};
 use iol_port::Call;
 
@@ -51,6 +53,9 @@ fn parse_words(mut words: Words) -> Option<RunLine>
     } else if is(name, b"pulses") {
         pulses_of(words)?;
         Some(RunLine::Setting(Setting::MissesPulses))
+    } else if is(name, b"in") {
+        order_of(words)?;
+        Some(RunLine::Setting(Setting::InOrder))
     } else if is(name, b"devices") {
         Some(RunLine::Setting(Setting::Devices(devices_of(words)?)))
     } else if is(name, b"limits") {

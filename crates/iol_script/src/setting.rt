@@ -1,7 +1,7 @@
 //! The lines of `run` that set something up.
 ghost use Rattle.std.specs.Prelude.{◌≡◌, IfSome, IsOk, option_map};
 ghost use Rattle.iol_page.specs.Page.{layouts_of};
-ghost use Rattle.iol_script.specs.RunLines.{access_of, devices_form, devices_named, hands_over_of, kind_form, limits_form, page_octets, param_form, pulses_form, queue_form, recalls_of};
+ghost use Rattle.iol_script.specs.RunLines.{access_of, devices_form, devices_named, hands_over_of, kind_form, limits_form, order_form, page_octets, param_form, pulses_form, queue_form, recalls_of};
 ghost use Rattle.iol_script.specs.declared.setting.Setting.{Setting};
 ghost use Rattle.iol_script.specs.Text.{words_left};
 
@@ -27,6 +27,8 @@ pub enum Setting {
     Kind(Kind),
     /// The device may miss the pulse of a wake-up request.
     MissesPulses,
+    /// Each line of the wire acts behind the turns that stand above it.
+    InOrder,
     /// For which devices the port is opened.
     Devices(Devices),
     /// What the port is opened with.
@@ -108,6 +110,15 @@ pub(crate) fn pulses_of(mut words: Words) -> Option<()>
     let word = words.next()?;
     end_of(words)?;
     is(word, b"missed").then_some(())
+}
+
+/// The word behind `in`: lines of the wire act where they stand.
+pub(crate) fn order_of(mut words: Words) -> Option<()>
+    ensures { option_map (λ _. Setting.InOrder) result ≡ order_form (words_left words.entry) }
+{
+    let word = words.next()?;
+    end_of(words)?;
+    is(word, b"order").then_some(())
 }
 
 /// The word behind `devices`: for which the port is opened.

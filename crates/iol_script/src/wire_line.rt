@@ -22,7 +22,7 @@ pub enum WireLine {
 
 impl WireLine {
     ghost use Rattle.std.specs.Prelude.{length};
-    ghost use Rattle.iol_script.specs.Script.{is_swap, steps_of};
+    ghost use Rattle.iol_script.specs.Script.{fates_in, is_swap, steps_of};
 
     /// How many steps it makes.
     pub(crate) fn count(&self) -> u32
@@ -31,6 +31,18 @@ impl WireLine {
         match self {
             WireLine::Fates(_, count) => *count,
             WireLine::One(_) => 1,
+        }
+    }
+
+    /// How many of them are fates.
+    #[tactic(auto, using(crate::proofs::FatesLemmas::of_fates))]
+    pub(crate) fn fates(&self) -> u32
+        ensures { result ≡ fates_in (steps_of self.now) }
+    {
+        match self {
+            WireLine::Fates(_, count) => *count,
+            WireLine::One(Step::Fate(_)) => 1,
+            WireLine::One(_) => 0,
         }
     }
 

@@ -40,7 +40,9 @@ Reads standard input to its end, a line at a time. First the device and the port
   devices own|any                         for which devices the port is opened: our own, as it is, or any
   limits BUSY JOURNAL [QUEUE]             the busy replies that end a request, the entries of the journal, the tickets
   param INDEX SUB ro H                    a parameter that is read; rw: and written
-Then what happens on the wire, and the calls of the port, in any order:
+  in order                                each line of the wire acts behind the turns that stand above it
+Then, in any order, what happens on the wire, and the calls of the port. Lines of the wire are a list of their own: the
+first is of the first call of the wire, wherever it stands among the calls of the port.
   wire clean N                            N calls of the wire; also outlost, backlost, outdamaged, backdamaged, nowake
   wire silent                             from now on nothing reaches the device
   wire work | wire auto on | off          when the device carries out what it was handed

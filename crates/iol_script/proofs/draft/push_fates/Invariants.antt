@@ -5,4 +5,5 @@ use Rattle.iol_script.proofs.draft.push_fates.Given as goal
 abbrev pub invariant-loop : goal.invariant-loop
 invariant-loop g l =
     (l.steps.items ≡ l.fn.steps.items ++ replicate l.counter (Fate l.fate))
-    × (vec_len l.steps + l.count ≤ vec_capacity l.steps + l.counter)
+    × (vec_len l.steps ≡ vec_len l.fn.steps + l.counter)
+    × (vec_capacity l.steps ≡ vec_capacity l.fn.steps)

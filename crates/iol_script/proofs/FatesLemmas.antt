@@ -1,0 +1,20 @@
+-- How many steps are fates: `WireLine.fates` and `Draft.add_steps` need these.
+use Rattle.std.proofs.Common.{◌≡◌, ◌≤◌, ◌+◌, ℕ, zero, suc, List, [], ◌∷◌, ◌++◌, length, replicate, refl, arith}
+use Rattle.iol_sim.specs.declared.script.Fate.{Fate as FateOf}
+use Rattle.iol_sim.specs.declared.script.Step.{Step}
+use Rattle.iol_sim.specs.declared.script.Step.TheVariants.{Fate}
+use Rattle.iol_script.specs.Script.{fates_in}
+
+-- all that are made of a fate
+pub of_fates : (fate : FateOf) (n : ℕ) → fates_in (replicate n (Fate fate)) ≡ n
+of_fates fate zero = refl
+of_fates fate (suc n) = let rest = of_fates fate n in grind arith
+
+pub of_both : (a b : List Step) → fates_in (a ++ b) ≡ fates_in a + fates_in b
+of_both [] b = refl
+of_both (step ∷ a) b = let rest = of_both a b in grind arith
+
+-- no more than there are steps
+pub at_most_all : (steps : List Step) → fates_in steps ≤ length steps
+at_most_all [] = omega arith
+at_most_all (step ∷ steps) = let rest = at_most_all steps in grind arith
