@@ -18,8 +18,13 @@ const KEYS = {
   },
 };
 
+/** What takes keys itself: the picture doesn't get them from there. */
+const TAKES_KEYS = (
+  'input, select, textarea, button, a, summary, dialog, #detail, [role="tabpanel"]');
+
 function onKey(event) {
   if (event.ctrlKey || event.metaKey || event.altKey) return;
+  if (!state.trace || event.target.closest?.(TAKES_KEYS)) return;
   const act = KEYS[event.key] ?? KEYS[event.key.toLowerCase()];
   if (!act) return;
   event.preventDefault();
@@ -84,7 +89,7 @@ function onStrip(event) {
 
 function listenToPicture() {
   const picture = byId('picture');
-  picture.addEventListener('keydown', onKey);
+  document.addEventListener('keydown', onKey);
   picture.addEventListener('wheel', onWheel, { passive: false });
   picture.addEventListener('pointerdown', onDown);
   picture.addEventListener('pointermove', onMove);
@@ -97,19 +102,6 @@ function listenToPicture() {
 
 function listenToTools() {
   const on = (id, kind, act) => byId(id).addEventListener(kind, act);
-  on('example', 'change', (event) => {
-    if (openExample(event.target.value)) location.hash = `example=${event.target.value}`;
-  });
-  on('choose', 'click', () => byId('file').click());
-  on('file', 'change', ({ target }) => {
-    openFile(target.files[0]);
-    target.value = '';
-  });
-  on('paste', 'click', () => byId('paste-dialog').showModal());
-  on('paste-dialog', 'close', ({ target }) => {
-    const text = byId('paste-text').value;
-    if (target.returnValue === 'draw' && text) open(text, 'pasted text');
-  });
   on('find', 'submit', (event) => { event.preventDefault(); find(); });
   on('find-what', 'change', (event) => {
     const forms = { octets: 'D4 41', ticket: '1', index: '16/0', exchange: '18', verdict: '' };
@@ -138,29 +130,7 @@ function listenToTabs() {
   });
 }
 
-function listenToPage() {
-  const isTyped = (target) => target.closest?.('input, textarea');
-  document.addEventListener('paste', (event) => {
-    const text = event.clipboardData.getData('text');
-    if (text && !isTyped(event.target)) open(text, 'pasted text');
-  });
-  document.addEventListener('dragover', (event) => {
-    event.preventDefault();
-    document.body.classList.add('is-target');
-  });
-  document.addEventListener('dragleave', () => document.body.classList.remove('is-target'));
-  document.addEventListener('drop', (event) => {
-    event.preventDefault();
-    document.body.classList.remove('is-target');
-    const text = event.dataTransfer.getData('text');
-    if (event.dataTransfer.files[0]) openFile(event.dataTransfer.files[0]);
-    else if (text) open(text, 'dropped text');
-  });
-  addEventListener('hashchange', followAddress);
-  document.addEventListener('click', (event) => {
-    // The address doesn't change if it is that of the link already.
-    if (event.target.closest?.('a[href^="#"]')?.hash === location.hash) followAddress();
-  });
+function listenToSize() {
   new ResizeObserver(() => {
     if (!state.trace || byId('picture').clientWidth === state.width) return;
     measure();
@@ -169,17 +139,14 @@ function listenToPage() {
   }).observe(byId('picture'));
 }
 
-function begin() {
-  const names = examples.map((it) => it.dataset.example);
-  byId('example').append(...names.map((it) => new Option(it, it)));
+function listen() {
   listenToPicture();
   listenToTools();
   listenToTabs();
-  listenToPage();
+  listenToSize();
+  document.addEventListener('click', (event) => {
+    // The address doesn't change if it is that of the link already.
+    if (event.target.closest?.('a[href^="#"]')?.hash === location.hash) followAddress();
+  });
   selectTab('requests');
-  followAddress();
-  if (!state.trace) openExample(examples[0].dataset.example);
 }
-
-page.show = open;
-begin();

@@ -43,11 +43,9 @@ function nextMissed() {
 
 const placeOf = (number) => page.placeOf(state.trace.exchanges, number);
 
-/** Follows the address: an example, an exchange, a line of the text. */
+/** Follows the address: an exchange, a line of the text. */
 function followAddress() {
   const asked = new URLSearchParams(location.hash.slice(1));
-  const example = asked.get('example');
-  if (example && state.name !== `example ${example}`) openExample(example);
   if (!state.trace) return;
   if (asked.has('exchange')) choose(placeOf(Number(asked.get('exchange'))) ?? state.chosen);
   if (!asked.has('line')) return;

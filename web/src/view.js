@@ -8,7 +8,6 @@ const FIRST_SCALE = 58;
 const WHOLE_HEIGHT = 42;
 const CLICK = 5;
 const RIGHT = 170;
-const examples = [...document.querySelectorAll('script[data-example]')];
 
 const state = {
   name: '', trace: null, lanes: [], view: { from: 0, scale: FIRST_SCALE }, width: 1000, left: 148,
@@ -23,9 +22,8 @@ function open(text, name) {
   state.trace = page.prepare(page.open(text));
   state.lanes = page.lanesOf(state.trace);
   Object.assign(state, { name, chosen: null, pointed: null, asked: '', found: [], foundAt: -1 });
-  document.title = `${name} – IO-Link trace`;
+  document.title = `${name} – IO-Link`;
   byId('found').value = '';
-  byId('example').value = name.startsWith('example ') ? name.slice(8) : '';
   measure();
   firstView();
   showFault();
@@ -50,16 +48,6 @@ function firstChoice() {
   const surprise = requests.find((it) => it.isTwice) ?? requests.find((it) => it.isSurprise);
   const missed = exchanges.find((it) => it.fate === 'lost' || it.fate === 'damaged');
   return surprise?.first ?? missed?.at ?? 0;
-}
-
-function openExample(id) {
-  const script = examples.find((it) => it.dataset.example === id);
-  if (script) open(script.textContent.replace(/^\n/, ''), `example ${id}`);
-  return Boolean(script);
-}
-
-async function openFile(file) {
-  if (file) open(await file.text(), file.name);
 }
 
 // What is seen.

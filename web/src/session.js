@@ -1,0 +1,146 @@
+// A session is a script of `iolink trace`. Each button adds lines, and the whole script is run
+// again: the program is fast, and the same lines always give the same trace. So going back is
+// having fewer lines, and what is seen is what the program prints for the script.
+//
+// The calls of the wire that a script tells of are a list of their own, from the first on. Before
+// something is to happen now, the calls that were made already are passed over.
+
+const SETTING = /^(?:page [0-9A-F]{2} |(?:other|kind|pulses|devices|limits|param) )/;
+const FATE = /^wire (clean|outlost|backlost|outdamaged|backdamaged|nowake) (\d+)$/;
+const TURN = /^turn (\d+)$/;
+const SUBMIT = /^(?:urgent )?(read \S+ \S+|write \S+ \S+ \S+)$/;
+const PULLED = '# The cable is pulled.';
+const PLUGGED = '# The cable is plugged in.';
+/** The identity 0x1234, 0x000208, with which none of the pages is. */
+const OTHER = 'other 17 2D 11 00 00 12 34 00 02 08';
+
+const isPulled = (lines) => lines.findLast((it) => it === PULLED || it === PLUGGED) === PULLED;
+
+/** What the lines say of calls of the wire, call by call; of long stretches the end alone. */
+function fatesOf(lines) {
+  const stretches = lines.map((it) => FATE.exec(it)).filter(Boolean);
+  return stretches.map(([, fate, count]) => ({ fate, count: Number(count) }));
+}
+
+const plannedIn = (lines) => fatesOf(lines).reduce((all, { count }) => all + count, 0);
+
+/** The fates that are planned for the calls to come. */
+function fatesToCome(lines, made) {
+  let at = 0;
+  return fatesOf(lines).filter(({ count }) => {
+    at += count;
+    return at > made;
+  });
+}
+
+/** The lines, and what is to happen on the wire from now on, where so many calls were made. */
+function withWire(lines, made, step) {
+  const missing = made - plannedIn(lines);
+  return [...lines, ...(missing > 0 ? [`wire clean ${missing}`] : []), `wire ${step}`];
+}
+
+/** The lines without fates that are still to come: with the cable out, none of them is met. */
+function withoutPlans(lines, made) {
+  const rest = [...lines];
+  while (plannedIn(rest) > made) rest.splice(rest.findLastIndex((it) => FATE.test(it)), 1);
+  return rest;
+}
+
+/** The lines, and so many turns; with the cable out, nothing of them is heard. */
+function withTurns(lines, made, count) {
+  const before = Number(TURN.exec(lines.at(-1) ?? '')?.[1] ?? 0);
+  const all = `turn ${before + count}`;
+  if (!isPulled(lines)) return [...lines.slice(0, before ? -1 : undefined), all];
+  if (before && lines.at(-2) === `wire outlost ${before}`) {
+    return [...lines.slice(0, -2), `wire outlost ${before + count}`, all];
+  }
+  return [...withWire(lines, made, `outlost ${count}`), `turn ${count}`];
+}
+
+const textOfLines = (lines) => lines.map((it) => `${it}\n`).join('');
+
+/** A port keeps at most so many events; with each click, so many are asked for. */
+const EVENTS = 8;
+const NOT_YET = /^refused \d+ (?:NotYet|NoEvent)$/;
+
+const isCall = (it) => it !== '' && !/^(?:#|wire |turn )/.test(it) && !SETTING.test(it);
+const isOfTheLine = (it) => /^\d+ /.test(it);
+
+/** The tickets that are outstanding at the end of what was printed. */
+function ticketsOpen(printed) {
+  const open = new Set();
+  for (const it of printed) {
+    const [, ticket, end] = /^ticket (\d+)( .*)?$/.exec(it) ?? [];
+    if (ticket && end) open.delete(ticket);
+    else if (ticket) open.add(ticket);
+  }
+  return [...open];
+}
+
+/** What was printed up to the record, the record, and that of a device that isn't plugged in. */
+function partsOf(printed) {
+  const record = printed.findLastIndex((it) => /^record \d+$/.test(it));
+  const away = printed.findLastIndex((it) => /^away \d+$/.test(it));
+  const end = away < 0 ? printed.length : away;
+  const entries = (from, to) => printed.slice(from, to).map((it) => it.replace(/^carried /, ''));
+  return {
+    said: printed.slice(0, record), behind: printed.slice(record),
+    did: entries(record + 1, end), didAway: entries(end + 1, printed.length),
+  };
+}
+
+class Refusal extends Error {}
+
+function traced(lines) {
+  const { status, printed, wrong } = execute('trace', textOfLines(lines));
+  if (status !== 0) throw new Refusal(wrong.trim());
+  return partsOf(printed.trimEnd().split('\n'));
+}
+
+/** How many calls of the wire a trace has. */
+const callsIn = (trace) => Number(/^\d+/.exec(trace.findLast(isOfTheLine) ?? '0')[0]);
+
+/** What each call of the script was answered: the call, and the line that was printed for it. */
+function answersIn(lines, said) {
+  const printed = said.filter((it) => !isOfTheLine(it));
+  return lines.filter(isCall).map((call, at) => ({ call, answer: printed[at] ?? '' }));
+}
+
+/**
+ * Runs a script. Behind it, each ticket that is open is asked for, the events, and how the port
+ * stands. What of this brought something stays in the script.
+ */
+function perform(lines) {
+  const open = ticketsOpen(traced(lines).said);
+  const asked = [...open.map((it) => `collect ${it}`), ...Array(EVENTS).fill('event')];
+  const found = traced([...lines, ...asked]);
+  const answers = found.said.slice(found.said.length - asked.length);
+  const kept = asked.filter((_, at) => !NOT_YET.test(answers[at]));
+  const whole = [...lines, ...kept];
+  const now = traced([...whole, 'status', 'image']);
+  const [status, image] = now.said.slice(-2);
+  const said = now.said.slice(0, -2);
+  const trace = [...said, ...now.behind];
+  return {
+    lines: whole, trace, status, image, made: callsIn(said), did: now.did, didAway: now.didAway,
+    answers: answersIn(whole, said), judged: execute('judge', textOfLines(trace)).printed,
+  };
+}
+
+/** A request as the record names it, from a line that submits it. */
+function requestOf(line) {
+  const [, request] = SUBMIT.exec(line);
+  const [way, index, subindex, octets] = request.split(' ');
+  if (octets === undefined) return `${way} ${index} ${subindex}`;
+  return `${way} ${index} ${subindex} ${octets.match(/../g)?.join(' ') ?? octets}`;
+}
+
+/** What was asked for, and each request that the devices did more often, with how often more. */
+function doneAgain({ answers, did, didAway }) {
+  const left = new Map();
+  const count = (request, by) => left.set(request, (left.get(request) ?? 0) + by);
+  const submits = answers.filter(({ call, answer }) => SUBMIT.test(call) && /^ticket/.test(answer));
+  submits.forEach(({ call }) => count(requestOf(call), -1));
+  [...did, ...didAway].forEach((it) => count(it.slice(0, it.lastIndexOf(':')), 1));
+  return { asked: submits.length, again: [...left].filter(([, times]) => times > 0) };
+}
