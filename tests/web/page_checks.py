@@ -181,7 +181,6 @@ def check_keys(room):
     window = room.window
     room.open_page("#example=cable_pulled&exchange=18")
     yield "an address chooses", unlike(room.chosen(), 18)
-    window.run("document.getElementById('picture').focus()")
     wanted = [
         ("ArrowRight", 19), ("ArrowLeft", 18), ("Home", 1), ("l", 18), ("l", 19), ("End", 20), ("ArrowRight", 20),
     ]
@@ -321,6 +320,18 @@ def check_picture_file(room):
     yield "save as SVG", "" if appears(path) and read(path) == saved else "no such file came"
 
 
+def check_reload(room):
+    """The page that is loaded again has the text that was opened, and another page the first example."""
+    text = room.row_traces()["requests/trace_read_with_one_fate"]
+    room.open_page()
+    room.open_text(text)
+    room.window.ask("Page.reload")
+    room.window.until("Boolean(globalThis.page?.show)")
+    yield "F5 keeps the text", unlike(room.counts(), counted(text))
+    room.open_page()
+    yield "another page has none", unlike(room.window.run("page.state.name"), "example cable_pulled")
+
+
 def appears(path):
     """Waits for a file."""
     end = time.monotonic() + 20
@@ -416,15 +427,15 @@ def check_odd_lines(room):
 
 
 def check_silence(room):
-    """The page asks for nothing but itself, and its console has no error."""
+    """The pages ask for nothing but themselves, and their console has no error."""
     errors, asked = room.window.complaints()
     yield "errors of the console", "; ".join(errors)
-    own = (f"file://{ROOT}/web/trace.html", "about:blank", "data:", "blob:")
+    own = (f"file://{ROOT}/web/trace.html", f"file://{ROOT}/web/line.html", "about:blank", "data:", "blob:")
     yield "addresses asked for", ", ".join(it for it in asked if not it.startswith(own))
 
 
 CHECKS = [
-    check_made, check_examples, check_traces, *RECORDS, check_broken, check_odd_lines, check_story, check_details, check_keys,
-    check_pointer, check_touch, check_find, check_paste_and_drop, check_picture_file, check_table, check_rules,
-    check_contrast, check_pictures, *VERDICTS, check_large, check_silence,
+    check_made, check_examples, check_traces, *RECORDS, check_broken, check_odd_lines, check_story, check_details,
+    check_keys, check_pointer, check_touch, check_find, check_paste_and_drop, check_reload, check_picture_file,
+    check_table, check_rules, check_contrast, check_pictures, *VERDICTS, check_large,
 ]

@@ -106,7 +106,8 @@ def check_records(room):
         room.open_text(text_of(trace, kinds, carried))
         name = f"record of {carried} for {', '.join(kinds)}"
         yield f"{name}: fault", room.fault()
-        yield name, unlike(room.window.run(FOUND), wanted and [list(it) if isinstance(it, tuple) else it for it in wanted])
+        told = wanted and [list(it) if isinstance(it, tuple) else it for it in wanted]
+        yield name, unlike(room.window.run(FOUND), told)
         unfit = "the record does not fit these requests" in room.window.run(DRAWN)
         yield f"{name}: in words", unlike(unfit, wanted is None)
         again = f"Carried out more often than asked, by {carried - len(kinds)}"
@@ -163,7 +164,8 @@ def check_twice(room):
         yield f"{row}: drawn", missing("The device carried it out twice: write 16/0 = 41.", room.window.run(DRAWN))
         frames = "document.querySelectorAll('#picture .story.twice').length"
         yield f"{row}: framed", unlike(room.window.run(frames), 1)
-        yield f"{row}: each START write", unlike(room.window.run("document.querySelectorAll('#picture .times').length"), 2)
+        times = "document.querySelectorAll('#picture .times').length"
+        yield f"{row}: each START write", unlike(room.window.run(times), 2)
         yield f"{row}: listed", missing("carried out twice: written, written", room.window.run(LISTED))
         yield f"{row}: chosen", unlike(room.chosen(), 16)
         for scale in (60, 16, 6, 0.3):

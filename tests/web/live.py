@@ -1,0 +1,214 @@
+"""The live page: what it shows is what the native program prints for its script, and its module prints what rows want.
+
+The page has no protocol of its own. So each story and random sessions of its buttons are run again by the program.
+"""
+import glob
+import json
+import os
+import random
+import subprocess
+
+from counting import more_than_asked
+from trace_page import ROOT, missing, unlike
+
+LIVE = f"{ROOT}/web/line.html"
+ADDRESS = f"file://{LIVE}"
+SESSIONS, ACTS = 200, 12
+OPEN_MS = 2000
+SEEN = """({
+  lines: page.bench.lines, trace: page.bench.ran.trace, judged: page.bench.ran.judged,
+  once: document.getElementById('once').textContent, isBad: document.getElementById('once').className === 'bad',
+  told: document.getElementById('told').innerText, did: document.getElementById('did').innerText,
+  mode: document.getElementById('mode').textContent, refusal: document.getElementById('refusal').textContent,
+})"""
+NONE_TWICE = "1 asked, 1 carried out: none more than once."
+DID = "write 16 0 43 44: written"
+# What the rules say of each story: the end of what the clients were told, what the device did, and the verdict.
+STORIES = [
+    ("ticket 1 done written", [DID], NONE_TWICE),
+    ("ticket 1 unknown LinkLost", [DID], NONE_TWICE),
+    ("ticket 1 done written", [DID, DID], "Done more often than asked: write 16 0 43 44"),
+    ("ticket 1 done written", [DID], NONE_TWICE),
+    ("ticket 1 done written", [DID], NONE_TWICE),
+    ("ticket 1 done read " + " ".join(f"{it:02X}" for it in range(1, 21)), None, NONE_TWICE),
+    ("event F4 8CA0", [], "0 asked, 0 carried out: none more than once."),
+]
+# What a hand may do, more often what moves the line.
+BUTTONS = [
+    *["turn"] * 4, *["ten"] * 6, *["read"] * 2, *["write"] * 4, "cancel", "withdraw", "output", "noOutput", "restart",
+    "outlost", *["backlost"] * 3, "outdamaged", "backdamaged", "cable", "raise", "input", "noInput", "power", "work",
+]
+CHOICES = {"hands": ["first", "last"], "recalls": ["keeps", "forgets"], "devices": ["own", "any"]}
+FIELDS = {
+    "index": ["16", "17", "99"], "octets": ["41", "43 44", "00 01 02 03 04 05 06 07 08"], "output-octets": ["5A"],
+    "input-octets": ["12 34"], "event": ["F4 8CA0", "04 1234"],
+}
+# Files of a row that the module in the page can be run with; a command that it can't carry out, since it has no threads.
+KNOWN = {"args", "stdin", "stdout", "stderr", "status"}
+LEFT_OUT = {"many"}
+BY_OCTET = """globalThis.rowOf = (words, input) => {
+  const text = (pieces) => pieces.map((it) => Array.from(it, (each) => String.fromCharCode(each)).join('')).join('');
+  const { status, output, errors } = page.execute(words, Uint8Array.from(input, (it) => it.charCodeAt(0)));
+  return [status, text(output), text(errors)];
+}; true"""
+
+
+def seen_of(window):
+    """What the page shows, once it is drawn."""
+    window.rest_drawn()
+    return window.run(SEEN)
+
+
+def program(room, command, text):
+    ran = subprocess.run([room.program, command], input=text, capture_output=True, text=True, check=False)
+    return ran.stdout
+
+
+def unlike_program(room, seen):
+    """Whether the program prints for the page's script what the page shows."""
+    script = "".join(f"{it}\n" for it in seen["lines"])
+    trace = program(room, "trace", script)
+    if trace.splitlines() != seen["trace"]:
+        return f"`trace` prints otherwise for {seen['lines']}"
+    if program(room, "judge", trace) != seen["judged"]:
+        return f"`judge` prints otherwise for {seen['lines']}"
+    again = more_than_asked(script, trace)
+    return "" if bool(again) == seen["isBad"] else f"{again} more than asked, and the page says {seen['once']}"
+
+
+def check_opening(room):
+    window = room.window
+    window.ask("Performance.enable", timeDomain="threadTicks")
+    window.go(ADDRESS)
+    window.rest_drawn()
+    metrics = window.ask("Performance.getMetrics")["metrics"]
+    worked = 1000 * next(it["value"] for it in metrics if it["name"] == "ThreadTime")
+    yield "live: opens", "" if worked <= OPEN_MS else f"it takes {worked:.0f} ms, more than {OPEN_MS}"
+    drawn = window.run("document.querySelector('#picture svg').textContent")
+    yield "live: a picture", missing("told done: written", drawn)
+    claim = window.run("document.querySelector('.claim').innerText")
+    commit = window.run("document.getElementById('module').dataset.commit")
+    yield "live: the commit", missing(f"of commit {commit}", claim)
+    yield "live: not proved", missing("This build is not proved", claim)
+
+
+def check_stories(room):
+    room.window.go(ADDRESS)
+    names = room.window.run("[...document.querySelectorAll('#story-of option')].slice(1).map((it) => it.text)")
+    yield "stories", unlike(len(names), len(STORIES))
+    for number, (name, (told, did, once)) in enumerate(zip(names, STORIES)):
+        room.window.run(f"page.tell({number})")
+        seen = seen_of(room.window)
+        yield f"story {name}", unlike_program(room, seen)
+        yield f"story {name}: told", unlike(seen["told"].splitlines()[-1], told)
+        yield f"story {name}: done", "" if did is None else unlike(seen["did"].splitlines(), did)
+        yield f"story {name}: verdict", unlike(seen["once"], once)
+
+
+def session(maker):
+    """Scripts for the page: choices, and clicks with what stands in the fields."""
+    yield "document.getElementById('anew').click()"
+    for name, values in CHOICES.items():
+        yield f"choose({json.dumps(name)}, {json.dumps(maker.choice(values))})"
+    yield "document.querySelector('[data-act=ten]').click()"
+    for _ in range(ACTS):
+        for name, values in FIELDS.items():
+            yield f"document.getElementById({json.dumps(name)}).value = {json.dumps(maker.choice(values))}"
+        yield f"document.querySelector('[data-act={maker.choice(BUTTONS)}]').click()"
+    if maker.random() < 0.2:
+        yield "document.querySelector('[data-act=swap]').click()"
+        yield "document.querySelector('[data-act=ten]').click()"
+
+
+CHOOSE = """globalThis.choose = (name, value) => {
+  const it = document.getElementById(name);
+  it.value = value;
+  it.dispatchEvent(new Event('change'));
+}; true"""
+
+
+def check_sessions(room):
+    """Random sessions. At a port for our own devices alone may another do a request more often than asked (REQ-15)."""
+    room.window.go(ADDRESS)
+    room.window.run(CHOOSE)
+    carried = unknown = 0
+    for seed in range(1, SESSIONS + 1):
+        room.window.run(";\n".join(session(random.Random(seed))))
+        seen = seen_of(room.window)
+        carried += len(seen["did"].splitlines())
+        unknown += " unknown " in seen["told"]
+        yield f"session {seed}", unlike_program(room, seen)
+        is_own, is_last = "devices own" in seen["lines"], any(it.startswith("kind last") for it in seen["lines"])
+        yield f"session {seed}: at most once", seen["once"] if seen["isBad"] and not (is_own and is_last) else ""
+    few = f"only {carried} requests are carried out, and {unknown} sessions have one that ended unknown"
+    yield "sessions: what they bring", "" if carried > SESSIONS / 2 and unknown > SESSIONS / 20 else few
+
+
+def check_script(room):
+    """Going back, the link that has the script, and a line that the program refuses."""
+    window = room.window
+    window.go(ADDRESS)
+    before = seen_of(window)
+    for button in ("write", "ten", "cable", "turn"):
+        window.run(f"document.querySelector('[data-act={button}]').click()")
+    after, link = seen_of(window), window.run("page.link()")
+    yield "live: the cable is out", missing("# The cable is pulled.", "\n".join(after["lines"]))
+    for _ in range(4):
+        window.run("document.getElementById('undo').click()")
+    yield "live: undo", unlike(seen_of(window), before)
+    window.go(link)
+    yield "live: the link", unlike(seen_of(window), after)
+    window.run("document.getElementById('index').value = 'abc'; document.querySelector('[data-act=read]').click()")
+    yield "live: refused", missing("bad line", window.run("document.getElementById('refusal').innerText"))
+    yield "live: as it was", unlike(window.run("page.bench.lines"), after["lines"])
+    window.ask("Page.reload")
+    window.until("Boolean(globalThis.page?.show)")
+    yield "live: loaded again", unlike(window.run("page.bench.lines"), after["lines"])
+
+
+def check_old_browser(room):
+    """A browser without memories of 64-bit addresses is told so."""
+    window = room.window
+    given = window.ask("Page.addScriptToEvaluateOnNewDocument", source="WebAssembly.validate = () => false;")
+    window.ask("Page.navigate", url=ADDRESS)
+    window.until("document.readyState === 'complete' && document.getElementById('refusal')?.hidden === false")
+    yield "live: no memory64", missing("memory64", window.run("document.getElementById('refusal').innerText"))
+    window.ask("Page.removeScriptToEvaluateOnNewDocument", identifier=given["identifier"])
+
+
+def octets_of(path):
+    if not os.path.exists(path):
+        return ""
+    with open(path, "rb") as it:
+        return it.read().decode("latin-1")
+
+
+def rows_of_module():
+    """The rows of `iolink` that have words and an input alone, each with what has to be printed."""
+    for folder in sorted(glob.glob(f"{ROOT}/tests/rows/*/*/")):
+        words = octets_of(f"{folder}args").split("\n")[:-1]
+        if set(os.listdir(folder)) - KNOWN or not all(it.isascii() for it in words) or LEFT_OUT & set(words[:1]):
+            continue
+        wanted = [int(octets_of(f"{folder}status") or 0), octets_of(f"{folder}stdout"), octets_of(f"{folder}stderr")]
+        yield os.path.relpath(folder, f"{ROOT}/tests/rows"), words, octets_of(f"{folder}stdin"), wanted
+
+
+def check_rows(room):
+    """The rows, run by the module in the browser."""
+    room.window.go(ADDRESS)
+    room.window.run(BY_OCTET)
+    count = 0
+    for name, words, given, wanted in rows_of_module():
+        count += 1
+        said = room.window.run(f"rowOf({json.dumps(words)}, {json.dumps(given)})")
+        other = f"it prints {said[1][-200:]!r} {said[2]!r}, status {said[0]}"
+        yield f"{name}, by the module", "" if said == wanted else other
+    yield "rows of the module", "" if count > 200 else f"only {count} rows are found"
+
+
+CHECKS = [check_opening, check_stories, check_sessions, check_script, check_old_browser, check_rows]
+
+
+def is_built():
+    """Whether the page is there: web/make takes minutes to build its module."""
+    return os.path.exists(LIVE)
