@@ -43,7 +43,7 @@ FIELDS = {
     "index": ["16", "17", "99"], "octets": ["41", "43 44", "00 01 02 03 04 05 06 07 08"], "output-octets": ["5A"],
     "input-octets": ["12 34"], "event": ["F4 8CA0", "04 1234"],
 }
-# Files of a row that the module in the page can be run with; a command that it can't carry out, since it has no threads.
+# Files of a row that the module can be run with; a command that it can't carry out, since it has no threads.
 KNOWN = {"args", "stdin", "stdout", "stderr", "status"}
 LEFT_OUT = {"many"}
 BY_OCTET = """globalThis.rowOf = (words, input) => {
@@ -86,6 +86,11 @@ def check_opening(room):
     yield "live: opens", "" if worked <= OPEN_MS else f"it takes {worked:.0f} ms, more than {OPEN_MS}"
     drawn = window.run("document.querySelector('#picture svg').textContent")
     yield "live: a picture", missing("told done: written", drawn)
+    window.resize(390, 844)
+    window.rest_drawn()
+    wide = window.run("document.documentElement.scrollWidth")
+    yield "live: on a phone", "" if wide <= 390 else f"it is {wide} pixels wide"
+    window.resize(*window.size)
     claim = window.run("document.querySelector('.claim').innerText")
     commit = window.run("document.getElementById('module').dataset.commit")
     yield "live: the commit", missing(f"of commit {commit}", claim)

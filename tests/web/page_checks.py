@@ -22,6 +22,8 @@ PAIRS = [
 PICTURES = ["trace_cable_pulled.png", "trace_one_read.png"]
 MOST_OCTETS = 150_000
 MOST_LINES, WIDTH = 800, 100
+# Above the picture, in pixels.
+MOST_ABOVE = 200
 
 
 def check_made(_room):
@@ -256,8 +258,18 @@ def check_touch(room):
     yield "a finger moves", "" if window.run("page.state.view.from") > place else "it doesn't"
 
 
+def look_for(room, what, text):
+    """Looks for something, and returns what the page says that it found."""
+    room.window.run(
+        f"document.getElementById('find-what').value = '{what}';"
+        f"document.getElementById('find-text').value = '{text}';"
+        "document.getElementById('find').requestSubmit()"
+    )
+    return room.window.run("document.getElementById('found').value")
+
+
 def check_find(room):
-    """Find by ticket, index, octets and exchange."""
+    """Find by each thing that it knows; octets are found where they are alone."""
     text = room.row_traces()["requests/trace_read_with_one_fate"]
     answers = len(re.findall(r"^\d+ < D4 41", text, re.M))
     room.open_page()
@@ -265,21 +277,75 @@ def check_find(room):
     wanted = [
         ("ticket", "2", "1 of 1", 20), ("index", "16/0", "1 of 15", 16), ("index", "17", "none", None),
         ("octets", "d441", f"1 of {answers}", 19), ("exchange", "40", "1 of 1", 40), ("octets", "zz", "none", None),
+        ("octets", "0xD4 0x41", f"1 of {answers}", 19), ("octets", "0x62", "none", None),
+        ("octets", "7 05", "none", None),
+        ("index", "0x10/0", "1 of 15", 16), ("index", "0x11", "none", None), ("command", "DeviceOperate", "1 of 1", 15),
+        ("command", "9a", "1 of 1", 13), ("event", "8CA0", "none", None), ("text", "WAKE com2", "1 of 1", 1),
     ]
     for what, text, said, number in wanted:
-        room.window.run(
-            f"document.getElementById('find-what').value = '{what}';"
-            f"document.getElementById('find-text').value = '{text}';"
-            "document.getElementById('find').requestSubmit()"
-        )
         name = f"find {what} {text}"
-        yield name, unlike(room.window.run("document.getElementById('found').value"), said)
+        yield name, unlike(look_for(room, what, text), said)
         if number:
             yield f"{name}: place", unlike(room.chosen(), number)
-    again = "document.getElementById('find-what').value = 'index'; document.getElementById('find-text').value = '16';"
-    for _ in range(2):
-        room.window.run(again + "document.getElementById('find').requestSubmit()")
-    yield "find again", unlike(room.window.run("document.getElementById('found').value"), "2 of 15")
+    look_for(room, "index", "16")
+    yield "find again", unlike(look_for(room, "index", "16"), "2 of 15")
+    # An octet in each segment: the answer's first two are those of two messages.
+    room.open_text(room.trace_of("page 17 01 11 00 00 12 34 00 01 07\nparam 16 0 ro 4142\nread 16 0\nturn 30\n"))
+    yield "find over segments", missing("1 of 1", look_for(room, "octets", "D4 41 42"))
+    came = room.window.run("page.state.trace.exchanges[page.state.chosen].came.od")
+    yield "find over segments: place", unlike(came, "D4")
+    room.open_text(room.trace_of("turn 16\nwire clean 16\nwire raise F4 8CA0\nturn 10\nevent\n"))
+    yield "find an event", unlike(look_for(room, "event", "0x8ca0"), "1 of 1")
+
+
+def check_faults(room):
+    """The faults are gone through in both ways, and the list has them alone, or no idle ones, if asked."""
+    window = room.window
+    room.open_page("#example=cable_pulled")
+    room.press("Home")
+    found = []
+    for _ in range(4):
+        window.run("document.getElementById('fault-next').click()")
+        found.append(room.chosen())
+    yield "faults", unlike(found, [18, 19, 20, 20])
+    window.run("document.getElementById('fault-before').click()")
+    yield "the fault before", unlike(room.chosen(), 19)
+    window.run("document.getElementById('tab-exchanges').click()")
+    numbers = "[...document.querySelectorAll('#exchanges-panel tbody tr')].map((it) => Number(it.cells[0].innerText))"
+    text = room.trace_of("turn 40\nread 16 0\nturn 10\ncollect 1\n")
+    idle = {int(it.split()[0]) for it in text.splitlines() if re.match(r"\d+ > .*: read isdu 11$", it)}
+    room.open_text(text)
+    for name, wanted in (("faults", []), ("busy", [it for it in range(1, 51) if it not in idle])):
+        window.run(
+            f"document.getElementById('filter').value = '{name}';"
+            "document.getElementById('filter').dispatchEvent(new Event('change'))"
+        )
+        yield f"list of {name}", unlike(window.run(numbers), wanted)
+
+
+def check_layout(room):
+    """The picture begins near the top, and nothing is wider than a phone."""
+    window = room.window
+    for name in [it for it, trace in room.examples().items() if trace]:
+        window.resize(1280, 900)
+        room.open_page(f"#example={name}")
+        top = window.run("document.getElementById('picture').getBoundingClientRect().top")
+        yield f"{name}: the picture at 1280 pixels", "" if top < MOST_ABOVE else f"it begins at {top}"
+        window.resize(390, 844)
+        window.rest_drawn()
+        wide = window.run("document.documentElement.scrollWidth")
+        yield f"{name}: on a phone", "" if wide <= 390 else f"it is {wide} pixels wide"
+    window.resize(*window.size)
+
+
+def check_wanted(room):
+    """A text without a message says what is wanted."""
+    story = "document.getElementById('story').innerText"
+    room.open_page()
+    room.open_text("ticket 1\nticket 1 done written\nrecord 0\n")
+    yield "what run prints", missing("open what iolink trace prints", room.window.run(story))
+    room.open_text("")
+    yield "an empty file", missing("Nothing is here", room.window.run(story))
 
 
 def check_paste_and_drop(room):
@@ -363,13 +429,21 @@ def check_rules(room):
     heads = {
         re.sub(r"[^a-z0-9 _-]", "", it.lower()).replace(" ", "-") for it in re.findall(r"^#+ (.*)$", protocol, re.M)
     }
-    named = sorted(set(re.findall(IDS, read(f"{ROOT}/web/trace.html"))))
+    texts = dict(re.findall(r"^\| ([A-Z]+-\d+) \| (.*) \| .* \|$", protocol, re.M))
+    kept = "Object.entries(JSON.parse(document.getElementById('rules').textContent)).map(([id, [text]]) => [id, text])"
+    yield "texts of the rules", unlike(dict(room.window.run(kept)), texts)
+    scripts = [read(it) for it in glob.glob(f"{ROOT}/web/src/*.js")]
+    named = sorted(set(re.findall(IDS, "".join(scripts))))
     if len(named) < 20:
         yield "rules", f"only {named} are named"
     for id in named:
         yield f"rule {id}", "" if id in rules else "it is no rule of docs/protocol.md"
         path, _, head = room.window.run(f"page.ruleLink('{id}')").partition("#")
         yield f"link of {id}", unlike(path, "../docs/protocol.md") or ("" if head in heads else f"no heading {head}")
+    room.open_page("#example=cable_pulled&exchange=18")
+    room.window.run("document.querySelector('#detail a[data-rule=\"REQ-5\"]').click()")
+    said = room.window.run("document.getElementById('rule').open && document.getElementById('rule').innerText")
+    yield "a rule is opened", missing(texts["REQ-5"], said or "")
 
 
 def contrast(one, other):
@@ -436,6 +510,6 @@ def check_silence(room):
 
 CHECKS = [
     check_made, check_examples, check_traces, *RECORDS, check_broken, check_odd_lines, check_story, check_details,
-    check_keys, check_pointer, check_touch, check_find, check_paste_and_drop, check_reload, check_picture_file,
-    check_table, check_rules, check_contrast, check_pictures, *VERDICTS, check_large,
+    check_keys, check_pointer, check_touch, check_find, check_faults, check_layout, check_wanted, check_paste_and_drop,
+    check_reload, check_picture_file, check_table, check_rules, check_contrast, check_pictures, *VERDICTS, check_large,
 ]

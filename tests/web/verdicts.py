@@ -272,6 +272,15 @@ def check_mark(room):
     window.ask("Emulation.setEmulatedMedia", media="")
 
 
+def check_named(room):
+    """A sign stands at the master's fault, and one at what is odd."""
+    signs = "[...document.querySelectorAll('#picture .named')].map((it) => it.textContent).join()"
+    room.open_page()
+    for lines, wanted in (((FAULT, HONEST), "§"), ((ODD, HONEST, "odd 1"), "~"), ((FAIR, HONEST), "")):
+        room.open_text(text_of(*PLAIN, *lines))
+        yield f"signs of {lines[0]}", unlike(room.window.run(signs), wanted)
+
+
 def check_way_to_verdict(room):
     """Find goes to the verdict's exchange, keys say it, and the verdict's line in the text leads to it."""
     window = room.window
@@ -300,5 +309,5 @@ def check_way_to_verdict(room):
 
 
 CHECKS = [
-    check_judged_rows, check_broken_verdicts, check_words, check_reasons, check_mark, check_way_to_verdict,
+    check_judged_rows, check_broken_verdicts, check_words, check_reasons, check_mark, check_named, check_way_to_verdict,
 ]

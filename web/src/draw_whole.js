@@ -101,6 +101,8 @@ function drawSurprise(scene, { a, b, it, many, rank }, lanes) {
   return band + path('tie', `M${round(end)} ${from} h6 V${record.top + 18} H${to}`);
 }
 
+const MOST_SIGNS = 500;
+
 const DEFINED = `<defs>
 <marker id="arrow" viewBox="0 0 8 8" refX="7" refY="4" markerWidth="6" markerHeight="6"
  orient="auto"><path class="head" d="M0 0 8 4 0 8z"/></marker>
@@ -122,6 +124,16 @@ function drawLost(scene, lanes) {
     + at(it.at + 1, mode.top + 1, mode.top + mode.height - 1))).join('');
 }
 
+/** Signs at what `judge` says of the master, and at what is odd. */
+function drawNamed(scene, lanes) {
+  const { master, odd } = scene.trace;
+  const isSeen = ({ at }) => at !== null && at >= scene.first && at < scene.end;
+  const sign = (text, lane) => ({ at }) => words('named', scene.middle(at), lane.top + 14, text);
+  const faults = master?.number === undefined ? [] : [master];
+  return faults.filter(isSeen).map(sign('§', lanes[3])).join('')
+    + odd.filter(isSeen).slice(0, MOST_SIGNS).map(sign('~', lanes[4])).join('');
+}
+
 /** Draws what is seen, and returns the inside of an SVG. */
 page.draw = function draw(trace, { view, width, left, chosen, pointed, found, lanes }) {
   const scene = new Scene(trace, view, width, left);
@@ -135,7 +147,7 @@ page.draw = function draw(trace, { view, width, left, chosen, pointed, found, la
       drawColumn(scene, 'pointed', pointed, height), drawColumn(scene, 'chosen', chosen, height),
       ...surprises.map((it) => drawSurprise(scene, it, lanes)),
       drawLost(scene, lanes),
-      drawLanes(scene, lanes, height),
+      drawLanes(scene, lanes, height), drawNamed(scene, lanes),
       ...found.filter((at) => at >= scene.first && at < scene.end).slice(0, 2000)
         .map((at) => path('found', `M${round(scene.middle(at) - 4)} 24 h8 l-4 -6z`)),
     ].join(''))

@@ -23,6 +23,8 @@ const COMMANDS = {
   '5A': 'Fallback', 95: 'MasterIdent', 96: 'DeviceIdent', 97: 'DeviceStartup',
   98: 'ProcessDataOutputOperate', 99: 'DeviceOperate', '9A': 'DevicePreoperate',
 };
+page.commandName = ({ sent }) => `${head(sent.od)} ${COMMANDS[head(sent.od)] ?? ''}`;
+
 const PLACES = [
   'MasterCommand', 'MasterCycleTime', 'MinCycleTime', 'M-sequence Capability', 'RevisionID',
   'ProcessDataIn', 'ProcessDataOut', 'VendorID, high octet', 'VendorID, low octet',

@@ -1,30 +1,85 @@
 // Finding.
 
-const pairs = (text) => {
-  const digits = text.replace(/[^0-9A-Fa-f]/g, '').toUpperCase();
-  return (digits.match(/../g) ?? []).join(' ');
+const FIND_FORMS = {
+  octets: 'D4 41', ticket: '1', index: '16/0 or 0x10', exchange: '18', event: '8CA0',
+  command: 'Operate', text: '', verdict: '',
 };
 
+/** Octets as the program prints them, or null if a text is none. */
+function octetsIn(text) {
+  const words = text.split(/[\s,]+/).map((it) => it.replace(/^0x/i, ''));
+  if (!words.every((it) => /^(?:[0-9A-Fa-f]{2})+$/.test(it))) return null;
+  return words.join('').toUpperCase().match(/../g).join(' ');
+}
+
+/** A number, in decimal or with 0x in hexadecimal, as a text; NaN if a text is none. */
+const numberIn = (text) => (/^(?:\d+|0x[0-9a-f]+)$/i.test(text) ? String(Number(text)) : 'NaN');
+
+/** Whether octets are among others, at the bounds of octets. */
+const holds = (all, wanted) => ` ${all} `.includes(` ${wanted} `);
+
+/** The octets of a request and of its response, each with the exchange that it came in. */
+function streamsOf({ first, last }) {
+  const [asked, answered] = [[], []];
+  for (const it of state.trace.exchanges.slice(first, last + 1)) {
+    const put = (list, octets) => octets.split(' ').forEach((octet) => list.push([octet, it.at]));
+    if (['segment', 'anew'].includes(it.step) && it.repeats < 0) put(asked, it.sent.od);
+    if (['answer', 'refused'].includes(it.step) && it.came?.od) put(answered, it.came.od);
+  }
+  return [asked, answered];
+}
+
+/** Where octets begin in a stream. */
+function placesIn(stream, wanted) {
+  const all = stream.map(([octet]) => octet).join(' ');
+  const places = [];
+  for (let at = all.indexOf(wanted); at >= 0; at = all.indexOf(wanted, at + 1)) {
+    if (at % 3 === 0) places.push(stream[at / 3][1]);
+  }
+  return places;
+}
+
+function findOctets(text) {
+  const wanted = octetsIn(text);
+  if (wanted === null) return [];
+  const { exchanges, requests } = state.trace;
+  const isIn = ({ sent, came }) => (
+    (sent && holds(sent.octets, wanted)) || (came && holds(came.octets, wanted)));
+  const hits = new Set(exchanges.filter(isIn).map((it) => it.at));
+  // Over several segments too.
+  requests.flatMap(streamsOf).flatMap((it) => placesIn(it, wanted)).forEach((at) => hits.add(at));
+  return [...hits].sort((a, b) => a - b);
+}
+
+function findText(text) {
+  const wanted = text.toLowerCase();
+  const { starts } = state.trace;
+  const lines = starts.map((_, at) => at + 1)
+    .filter((number) => lineText(number).toLowerCase().includes(wanted));
+  return [...new Set(lines.map((it) => exchangeOfLine(it)?.at).filter((it) => it !== undefined))];
+}
+
 const FINDERS = {
+  octets: findOctets,
+  text: findText,
   verdict: () => [...new Set(namedPlaces().map((it) => it.at))],
   exchange: (text) => [placeOf(Number(text))].filter((it) => it !== null),
   ticket: (text) => state.trace.tickets.filter((it) => it.number === Number(text))
     .map((it) => it.request?.first ?? Math.min(it.submitted?.at ?? 0, count() - 1)),
   index: (text) => {
-    const wanted = text.trim().split(/[ /.]+/);
+    const wanted = text.trim().split(/[ /.]+/).map(numberIn);
     const isIt = (asked) => wanted.every((it, at) => asked?.split(' ')[at + 1] === it);
     return state.trace.requests.filter((it) => isIt(it.text)).map((it) => it.first);
   },
-  octets: (text) => {
-    const wanted = ` ${pairs(text)} `;
-    const holds = (octets) => ` ${octets} `.includes(wanted);
-    const hits = new Set();
-    const { exchanges, requests } = state.trace;
-    for (const { at, sent, came } of exchanges) {
-      if ((sent && holds(sent.octets)) || (came && holds(came.octets))) hits.add(at);
-    }
-    for (const { first, text: asked } of requests) if (asked && holds(asked)) hits.add(first);
-    return [...hits].sort((a, b) => a - b);
+  event: (text) => {
+    const wanted = text.toUpperCase().replace(/^0X/, '');
+    return state.trace.readings.flatMap((it) => it.events)
+      .filter((it) => it.text.includes(wanted)).map((it) => it.at);
+  },
+  command: (text) => {
+    const isIt = (it) => page.commandName(it).toLowerCase().includes(text.toLowerCase());
+    return state.trace.exchanges.filter((it) => it.role === 'command' && isIt(it))
+      .map((it) => it.at);
   },
 };
 
@@ -35,7 +90,7 @@ function find() {
     goToFound(1);
     return;
   }
-  const isUsable = what === 'octets' ? pairs(text) !== '' : text !== '' || what === 'verdict';
+  const isUsable = text !== '' || what === 'verdict';
   state.asked = `${what} ${text}`;
   state.found = isUsable ? FINDERS[what](text) : [];
   state.foundAt = -1;

@@ -9,7 +9,7 @@ const KEYS = {
   PageUp: () => move(-plot() * 0.8),
   '+': () => zoom(1.5), '=': () => zoom(1.5), '-': () => zoom(1 / 1.5),
   0: () => look(0, 0),
-  l: nextMissed,
+  l: (event) => goToFault(event.shiftKey),
   n: () => goToFound(1),
   p: () => goToFound(-1),
   '/': () => byId('find-text').focus(),
@@ -104,9 +104,11 @@ function listenToTools() {
   const on = (id, kind, act) => byId(id).addEventListener(kind, act);
   on('find', 'submit', (event) => { event.preventDefault(); find(); });
   on('find-what', 'change', (event) => {
-    const forms = { octets: 'D4 41', ticket: '1', index: '16/0', exchange: '18', verdict: '' };
-    byId('find-text').placeholder = forms[event.target.value];
+    byId('find-text').placeholder = FIND_FORMS[event.target.value];
   });
+  on('fault-before', 'click', () => goToFault(true));
+  on('fault-next', 'click', () => goToFault(false));
+  on('filter', 'change', listExchanges);
   on('narrower', 'click', () => zoom(1 / 1.5));
   on('wider', 'click', () => zoom(1.5));
   on('fit', 'click', () => look(0, 0));
@@ -139,14 +141,35 @@ function listenToSize() {
   }).observe(byId('picture'));
 }
 
+/** What a rule says, in place of its page. With a key held, the link leads there as before. */
+function listenToRules() {
+  const known = JSON.parse(byId('rules').textContent);
+  const code = (text) => safe(text).replace(/`([^`]*)`/g, '<code>$1</code>');
+  document.addEventListener('click', (event) => {
+    const link = event.target.closest?.('a[data-rule]');
+    if (!link || event.ctrlKey || event.metaKey || event.shiftKey) return;
+    const id = link.dataset.rule;
+    const [text, source] = known[id] ?? ['no rule of these', ''];
+    event.preventDefault();
+    byId('rule-id').textContent = id;
+    byId('rule-text').innerHTML = code(text);
+    byId('rule-source').textContent = source;
+    byId('rule-link').href = link.href;
+    byId('rule').showModal();
+  });
+}
+
 function listen() {
+  listenToRules();
   listenToPicture();
   listenToTools();
   listenToTabs();
   listenToSize();
   document.addEventListener('click', (event) => {
     // The address doesn't change if it is that of the link already.
-    if (event.target.closest?.('a[href^="#"]')?.hash === location.hash) followAddress();
+    const link = event.target.closest?.('a[href^="#"]');
+    if (link?.hash === '#signs') byId('signs').open = true;
+    if (link?.hash === location.hash) followAddress();
   });
   selectTab('requests');
 }

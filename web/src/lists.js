@@ -33,12 +33,23 @@ function step(by) {
   choose(Math.min(count() - 1, Math.max(0, (state.chosen ?? 0) + by)));
 }
 
-function nextMissed() {
-  const { exchanges } = state.trace;
-  const next = exchanges.find((it) => it.at > (state.chosen ?? -1)
-    && (it.fate === 'lost' || it.fate === 'damaged' || it.fate === 'nowake'));
+/** The faults of a trace: what was missed or sent again, what was cut off, what `judge` names. */
+function faultsOf({ exchanges, verdict, master, odd }) {
+  const named = [verdict, master, ...odd].map((it) => it?.at ?? null);
+  const isFault = ({ at, fate, repeats, step: its }) => (
+    ['lost', 'damaged', 'nowake'].includes(fate) || repeats >= 0 || named.includes(at)
+    || ['abort', 'refused', 'none'].includes(its));
+  return exchanges.filter(isFault);
+}
+
+/** Chooses the next fault, or the one before. */
+function goToFault(isBack) {
+  const faults = faultsOf(state.trace);
+  const { chosen } = state;
+  const next = isBack ? faults.findLast((it) => it.at < (chosen ?? count()))
+    : faults.find((it) => it.at > (chosen ?? -1));
   if (next) choose(next.at);
-  else say('None behind this one.');
+  else say(isBack ? 'No fault before this one.' : 'No fault behind this one.');
 }
 
 const placeOf = (number) => page.placeOf(state.trace.exchanges, number);
@@ -140,13 +151,33 @@ const tables = {
     ['Ticket', 'Request', 'On the line', 'Told the client', 'Device’s record'],
     () => state.trace.tickets, ticketRow),
   exchanges: new Pages('exchanges-panel', 'Exchanges and wake-ups',
-    ['Number', 'Mode', 'Message', 'Reply', 'Note'], () => state.trace.exchanges, exchangeRow),
+    ['Number', 'Mode', 'Message', 'Reply', 'Note'], () => state.listed, exchangeRow),
 };
+
+/** Which exchanges are listed, by what is chosen for it. */
+const FILTERS = {
+  all: ({ exchanges }) => exchanges,
+  busy: ({ exchanges }) => exchanges.filter((it) => !['idle', 'process'].includes(it.role)),
+  faults: faultsOf,
+  index: ({ exchanges }) => {
+    const indexOf = (it) => it?.request?.text?.split(' ')[1];
+    const index = indexOf(exchanges[state.chosen]);
+    return exchanges.filter((it) => it.request && (!index || indexOf(it) === index));
+  },
+};
+
+function listExchanges() {
+  state.listed = FILTERS[byId('filter').value](state.trace);
+  tables.exchanges.show(0);
+  if (state.chosen !== null) markRows();
+}
 
 function markRows() {
   const { first } = tables.exchanges;
   const { chosen } = state;
-  if (chosen < first || chosen >= first + Pages.SIZE) tables.exchanges.show(chosen);
+  const place = state.listed.findIndex((it) => it.at === chosen);
+  const isShown = place < 0 || (place >= first && place < first + Pages.SIZE);
+  if (!isShown) tables.exchanges.show(place);
   for (const row of byId('exchanges-panel').querySelectorAll('tr[data-at]')) {
     row.classList.toggle('is-chosen', Number(row.dataset.at) === chosen);
   }
@@ -215,6 +246,7 @@ function selectTab(name) {
     tab.tabIndex = isChosen ? 0 : -1;
     byId(tab.getAttribute('aria-controls')).hidden = !isChosen;
   }
+  byId('filter').hidden = name !== 'exchanges';
   const chosen = state.trace?.exchanges[state.chosen];
   if (name === 'text' && chosen) revealLine(chosen.line);
 }

@@ -11,7 +11,7 @@ const RIGHT = 170;
 
 const state = {
   name: '', trace: null, lanes: [], view: { from: 0, scale: FIRST_SCALE }, width: 1000, left: 148,
-  chosen: null, pointed: null, asked: '', found: [], foundAt: -1, drawing: false,
+  chosen: null, pointed: null, asked: '', found: [], foundAt: -1, drawing: false, listed: [],
 };
 page.state = state;
 
@@ -30,7 +30,7 @@ function open(text, name) {
   showCounts();
   showStory();
   tables.requests.show(0);
-  tables.exchanges.show(0);
+  listExchanges();
   byId('text').scrollTop = 0;
   showText();
   choose(firstChoice(), { quiet: true });

@@ -34,7 +34,7 @@ function showCounts() {
   byId('counts').innerHTML = COUNTS.map(countOf).join('');
 }
 
-const ruleLink = (id) => `<a href="${page.ruleLink(id)}">${id}</a>`;
+const ruleLink = (id) => `<a href="${page.ruleLink(id)}" data-rule="${id}">${id}</a>`;
 const rules = (ids) => `<span class="rules">${ids.map(ruleLink).join(' ')}</span>`;
 
 /** Why a verdict is so: in words, by its name, and with its rules if it has some. */
@@ -149,6 +149,16 @@ function kindTaken({ kind, kinds }) {
     Ours does not. ${rules(['DEV-20'])}</li>`];
 }
 
+/** What is wanted in place of a text without a message. */
+function wantedInWords({ exchanges, calls, fault }) {
+  if (exchanges.length > 0 || fault) return [];
+  const what = calls.length
+    ? '<code>iolink run</code> prints so, without the messages: open what <code>iolink trace</code>'
+    : 'Nothing is here: open what <code>iolink trace</code>';
+  return [`<li class="wanted">${what} prints, or <code>iolink judge --octets RATE --trace</code> of
+    a capture.</li>`];
+}
+
 const MOST_TOLD = 2;
 
 function showStory() {
@@ -157,7 +167,8 @@ function showStory() {
   const surprises = [...trace.surprises].sort((a, b) => b.isTwice - a.isTwice);
   const more = surprises.length - MOST_TOLD;
   byId('story').innerHTML = [
-    ...againInWords(trace), ...surprises.slice(0, MOST_TOLD).map(surpriseInWords),
+    ...wantedInWords(trace), ...againInWords(trace),
+    ...surprises.slice(0, MOST_TOLD).map(surpriseInWords),
     ...(more > 0 ? [`<li>${more} more like these.</li>`] : []), ...kindTaken(trace),
     ...verdictInWords(verdict), ...kindsInWords(kinds), ...masterInWords(master),
     ...oddInWords(trace),
