@@ -153,10 +153,8 @@ function kindTaken({ kind, kinds }) {
 function wantedInWords({ exchanges, calls, fault }) {
   if (exchanges.length > 0 || fault) return [];
   const what = calls.length
-    ? '<code>iolink run</code> prints so, without the messages: open what <code>iolink trace</code>'
-    : 'Nothing is here: open what <code>iolink trace</code>';
-  return [`<li class="wanted">${what} prints, or <code>iolink judge --octets RATE --trace</code> of
-    a capture.</li>`];
+    ? '<code>iolink run</code> prints so, without the messages' : 'Nothing is here';
+  return [`<li class="wanted">${what}: open what <code>iolink trace</code> prints.</li>`];
 }
 
 const MOST_TOLD = 2;
