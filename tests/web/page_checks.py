@@ -112,7 +112,7 @@ def broken_texts(text):
     yield "no such line", with_line(20, ["what is this"]), 20
     yield "lower case", with_line(3, [lines[2].lower().replace("a2", "a2")]), 3
     yield "half an octet", with_line(4, [lines[3].replace("17 1B", "17 1")]), 4
-    yield "no text", with_line(5, [lines[4].split(":")[0]]), 5
+    yield "no text, and no wake-up before", "\n".join(lines[2:3]).split(":")[0] + "\n", 1
     yield "a lost reply line", with_line(6, []), 6
     yield "a lost exchange", "\n".join([*lines[:6], *lines[8:]]) + "\n", 7
     yield "a read with data", with_line(7, [lines[6] + " od 00"]), 7
@@ -121,6 +121,25 @@ def broken_texts(text):
     yield "more than the record has", text + lines[-1] + "\n", end + 1
     yield "carried before the record", with_line(43, [lines[-1]]), 43
     yield "a call behind the record", text + "ok\n", end + 1
+
+
+READ = """page.state.trace.exchanges.map(({number, rate, mode, role, fate, sent, came}) => (
+  [number, rate, mode, role, fate, sent?.text, came && came.text]))"""
+
+
+def check_without_texts(room):
+    """Octets alone, as a driver writes them, are read as with the texts that `check` prints for them."""
+    room.open_page()
+    texts = {name: text for name, text in room.row_traces().items() if re.match(r"(ticket \d+\n|ok\n)*1 wake", text)}
+    yield "traces without texts", "" if len(texts) > 10 else f"only {len(texts)}"
+    for name, text in texts.items():
+        room.open_text(text)
+        wanted = room.window.run(READ)
+        room.open_text(re.sub(r"^(\d+ [<>] [0-9A-F ]+): .*$", r"\1", text, flags=re.M))
+        yield f"{name} without texts: fault", room.fault()
+        found = room.window.run(READ)
+        other = next((pair for pair in zip(found, wanted) if pair[0] != pair[1]), None)
+        yield f"{name} without texts", "" if found == wanted else f"{other}"
 
 
 def check_broken(room):
@@ -509,7 +528,7 @@ def check_silence(room):
 
 
 CHECKS = [
-    check_made, check_examples, check_traces, *RECORDS, check_broken, check_odd_lines, check_story, check_details,
+    check_made, check_examples, check_traces, *RECORDS, check_without_texts, check_broken, check_odd_lines, check_story, check_details,
     check_keys, check_pointer, check_touch, check_find, check_faults, check_layout, check_wanted, check_paste_and_drop,
     check_reload, check_picture_file, check_table, check_rules, check_contrast, check_pictures, *VERDICTS, check_large,
 ]

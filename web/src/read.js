@@ -95,6 +95,7 @@ class Reader {
   /** Messages and replies by their text: most of a trace repeats a few of them. */
   messages = new Map();
   replies = new Map();
+  decoder = new Decoder();
 
   begin(number) {
     const before = this.exchanges.at(-1);
@@ -167,15 +168,28 @@ function replyOf(rest) {
   return { octets, text, refused, od, data: numbers(od), input, event: flag, valid };
 }
 
+const BARE = new RegExp(`^${OCTETS}$`);
+
+/** What stands behind the number and the sign, with its text: a driver writes the octets alone. */
+function withText(reader, rest, textOf) {
+  if (!BARE.test(rest)) return rest;
+  if (!reader.decoder.layout) {
+    throw new BadLine('wanted: the text of the octets, or a wake-up that was answered before them');
+  }
+  return `${rest}: ${textOf(numbers(rest))}`;
+}
+
 function readWake(reader, rest, number) {
   const [rate] = matched(/^(?:COM[123]|none)$/, rest, 'COM1, COM2, COM3 or none');
   reader.begin(number);
+  reader.decoder.wake(rate !== 'none');
   reader.exchanges.push(new Exchange(number, reader.line, rate, null));
 }
 
 function readSent(reader, rest, number) {
-  const sent = once(reader.messages, rest, messageOf);
   reader.begin(number);
+  const whole = withText(reader, rest, (octets) => reader.decoder.message(octets));
+  const sent = once(reader.messages, whole, messageOf);
   const exchange = new Exchange(number, reader.line, null, sent);
   exchange.came = undefined;
   reader.exchanges.push(exchange);
@@ -186,7 +200,8 @@ function readCame(reader, rest, number) {
   if (!reader.awaits() || last.number !== number) {
     throw new BadLine(`wanted: message ${number} before its reply`);
   }
-  last.came = rest === 'none' ? null : once(reader.replies, rest, replyOf);
+  const whole = withText(reader, rest, (octets) => reader.decoder.reply(octets));
+  last.came = rest === 'none' ? null : once(reader.replies, whole, replyOf);
 }
 
 function readTicket(reader, rest) {
