@@ -2,7 +2,7 @@
 ghost use Rattle.std.specs.Prelude.{◌≡◌, ◌≤◌, ◌++◌, length};
 ghost use Rattle.iol_isdu.specs.Parse.{request_of};
 ghost use Rattle.iol_far.specs.Codec.{flow_of};
-ghost use Rattle.iol_watch.specs.Transfers.{abort_sent, answer_begun, answer_joined, transfer_in_answer, transfer_after_repeat, asked_after_reply, asks_instead, request_begun, count_asked, count_sent, transfer_in_doubt, doubted_told, idle_sent, repeated_told, transfer_after_message, start_asked, start_sent, transfer_after_reply, request_joined, transfer_in_request};
+ghost use Rattle.iol_watch.specs.Transfers.{abort_sent, answer_begun, answer_joined, transfer_in_answer, transfer_after_repeat, asked_after_reply, asks_instead, request_begun, count_asked, count_sent, transfer_in_doubt, doubted_told, ended_by_zeros, idle_sent, repeated_told, transfer_after_message, start_asked, start_sent, transfer_after_reply, request_joined, transfer_in_request};
 
 use crate::fault::Blame;
 use arrayvec::ArrayVec;
@@ -173,6 +173,17 @@ impl MasterTransfer {
         }
     }
 
+    /// Once zeros came to a COUNT read that went out again: where they end the answer, a device
+    /// that forgot it would send them too.
+    fn ended_by_zeros(self) -> MasterTransfer
+        ensures { result ≡ ended_by_zeros self }
+    {
+        match self {
+            MasterTransfer::Quiet => MasterTransfer::Undecided,
+            other => other,
+        }
+    }
+
     /// Once this good reply to a read on the ISDU channel came.
     pub fn told(self, reply: &ReplyView<'_>) -> MasterTransfer
         ensures { result ≡ transfer_after_reply self reply.now.od.items }
@@ -258,15 +269,16 @@ fn doubted_told(read: bool, octets: &[u8]) -> MasterTransfer
     asked_told(read, octets)
 }
 
-/// The reply to a COUNT read that went out again: where zeros end the answer, a device that forgot
-/// it would send them too.
+/// The reply to a COUNT read that went out again.
 fn repeated_told(read: bool, text: &Text, last: Option<u8>, octets: &[u8]) -> MasterTransfer
     requires { length octets.now ≤ 32 }
     ensures { result ≡ repeated_told read text.now last octets.now }
 {
-    match answered(read, &joined(text, octets), last) {
-        MasterTransfer::Quiet if are_zeros(octets) => MasterTransfer::Undecided,
-        told => told,
+    let told = answered(read, &joined(text, octets), last);
+    if are_zeros(octets) {
+        told.ended_by_zeros()
+    } else {
+        told
     }
 }
 
