@@ -207,7 +207,7 @@ function showBench() {
   byId('took').textContent = `${ran.made} calls of the line, run and judged in ${
     bench.took.toFixed(0)} ms`;
   byId('undo').disabled = bench.before.length === 0 && !bench.timer;
-  sessionStorage.setItem('script', textOfLines(bench.lines));
+  keep('script', textOfLines(bench.lines));
 }
 
 // Sending a session to somebody.
@@ -230,11 +230,9 @@ function copy(text, what) {
   byId('took').textContent = isDone ? `The ${what} is copied.` : 'This browser copies nothing.';
 }
 
-/** The script of the address, or of this tab before it was loaded again. */
+/** The script of before the page was loaded again, or that of the address. */
 function scriptGiven() {
-  const given = new URLSearchParams(location.hash.slice(1)).get('script');
-  const isReload = performance.getEntriesByType('navigation')[0]?.type === 'reload';
-  return given ?? (isReload ? sessionStorage.getItem('script') : null);
+  return kept('script') ?? new URLSearchParams(location.hash.slice(1)).get('script');
 }
 
 function tell(number) {

@@ -9,19 +9,13 @@ function openText(text, name) {
 
 /** Opens a text that is no example, and keeps it for when the page is loaded again. */
 function openGiven(text, name) {
-  try {
-    sessionStorage.setItem('given', JSON.stringify({ text, name }));
-  } catch {
-    // There is no room for it.
-    sessionStorage.removeItem('given');
-  }
+  keep('given', JSON.stringify({ text, name }));
   openText(text, name);
   history.replaceState(null, '', location.pathname);
 }
 
 function openKept() {
-  if (performance.getEntriesByType('navigation')[0]?.type !== 'reload') return;
-  const { text, name } = JSON.parse(sessionStorage.getItem('given') ?? '{}');
+  const { text, name } = JSON.parse(kept('given') ?? '{}');
   if (text !== undefined) openText(text, name);
 }
 

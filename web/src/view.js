@@ -50,6 +50,26 @@ function firstChoice() {
   return surprise?.first ?? missed?.at ?? 0;
 }
 
+/** Keeps a text for when the page is loaded again, where the browser lets it. */
+function keep(name, text) {
+  try {
+    sessionStorage.removeItem(name);
+    sessionStorage.setItem(name, text);
+  } catch {
+    // Without room or storage, F5 begins anew.
+  }
+}
+
+/** The text that was kept, if the page was loaded again. */
+function kept(name) {
+  if (performance.getEntriesByType('navigation')[0]?.type !== 'reload') return null;
+  try {
+    return sessionStorage.getItem(name);
+  } catch {
+    return null;
+  }
+}
+
 // What is seen.
 
 const plot = () => state.width - state.left;
