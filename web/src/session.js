@@ -61,7 +61,6 @@ const textOfLines = (lines) => lines.map((it) => `${it}\n`).join('');
 
 /** A port keeps at most so many events; with each click, so many are asked for. */
 const EVENTS = 8;
-const NOT_YET = /^refused \d+ (?:NotYet|NoEvent)$/;
 
 const isCall = (it) => it !== '' && !/^(?:#|wire |turn )/.test(it) && !SETTING.test(it);
 const isOfTheLine = (it) => /^\d+ /.test(it);
@@ -106,24 +105,26 @@ function answersIn(lines, said) {
   return lines.filter(isCall).map((call, at) => ({ call, answer: printed[at] ?? '' }));
 }
 
+/** What is asked behind a script, besides tickets and events: how the port stands. */
+const STANDS_NOW = ['status', 'image'];
+
 /**
- * Runs a script. Behind it, each ticket that is open is asked for, the events, and how the port
- * stands. What of this brought something stays in the script.
+ * Runs a script. Behind it, each ticket is asked for, the events, and how the port stands. Of this,
+ * what brought a ticket's outcome or an event stays in the script; the rest changes nothing.
  */
 function perform(lines) {
-  const open = ticketsOpen(traced(lines).said);
-  const asked = [...open.map((it) => `collect ${it}`), ...Array(EVENTS).fill('event')];
-  const found = traced([...lines, ...asked]);
-  const answers = found.said.slice(found.said.length - asked.length);
-  const kept = asked.filter((_, at) => !NOT_YET.test(answers[at]));
-  const whole = [...lines, ...kept];
-  const now = traced([...whole, 'status', 'image']);
-  const [status, image] = now.said.slice(-2);
-  const said = now.said.slice(0, -2);
-  const trace = [...said, ...now.behind];
+  const tickets = lines.filter((it) => SUBMIT.test(it)).map((_, at) => `collect ${at + 1}`);
+  const asked = [...tickets, ...Array(EVENTS).fill('event')];
+  const { said, behind, ...records } = traced([...lines, ...asked, ...STANDS_NOW]);
+  const [status, image] = said.slice(-STANDS_NOW.length);
+  const end = said.length - STANDS_NOW.length - asked.length;
+  const isKept = (_, at) => !said[end + at].startsWith('refused ');
+  const whole = [...lines, ...asked.filter(isKept)];
+  const told = [...said.slice(0, end), ...asked.map((_, at) => said[end + at]).filter(isKept)];
+  const trace = [...told, ...behind];
   return {
-    lines: whole, trace, status, image, made: callsIn(said), did: now.did, didAway: now.didAway,
-    answers: answersIn(whole, said), judged: execute('judge', textOfLines(trace)).printed,
+    lines: whole, trace, status, image, made: callsIn(told), ...records,
+    answers: answersIn(whole, told), judged: execute('judge', textOfLines(trace)).printed,
   };
 }
 
