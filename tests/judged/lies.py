@@ -61,6 +61,20 @@ class Trace:
         starts = [it for it in self.reads(Channel.ISDU, [START]) if self.came(it)[0] > BUSY]
         return starts + self.reads(Channel.ISDU, range(COUNTS))
 
+    def longer_answers(self):
+        """For each answer of two segments or more the places of the replies that bring them."""
+        answers = []
+        for place in self.places:
+            is_read, channel, address = self.control(place)
+            if channel is not Channel.ISDU:
+                continue
+            if is_read and address in range(COUNTS) and answers:
+                answers[-1].append(place)
+            else:
+                brings = is_read and address == START and self.came(place)[0] > BUSY
+                answers.append([place] if brings else [])
+        return [places for places in answers if len(places) > 1]
+
 
 def other_octet(chance, octets, place):
     """The octets with another one at a place, and with their checksum."""
@@ -176,6 +190,34 @@ def answer_forgotten(chance, trace):
     return {place: with_checksum(bytes(size) + trace.came(place)[size:], -1)}
 
 
+def first_segment_lost(chance, trace):
+    """The reply with an answer's first segment is lost, and a later segment is changed."""
+    answers = trace.longer_answers()
+    if not answers:
+        return {}
+    first, *others = chance.choice(answers)
+    return {first: None, **segment_of_changed(chance, trace, others)}
+
+
+def segment_of_changed(chance, trace, places):
+    place = chance.choice(places)
+    return {place: other_octet(chance, trace.came(place), chance.randrange(trace.segment_size()))}
+
+
+def read_again_otherwise(chance, trace):
+    """So it is, or a segment is changed of the same answer, read again behind it."""
+    answers = trace.longer_answers()
+    pairs = [
+        (one, other)
+        for one, other in zip(answers, answers[1:])
+        if [trace.came(it) for it in one] == [trace.came(it) for it in other]
+    ]
+    if not pairs:
+        return {}
+    (first, *others), again = chance.choice(pairs)
+    return {first: None, **segment_of_changed(chance, trace, others + again)}
+
+
 def bits_flipped(chance, trace):
     """As many bits as the checksum doesn't show."""
     for _ in range(TRIES):
@@ -188,6 +230,7 @@ def bits_flipped(chance, trace):
     return {}
 
 
+READ_AGAIN = "an answer read again"
 KINDS = {
     "an octet changed": octet_changed,
     "Event flag turned": event_flag_turned,
@@ -199,25 +242,44 @@ KINDS = {
     "a reply late": reply_late,
     "busy left out": busy_left_out,
     "an answer forgotten": answer_forgotten,
+    "a first segment lost": first_segment_lost,
+    READ_AGAIN: read_again_otherwise,
     "bits flipped": bits_flipped,
 }
 
 
+def read_again(calls, places):
+    """The calls, with those of these places once more behind them."""
+    if not places:
+        return calls
+    end = places[-1] + 1
+    longer = calls[:end] + [calls[place] for place in places] + calls[end:]
+    return [call._replace(number=number) for number, call in enumerate(longer, calls[0].number)]
+
+
 class Lie(NamedTuple):
-    """Other replies, by the places of their calls."""
+    """Other replies, by the places of their calls, once those of an answer were read again."""
 
     kind: str
     replies: dict
+    again: list
 
     def first(self):
         return min(self.replies)
 
     def told(self, calls):
         """The calls, as the lie has them."""
-        told = list(calls)
+        told = list(read_again(calls, self.again))
         for place, came in self.replies.items():
-            told[place] = calls[place]._replace(came=came)
+            told[place] = told[place]._replace(came=came)
         return told
+
+
+def to_read_again(chance, trace):
+    """The places of an answer's segments, with as many calls behind them."""
+    answers = trace.longer_answers()
+    answers = [it for it in answers if it[-1] + len(it) < len(trace.calls)]
+    return chance.choice(answers) if answers else []
 
 
 def lies_in(trace, seed, most):
@@ -225,7 +287,8 @@ def lies_in(trace, seed, most):
     chance, names, lies = random.Random(seed), list(KINDS), []
     for step in range(len(names) if trace.places else 0):
         kind = names[(seed + step) % len(names)]
-        replies = KINDS[kind](chance, trace) if len(lies) < most else {}
-        if replies:
-            lies.append(Lie(kind, replies))
+        if len(lies) < most:
+            again = to_read_again(chance, trace) if kind == READ_AGAIN else []
+            replies = KINDS[kind](chance, Trace(read_again(trace.calls, again)))
+            lies += [Lie(kind, replies, again)] if replies else []
     return lies

@@ -1,19 +1,16 @@
 -- A state explains each reply of a device that it stands for, and what is known of an ISDU transfer
 -- holds once the reply was had.
 use Rattle.std.proofs.lemmas.Grind.{common_steps}
-use Rattle.std.proofs.Common.{◌≡◌, inl, inr, ℕ, zero, suc, ◌+◌, ◌-◌, ◌*◌, ◌<◌, ◌≤◌, Bool, true, false, List, ◌∷◌, ◌++◌, length, take, drop, replicate, refl, sym, ◌∙◌, ap, arith, eqb-true, ⊎_elim, []}
-use Rattle.std.proofs.Math.Nat.{add-mul}
-use Rattle.std.proofs.lemmas.Bool.{and_parts, cases_lt, cond_both, leb-false, ltb-true, leb-true}
-use Rattle.std.specs.Prelude.{Option, Some, None, Result, Ok, Err, is_some, not, IfSome, ◌&&◌, ◌||◌, ◌==◌, nat_lt, nat_le, IsTrue, if◌then◌else◌, unwrap_or, slice_index}
+use Rattle.std.proofs.Common.{◌≡◌, inl, inr, ℕ, zero, suc, ◌+◌, ◌-◌, ◌≤◌, Bool, true, false, List, ◌∷◌, length, drop, get_or, replicate, refl, ◌∙◌, ap, arith, eqb-true, []}
+use Rattle.std.proofs.lemmas.Bool.{cond_both}
+use Rattle.std.specs.Prelude.{Option, Some, None, is_some, not, IfSome, ◌&&◌, ◌==◌, IsTrue, if◌then◌else◌, unwrap_or, slice_index}
 use Rattle.iol_octets.specs.declared.control.Channel.{Channel}
 use Rattle.iol_octets.specs.declared.control.Channel.TheVariants.{Process, Isdu, Diagnosis}
 use Rattle.iol_octets.specs.declared.flow_control.Flow.{Flow}
 use Rattle.iol_isdu.specs.declared.values.Request.{Request}
 use Rattle.iol_isdu.specs.declared.values.Answer.{Answer}
-use Rattle.iol_isdu.specs.Answers.{is_read, answer_fault}
-use Rattle.iol_isdu.specs.Frame.{total_at}
+use Rattle.iol_isdu.specs.Answers.{is_read}
 use Rattle.iol_segment.specs.Cut.{segment}
-use Rattle.iol_segment.specs.TextLaws.{segments_up_to, HoldsLength}
 use Rattle.iol_far.specs.declared.kind.Kind.{Kind}
 use Rattle.iol_far.specs.declared.kind.HandsOver.{HandsOver}
 use Rattle.iol_far.specs.Isdu.{IsduState, Empty, Handed, Answered, answer_text_to, fits, isdu_read, isdu_data}
@@ -21,20 +18,15 @@ use Rattle.iol_far.specs.Far.{Far, isdu_after, layout_of, far_after_message, rep
 use Rattle.iol_far.specs.Codec.{message_in, reply_octets}
 use Rattle.iol_mseq.specs.declared.master.MasterMsg.{MasterMsg}
 use Rattle.std.specs.Option.{option_or}
-use Rattle.iol_isdu.specs.declared.fault.IsduFault.{IsduFault}
-use Rattle.iol_segment.specs.Join.{Stage}
-use Rattle.iol_judge.specs.declared.had.Ahead.{Ahead}
 use Rattle.iol_judge.specs.declared.had.HadSegments.{HadSegments}
-use Rattle.iol_judge.specs.declared.had.TheConstants.{MOST_HAD}
 use Rattle.iol_judge.specs.declared.reason.Reason.{Reason}
-use Rattle.iol_judge.specs.declared.reason.Reason.TheVariants.{AnswerPadding, InvalidNotZero}
+use Rattle.iol_judge.specs.declared.reason.Reason.TheVariants.{InvalidNotZero}
 use Rattle.iol_judge.specs.declared.transfer.Transfer.{Transfer}
 use Rattle.iol_judge.specs.declared.transfer.Transfer.TheVariants as known
-use Rattle.iol_judge.specs.Answers.{ahead_fault, behind_fault, first_had, had_with, is_busy, next_fault, open_fault, same_fault, segment_fault, text_fault, text_fault_at, ahead_told, ahead_with, one_ahead}
+use Rattle.iol_judge.specs.Answers.{had_with, is_busy, none_had, segment_fault, text_fault}
 use Rattle.iol_judge.specs.Transfers.{asked_told, transfer_fault, transfer_told_by, transfer_told}
-use Rattle.iol_judge.specs.UnderWay.{AreHad, IsUnderWay, IsAnswered, IsAnswerAsked, AreAhead, later_ones}
-use Rattle.iol_segment.proofs.TextLaws.{joined-front}
-use Rattle.iol_judge.proofs.Sending.{begun_fits, first_grow, length_first, part_of_first, pointwise_self, zeros_behind, zeros_within, length_later, part_of_later, total_of_first, AreTexts, below_by, has_octets, same_by}
+use Rattle.iol_judge.specs.UnderWay.{AreHad, IsUnderWay, IsAnswered, IsAnswerAsked}
+use Rattle.iol_judge.proofs.Sending.{AreTexts, none_holds, same_by}
 use Rattle.std.proofs.lemmas.Bool.Decides.{nat_tests}
 use Rattle.iol_octets.specs.Zeros.{are_zeros}
 use Rattle.iol_mseq.specs.Shape.{Shape}
@@ -49,9 +41,11 @@ use Rattle.iol_judge.specs.Seen.{is_of_page, page_noted}
 use Rattle.iol_judge.specs.State.{KnownState}
 use Rattle.iol_judge.specs.Replies.{cycle_told, data_fault, data_oddity, explanation_of, held_against, state_after_reply, no_zeros, page_fault, page_oddity, fault_in_reply, reply_oddity, shown_told}
 use Rattle.iol_judge.specs.Judged.{page_after_reply, noted_at}
-use Rattle.iol_judge.specs.Admitted.{Admits, Agrees, AreAsKnown}
+use Rattle.iol_judge.specs.Octets.{Agrees, are_as_known, with_octets}
+use Rattle.iol_judge.specs.Admitted.{Admits, AreAsKnown}
 use Rattle.iol_judge.proofs.Hearing.{control_is, shown_awake, under_way_awake}
-use Rattle.iol_judge.proofs.Sets.{events_fit, flag_fits, flagged_shown, same_known, set_agrees, told_shown}
+use Rattle.iol_judge.proofs.Sets.{events_fit, flag_fits, flagged_shown, told_shown}
+use Rattle.iol_judge.proofs.Known.{AreAt, fits_known, text_is_no_fault, same_known, segment_at, set_agrees, with_agrees, with_long}
 
 -- Behind a read of the ISDU channel an answer was sent, if there is one
 
@@ -102,40 +96,11 @@ module _ (size : ℕ) (law : AreTexts size) (request : Request) (answer : Answer
   not_busy = ap (λ (b : Bool). b && are_zeros (drop 1 (segment size its_text 0)))
       (law.texts.busy (is_read request) answer (law.fitting request answer fit))
 
-  holds : HoldsLength its_text
-  holds = law.texts.answers (is_read request) answer (law.fitting request answer fit)
-
-  accepted : answer_fault (is_read request) its_text ≡ None
-  accepted = law.texts.accepted (is_read request) answer (law.fitting request answer fit)
-
-  -- its segments are no fault
-  text_fits : (last : ℕ) → last * size < length its_text
-      → text_fault (is_read request) (segments_up_to size its_text last) ≡ None
-  text_fits last begins = ⊎_elim before ended (cases_lt _ _)
-    where
-      before : suc last * size < length its_text
-          → text_fault (is_read request) (segments_up_to size its_text last) ≡ None
-      before more =
-          ap (λ (s : Stage). text_fault_at (is_read request) s (segments_up_to size its_text last))
-          (law.texts.grows its_text last holds more) ∙ ap (open_fault (is_read request))
-          (joined-front size _ last (omega arith))
-          ∙ begun_fits _ _ _ holds accepted (omega arith) more
-
-      ended : length its_text ≤ suc last * size
-          → text_fault (is_read request) (segments_up_to size its_text last) ≡ None
-      ended most = ap (λ (s : Stage). text_fault_at (is_read request) s
-          (segments_up_to size its_text last))
-          (law.texts.ends its_text last holds (begins, most))
-          ∙ rw (accepted, zeros_behind law.sized size its_text last (omega arith) most) refl
-
   module _ (had : HadSegments) (sent : ℕ) (are : AreHad size had its_text sent)
       (read : is_read request ≡ had.read) where
     -- the segment that was sent
     abbrev its_segment : List ℕ
     its_segment = segment size its_text sent
-
-    long : length had.text.items ≡ are.many * size
-    long = ap (λ (l : List ℕ). length l) are.octets ∙ length_first law.sized size its_text are.many
 
     not_again : (had.at == 0 && is_busy its_segment) ≡ false
     not_again = split (had.at == 0) refl
@@ -144,174 +109,35 @@ module _ (size : ℕ) (law : AreTexts size) (request : Request) (answer : Answer
         split false e = refl
         split true e = rw (same_by size law.some sent 0 (omega (arith, eqb-true _ 0 e))) not_busy
 
-    -- it is the same as octets that begin with it
-    same_part : (octets : List ℕ) → take size octets ≡ its_segment
-        → same_fault octets its_segment ≡ None
-    same_part octets part = grind (arith, common_steps, pointwise_self)
-
-    -- a segment that was had before
-    same_again : had.at < length had.text.items → same_fault (drop had.at had.text.items)
-        its_segment ≡ None
-    same_again lt =
-        let before : sent < are.many = below_by size law.some sent are.many (omega (arith, long)) in
-        same_part _ (ap (λ n. take size (drop n had.text.items)) are.at
-        ∙ ap (λ (l : List ℕ). take size (drop (sent * size) l)) are.octets
-        ∙ part_of_first law.sized size its_text are.many sent before)
-
-    long_ahead : (ahead : Ahead) (is : AreAhead size its_text ahead)
-        → length ahead.octets.items ≡ is.many * size
-    long_ahead ahead is = ap (λ (l : List ℕ). length l) is.octets
-        ∙ length_later law.sized size its_text is.number is.many
-
-    -- so is one behind others that weren't
-    again_fits : (ahead : Ahead) → AreAhead size its_text ahead → nat_le ahead.at had.at ≡ true
-        → nat_lt (had.at - ahead.at) (length ahead.octets.items) ≡ true
-        → same_fault (drop (had.at - ahead.at) ahead.octets.items) its_segment ≡ None
-    again_fits ahead is e f =
-        let from = leb-true ahead.at had.at e in
-        let below = ltb-true (had.at - ahead.at) (length ahead.octets.items) f in
-        let behind = sent - is.number in
-        let first : is.number < suc sent = below_by size law.some is.number (suc sent)
-        (omega arith) in
-        let last : sent < is.number + is.many = below_by size law.some sent (is.number + is.many)
-        (omega (arith, long_ahead ahead is, add-mul is.number is.many size)) in
-        let sum : is.number + behind ≡ sent = omega arith in
-        let place : had.at - ahead.at ≡ behind * size =
-        omega (arith, add-mul is.number behind size, ap (λ i. i * size) sum) in
-        same_part _ (ap (λ n. take size (drop n ahead.octets.items)) place ∙ ap (λ
-        (l : List ℕ). take size (drop (behind * size) l)) is.octets ∙ part_of_later law.sized size
-        its_text is.number is.many behind (omega arith) ∙ ap (λ i. segment size its_text i) sum)
-
-    ahead_again : (ahead : Option Ahead) → IfSome ahead (AreAhead size its_text)
-        → ahead_fault ahead had.at its_segment ≡ None
-    ahead_again ahead is = grind (arith, common_steps, again_fits)
-
-    -- the next one
-    next_is : had.at ≡ length had.text.items → sent ≡ are.many
-    next_is e = same_by size law.some sent _ (omega (arith, long))
-
-    grown : had.at ≡ length had.text.items → (had.text.items ++ its_segment)
-        ≡ segments_up_to size its_text are.many
-    grown e = grind (arith, common_steps, next_is, first_grow)
-
-    begins_next : had.at ≡ length had.text.items → are.many * size < length its_text
-    begins_next e = rw (next_is e) at are.within
-
-    -- one behind a segment that wasn't had: there are zeros behind the text
-    behind_fits : (total : Result ℕ IsduFault) → total_at had.text.items ≡ total
-        → behind_fault total had.at its_segment ≡ None
-    behind_fits (Err fault) t = refl
-    behind_fits (Ok total) t = split (nat_le (had.at + length its_segment) total) refl
-      where
-        is_total : total ≡ length its_text
-        is_total = total_of_first size _ _ total holds are.begins (sym (ap total_at are.octets) ∙ t)
-
-        split : (b : Bool) → nat_le (had.at + length its_segment) total ≡ b → (if b || are_zeros
-            (drop (total - had.at) its_segment) then None else Some AnswerPadding) ≡ None
-        split true e = refl
-        split false e =
-            let piece = law.sized size its_text sent in
-            let past = leb-false _ total e in
-            let zeros : are_zeros (drop (total - had.at) its_segment) ≡ true =
-            ap (λ n. are_zeros (drop (n - had.at) its_segment)) is_total
-            ∙ ap (λ n. are_zeros (drop (length its_text - n) its_segment)) are.at ∙ zeros_within
-            law.sized size _ sent (omega arith) (omega (arith, is_total, past)) in
-            ap (λ (z : Bool). if z then None else Some AnswerPadding) zeros
-
-    next_fits : next_fault had its_segment ≡ None
-    next_fits = cond_both _ _ _ IsNone (λ e.
-        let here : had.at ≡ length had.text.items = eqb-true _ _ e in
-        ap (λ (r : Bool). text_fault r (had.text.items ++ its_segment)) (sym read)
-        ∙ ap (λ (l : List ℕ). text_fault (is_read request) l) (grown here)
-        ∙ text_fits _ (begins_next here)) (λ e. behind_fits _ refl)
-
-    segment_fits : segment_fault had its_segment ≡ None
-    segment_fits = rw not_again (cond_both _ _ _ IsNone (λ e. same_again (ltb-true _ _ e))
-        (λ e. neither _ _ (ahead_again _ are.ahead) next_fits))
+    there : AreAt had.at its_segment (λ k. get_or its_text k 0)
+    there k less = ap (λ n. get_or its_text (n + k) 0) are.at
+        ∙ segment_at size its_text sent (law.sized size its_text sent) k less
 
     -- and once it was had
-
-    one_holds : AreAhead size its_text (one_ahead had.at its_segment)
-    one_holds =
-        let none : sent ≡ sent + 0 = omega arith in
-        record {
-          number = sent;
-          many = 1;
-          at = are.at;
-          octets = ap (λ i. segment size its_text i) none;
-        }
-
-    with_holds : (ahead : Ahead) → AreAhead size its_text ahead → AreAhead size its_text
-        (ahead_with ahead had.at its_segment)
-    unfolding one_holds
-    with_holds ahead is = cond_both _ _ _ (AreAhead size its_text) (λ e.
-        let here : ahead.at + length ahead.octets.items ≡ had.at =
-        eqb-true _ _ (and_parts _ _ e).0 in
-        let number : sent ≡ is.number + is.many = same_by size law.some sent _
-        (omega (arith, long_ahead ahead is, add-mul is.number is.many size)) in
-        record {
-          number = is.number;
-          many = suc is.many;
-          at = is.at;
-          octets = ap (λ (l : List ℕ). l ++ its_segment) is.octets ∙ ap
-              (λ i. later_ones size its_text is.number is.many ++ segment size its_text i) number;
-        }) (λ e. one_holds)
-
-    ahead_holds : (ahead : Option Ahead) → IfSome ahead (AreAhead size its_text)
-        → AreAhead size its_text (ahead_told ahead had.at its_segment)
-    unfolding one_holds
-    ahead_holds None is = one_holds
-    ahead_holds (Some ahead) is =
-        cond_both _ ahead _ (AreAhead size its_text) (λ e. is) (λ e. with_holds ahead is)
-
     had_holds : AreHad size (had_with had its_segment) its_text sent
-    had_holds = split (nat_lt (length had.text.items) had.at) (had.at == length had.text.items)
-        (nat_le (length had.text.items + length its_segment) MOST_HAD) refl
-      where
-        split : (missed new room : Bool) → (had.at == length had.text.items) ≡ new
-            → AreHad size (if missed then record had {
-              ahead = Some (ahead_told had.ahead had.at its_segment);
-            } else if (new && room) then record had {
-              text = record { items = had.text.items ++ its_segment };
-            } else had) its_text sent
-        split true new room e = record {
-          many = are.many;
-          octets = are.octets;
-          begins = are.begins;
-          ahead = ahead_holds _ are.ahead;
-          within = are.within;
-          at = are.at;
-          count = are.count;
-        }
-        split false false room e = are
-        split false true false e = are
-        split false true true e =
-            let here : had.at ≡ length had.text.items = eqb-true _ _ e in
-            let begins = begins_next here in
-            record {
-              many = suc are.many;
-              octets = grown here;
-              begins = omega arith;
-              ahead = are.ahead;
-              within = are.within;
-              at = are.at;
-              count = are.count;
-            }
+    had_holds = record {
+      octets = with_agrees had.octets had.at its_segment its_text are.octets there;
+      places = with_long had.octets had.at its_segment ∙ are.places;
+      begun = are.begun;
+      within = are.within;
+      at = are.at;
+      count = are.count;
+    }
 
-  -- the first segment was had
-  first_holds : AreHad size (first_had (is_read request) (segment size its_text 0)) its_text 0
-  first_holds =
-      let some = has_octets its_text
-      (law.texts.begins (is_read request) answer (law.fitting request answer fit)) in
-      record {
-        many = 1;
-        octets = refl;
-        begins = omega (arith, some);
-        ahead = tt;
-        within = omega (arith, some);
-        at = omega arith;
-        count = refl;
-      }
+    none_other : are_as_known (drop had.at had.octets) its_segment ≡ true
+    none_other = fits_known had.octets had.at its_segment its_text are.octets there
+
+    text_fits : text_fault had.read had.begun (with_octets had.octets had.at its_segment) ≡ None
+    text_fits =
+        let fits = law.fitting request answer fit in
+        let holds = had_holds in
+        rw (← read) (text_is_no_fault (is_read request) its_text
+        (law.texts.answers (is_read request) answer fits)
+        (law.texts.accepted (is_read request) answer fits) _ holds.octets holds.places had.begun
+        are.begun)
+
+    segment_fits : segment_fault had its_segment ≡ None
+    segment_fits = rw (not_again, none_other) text_fits
 
 answered_fits : (size : ℕ) → AreTexts size → (had : HadSegments) (state : IsduState)
     → IsAnswered size had state → segment_fault had (isdu_data size state) ≡ None
@@ -319,13 +145,10 @@ answered_fits size law had (Answered request answer (Some i)) h =
     segment_fits size law request answer h.1 had i h.2 h.0
 answered_fits size law had state h = absurd h
 
-had_read : (had : HadSegments) (od : List ℕ) → (had_with had od).read ≡ had.read
-had_read had od = grind (arith, common_steps)
-
 told_answered : (size : ℕ) → AreTexts size → (had : HadSegments) (state : IsduState)
     → IsAnswered size had state → IsAnswered size (had_with had (isdu_data size state)) state
 told_answered size law had (Answered request answer (Some i)) h = (
-  h.0 ∙ sym (had_read had _),
+  h.0,
   h.1,
   had_holds size law _ _ h.1 had i h.2 h.0,
 )
@@ -334,7 +157,6 @@ told_answered size law had state h = absurd h
 module _ (hands_over : HandsOver) (counted : Option ℕ) (size : ℕ) (law : AreTexts size) where
   pub isdu_fits : (transfer : Transfer) (state : IsduState) → IsUnderWay hands_over counted size
       transfer state → IsSent state → transfer_fault transfer (isdu_data size state) ≡ None
-  unfolding first_holds
   isdu_fits known.Quiet state h s = rw (h, zeros_are size) refl
   isdu_fits (known.Receiving text last) state h s = rw (h, zeros_are size) refl
   isdu_fits (known.Whole read last) state h s = refl
@@ -342,8 +164,8 @@ module _ (hands_over : HandsOver) (counted : Option ℕ) (size : ℕ) (law : Are
   isdu_fits (known.Handed read last) (Answered request answer None) h s = absurd s
   isdu_fits (known.Asked read last) (Handed request) h s = rw (busy_is size) refl
   isdu_fits (known.Asked read last) (Answered request answer (Some zero)) h s =
-      rw (not_busy size law _ _ h.1, ← h.0)
-      (text_fits size law _ _ h.1 0 (first_holds size law _ _ h.1).within)
+      cond_both _ _ _ IsNone (λ e. refl) (λ e. segment_fits size law request answer h.1
+      (none_had read) 0 (none_holds size law read request answer h.1) h.0)
   isdu_fits (known.Asked read last) (Answered request answer None) h s = absurd s
   isdu_fits (known.Answered had) state h s = answered_fits size law had state h
   isdu_fits (known.Perhaps had) state h s = elim h [
@@ -358,7 +180,12 @@ module _ (hands_over : HandsOver) (counted : Option ℕ) (size : ℕ) (law : Are
       → IsUnderWay hands_over counted size (asked_told read last (isdu_data size state)) state
   told_asked read last (Handed request) h s = rw (busy_is size) h
   told_asked read last (Answered request answer (Some zero)) h s =
-      rw (not_busy size law _ _ h.1) (rw (← h.0) (refl, h.1, first_holds size law _ _ h.1))
+      rw (not_busy size law request answer h.1) (
+        h.0,
+        h.1,
+        had_holds size law request answer h.1
+            (none_had read) 0 (none_holds size law read request answer h.1) h.0,
+      )
   told_asked read last (Answered request answer None) h s = absurd s
   told_asked read last state h s = absurd h
 

@@ -38,8 +38,10 @@ use Rattle.iol_judge.specs.State.{KnownState, parts}
 use Rattle.iol_judge.specs.Taking.{taken_by_state}
 use Rattle.iol_judge.specs.Judged.{JudgeState, states_with, added_taken, each_in_turn, lost_into, lost_part, explained_into, replied_part, replied_into, concluded_lost, concluded_replied, odd_for_all, judge_without_reply, judge_after_answer, one_more, judge_after_exchange, woken_states, woken_into, judge_after_wake, kinds_left, kinds_with}
 use Rattle.iol_judge.specs.Judged as judging
-use Rattle.iol_judge.specs.Admitted.{Agrees, Admits, IsPossible, IsFair, Passing, Wakes, Passes, judge_after_passing, told_all, is_answered, IsHonest, IsHonestRun, IsWake, NeverBlamed}
-use Rattle.iol_judge.proofs.Sets.{Gains, Keeps, bound, each_gains, each_keeps, Left, added_keeps, added_admits, both_has, other_has, nothing_known, released_free, Alike, locals_alike, one_alike, woken_admits}
+use Rattle.iol_judge.specs.Octets.{Agrees}
+use Rattle.iol_judge.specs.Admitted.{Admits, IsPossible, IsFair, Passing, Wakes, Passes, judge_after_passing, told_all, is_answered, IsHonest, IsHonestRun, IsWake, NeverBlamed}
+use Rattle.iol_judge.proofs.Known.{nothing_known}
+use Rattle.iol_judge.proofs.Sets.{Gains, Keeps, bound, each_gains, each_keeps, Left, added_keeps, added_admits, both_has, other_has, released_free, Alike, locals_alike, one_alike, woken_admits}
 use Rattle.iol_judge.proofs.Hearing.{IsPart, all_have, parts_admit, Knows, knows, Accepting, accepting, Fits, state_fits}
 use Rattle.iol_judge.proofs.Answering.{explains, learned_admits, noted_agrees, worked_sent}
 use Rattle.iol_judge.proofs.Sending.{AllTexts}

@@ -15,7 +15,8 @@ use Rattle.std.specs.Result.{result_map_both}
 use Rattle.iol_judge.specs.Seen.{layouts_by, layouts_known, layouts_seen}
 use Rattle.iol_judge.specs.Taking.{and_then, mode_layout, mode_known, cycle_after, state_after, taken_message}
 use Rattle.iol_judge.specs.Transfers.{isdu_known, is_apart, transfer_after, transfer_in}
-use Rattle.iol_judge.specs.Admitted.{Agrees, Admits, AreAsKnown, One}
+use Rattle.iol_judge.specs.Octets.{Agrees}
+use Rattle.iol_judge.specs.Admitted.{Admits, AreAsKnown, One}
 use Rattle.std.proofs.lemmas.Bool.{cond_both}
 use Rattle.iol_octets.specs.Control.{control_of}
 use Rattle.iol_octets.specs.declared.flow_control.Flow.{Flow}

@@ -1,3 +1,4 @@
+mod Known
 mod Sending
 mod Transferring
 mod Sets

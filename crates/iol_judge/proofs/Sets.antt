@@ -1,10 +1,10 @@
 -- Sets of states and what they stand for: what a device's events show, what one state covers of
 -- another, and what the device does by itself, or at a wake-up.
-use Rattle.std.proofs.Common.{◌≡◌, ℕ, zero, suc, ◌+◌, ◌-◌, ◌/◌, ◌%◌, ◌^◌, ◌<◌, ◌≤◌, max, Bool, true, false, List, [], ◌∷◌, length, replicate, get_or, set, refl, ◌∙◌, ap, arith, ◌⊎◌, inl, inr, ◌*◌, ◌++◌}
+use Rattle.std.proofs.Common.{◌≡◌, ℕ, zero, suc, ◌+◌, ◌-◌, ◌/◌, ◌%◌, ◌^◌, ◌<◌, ◌≤◌, max, Bool, true, false, List, [], ◌∷◌, length, refl, ◌∙◌, ap, arith, ◌⊎◌, inl, inr, ◌*◌, ◌++◌}
 use Rattle.std.proofs.lemmas.Bool.{and_parts, cond_both, or_cases}
 use Rattle.std.proofs.lemmas.Grind.{common_steps}
 use Rattle.std.proofs.lemmas.Option.{slice_get_past}
-use Rattle.std.specs.Prelude.{Option, Some, None, IfSome, not, ◌||◌, ◌==◌, nat_lt, if◌then◌else◌, slice_get, slice_index_or, Result, Ok, Err}
+use Rattle.std.specs.Prelude.{Option, Some, None, IfSome, not, ◌||◌, ◌==◌, nat_lt, if◌then◌else◌, nat_eq, slice_get, slice_index_or, Result, Ok, Err}
 use Rattle.std.specs.Cmp.Lexicographic.{pointwise}
 use Rattle.iol_event.specs.declared.event.Event.{Event}
 use Rattle.iol_event.specs.Memory.{Events, is_empty, events_after_raise, events_after_release, event_octet, place_octet, status_code}
@@ -41,6 +41,7 @@ use Rattle.iol_far.specs.Level.{link_of}
 use Rattle.iol_judge.specs.declared.transfer.Transfer.TheVariants.{Quiet}
 use Rattle.iol_judge.specs.declared.kinds.Kinds.{Kinds}
 use Rattle.iol_judge.specs.Family.{both_kinds, admits_kind, kinds_within}
+use Rattle.iol_judge.proofs.Known.{nothing_known, same_known, set_agrees}
 use Rattle.iol_judge.proofs.Sending.{AllTexts}
 use Rattle.iol_far.specs.Local.{LocalStep, local, locals, carried_by, far_after_wake}
 
@@ -86,10 +87,6 @@ pub flag_fits : (shown : ShownEvents) (memory : Events) → AreAsKnown shown mem
     → flag_fault shown (not (is_empty memory.frozen)) ≡ None
 flag_fits shown memory s = grind (arith, common_steps)
 
--- of nothing each thing can be said
-pub nothing_known : (n k : ℕ) (P : ℕ → Type 0) → IfSome (get_or (replicate n None) k None) P
-nothing_known n k P = grind (arith, common_steps)
-
 pub flagged_shown : (shown : ShownEvents) (memory : Events) → length memory.frozen ≤ 6
     → AreAsKnown shown memory → AreAsKnown (flag_told shown (not (is_empty memory.frozen))) memory
 flagged_shown shown memory six s = grind (arith, common_steps, nothing_known)
@@ -121,18 +118,8 @@ filled_below : (f : List Event) (i part : ℕ) → (place_octet (slice_get f i) 
     → i < length f
 filled_below f i part h = grind (arith, common_steps, slice_get_past)
 
-pub same_known : (known : Option ℕ) (octet : ℕ) → IfSome known (λ o. octet ≡ o)
-    → is_other known octet ≡ false
-same_known known octet h = grind (arith, common_steps)
-
 above_zero : (address : ℕ) → (address == 0) ≡ false → suc (address - 1) ≡ address
 above_zero address e = grind (arith, common_steps)
-
--- one octet more is known
-pub set_agrees : (seen : List (Option ℕ)) (page : ℕ → ℕ) (place octet : ℕ)
-    → ((k : ℕ) → IfSome (get_or seen k None) (λ o. page k ≡ o)) → page place ≡ octet
-    → (k : ℕ) → IfSome (get_or (set seen place (Some octet)) k None) (λ o. page k ≡ o)
-set_agrees seen page place octet agrees e k = grind (arith, common_steps, agrees k)
 
 module _ (f : List Event) (address : ℕ) where
   is_status : (address == 0) ≡ true → event_octet f address ≡ status_code f
@@ -190,8 +177,22 @@ pub asked_covers : (hands_over : HandsOver) (counted : Option ℕ) (read : Bool)
     → IsAnswerAsked hands_over counted read last state
 asked_covers hands_over counted read last state h = grind arith
 
+octet_same : (a b : Option ℕ) → option_eq nat_eq a b ≡ true → a ≡ b
+octet_same a b e = grind (arith, common_steps)
+
+octets_same : (a b : List (Option ℕ)) → pointwise (option_eq nat_eq) a b ≡ true → a ≡ b
+octets_same [] [] e = refl
+octets_same (x ∷ a) (y ∷ b) e =
+    let first : x ≡ y = octet_same x y (and_parts _ _ e).0 in
+    let rest : a ≡ b = octets_same a b (and_parts _ _ e).1 in
+    cc
+octets_same a b e = absurd (cc)
+
 had_same : (a b : HadSegments) → same_had a b ≡ true → a ≡ b
-had_same a b e = grind (arith, common_steps, bytes_eq-Decides, booleans_Decides)
+had_same a b e =
+    let octets : a.octets ≡ b.octets = octets_same _ _
+    (and_parts _ _ (and_parts _ _ (and_parts _ _ (and_parts _ _ e).0).0).0).1 in
+    grind (arith, common_steps, booleans_Decides)
 
 -- a segment was sent, and none was had: it is the first
 none_first : (size sent : ℕ) → 1 ≤ size → 0 ≡ sent * size → sent ≡ 0

@@ -25,7 +25,7 @@ use Rattle.iol_isdu.specs.Answers.{is_read}
 use Rattle.iol_far.specs.declared.kind.Kind.{Kind}
 use Rattle.iol_far.specs.Far.{isdu_after, counted_after}
 use Rattle.iol_judge.specs.Answers.{none_had}
-use Rattle.iol_judge.proofs.Sending.{AreTexts, Holds, Manner, Unsent, again_ended, answered_count, answered_start, had_ended, has_octets, none_read, read_by, stays, still_goes}
+use Rattle.iol_judge.proofs.Sending.{AreTexts, Holds, Manner, Unsent, again_ended, answered_count, answered_start, had_ended, none_holds, none_read, read_by, stays, still_goes}
 
 -- A write
 
@@ -159,7 +159,8 @@ count_under_way hands_over counted size transfer state count octets h =
 pub none_had_goes : (size : ℕ) → AreTexts size → (read : Bool) (request : Request) (answer : Answer)
     → is_read request ≡ read → IsTrue (fits request answer)
     → IsAnswered size (none_had read) (Answered request answer (Some 0))
-none_had_goes size law read request answer is fit = grind (arith, common_steps, has_octets)
+none_had_goes size law read request answer is fit =
+    (is, fit, none_holds size law read request answer fit)
 
 handed_unsent : (hands_over : HandsOver) (counted : Option ℕ) (read : Bool) (last : Option ℕ)
     (state : IsduState) → IsHanded hands_over counted read last state → Unsent state

@@ -1,5 +1,5 @@
 -- Which devices a kept state stands for, and the law of the judge.
-use Rattle.std.specs.Prelude.{◌≡◌, ◌≢◌, ◌⊎◌, ◌≤◌, ℕ, suc, Bool, true, false, if◌then◌else◌, List, [], ◌∷◌, length, slice_index, slice_index_or, Option, None, IfSome}
+use Rattle.std.specs.Prelude.{◌≡◌, ◌≢◌, ◌⊎◌, ◌≤◌, ℕ, suc, Bool, true, false, if◌then◌else◌, List, [], ◌∷◌, length, slice_index_or, Option, None, IfSome}
 use Rattle.iol_event.specs.declared.event.Event.{Event}
 use Rattle.iol_event.specs.Memory.{Events, event_octet}
 use Rattle.iol_far.specs.Far.{Far}
@@ -16,16 +16,12 @@ use Rattle.iol_judge.specs.declared.verdict.Verdict.TheVariants.{Honest, NotHone
 use Rattle.iol_judge.specs.declared.verdict.Odd.{Odd}
 use Rattle.iol_judge.specs.declared.verdict.Wake.{Wake}
 use Rattle.iol_judge.specs.declared.verdict.Wake.TheVariants.{Answered, Unanswered}
+use Rattle.iol_judge.specs.Octets.{Agrees}
 use Rattle.iol_judge.specs.Seen.{whole_page}
 use Rattle.iol_judge.specs.State.{KnownState}
 use Rattle.iol_judge.specs.Family.{admits_kind}
 use Rattle.iol_judge.specs.UnderWay.{HasUnderWay}
 use Rattle.iol_judge.specs.Judged.{JudgeState, new_judge, judge_after_exchange, kinds_left, judge_after_wake}
-
--- each octet that is known is the page's
-abbrev pub Agrees : List (Option ℕ) → List ℕ → Type 0
-Agrees seen page = (place : ℕ)
-    → IfSome (slice_index_or seen place None) (λ octet. slice_index page place ≡ octet)
 
 -- the hold is over, and only during it events wait while none is frozen
 pub record IsReleased (memory : Events) : Type 0 where

@@ -1,9 +1,8 @@
 -- What is known of an ISDU transfer.
 use Rattle.std.specs.Bool.{beq}
-use Rattle.std.specs.Prelude.{ℕ, ◌+◌, Bool, true, false, not, ◌&&◌, ◌==◌, nat_eq, nat_lt, nat_le, bytes_eq, if◌then◌else◌, List, [], ◌∷◌, ◌++◌, length, Option, Some, None, is_some, option_map, Result, Ok, Err}
+use Rattle.std.specs.Prelude.{ℕ, ◌+◌, max, min, Bool, true, false, not, ◌&&◌, ◌==◌, nat_eq, nat_le, bytes_eq, if◌then◌else◌, List, [], ◌∷◌, ◌++◌, length, Option, Some, None, is_some, option_map, Result}
 use Rattle.std.specs.Option.{option_eq}
 use Rattle.std.specs.Result.{result_ok}
-use Rattle.iol_far.specs.Level.{is_open}
 use Rattle.iol_octets.specs.Zeros.{are_zeros}
 use Rattle.iol_octets.specs.declared.control.Channel.{Channel}
 use Rattle.iol_octets.specs.declared.control.Channel.TheVariants.{Isdu}
@@ -11,9 +10,7 @@ use Rattle.iol_octets.specs.declared.flow_control.Flow.{Flow}
 use Rattle.iol_octets.specs.declared.flow_control.Flow.TheVariants.{Start, Count}
 use Rattle.iol_page.specs.declared.page.Layouts.{Layouts}
 use Rattle.iol_isdu.specs.declared.values.Request.{Request}
-use Rattle.iol_isdu.specs.declared.fault.IsduFault.{IsduFault}
 use Rattle.iol_isdu.specs.Answers.{is_read}
-use Rattle.iol_isdu.specs.Frame.{total_at}
 use Rattle.iol_isdu.specs.Parse.{request_of}
 use Rattle.iol_segment.specs.Join.{Stage, Open, Complete, Wrong, stage, next_count, is_last}
 use Rattle.iol_far.specs.declared.kind.Kind.{Kind}
@@ -30,8 +27,10 @@ use Rattle.iol_judge.specs.declared.reason.Reason.{Reason}
 use Rattle.iol_judge.specs.declared.reason.Reason.TheVariants.{NoAnswerDue, NotBusy}
 use Rattle.iol_judge.specs.declared.transfer.Transfer.{Transfer}
 use Rattle.iol_judge.specs.declared.transfer.Transfer.TheVariants.{Quiet, Receiving, Whole, Handed, Asked, Answered, Perhaps, Free}
-use Rattle.iol_judge.specs.declared.transfer.TheConstants.{LONGEST, LONGEST_TO_READ, LONGEST_TO_WRITE, SHORTEST}
-use Rattle.iol_judge.specs.Answers.{first_had, had_with, is_busy, is_next_count, none_had, same_had, segment_fault, text_fault, was_sent}
+use Rattle.iol_judge.specs.declared.transfer.TheConstants.{LONGEST}
+use Rattle.iol_judge.specs.declared.answer.Look.TheVariants.{Padding}
+use Rattle.iol_judge.specs.declared.answer.TheConstants.{LONGEST_ANSWER}
+use Rattle.iol_judge.specs.Answers.{had_with, has_answer, is_busy, is_next_count, none_had, reaching, same_had, segment_fault, was_sent}
 
 -- what the first allows whatever the second does
 abbrev pub covers_transfer : Transfer → Transfer → Bool
@@ -96,27 +95,13 @@ abbrev pub whole_read : HandsOver → Bool → Option ℕ → Transfer
 whole_read FirstRead read last = Handed read last
 whole_read LastSegment read last = Asked read last
 
--- how many octets the longest answer has, to a read or to a write
-abbrev pub longest_answer : Bool → ℕ
-longest_answer true = LONGEST_TO_READ
-longest_answer false = LONGEST_TO_WRITE
-
--- whether there is a segment at a place, of an answer of this total length, behind one that wasn't
--- had. Where the length isn't known it has those of the shortest, and may have ended behind them
-abbrev pub missed_further : Bool → Result ℕ IsduFault → ℕ → Further
-missed_further read (Ok total) next = if nat_lt next total then GoesOn else Ends
-missed_further read (Err fault) next =
-    if nat_lt next SHORTEST then GoesOn else
-    if nat_lt next (longest_answer read) then MayEnd else Ends
-
--- whether an answer has a segment at a place behind one that was sent: one that was had, or one
--- that the octets had say there is
+-- whether an answer has a segment at a place behind one that was sent: those that have the octets
+-- had are all longer, some are, or none is
 abbrev pub further : HadSegments → ℕ → Further
 further had next =
-    if nat_lt (length had.text.items) next
-    then missed_further had.read (total_at had.text.items) next else
-    if nat_lt next (length had.text.items) then GoesOn else
-    if is_open (stage had.text.items) then GoesOn else Ends
+    let has = has_answer Padding had.read had.octets in
+    if not (has (max had.begun next) LONGEST_ANSWER) then Ends else
+    if has had.begun (min next LONGEST_ANSWER) then MayEnd else GoesOn
 
 -- this is known where the answer goes on, and nothing is under way where it ends
 abbrev pub while_further : Further → HadSegments → Transfer
@@ -124,19 +109,21 @@ while_further GoesOn had = Answered had
 while_further MayEnd had = Perhaps had
 while_further Ends had = Quiet
 
+abbrev pub goes_further : ℕ → HadSegments → HadSegments → Transfer
+goes_further next had sent = while_further (further had next) (reaching next sent)
+
 -- A segment that was sent is sent again, so that this is known: a device that recalls its answer
 -- until it was sent has it only while there is a segment behind the one sent last
 abbrev pub sent_again : Recalls → ℕ → HadSegments → HadSegments → Transfer
 sent_again UntilLeft size had again = Answered again
-sent_again UntilSent size had again = while_further (further had (had.at + size)) again
+sent_again UntilSent size had again = goes_further (had.at + size) had again
 
 -- of an answer of which a segment was sent
 abbrev pub answered_read : Recalls → ℕ → HadSegments → ℕ → Transfer
 answered_read recalls size had count =
     if was_sent had count then sent_again recalls size had had else
     if is_next_count had count
-    then while_further (further had (had.at + size))
-    (record had { at = had.at + size; count = count }) else
+    then goes_further (had.at + size) had (record had { at = had.at + size; count = count }) else
     Quiet
 
 -- or the answer had ended before
@@ -242,7 +229,8 @@ transfer_in (Some command) octets old = if bytes_eq octets command.octets then o
 -- where no transfer is under way there is no answer, and a whole request is answered by busy first
 abbrev pub transfer_fault : Transfer → List ℕ → Option Reason
 transfer_fault (Handed read last) od = if is_busy od then None else Some NotBusy
-transfer_fault (Asked read last) od = if is_busy od then None else text_fault read od
+transfer_fault (Asked read last) od =
+    if is_busy od then None else segment_fault (none_had read) od
 transfer_fault (Answered had) od = segment_fault had od
 transfer_fault (Perhaps had) od = if are_zeros od then None else segment_fault had od
 transfer_fault Free od = None
@@ -252,7 +240,8 @@ transfer_fault transfer od = if are_zeros od then None else Some NoAnswerDue
 
 -- busy, or the answer's first segment
 abbrev pub asked_told : Bool → Option ℕ → List ℕ → Transfer
-asked_told read last od = if is_busy od then Handed read last else Answered (first_had read od)
+asked_told read last od =
+    if is_busy od then Handed read last else Answered (had_with (none_had read) od)
 
 -- no answer any more, or a segment; zeros may be either
 abbrev pub perhaps_told : HadSegments → List ℕ → Transfer

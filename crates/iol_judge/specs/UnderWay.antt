@@ -1,43 +1,23 @@
 -- Which ISDU states of a device are as known of its transfer.
-use Rattle.std.specs.Prelude.{◌≡◌, ◌⊎◌, ◌<◌, ℕ, zero, suc, ◌+◌, ◌*◌, Bool, List, [], ◌++◌, length, Option, Some, None, IfSome, IsTrue}
+use Rattle.std.specs.Prelude.{◌≡◌, ◌⊎◌, ◌<◌, ℕ, zero, ◌*◌, Bool, List, length, Option, Some, None, IsTrue}
 use Rattle.iol_octets.specs.SegmentNumber.{segment_number}
 use Rattle.iol_isdu.specs.Answers.{is_read}
-use Rattle.iol_segment.specs.Cut.{segment}
-use Rattle.iol_segment.specs.TextLaws.{segments_up_to}
 use Rattle.iol_far.specs.declared.kind.HandsOver.{HandsOver}
 use Rattle.iol_far.specs.declared.kind.HandsOver.TheVariants.{FirstRead, LastSegment}
 use Rattle.iol_far.specs.Far.{Far, layout_of}
 use Rattle.iol_far.specs.Isdu.{IsduState, Empty, Receiving, Whole, Handed, Answered, answer_text_to, fits}
-use Rattle.iol_judge.specs.declared.had.Ahead.{Ahead}
+use Rattle.iol_judge.specs.declared.answer.TheConstants.{MOST_HAD}
 use Rattle.iol_judge.specs.declared.had.HadSegments.{HadSegments}
 use Rattle.iol_judge.specs.declared.transfer.Transfer.{Transfer}
 use Rattle.iol_judge.specs.declared.transfer.Transfer.TheVariants as known
+use Rattle.iol_judge.specs.Octets.{Agrees}
 
--- so many segments of a text, of this size, from the first on
-abbrev pub first_ones : ℕ → List ℕ → ℕ → List ℕ
-first_ones size text zero = []
-first_ones size text (suc last) = segments_up_to size text last
-
--- so many from another on
-abbrev pub later_ones : ℕ → List ℕ → ℕ → ℕ → List ℕ
-later_ones size text number zero = []
-later_ones size text number (suc many) =
-    later_ones size text number many ++ segment size text (number + many)
-
--- segments of the text
-pub record AreAhead (size : ℕ) (text : List ℕ) (ahead : Ahead) : Type 0 where
-  pub number : ℕ
-  pub many : ℕ
-  pub at : ahead.at ≡ number * size
-  pub octets : ahead.octets.items ≡ later_ones size text number many
-
--- Segments of a text were had, of this size: so many from the first on, each of which begins within
--- it, and some behind; and this one was sent last
+-- Each octet that is known is the text's. It has a segment where one is known to begin, and of its
+-- segments, of this size, this one was sent last
 pub record AreHad (size : ℕ) (had : HadSegments) (text : List ℕ) (sent : ℕ) : Type 0 where
-  pub many : ℕ
-  pub octets : had.text.items ≡ first_ones size text many
-  pub begins : many * size < length text + size
-  pub ahead : IfSome had.ahead (AreAhead size text)
+  pub octets : Agrees had.octets text
+  pub places : length had.octets ≡ MOST_HAD
+  pub begun : had.begun < length text
   pub within : sent * size < length text
   pub at : had.at ≡ sent * size
   pub count : had.count ≡ segment_number sent

@@ -1,58 +1,172 @@
-//! The text of an answer.
-ghost use Rattle.std.specs.Prelude.{◌≡◌, ◌/◌, slice_index};
+//! Which answers have octets that are known.
+ghost use Rattle.std.specs.Prelude.{◌≡◌, ◌-◌, ◌<◌, ◌≤◌, IsTrue, drop, length, not};
+ghost use Rattle.std.specs.List.{list_all, list_any, range_with_len};
 ghost use Rattle.iol_isdu.specs.Answers.{is_read};
-ghost use Rattle.iol_judge.specs.Answers.{begun_fault, text_fault, whole_fault};
+ghost use Rattle.iol_isdu.specs.Frame.{total_at, xor_of};
+ghost use Rattle.iol_judge.specs.Answers.{has_answer, head_had, answer_head, head_reason, is_some_answer, is_such_answer, looks_right, text_fault};
+ghost use Rattle.iol_judge.specs.Octets.{is_other, may_be_even};
 
-use crate::octets::first_octet;
+use crate::octets::{are_as_known, from_place, is_other, may_be_even};
 use crate::reason::Reason;
-use iol_isdu::{IsduFault, Octets, Place, Request, read_answer, total_of};
-use iol_octets::are_zeros;
+use arrayvec::ArrayVec;
+use iol_isdu::{IsduFault, Octets, Place, Request, chkpdu_of, total_of};
 
 /// The least total length that stands in an ExtLength.
 const SHORTEST_LONG: usize = 17;
 
-/// Why segments from the first on can't have these octets, in the answer to a read, or to a write.
-pub(crate) fn text_fault(read: bool, octets: &[u8]) -> Option<Reason>
-    ensures { result ≡ text_fault read octets.now }
+/// How many octets the longest answer has.
+pub(crate) const LONGEST_ANSWER: usize = 235;
+
+/// The most octets that are kept of an answer: those of the longest text, and of a segment.
+pub(crate) const MOST_HAD: usize = 270;
+
+/// The octets of an answer and those behind it, where they are known.
+pub(crate) type HadOctets = [Option<u8>; MOST_HAD];
+
+/// The services that answer.
+const SERVICES: [u8; 4] = [0x4, 0x5, 0xC, 0xD];
+
+/// The parts of an answer that are looked at.
+#[derive(Clone, Copy, Debug, PartialEq, Eq)]
+pub(crate) enum Look {
+    /// What stands before the body.
+    Head,
+    /// That, and the XOR of all octets.
+    Sum,
+    /// Those, and the octets behind it.
+    Padding,
+}
+
+/// Why no answer to a read, or to a write, of more octets than so many has these.
+pub(crate) fn text_fault(read: bool, begun: usize, octets: &HadOctets) -> Option<Reason>
+    ensures { result ≡ text_fault read begun octets.now }
 {
-    match total_of(octets) {
-        Ok(total) if total <= octets.len() => {
-            whole_fault(read, &octets[..total], &octets[total..])
-        }
-        Ok(total) => open_fault(read, octets, total),
-        Err(IsduFault::Truncated) => open_fault(read, octets, SHORTEST_LONG),
-        Err(_) => Some(Reason::AnswerLength),
+    if has_answer(Look::Padding, read, octets, begun, LONGEST_ANSWER) {
+        None
+    } else if has_answer(Look::Sum, read, octets, begun, LONGEST_ANSWER) {
+        Some(Reason::AnswerPadding)
+    } else if has_answer(Look::Head, read, octets, begun, LONGEST_ANSWER) {
+        Some(Reason::AnswerSum)
+    } else {
+        Some(head_reason(octets))
     }
 }
 
-/// Why octets that aren't whole yet can't become an answer of this total length.
-fn open_fault(read: bool, octets: &[u8], total: usize) -> Option<Reason>
-    ensures { result ≡ begun_fault read (slice_index octets.now 0 / 16) total }
+/// Why the first octets are those of no answer.
+fn head_reason(octets: &HadOctets) -> Reason
+    ensures { result ≡ head_reason (total_at (head_had octets.now)) }
 {
-    let can_become = match (first_octet(octets) >> 4, read) {
+    let total = match (octets[0], octets[1]) {
+        (Some(first), Some(second)) => total_of(&[first, second]),
+        (Some(first), None) => total_of(&[first]),
+        (None, _) => total_of(&[]),
+    };
+    match total {
+        Err(IsduFault::BadIsduLength) => Reason::AnswerLength,
+        _ => Reason::AnswerKind,
+    }
+}
+
+/// Whether some answer to a read, or to a write, that is longer than so many octets, and at most so
+/// long, has these.
+pub(crate) fn has_answer(
+    look: Look,
+    read: bool,
+    octets: &HadOctets,
+    above: usize,
+    most: usize,
+) -> bool
+    requires { most ≤ LONGEST_ANSWER }
+    ensures value { result ≡ has_answer look read octets.now above most }
+    ensures within { IsTrue result → above < most }
+{
+    if above < most {
+        has_answer_of(look, read, octets, above + 1, most + 1)
+    } else {
+        false
+    }
+}
+
+/// Whether some answer of at least so many octets, and of fewer than that, has them.
+fn has_answer_of(look: Look, read: bool, octets: &HadOctets, least: usize, end: usize) -> bool
+    ensures { result ≡ list_any (is_some_answer look read octets.now)
+        (range_with_len least (end - least)) }
+{
+    for total in least..end {
+        if is_some_answer(look, read, octets, total) {
+            return true;
+        }
+    }
+    false
+}
+
+/// Whether some answer of this total length has them.
+fn is_some_answer(look: Look, read: bool, octets: &HadOctets, total: usize) -> bool
+    ensures { result ≡ is_some_answer look read octets.now total }
+{
+    SERVICES.iter().any(|service| is_such_answer(look, read, *service, total, octets))
+}
+
+/// Whether such a request is answered by a text of this service and total length, and these may be
+/// its octets.
+fn is_such_answer(look: Look, read: bool, service: u8, total: usize, octets: &HadOctets) -> bool
+    ensures { result ≡ is_such_answer look read octets.now total service }
+{
+    let can_be = match (service, read) {
         (0x4, false) | (0xC, true) => total == 4,
         (0x5, false) => total == 2,
-        (0xD, true) => (2..=235).contains(&total),
+        (0xD, true) => total != 16 && (2..=LONGEST_ANSWER).contains(&total),
         _ => false,
     };
-    if can_become {
-        None
-    } else {
-        Some(Reason::AnswerKind)
+    can_be && looks_right(look, service, total, octets)
+}
+
+/// Whether these may be the octets of a text of this service and total length.
+fn looks_right(look: Look, service: u8, total: usize, octets: &HadOctets) -> bool
+    requires service { service ≤ 13 }
+    requires total { total ≤ LONGEST_ANSWER }
+    ensures { result ≡ looks_right look service total octets.now }
+{
+    let head = answer_head(service, total);
+    if !are_as_known(octets, &head) {
+        return false;
+    }
+    match look {
+        Look::Head => true,
+        Look::Sum => is_even(&head, &octets[..total]),
+        Look::Padding => is_even(&head, &octets[..total]) && are_no_others(&octets[total..]),
     }
 }
 
-/// Why a whole text, with the octets behind it, can't be the answer.
-fn whole_fault(read: bool, text: &[u8], rest: &[u8]) -> Option<Reason>
-    ensures { result ≡ whole_fault read text.now rest.now }
+/// What stands before the body of a text of this service and total length.
+fn answer_head(service: u8, total: usize) -> ArrayVec<u8, 2>
+    requires service { service ≤ 13 }
+    requires total { total ≤ LONGEST_ANSWER }
+    ensures { result.items ≡ answer_head service total }
 {
-    match read_answer(&request_of(read), text) {
-        Ok(_) if are_zeros(rest) => None,
-        Ok(_) => Some(Reason::AnswerPadding),
-        Err(IsduFault::BadChkpdu) => Some(Reason::AnswerSum),
-        Err(IsduFault::Truncated | IsduFault::BadIsduLength) => Some(Reason::AnswerLength),
-        Err(_) => Some(Reason::AnswerKind),
+    let mut head = ArrayVec::new();
+    if total < SHORTEST_LONG {
+        head.push(16 * service + total as u8);
+    } else {
+        head.push(16 * service + 1);
+        head.push(total as u8);
     }
+    head
+}
+
+/// Whether the XOR of a text's octets may be 0: it is, where all are known but those of its head,
+/// which are these.
+fn is_even(head: &[u8], text: &[Option<u8>]) -> bool
+    ensures { result ≡ may_be_even (xor_of head.now) (drop (length head.now) text.now) }
+{
+    may_be_even(chkpdu_of(&[], head), from_place(text, head.len()))
+}
+
+/// Whether octets are zeros, where they are known.
+fn are_no_others(octets: &[Option<u8>]) -> bool
+    ensures { result ≡ list_all (λ octet. not (is_other octet 0)) octets.now }
+{
+    octets.iter().all(|octet| !is_other(octet, 0))
 }
 
 /// Some read, or write.

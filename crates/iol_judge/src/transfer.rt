@@ -1,13 +1,14 @@
 //! What is known of an ISDU transfer.
-ghost use Rattle.std.specs.Prelude.{◌≡◌, ◌++◌, None, Some};
+ghost use Rattle.std.specs.Prelude.{◌≡◌, ◌≤◌, ◌++◌, None, Some};
 ghost use Rattle.iol_isdu.specs.Parse.{request_of};
 ghost use Rattle.iol_segment.specs.Join.{next_count};
 ghost use Rattle.iol_far.specs.Codec.{flow_of};
-ghost use Rattle.iol_judge.specs.Transfers.{answered_read, asked_again, transfer_of_request, count_read, count_written, covers_transfer, first_again, is_apart_at, is_quiet, transfer_fault, or_ended, perhaps_told, transfer_of_octets, transfer_receiving, sent_again, start_read, transfer_told_by, transfer_after, transfer_on, transfer_unknown, while_further, whole_read};
+ghost use Rattle.iol_judge.specs.Transfers.{answered_read, asked_again, transfer_of_request, count_read, count_written, covers_transfer, first_again, goes_further, is_apart_at, is_quiet, transfer_fault, or_ended, perhaps_told, transfer_of_octets, transfer_receiving, sent_again, start_read, transfer_told_by, transfer_after, transfer_on, transfer_unknown, whole_read};
 
-use crate::answer::text_fault;
-use crate::had::{Further, HadOctets, HadSegments, is_busy};
+use crate::answer::MOST_HAD;
+use crate::had::{Further, HadSegments, is_busy};
 use crate::reason::Reason;
+use arrayvec::ArrayVec;
 use iol_far::{HandsOver, Kind, Recalls};
 use iol_isdu::{IsduFault, Request, Text, read_request, total_of};
 use iol_mseq::{MasterView, ReplyView};
@@ -17,16 +18,7 @@ use iol_octets::{Channel, Mc, are_zeros, segment_number};
 const START: u8 = 0x10;
 
 /// How many octets the longest text has.
-pub(crate) const LONGEST: usize = 238;
-
-/// How many octets the shortest answer has.
-pub(crate) const SHORTEST: usize = 2;
-
-/// How many octets the longest answer to a read has.
-pub(crate) const LONGEST_TO_READ: usize = 235;
-
-/// How many octets the longest answer to a write has.
-pub(crate) const LONGEST_TO_WRITE: usize = 4;
+const LONGEST: usize = 238;
 
 /// What is known of the ISDU transfer of a device. A request is a read, or a write.
 #[derive(Debug, Drop)]
@@ -85,8 +77,8 @@ impl Transfer {
             Transfer::Whole(read, last) => Transfer::Whole(*read, *last),
             Transfer::Handed(read, last) => Transfer::Handed(*read, *last),
             Transfer::Asked(read, last) => Transfer::Asked(*read, *last),
-            Transfer::Answered(had) => Transfer::Answered(had.copy()),
-            Transfer::Perhaps(had) => Transfer::Perhaps(had.copy()),
+            Transfer::Answered(had) => Transfer::Answered(*had),
+            Transfer::Perhaps(had) => Transfer::Perhaps(*had),
             Transfer::Free => Transfer::Free,
         }
     }
@@ -246,7 +238,7 @@ impl Transfer {
             Transfer::Handed(..) if is_busy(od) => None,
             Transfer::Handed(..) => Some(Reason::NotBusy),
             Transfer::Asked(..) if is_busy(od) => None,
-            Transfer::Asked(read, _) => text_fault(*read, od),
+            Transfer::Asked(read, _) => HadSegments::none(*read).fault(reply),
             // A read leaves no text whole.
             Transfer::Free | Transfer::Whole(..) => None,
             Transfer::Answered(had) => had.fault(reply),
@@ -263,7 +255,7 @@ impl Transfer {
     {
         match self {
             Transfer::Asked(read, last) if is_busy(reply.od()) => Transfer::Handed(read, last),
-            Transfer::Asked(read, _) => Transfer::Answered(HadSegments::first(read, reply)),
+            Transfer::Asked(read, _) => Transfer::Answered(HadSegments::none(read).with(reply)),
             Transfer::Answered(had) => Transfer::Answered(had.with(reply)),
             Transfer::Perhaps(had) => perhaps_told(had, reply),
             other => other,
@@ -296,15 +288,11 @@ fn asked_again(recalls: Recalls, read: bool, last: Option<u8>) -> Transfer
 fn answered_read(recalls: Recalls, size: u8, had: HadSegments, count: u8) -> Transfer
     ensures { result ≡ answered_read recalls size had count }
 {
-    let next = had.at as usize + size as usize;
     if had.was_sent(count) {
-        let (at, count) = (had.at, had.count);
-        sent_again(recalls, size, had, at, count)
+        sent_again(recalls, size, had, had.at, had.count)
     } else if had.is_next(count) {
-        match had.further(next) {
-            Further::Ends => Transfer::Quiet,
-            further => while_further(further, had, next as u16, count),
-        }
+        let next = had.at as usize + size as usize;
+        goes_further(next, had, next, count)
     } else {
         Transfer::Quiet
     }
@@ -313,24 +301,26 @@ fn answered_read(recalls: Recalls, size: u8, had: HadSegments, count: u8) -> Tra
 /// This segment of an answer is sent again. A device that recalls its answer until it was sent has
 /// it only while there is a segment behind the one sent last.
 fn sent_again(recalls: Recalls, size: u8, had: HadSegments, at: u16, count: u8) -> Transfer
+    requires { at ≤ had.at }
     ensures { result ≡ sent_again recalls size had (record had { at = at; count = count }) }
 {
     match recalls {
         Recalls::UntilLeft => Transfer::Answered(had.going_on(at, count)),
         Recalls::UntilSent => {
             let next = had.at as usize + size as usize;
-            while_further(had.further(next), had, at, count)
+            goes_further(next, had, at as usize, count)
         }
     }
 }
 
-/// This segment of an answer was sent, where it goes on; else none is under way.
-fn while_further(further: Further, had: HadSegments, at: u16, count: u8) -> Transfer
-    ensures { result ≡ while_further further (record had { at = at; count = count }) }
+/// This segment of an answer was sent, where it goes on at the next place; else none is under way.
+fn goes_further(next: usize, had: HadSegments, at: usize, count: u8) -> Transfer
+    requires { at ≤ next }
+    ensures { result ≡ goes_further next had (record had { at = at; count = count }) }
 {
-    match further {
-        Further::GoesOn => Transfer::Answered(had.going_on(at, count)),
-        Further::MayEnd => Transfer::Perhaps(had.going_on(at, count)),
+    match had.further(next) {
+        Further::GoesOn => Transfer::Answered(had.reaching(next as u16).going_on(at as u16, count)),
+        Further::MayEnd => Transfer::Perhaps(had.reaching(next as u16).going_on(at as u16, count)),
         Further::Ends => Transfer::Quiet,
     }
 }
@@ -369,7 +359,7 @@ pub fn next_count(last: Option<u8>) -> u8
 fn received_more(text: &Text, message: &MasterView<'_>, count: u8) -> Transfer
     ensures { result ≡ transfer_of_octets (text.now.items ++ message.now.od.items) (Some count) }
 {
-    let mut joined: HadOctets = HadOctets::new();
+    let mut joined: ArrayVec<u8, MOST_HAD> = ArrayVec::new();
     joined.try_extend_from_slice(text).unwrap();
     joined.try_extend_from_slice(message.od()).unwrap();
     received(&joined, Some(count))

@@ -1,5 +1,5 @@
 -- A text that grows by the octets of a segment, as the clause `grown` of `grow` says it.
-use Rattle.std.proofs.Common.{◌≡◌, ℕ, suc, sym, ap, ◌∙◌, ◌<◌, ◌≤◌, List, ◌++◌, length, take, arith, Ok}
+use Rattle.std.proofs.Common.{◌≡◌, ℕ, suc, sym, ap, ◌∙◌, ◌<◌, ◌≤◌, List, length, take, arith, Ok}
 use Rattle.std.proofs.lemmas.Bool.Decides.{nat_tests}
 use Rattle.std.proofs.lemmas.Grind.{common_steps}
 use Rattle.std.proofs.lemmas.List.{take-take}
@@ -7,14 +7,11 @@ use Rattle.iol_isdu.specs.Frame.{total_at}
 use Rattle.iol_segment.specs.declared.took.Took.TheVariants.{More, Whole}
 use Rattle.iol_segment.specs.Join.{stage, Grown}
 
--- the first two octets decide
-pub total_at-more : (xs ys : List ℕ) → 2 ≤ length xs → total_at (xs ++ ys) ≡ total_at xs
-total_at-more xs ys h = grind (arith, common_steps)
-
 pub total-bounds : (octets : List ℕ) (total : ℕ) → total_at octets ≡ Ok total
     → (2 ≤ total) × (total ≤ 238)
 total-bounds octets total e = grind (arith, nat_tests, common_steps)
 
+-- the first two octets decide
 total_at-front : (most : ℕ) (octets : List ℕ) → 2 ≤ most
     → total_at (take most octets) ≡ total_at octets
 total_at-front (suc (suc n)) octets h = grind (arith, common_steps)
