@@ -59,12 +59,29 @@ fn any_asks_for_counters(input: &[u8]) -> bool
 }
 
 /// Whether a line asks for the counters.
-#[tactic(auto, using(crate::proofs::EndingLemmas::no_turn_asks))]
 fn asks_for_counters(line: &[u8]) -> bool
     ensures { result ≡ list_any is_counters (option_map_or calls_of (run_form line.now) []) }
 {
-    matches!(
-        RunLine::parse(line),
-        Some(RunLine::Call(CallLine::Once(Call::Counters)))
-    )
+    match RunLine::parse(line) {
+        Some(line) => line_asks(&line),
+        None => false,
+    }
+}
+
+/// Whether it is a call that asks for them.
+#[tactic(auto, using(crate::proofs::EndingLemmas::no_turn_asks))]
+fn line_asks(line: &RunLine) -> bool
+    ensures { result ≡ list_any is_counters (calls_of line.now) }
+{
+    match line {
+        RunLine::Call(CallLine::Once(call)) => is_counters(call),
+        _ => false,
+    }
+}
+
+/// Whether a call asks for them.
+fn is_counters(call: &Call) -> bool
+    ensures { result ≡ is_counters call.now }
+{
+    matches!(call, Call::Counters)
 }
