@@ -1,7 +1,7 @@
 //! The words of the command line.
 ghost use Rattle.std.specs.Prelude.{◌≡◌};
 
-use crate::help;
+use crate::help::{self, Help};
 use clap::{Arg, ArgAction, ArgMatches, Command, Error};
 use iol_capture::CaptureForm;
 use iol_judge::Odd;
@@ -64,15 +64,53 @@ impl AskedCommand {
     }
 }
 
+/// Whether a bad line is explained.
+#[derive(Clone, Copy, Debug, PartialEq, Eq)]
+pub(crate) enum BadLines {
+    /// Its number is said.
+    Numbered,
+    /// That, and what is wrong with it.
+    Explained,
+}
+
 /// What the words ask for, the program's own name first.
-pub(crate) fn asked_by<'a, S: AsStr>(alloc: Global, words: &'a [S]) -> Result<AskedCommand, Error> {
-    let matches = command(alloc)?.try_get_matches_from(words)?;
+pub(crate) fn asked_by<'a, S: AsStr>(
+    alloc: Global,
+    texts: &'a Help,
+    words: &'a [S],
+) -> Result<(AskedCommand, BadLines), Error> {
+    let matches = command(alloc, texts)?.try_get_matches_from(words)?;
     // One of the five is named, since clap refuses all other words.
-    let (name, form, odd) = match matches.subcommand() {
-        Some((name, words)) => (name, form_of(octets_rate(words)), odd_of(words)),
-        None => ("check", CaptureForm::Trace, Odd::Blamed),
+    let Some((name, words)) = matches.subcommand() else {
+        return Ok((
+            AskedCommand::Mode(PrintingCommand::Check),
+            BadLines::Numbered,
+        ));
     };
-    Ok(AskedCommand::named(name, form, odd).unwrap_or(AskedCommand::Mode(PrintingCommand::Check)))
+    let asked = AskedCommand::named(name, form_of(octets_rate(words)), odd_of(words)).unwrap_or(
+        AskedCommand::Mode(PrintingCommand::Check),
+    );
+    Ok((asked, bad_lines_of(words)))
+}
+
+/// The flag of each command.
+const WHY: &str = "why";
+
+/// Whether a bad line is to be explained, by the words behind the command.
+fn bad_lines_of(words: &ArgMatches<'_>) -> BadLines {
+    if words.get_flag(WHY) {
+        BadLines::Explained
+    } else {
+        BadLines::Numbered
+    }
+}
+
+/// The flag that has a bad line explained.
+fn why_flag<'a>(alloc: Global) -> Arg<'a> {
+    Arg::new(alloc, WHY)
+        .long(WHY)
+        .action(ArgAction::SetTrue)
+        .help("Says of a bad line what is wrong with it, in which column, and what is wanted there")
 }
 
 /// The option of `judge` that has octets read.
@@ -148,30 +186,35 @@ fn odd_flag<'a>(alloc: Global) -> Arg<'a> {
 }
 
 /// The command line of the program.
-fn command<'a>(alloc: Global) -> Result<Command<'a>, AllocError> {
+fn command<'a>(alloc: Global, texts: &'a Help) -> Result<Command<'a>, AllocError> {
     let check = Command::new(alloc, "check")
         .about("Reads layouts, master messages and replies, one a line, and prints what each says")
-        .after_help(help::CHECK);
+        .after_help(texts.check.as_str())
+        .arg(why_flag(alloc))?;
     let run = Command::new(alloc, "run")
         .about(
             "Reads a script, makes its calls on a port over a simulated wire, and prints what each answers",
         )
-        .after_help(help::RUN);
+        .after_help(texts.run.as_str())
+        .arg(why_flag(alloc))?;
     let trace = Command::new(alloc, "trace")
         .about("Does what run does, and prints what goes over the wire too")
-        .after_help(help::TRACE);
+        .after_help(help::TRACE)
+        .arg(why_flag(alloc))?;
     let many = Command::new(alloc, "many")
         .about(
             "Reads a plan, lets the clients of its ports submit reads, and prints what became of them",
         )
-        .after_help(help::MANY);
+        .after_help(texts.many.as_str())
+        .arg(why_flag(alloc))?;
     let judge = Command::new(alloc, "judge")
         .about(
             "Reads what trace prints, and says whether a device by the rules could have brought it",
         )
-        .after_help(help::JUDGE)
+        .after_help(texts.judge.as_str())
         .arg(octets_option(alloc))?
-        .arg(odd_flag(alloc))?;
+        .arg(odd_flag(alloc))?
+        .arg(why_flag(alloc))?;
     Command::new(alloc, "iolink")
         .about("IO-Link master and device")
         .version(help::VERSION)

@@ -1,4 +1,6 @@
-//! What the help of each command says below its usage.
+//! What the help of each command says below its usage. The forms of lines are those of crate iol_why.
+use iol_why::Section;
+use std::alloc::{AllocError, Global};
 
 /// The version that `--version` prints.
 pub(crate) const VERSION: &str = "0.1.0";
@@ -6,17 +8,16 @@ pub(crate) const VERSION: &str = "0.1.0";
 /// Where the help of each command stands, and where the formats are.
 pub(crate) const PROGRAM: &str = "\
 'iolink COMMAND --help' has the lines that a command reads, an example, its limits and the exit statuses.
+With '--why' a command also says what is wrong with a bad line, where, and what is wanted there.
 Every line, and what is printed for it, is in docs/guide.md.";
 
-pub(crate) const CHECK: &str = "\
+/// Before the lines of `check`.
+const CHECK: &str = "\
 Reads standard input to its end, a line at a time:
-  layout startup          the layout of the messages from now on; STARTUP at first
-  layout preoperate C     C is the code of the M-sequence capability
-  layout operate C IN OUT IN and OUT are the octets of process data
-  m OCTET ..              a master message, each octet as two hexadecimal digits
-  r OCTET ..              the reply to a read
-  w OCTET ..              the reply to a write
-  # ..                    a comment; an empty line is skipped too
+";
+
+/// Behind them.
+const CHECK_END: &str = "  # ..                    a comment; an empty line is skipped too
 
 Example:
   printf 'm A2 00\\nr 17 1B\\n' | iolink check
@@ -31,39 +32,24 @@ the command line are wrong, or ask for this help. After 1 and 2 nothing is print
 
 Every line, and what is printed for it: docs/guide.md.";
 
-pub(crate) const RUN: &str = "\
+/// Before the settings of a script.
+const SETTINGS: &str = "\
 Reads standard input to its end, a line at a time. First the device and the port:
-  page OCTET ..                           direct parameter page 1 of the device, 0x02 to 0x0B
-  other OCTET ..                          that of a second device, not plugged in, with the same parameters
-  kind first|last keeps|forgets           its kind: when it hands a request over, and how long it knows the answer
-  pulses missed                           it may miss the pulse of a wake-up request, and hear the test read alone
-  devices own|any                         for which devices the port is opened: our own, as it is, or any
-  limits BUSY JOURNAL [QUEUE]             the busy replies that end a request, the entries of the journal, the tickets
-  param INDEX SUB ro H                    a parameter that is read; rw: and written
-  in order                                each line of the wire acts behind the turns that stand above it
+";
+
+/// Before the lines of the wire.
+const WIRE: &str = "\
 Then, in any order, what happens on the wire, and the calls of the port. Lines of the wire are a list of their own: the
-first is of the first call of the wire, wherever it stands among the calls of the port.
-  wire clean N                            N calls of the wire; also outlost, backlost, outdamaged, backdamaged, nowake
-  wire silent                             from now on nothing reaches the device
-  wire work | wire auto on | off          when the device carries out what it was handed
-  wire raise QQ CCCC                      an event of the device
-  wire input H | wire input none          the device's process data
-  wire power                              a power cycle of the device
-  wire swap                               the second device is plugged in in place of the first, or the first again
-  wire quiet                              the device's driver says that no message came for too long
-  read INDEX SUB | write INDEX SUB H      submits a request, and prints its ticket
-  urgent read .. | urgent write ..        the same, before all that are not urgent
-  collect T | withdraw T                  the outcome of a ticket; takes a request back that waits
-  cancel T                                asks to cut off a request that is under way
-  output H | output none | image          process data out; in
-  event | status | archive | restart      as the port's calls of these names
-  counters                                what the port counted since its opening
-  last                                    why the last session ended, until the next OPERATE
-  expect VENDOR DEVICE | expect any       which device the port expects
-  cycle MICROS | cycle least              the cycle time that it asks for
-  page                                    the page of the device, as the port read it
-  turn N                                  N turns of the port, each one call of the wire
-  # ..                                    a comment; an empty line is skipped too
+first is of the first call of the wire, wherever it stands among the calls of the port. With 'in order' each acts
+behind the turns above it.
+";
+
+/// Before the calls.
+const CALLS: &str = "The calls of the port:\n";
+
+/// Behind them.
+const RUN_END: &str =
+    "  # ..                                    a comment; an empty line is skipped too
 H is octets without spaces, as 4142, or - for none.
 
 Example:
@@ -109,14 +95,13 @@ memory ran out.
 
 Every line, and what is printed for it: docs/guide.md.";
 
-pub(crate) const MANY: &str = "\
+/// Before the lines of a plan.
+const PLAN: &str = "\
 Reads standard input to its end: four lines in this order, and the fifth to see the counters.
-  ports P                 how many ports
-  clients K               how many clients at each port
-  each M                  how many reads each client submits
-  turns T                 how many turns each port makes while they do, and as many afterwards
-  counters                behind the line of each port, what it counted
-  # ..                    a comment; an empty line is skipped too
+";
+
+/// Behind them.
+const PLAN_END: &str = "  # ..                    a comment; an empty line is skipped too
 
 Example:
   printf 'ports 2\\nclients 2\\neach 8\\nturns 100\\n' | iolink many
@@ -133,13 +118,13 @@ the command line are wrong, or ask for this help. After 1 and 2 nothing is print
 
 Every line, and what is printed for it: docs/guide.md.";
 
-pub(crate) const JUDGE: &str = "\
+/// Before the lines of a trace.
+const TRACE_LINES: &str = "\
 Reads standard input to its end: the lines that 'iolink trace' prints.
-  N wake COM2             a wake-up request, and the rate that was answered, or none
-  N > OCTET ..            a message as the master sent it; what stands behind a colon isn't read
-  N < OCTET ..            what came back, or none
-  page OCTET ..           before the first of these: direct parameter page 1 of the device, 0x02 to 0x0B
-  ..                      a line that begins otherwise is passed over
+";
+
+/// Before the lines of an export.
+const OCTETS: &str = "  ..                      a line that begins otherwise is passed over
 N is any number at first, and then the next. It prints of the device one of these lines:
   honest COUNT exchanges, COUNT lost
   not honest at N: NUMBER NAME: TEXT (RULE)
@@ -159,9 +144,10 @@ process data, another octet at page address 01 than was written, octets that are
 for each of the first 100, in front of all else, and behind it 'odd COUNT', if there were any.
 
 With --octets standard input is what the UART decoder of a logic analyser exports, octets of both sides in one stream:
-  SECONDS OCTET           an octet, as A2 or 0xA2, and when it begins: 12.000042
-  SECONDS wake            a wake-up request, where the decoder shows them
-  # ..                    a comment; an empty line is skipped too
+";
+
+/// Behind them.
+const JUDGE_END: &str = "  # ..                    a comment; an empty line is skipped too
 They are split by their times and by the layouts that the page gives: a pause is a missing reply, and where no wake-up
 requests are shown, their test reads tell them. N counts wake-up requests and exchanges, from 1. What can't be split
 ends it, as a bad line does. In PREOPERATE and OPERATE such a read may be none; a fault of the master behind it is
@@ -179,3 +165,53 @@ Exit status, whatever is printed of the master: 0, honest; 1, not honest, or it 
 line on standard error says why, or the words of the command line are wrong, or ask for this help.
 
 Every line, and what is printed for it: docs/guide.md.";
+
+/// At which column of a line of help it is said what a form is for: where forms are long, and short.
+const WIDE: usize = 42;
+
+const NARROW: usize = 26;
+
+/// The help of the commands whose lines have forms.
+#[derive(Drop)]
+pub(crate) struct Help {
+    pub check: String,
+    pub run: String,
+    pub many: String,
+    pub judge: String,
+}
+
+impl Help {
+    pub fn new(alloc: Global) -> Result<Help, AllocError> {
+        let mut check = String::new(alloc);
+        check.push_str(CHECK)?;
+        Section::Check.print(&mut check, NARROW)?;
+        check.push_str(CHECK_END)?;
+
+        let mut run = String::new(alloc);
+        run.push_str(SETTINGS)?;
+        Section::Settings.print(&mut run, WIDE)?;
+        run.push_str(WIRE)?;
+        Section::Wire.print(&mut run, WIDE)?;
+        run.push_str(CALLS)?;
+        Section::Calls.print(&mut run, WIDE)?;
+        run.push_str(RUN_END)?;
+
+        let mut many = String::new(alloc);
+        many.push_str(PLAN)?;
+        Section::Plan.print(&mut many, NARROW)?;
+        many.push_str(PLAN_END)?;
+
+        let mut judge = String::new(alloc);
+        judge.push_str(TRACE_LINES)?;
+        Section::Trace.print(&mut judge, NARROW)?;
+        judge.push_str(OCTETS)?;
+        Section::Octets.print(&mut judge, NARROW)?;
+        judge.push_str(JUDGE_END)?;
+        Ok(Help {
+            check,
+            run,
+            many,
+            judge,
+        })
+    }
+}

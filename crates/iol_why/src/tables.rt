@@ -1,0 +1,419 @@
+//! The forms of the lines that each command reads.
+use crate::field::{Field, Value};
+use crate::form::{LineForm, Part};
+
+/// A number in its range.
+macro_rules! number {
+    ($letters:literal, $name:literal, $least:literal, $most:expr) => {
+        Field {
+            letters: $letters,
+            name: $name,
+            value: Value::Number {
+                least: $least,
+                most: $most,
+            },
+        }
+    };
+}
+
+/// A word that stands for a value.
+macro_rules! one {
+    ($field:expr) => {
+        Part::Field($field)
+    };
+}
+
+/// This word.
+macro_rules! word {
+    ($name:literal) => {
+        Part::Words(&[$name])
+    };
+}
+
+/// A form: its parts, and what it is for.
+macro_rules! form {
+    ($about:literal, $($part:expr),+) => {
+        LineForm {
+            parts: &[$($part),+],
+            about: $about,
+        }
+    };
+}
+
+const OCTET: Field = Field {
+    letters: "OCTET",
+    name: "octet",
+    value: Value::Octet,
+};
+
+const PAGE: Part = Part::Fields {
+    field: OCTET,
+    least: 10,
+    most: 10,
+};
+
+const MESSAGE: Part = Part::Fields {
+    field: OCTET,
+    least: 1,
+    most: 128,
+};
+
+const CODE: Field = number!("C", "M-sequence code", 0, 255);
+
+const DATA_IN: Field = number!("IN", "count of octets in", 0, 255);
+
+const DATA_OUT: Field = number!("OUT", "count of octets out", 0, 255);
+
+/// The lines of `check`.
+pub(crate) static CHECK: [LineForm; 6] = [
+    form!(
+        "the layout of the messages from now on; STARTUP at first",
+        word!("layout"),
+        word!("startup")
+    ),
+    form!(
+        "C is the code of the M-sequence capability",
+        word!("layout"),
+        word!("preoperate"),
+        one!(CODE)
+    ),
+    form!(
+        "IN and OUT are the octets of process data",
+        word!("layout"),
+        word!("operate"),
+        one!(CODE),
+        one!(DATA_IN),
+        one!(DATA_OUT)
+    ),
+    form!(
+        "a master message, each octet as two hexadecimal digits",
+        word!("m"),
+        MESSAGE
+    ),
+    form!("the reply to a read", word!("r"), MESSAGE),
+    form!("the reply to a write", word!("w"), MESSAGE),
+];
+
+const INDEX: Field = number!("INDEX", "index", 0, 65_535);
+
+const SUB: Field = number!("SUB", "subindex", 0, 255);
+
+const VALUE: Field = Field {
+    letters: "H",
+    name: "value",
+    value: Value::Octets {
+        least: 0,
+        most: 232,
+    },
+};
+
+const DATA: Field = Field {
+    letters: "H",
+    name: "process data",
+    value: Value::Octets { least: 1, most: 32 },
+};
+
+const TICKET: Field = number!("T", "ticket", 0, u64::MAX);
+
+const COUNT: Field = number!("N", "count", 1, 100_000);
+
+const BUSY: Field = number!("BUSY", "limit of busy replies", 2, 65_535);
+
+const JOURNAL: Field = number!("JOURNAL", "limit of the journal", 4, 1_000_000);
+
+const QUEUE: Field = number!("QUEUE", "limit of tickets", 1, 64);
+
+const VENDOR: Field = number!("VENDOR", "VendorID", 0, 65_535);
+
+const DEVICE: Field = number!("DEVICE", "DeviceID", 0, 16_777_215);
+
+const MICROS: Field = number!("MICROS", "cycle time in microseconds", 1, 132_800);
+
+const QUALIFIER: Field = Field {
+    letters: "QQ",
+    name: "event qualifier",
+    value: Value::Octet,
+};
+
+const EVENT_CODE: Field = Field {
+    letters: "CCCC",
+    name: "event code",
+    value: Value::Code,
+};
+
+const PORTS: Field = number!("P", "count of ports", 1, 32);
+
+const CLIENTS: Field = number!("K", "count of clients", 1, 16);
+
+const EACH: Field = number!("M", "count of requests", 1, 64);
+
+const TURNS: Field = number!("T", "count of turns", 1, 100_000);
+
+const CALL: Field = number!("N", "number of a call", 1, u64::MAX);
+
+const BROUGHT: Part = Part::Fields {
+    field: OCTET,
+    least: 0,
+    most: 128,
+};
+
+const SECONDS: Field = Field {
+    letters: "SECONDS",
+    name: "time",
+    value: Value::Seconds,
+};
+
+const SHOWN_OCTET: Field = Field {
+    letters: "OCTET",
+    name: "octet",
+    value: Value::ShownOctet,
+};
+
+/// The settings of a script.
+pub(crate) static SETTINGS: [LineForm; 8] = [
+    form!(
+        "direct parameter page 1 of the device, 0x02 to 0x0B",
+        word!("page"),
+        PAGE
+    ),
+    form!(
+        "that of a second device, not plugged in, with the same parameters",
+        word!("other"),
+        PAGE
+    ),
+    form!(
+        "its kind: when it hands a request over, and how long it knows the answer",
+        word!("kind"),
+        Part::Words(&["first", "last"]),
+        Part::Words(&["keeps", "forgets"])
+    ),
+    form!(
+        "it may miss the pulse of a wake-up request, and hear the test read alone",
+        word!("pulses"),
+        word!("missed")
+    ),
+    form!(
+        "for which devices the port is opened: our own, as it is, or any",
+        word!("devices"),
+        Part::Words(&["own", "any"])
+    ),
+    form!(
+        "the busy replies that end a request, the entries of the journal, the tickets",
+        word!("limits"),
+        one!(BUSY),
+        one!(JOURNAL),
+        Part::Optional(QUEUE)
+    ),
+    form!(
+        "a parameter that is read; rw: and written",
+        word!("param"),
+        one!(INDEX),
+        one!(SUB),
+        Part::Words(&["ro", "rw"]),
+        one!(VALUE)
+    ),
+    form!(
+        "each line of the wire acts behind the turns that stand above it",
+        word!("in"),
+        word!("order")
+    ),
+];
+
+/// The lines of the wire.
+pub(crate) static WIRE: [LineForm; 9] = [
+    form!(
+        "what becomes of the next N calls of the wire",
+        word!("wire"),
+        Part::Words(&[
+            "clean",
+            "outlost",
+            "backlost",
+            "outdamaged",
+            "backdamaged",
+            "nowake"
+        ]),
+        one!(COUNT)
+    ),
+    form!(
+        "from the next call on nothing reaches the device",
+        word!("wire"),
+        word!("silent")
+    ),
+    form!(
+        "the device carries out what it was handed",
+        word!("wire"),
+        word!("work")
+    ),
+    form!(
+        "whether it does so before each call; it does at first",
+        word!("wire"),
+        word!("auto"),
+        Part::Words(&["on", "off"])
+    ),
+    form!(
+        "an event of the device",
+        word!("wire"),
+        word!("raise"),
+        one!(QUALIFIER),
+        one!(EVENT_CODE)
+    ),
+    form!(
+        "the device's process data",
+        word!("wire"),
+        word!("input"),
+        Part::WordsOr(&["none"], DATA)
+    ),
+    form!("a power cycle of the device", word!("wire"), word!("power")),
+    form!(
+        "the second device is plugged in in place of the first, or the first again",
+        word!("wire"),
+        word!("swap")
+    ),
+    form!(
+        "the device's driver says that no message came for too long",
+        word!("wire"),
+        word!("quiet")
+    ),
+];
+
+/// The calls of the port.
+pub(crate) static CALLS: [LineForm; 17] = [
+    form!(
+        "submits a request, and prints its ticket",
+        word!("read"),
+        one!(INDEX),
+        one!(SUB)
+    ),
+    form!(
+        "the same",
+        word!("write"),
+        one!(INDEX),
+        one!(SUB),
+        one!(VALUE)
+    ),
+    form!(
+        "the same, before all that are not urgent",
+        word!("urgent"),
+        word!("read"),
+        one!(INDEX),
+        one!(SUB)
+    ),
+    form!(
+        "the same",
+        word!("urgent"),
+        word!("write"),
+        one!(INDEX),
+        one!(SUB),
+        one!(VALUE)
+    ),
+    form!("the outcome of a ticket", word!("collect"), one!(TICKET)),
+    form!(
+        "takes a request back that waits",
+        word!("withdraw"),
+        one!(TICKET)
+    ),
+    form!(
+        "asks to cut off a request that is under way",
+        word!("cancel"),
+        one!(TICKET)
+    ),
+    form!(
+        "process data out",
+        word!("output"),
+        Part::WordsOr(&["none"], DATA)
+    ),
+    form!("process data in", word!("image")),
+    form!(
+        "as the port's calls of these names",
+        Part::Words(&["event", "status", "archive", "restart"])
+    ),
+    form!("what the port counted since its opening", word!("counters")),
+    form!(
+        "why the last session ended, until the next OPERATE",
+        word!("last")
+    ),
+    form!(
+        "which device the port expects",
+        word!("expect"),
+        one!(VENDOR),
+        one!(DEVICE)
+    ),
+    form!("it expects any", word!("expect"), word!("any")),
+    form!(
+        "the cycle time that it asks for",
+        word!("cycle"),
+        Part::WordsOr(&["least"], MICROS)
+    ),
+    form!("the page of the device, as the port read it", word!("page")),
+    form!(
+        "N turns of the port, each one call of the wire",
+        word!("turn"),
+        one!(COUNT)
+    ),
+];
+
+/// The lines of a plan, in their order.
+pub(crate) static PLAN: [LineForm; 5] = [
+    form!("how many ports", word!("ports"), one!(PORTS)),
+    form!(
+        "how many clients at each port",
+        word!("clients"),
+        one!(CLIENTS)
+    ),
+    form!(
+        "how many reads each client submits",
+        word!("each"),
+        one!(EACH)
+    ),
+    form!(
+        "how many turns each port makes while they do, and as many afterwards",
+        word!("turns"),
+        one!(TURNS)
+    ),
+    form!(
+        "behind the line of each port, what it counted",
+        word!("counters")
+    ),
+];
+
+/// The lines of a trace.
+pub(crate) static TRACE: [LineForm; 6] = [
+    form!(
+        "a wake-up request, and the rate that was answered, or none",
+        one!(CALL),
+        word!("wake"),
+        Part::Words(&["COM1", "COM2", "COM3", "none"])
+    ),
+    form!(
+        "a message as the master sent it; what stands behind a colon isn't read",
+        one!(CALL),
+        word!(">"),
+        BROUGHT
+    ),
+    form!("what came back", one!(CALL), word!("<"), BROUGHT),
+    form!("nothing came back", one!(CALL), word!("<"), word!("none")),
+    form!(
+        "before the first of these: direct parameter page 1 of the device, 0x02 to 0x0B",
+        word!("page"),
+        PAGE
+    ),
+    form!(
+        "passed over, as other lines are",
+        word!("page"),
+        word!("none")
+    ),
+];
+
+/// The lines of a decoder's export.
+pub(crate) static OCTETS: [LineForm; 2] = [
+    form!(
+        "an octet, as A2 or 0xA2, and when it begins: 12.000042",
+        one!(SECONDS),
+        one!(SHOWN_OCTET)
+    ),
+    form!(
+        "a wake-up request, where the decoder shows them",
+        one!(SECONDS),
+        word!("wake")
+    ),
+];
