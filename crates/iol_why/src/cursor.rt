@@ -1,4 +1,5 @@
 //! A place in a line.
+ghost use Rattle.std.specs.Prelude.{◌<◌, IfSome, length};
 ghost use Rattle.iol_why.specs.Explained.{IsColumnOf};
 
 /// What of a line stands behind the words that were read.
@@ -39,7 +40,9 @@ impl<'a> Cursor<'a> {
 }
 
 /// Where the first space stands.
-fn space_in(text: &[u8]) -> Option<usize> {
+fn space_in(text: &[u8]) -> Option<usize>
+    ensures { IfSome result (λ place. place < length text.now) }
+{
     text.iter().position(|octet| *octet == b' ')
 }
 

@@ -26,7 +26,7 @@ impl<'a> Mistake<'a> {
     /// It is wrong as a whole.
     fn of_line(fault: Fault<'a>) -> Mistake<'a>
         ensures column { result.column ≡ 1 }
-        ensures fault { result.fault ≡ fault }
+        ensures fault { result.fault ≡ fault.entry }
     {
         Mistake {
             column: WHOLE_LINE,
@@ -37,7 +37,7 @@ impl<'a> Mistake<'a> {
 
 /// Why the line of this number is the first bad line of `check`. None where it is good.
 pub fn explain_check<'a>(text: KeptText<'a>, number: u64) -> Option<Mistake<'a>>
-    ensures { IfSome result (λ mistake. IfSome (line_in text number) (λ line.
+    ensures { IfSome result (λ mistake. IfSome (line_in text.entry number) (λ line.
         IsColumnOf line mistake.column × (check_form line ≡ None))) }
 {
     let line = text.line(number)?;
@@ -50,10 +50,10 @@ pub fn explain_check<'a>(text: KeptText<'a>, number: u64) -> Option<Mistake<'a>>
 /// Why the line of this number is the first bad line of `run` and `trace`, of which this is the
 /// whole input. None where it is good in its place.
 pub fn explain_script<'a>(text: KeptText<'a>, number: u64) -> Option<Mistake<'a>>
-    ensures column { IfSome result (λ mistake. IfSome (line_in text number) (λ line.
+    ensures column { IfSome result (λ mistake. IfSome (line_in text.entry number) (λ line.
         IsColumnOf line mistake.column)) }
     ensures form { IfSome result (λ mistake. is_of_form mistake.fault ≡ true
-        → IfSome (line_in text number) (λ line. run_form line ≡ None)) }
+        → IfSome (line_in text.entry number) (λ line. run_form line ≡ None)) }
 {
     let line = text.line(number)?;
     match RunLine::parse(line) {
@@ -70,7 +70,7 @@ pub fn explain_script<'a>(text: KeptText<'a>, number: u64) -> Option<Mistake<'a>
 
 /// Why the line of this number is the first bad line of `many`, of which this is the whole input.
 pub fn explain_plan<'a>(text: KeptText<'a>, number: u64) -> Option<Mistake<'a>>
-    ensures { IfSome result (λ mistake. IfSome (line_in text number) (λ line.
+    ensures { IfSome result (λ mistake. IfSome (line_in text.entry number) (λ line.
         IsColumnOf line mistake.column)) }
 {
     let form = form_in_place(text.octets(), number);
@@ -97,7 +97,7 @@ pub fn explain_capture<'a>(
     number: u64,
     fault: LineFault,
 ) -> Option<Mistake<'a>>
-    ensures { IfSome result (λ mistake. IfSome (line_in text number) (λ line.
+    ensures { IfSome result (λ mistake. IfSome (line_in text.entry number) (λ line.
         IsColumnOf line mistake.column)) }
 {
     let Some(line) = text.line(number) else {

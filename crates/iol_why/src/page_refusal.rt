@@ -37,11 +37,19 @@ pub(crate) fn page_refusal_of(line: &[u8]) -> Option<(usize, PageRefusal)>
     words.next()?;
     let octets: ArrayVec<u8, 10> = parted_octets(words)?;
     let page = Page::from_octets(&octets.into_inner().ok()?);
-    let fault = page.layouts().err()?;
+    let fault = fault_of(&page)?;
     Some((
         column_of(line, address_of(&page, &fault)),
         PageRefusal(fault),
     ))
+}
+
+/// Why a page is refused, if it is.
+fn fault_of(page: &Page) -> Option<PageFault> {
+    match page.layouts() {
+        Ok(_) => None,
+        Err(fault) => Some(fault),
+    }
 }
 
 /// The address of the octet for which a page is refused.

@@ -4,7 +4,7 @@ ghost use Rattle.iol_why.specs.Explained.{IsColumnOf};
 
 use crate::departure::{Furthest, WantedList, furthest_of};
 use crate::field::{Field, Unfit};
-use crate::form::{LineForm, Lines};
+use crate::form::{LineForm, Lines, Part};
 use crate::near::is_near;
 use crate::quoted::Quoted;
 use std::fmt;
@@ -78,18 +78,31 @@ struct Listed<'a>(&'a WantedList);
 
 impl fmt::Display for Listed<'_> {
     fn fmt<W: fmt::Write>(&self, f: &mut fmt::Formatter<W>) -> fmt::Result {
-        let mut joint = "";
-        for part in self.0 {
-            for name in part.names() {
-                write!(f, "{joint}{name}")?;
-                joint = " or ";
+        for (place, part) in self.0.iter().enumerate() {
+            if place > 0 {
+                f.write_str(" or ")?;
             }
-            if let Some(field) = part.field() {
-                write!(f, "{joint}{field}")?;
-                joint = " or ";
-            }
+            write!(f, "{}", Either(part))?;
         }
         Ok(())
+    }
+}
+
+/// The words and the value that a part may be, as a list.
+#[derive(Clone, Copy, Debug)]
+struct Either<'a>(&'a Part);
+
+impl fmt::Display for Either<'_> {
+    fn fmt<W: fmt::Write>(&self, f: &mut fmt::Formatter<W>) -> fmt::Result {
+        let mut joint = "";
+        for name in self.0.names() {
+            write!(f, "{joint}{name}")?;
+            joint = " or ";
+        }
+        match self.0.field() {
+            Some(field) => write!(f, "{joint}{field}"),
+            None => Ok(()),
+        }
     }
 }
 

@@ -4,6 +4,6 @@ use Rattle.iol_why.specs.Explained.{line_numbered}
 use Rattle.iol_why.proofs.kept.KeptText.line.Given as goal
 
 abbrev pub invariant-loop-number : goal.invariant-loop-number
-invariant-loop-number g l =
+invariant-loop-number l =
     line_numbered (numbered_lines l.self.octets.now) l.place
     ≡ line_numbered (lines_left l.number-iterator) l.place
