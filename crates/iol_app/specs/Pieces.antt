@@ -163,3 +163,14 @@ ReceiveSteps old came said new =
     (g : Ghost) (far far_new : Far) (silence silence_new : ℕ) → BothEndsStand old g far silence
     → HonestExchange far silence (text_out old.state) came far_new silence_new
     → TakeUpGives old g far silence said new far_new silence_new
+
+-- A turn over this wire: what goes out, and, where the wire is honest, what is made of what came
+-- back
+pub record IsInPieces {W : Type 0} (facts : WireFacts W) (room : EventRoom) (wire wire_new : W)
+    (old : CoreState) (said : Said) (new : CoreState) : Type 0 where
+  pub mid : CoreState
+  pub puts : PutsOut room old mid
+  pub takes : IsTrue (facts.honest wire) → (g : Ghost)
+      → BothEndsStand mid g (facts.far wire) (facts.silence wire)
+      → TakeUpGives mid g (facts.far wire) (facts.silence wire) said new (facts.far wire_new)
+      (facts.silence wire_new)

@@ -21,7 +21,7 @@ use Rattle.iol_app.specs.declared.event_work.EventRoom.{EventRoom}
 use Rattle.iol_app.specs.State.{session_expecting, session_with_cycle}
 use Rattle.iol_app.specs.StationState.{StationState, mode_in}
 use Rattle.iol_app.specs.Core.{CoreState, Ghost, BothEndsStand, TermsStay, IsAttempted, ordered_output, session_in, frozen_in, images_in, moment_of, made_ghost}
-use Rattle.iol_app.specs.Pieces.{SendsMessage, SendSteps, WakeSteps, ReceiveSteps, TakeUpGives}
+use Rattle.iol_app.specs.Pieces.{SendsMessage, IsInPieces, SendSteps, WakeSteps, ReceiveSteps, TakeUpGives}
 use Rattle.iol_app.specs.Seen.{WantSteps, core_of, station_of}
 use Rattle.iol_port.specs.declared.call.Call.{Call}
 use Rattle.iol_port.specs.declared.call.Answered.{Answered}
@@ -33,7 +33,7 @@ use Rattle.iol_page.specs.declared.identity.Identity.{Identity}
 use Rattle.iol_port.specs.declared.call.Counting.{Counting}
 use Rattle.iol_port.specs.declared.call.Call.TheVariants as call
 use Rattle.iol_port.specs.EveryWire.{page_shown}
-use Rattle.iol_port.specs.Run.{counting_of, PortState, Pending, PieceOf, Send, Receive, port_at_opening, is_sending_step, is_take, moment_by}
+use Rattle.iol_port.specs.Run.{counting_of, PortState, Pending, SendOf, PieceOf, Send, Receive, port_at_opening, is_sending_step, is_take, moment_by}
 use Rattle.iol_port.specs.declared.awaited.AwaitedAnswer.TheVariants.{Nothing, Wake, Reply}
 use Rattle.iol_port.specs.Owners.{owners_through}
 use Rattle.iol_port.specs.View.{PortParts, Choice, IsOutInOperate, IsTied, PendingAt, StandsFor, OpensWell, IsOpened, opening_for, IsAbstractCall, Does, BeginsNext, TakesNext, abstract_port}
@@ -41,6 +41,7 @@ use Rattle.iol_book.specs.declared.limits.Limits.{Limits}
 use Rattle.iol_port.specs.CorePort.{IsNewFor, CoreOpensFor, station_without_wire, awaited_answer, at_end, parts_over, CoreDoes, PieceDoes, SendDoes, ReceiveDoes, WakeDoes}
 use Rattle.iol_port.proofs.Filters.{book_through-filter, MayBookAll-filter, kept_through-filter, clash_free-deny, is_beside, may_book_said}
 use Rattle.iol_port.proofs.TurnLemmas.{First, Begun, Settles, ahead, images_ahead, under, begun, none_down, terms_of}
+use Rattle.iol_port.proofs.Halves.{halves_are_turns}
 use Rattle.iol_port.proofs.CallLemmas.{none_pending, expect_does, set_cycle_does}
 
 abbrev Bare : Type 0
@@ -406,3 +407,51 @@ module _ {W : Type 0} (facts : WireFacts W) (wire : W) where
             (b, step, over_wire next b shows.is_honest stands);
         book = here_does.book;
       }
+
+-- A turn over a wire is its two pieces
+
+-- nothing was out, so a message is sent, and not again
+send_of : {a m : PortState} → a.pending ≡ None → PieceOf a Send answered.Nothing m → SendOf a m
+send_of none (said, inl sends) = sends
+send_of none (said, inr again) = absurd (let k : false ≡ true = rw none at again.0 in cc)
+
+-- a message that goes out leaves whether the device was reset
+sent_reset : (room : EventRoom) (old mid : CoreState) → SendsMessage room old mid
+    → is_reset mid.state ≡ is_reset old.state
+sent_reset room old mid sent = grind (arith, common_steps)
+
+module _ {W : Type 0} (facts : WireFacts W) (wire wire' : W) where
+  open facts use {honest, far, silence}
+
+  pub turn_does : (p next : Bare) (room : EventRoom) (said : Said)
+      (s : StationState (Unit {0})) (start : BookState)
+      → p.sent ≡ false → next.sent ≡ false → BeginsNext p.station p.book.state s start
+      → IsInPieces facts room wire wire' (core_of s) said (core_of next.station)
+      → honest wire' ≡ honest wire → Settles p next said (is_reset s.link.state) start
+      → IsAbstractCall facts (parts_over wire p) call.Turn answered.Nothing
+      (parts_over wire' next)
+  unfolding IsAbstractCall SendDoes
+  turn_does p next room said s start free after begins t honesty settles = λ a for_a.
+      let (u, shows, is) = for_a in
+      let between : Bare = record {
+        station = station_without_wire t.mid;
+        book = record p.book { state = start };
+        kept = p.kept;
+        sent = true;
+        counters = p.counters;
+      } in
+      let none : a.pending ≡ None = ap (λ (x : PortState). x.pending) is
+      ∙ none_pending u.pending p.sent (core_of p.station) u.ghost (silence wire) free shows.out in
+      let (m, sends, for_m) =
+      send_does p between s start free begins t.puts.steps refl refl refl (far wire)
+      (silence wire) a
+      (u, record { is_honest = refl; both = shows.both; out = shows.out }, is) in
+      let (b, receives, for_b) =
+      taken_up between next (far wire) (far wire') (silence wire) (silence wire') said after
+      (rw (sent_reset room (core_of s) t.mid t.puts.sent)
+      (record { posts = settles.posts; keeps = settles.keeps })) refl
+      (t.takes shows.is_honest) m for_m in (
+        b,
+        (refl, halves_are_turns a m b (send_of none sends) receives.1),
+        over_wire facts wire' next b (rw honesty shows.is_honest) for_b,
+      )

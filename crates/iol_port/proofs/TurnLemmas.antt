@@ -1,5 +1,5 @@
 -- the three pieces of a turn make one turn of the abstract port
-use Rattle.std.proofs.Common.{◌≡◌, ◌∷◌, ◌++◌, [], List, ℕ, Bool, Option, None, true, false, refl, ap, sym, ◌∙◌, subst, inl, inr, arith}
+use Rattle.std.proofs.Common.{◌≡◌, ◌∷◌, ◌++◌, [], List, ℕ, Bool, Option, None, true, refl, ap, sym, subst, inl, inr, arith}
 use Rattle.std.proofs.lemmas.Grind.{common_steps}
 use Rattle.iol_isdu.specs.declared.values.Request.{Request}
 use Rattle.iol_isdu.specs.declared.values.Answer.{Answer}
@@ -8,37 +8,28 @@ use Rattle.iol_book.specs.BookModel.{BookState}
 use Rattle.iol_steps.specs.declared.mode.Mode.TheVariants.{Down}
 use Rattle.iol_steps.specs.declared.said.Said.{Said}
 use Rattle.std.specs.Prelude.{IsTrue}
-use Rattle.std.specs.List.{list_all, list_any}
-use Rattle.iol_event.specs.declared.event.Event.{Event}
-use Rattle.iol_steps.specs.Turn.{is_calm}
+use Rattle.std.specs.List.{list_any}
 use Rattle.iol_far.specs.Far.{Far}
-use Rattle.iol_steps.specs.FrozenEvents.{Frozen, MayFrozenAll, frozen_through}
 use Rattle.iol_steps.specs.Images.{Images, MayImagesAll, images_through}
 use Rattle.iol_app.specs.declared.request.Current.{Current}
-use Rattle.iol_steps.specs.Step.{PortStep, Take, Deny, Moment, is_clash_free, Terms, resets, book_said, reports_said}
+use Rattle.iol_steps.specs.Step.{PortStep, Take, Deny, Moment, Terms, resets, book_said, reports_said}
 use Rattle.iol_steps.specs.Session.{MaySessionAll, session_through}
 use Rattle.iol_steps.specs.Station.{job_of}
-use Rattle.iol_link.specs.WireFacts.{WireFacts}
 use Rattle.iol_mode.specs.declared.states.State.{State}
 use Rattle.iol_mode.specs.States.{is_reset}
 use Rattle.iol_app.specs.Requests.{request_under_way}
 use Rattle.iol_app.specs.State.{SessionState, session_after_begin}
 use Rattle.iol_app.specs.StationState.{StationState, SessionFits, mode_in}
 use Rattle.iol_app.specs.Core as core
-use Rattle.iol_app.specs.Core.{Ghost, OfRequest, BothEndsStand, BeginGives, begun_ghost, moment_of}
-use Rattle.iol_app.specs.Seen.{TurnGives, TurnSteps, BeginSteps, DenySteps, core_of, far_end_of, silence_of}
+use Rattle.iol_app.specs.Core.{Ghost, OfRequest, BothEndsStand, BeginGives, begun_ghost}
+use Rattle.iol_app.specs.Seen.{BeginSteps, DenySteps, core_of}
 use Rattle.iol_port.specs.declared.call.Call.{Call}
-use Rattle.iol_port.specs.declared.call.Call.TheVariants as call
 use Rattle.iol_port.specs.declared.call.Answered.{Answered}
-use Rattle.iol_port.specs.declared.call.Answered.TheVariants as answered
 use Rattle.iol_port.specs.Steps.{MayBookAll, book_after, book_through, kept_through}
-use Rattle.iol_port.specs.Run.{PortState, TurnOf, is_take}
-use Rattle.iol_port.specs.Owners.{owners_through}
-use Rattle.iol_port.specs.View.{PortParts, Choice, abstract_port, IsAbstractCall, BeginsNext, BookDoes, KeepsLimits}
-use Rattle.iol_port.proofs.Filters.{book_through-filter, MayBookAll-filter, kept_through-filter, clash_free-take, clash_free-deny, is_beside, may_book_said}
+use Rattle.iol_port.specs.Run.{is_take}
+use Rattle.iol_port.specs.View.{PortParts, BeginsNext, BookDoes, KeepsLimits}
 use Rattle.iol_far.specs.declared.kind.Kind.{Kind}
 use Rattle.iol_mode.specs.declared.configuration.Configuration.{Configuration}
-use Rattle.iol_port.proofs.CallLemmas.{does_by_choice, none_pending}
 
 -- down leaves no request under way
 pub none_down : (state : State) (session : SessionState) (g : Ghost) (answer : Option Answer)
@@ -84,29 +75,11 @@ ahead Neither steps = steps
 ahead (Takes ticket request) steps = Take ticket.0 request ∷ steps
 ahead (Denies ticket) steps = Deny ticket.0 ∷ steps
 
--- it is no business of the events or the images
-frozen_ahead : (first : First) (steps : List PortStep) (f : Option Frozen) → MayFrozenAll steps f
-    → MayFrozenAll (ahead first steps) f
-    × (frozen_through steps f ≡ frozen_through (ahead first steps) f)
-frozen_ahead first steps f may = grind (arith, common_steps)
-
-kept_ahead : (first : First) (steps : List PortStep) (kept : List Event)
-    → kept_through steps kept ≡ kept_through (ahead first steps) kept
-kept_ahead first steps kept = grind (arith, common_steps)
-
+-- it is no business of the images
 pub images_ahead : (first : First) (m : Moment) (steps : List PortStep) (i : Images)
     → MayImagesAll m steps i → MayImagesAll m (ahead first steps) i
     × (images_through m steps i ≡ images_through m (ahead first steps) i)
 images_ahead first m steps i may = grind (arith, common_steps)
-
-clash_ahead : (first : First) (steps : List PortStep)
-    → (IsTrue (list_any is_take (ahead first [])) → IsTrue (list_all is_calm steps))
-    → ((t : ℕ) → IsTrue (list_all (is_beside t) steps)) → IsTrue (is_clash_free steps)
-    → IsTrue (is_clash_free (ahead first steps))
-clash_ahead Neither steps calm beside free = free
-clash_ahead (Takes t q) steps calm beside free =
-    rw (clash_free-take t.0 q steps (calm refl) (beside t.0)) free
-clash_ahead (Denies t) steps calm beside free = rw (beside t.0) free
 
 module _ {W : Type 0} where
   abbrev pub under : Option Current → StationState W → StationState W
@@ -179,96 +152,6 @@ module _ {W : Type 0} where
         may_session = λ m page steps may. (denies g far n stands m t.0 page, may);
         session = λ steps. refl;
       }
-
-module _ {W : Type 0} (facts : WireFacts W) where
-  -- these steps first, behind which the call of the wire goes on
-  turn_from : (p next : PortParts W) (u : Choice) (said : Said) {s : StationState W}
-      {start : BookState}
-      → u.pending ≡ None
-      → (b : Begun p.station p.book.state s start u.ghost (far_end_of facts p.station)
-      (silence_of facts p.station)) → Settles p next said (is_reset p.station.link.state) start
-      → (t : TurnGives facts (under b.current p.station)
-      (record u.ghost { request = b.request; fresh = b.fresh }) said next.station)
-      → TurnOf (abstract_port facts p u)
-      (abstract_port facts next (record {
-        owners = owners_through (ahead b.first t.given.steps) u.owners;
-        ghost = t.given.after;
-        pending = None;
-      }))
-  turn_from p next u said {start = start} none b settles t =
-      let x = t.given in
-      let began : Bool = is_reset p.station.link.state in
-      let ended : Bool = is_reset next.station.link.state in
-      let before : PortState = abstract_port facts p u in
-      let m : Moment = moment_of (core_of p.station) u.ghost (silence_of facts p.station) x.call in
-      let book = b.book x.steps (MayBookAll-filter x.steps start
-      (rw x.said_book (may_book_said began ended said start))) in
-      let frozen = frozen_ahead b.first x.steps before.frozen x.frozen.0 in
-      let images = images_ahead b.first m x.steps before.images x.images.0 in (
-        record { call = x.call; steps = ahead b.first x.steps },
-        record {
-          fits = x.fits;
-          silence = x.silent;
-          clash_free = clash_ahead b.first x.steps (λ took. x.fresh (b.takes took))
-              (λ t. clash_free-deny t x.steps began ended said x.said_book) x.clash_free;
-          terms = terms_of x.terms;
-        },
-        record {
-          may_book = book.0;
-          book = settles.posts
-              ∙ (rw (← x.said_book) (sym (book_through-filter x.steps start))) ∙ book.1;
-          may_session = b.may_session m refl x.steps x.session.0;
-          session = sym x.session.1 ∙ b.session x.steps;
-          owners = refl;
-          down = none_down next.station.link.state next.station.session x.after
-              x.after.request.hidden.answer t.stands.both.joined;
-        },
-        record {
-          may_frozen = frozen.0;
-          frozen = sym x.frozen.1 ∙ frozen.1;
-          kept = settles.keeps
-              ∙ (rw (← x.said_reports) (sym (kept_through-filter x.steps p.kept)))
-              ∙ kept_ahead b.first x.steps p.kept;
-        },
-        record {
-          may_images = images.0;
-          images = sym x.images.1 ∙ images.1;
-          image_is_last = x.image_is_last;
-          output_is_wanted = t.output_is_wanted;
-        },
-        (none, refl),
-      )
-
-  pub turn_does : (p next : PortParts W) (said : Said) (s : StationState W) (b : BookState)
-      → p.sent ≡ false → next.sent ≡ false → BeginsNext p.station p.book.state s b
-      → TurnSteps facts s said next.station → Settles p next said (is_reset s.link.state) b
-      → IsAbstractCall facts p call.Turn answered.Nothing next
-  unfolding TurnSteps
-  turn_does p next said s b free after begins gives settles =
-      does_by_choice facts p call.Turn answered.Nothing next
-      (λ u shows.
-      let none = none_pending u.pending p.sent (core_of p.station) u.ghost
-      (silence_of facts p.station) free shows.out in
-      let first = begun begins shows.both in
-      let t = (rw first.is at gives)
-      (record u.ghost { request = first.request; fresh = first.fresh })
-      (record {
-        is_honest = shows.is_honest;
-        both = first.stands;
-        attempted = (rw none at shows.out).1;
-      }) in (
-        record {
-          owners = owners_through (ahead first.first t.given.steps) u.owners;
-          ghost = t.given.after;
-          pending = None;
-        },
-        record {
-          is_honest = t.stands.is_honest;
-          both = t.stands.both;
-          out = (after, t.stands.attempted);
-        },
-        (refl, turn_from p next u said none first (rw first.is at settles) t),
-      ))
 
 -- a turn gives no ticket, and keeps the limits
 abbrev GivesNone : BookState → BookState → Type 0

@@ -12,10 +12,10 @@ use Rattle.iol_port.specs.Asks.{event_room, lacks_isdu, to_begin}
 use Rattle.iol_port.specs.View.{PortParts, BeginsNext}
 use Rattle.iol_port.specs.CorePort.{station_without_wire, parts_over}
 use Rattle.iol_port.proofs.AskLemmas.{book_told, turn_begun_asked}
-use Rattle.iol_port.proofs.CorePorts.{parts_in, begins_over, takes_over}
+use Rattle.iol_port.proofs.CorePorts.{parts_in, begins_over, takes_over, turn_does}
 use Rattle.iol_port.proofs.Denying.{turn_denies}
 use Rattle.iol_port.proofs.TieLemmas.{begun_same, ends_ask, turn_tied, turn_limit}
-use Rattle.iol_port.proofs.TurnLemmas.{turn_does, turn_gives_none}
+use Rattle.iol_port.proofs.TurnLemmas.{turn_gives_none}
 use Rattle.iol_port.proofs.CleanTurns.{clean_turn, none_reset}
 use Rattle.iol_port.proofs.port_core.PortCore.turn.Given as given
 use Rattle.iol_port.proofs.port_core.PortCore.turn.Goals as goal
@@ -45,15 +45,18 @@ invariant_of-self g c =
 abbrev before : (g : given.Over) (c : goal.After-settle g) → PortParts g.row.W.Denot
 before g c = parts_over c.args.wire.now (parts_in c.self.inside)
 
-abbrev after : (g : given.Over) (c : goal.After-settle g) → PortParts g.row.W.Denot
-after g c = record {
-  station = station_of c.turn-brought.new.wire c.turn-brought.new.self;
+abbrev bare_after : (g : given.Over) (c : goal.After-settle g) → PortParts (Unit {0})
+bare_after g c = record {
+  station = station_without_wire c.turn-brought.new.self;
   book = c.settle.new.book;
   kept = c.settle.new.kept.items;
   sent = c.self.inside.sent;
   counters = c.turned.new.self;
   last_loss = c.loss_after-self-inside.result;
 }
+
+abbrev after : (g : given.Over) (c : goal.After-settle g) → PortParts g.row.W.Denot
+after g c = parts_over c.turn-brought.new.wire (bare_after g c)
 
 abbrev mid : (g : given.Over) (c : goal.After-settle g) → StationState g.row.W.Denot
 mid g c = station_of c.args.wire.now c.begin_next.new.core
@@ -73,9 +76,12 @@ pub returns-clause-does : goal.returns-clause-does
 returns-clause-does g c =
     rw (← c.self.view_is)
     (record {
-      follows = turn_does g.W.Wire.facts (before g c) (after g c) c.turn-brought.new.said
-          (mid g c) c.begin_next.new.book.state (free g c) (free g c) (begins g c)
-          c.turn-brought.ensures.turn.steps (record { posts = cc; keeps = c.settle.ensures.kept });
+      follows = turn_does g.W.Wire.facts c.args.wire.now c.turn-brought.new.wire
+          (parts_in c.self.inside) (bare_after g c) c.event_room-room.result
+          c.turn-brought.new.said (station_without_wire c.begin_next.new.core)
+          c.begin_next.new.book.state (free g c) (free g c) c.begin_next.ensures.next
+          c.turn-brought.ensures.pieces c.turn-brought.ensures.honest
+          (record { posts = cc; keeps = c.settle.ensures.kept });
       book = turn_gives_none _ _ _ _ _
           (cond c.resets-reset.result (Reset ∷ []) [] ++ book_said c.turn-brought.new.said)
           (begins g c) c.settle.ensures.book;
