@@ -41,7 +41,6 @@ use Rattle.iol_book.specs.declared.limits.Limits.{Limits}
 use Rattle.iol_port.specs.CorePort.{IsNewFor, CoreOpensFor, station_without_wire, awaited_answer, at_end, parts_over, CoreDoes, PieceDoes, SendDoes, ReceiveDoes, WakeDoes}
 use Rattle.iol_port.proofs.Filters.{book_through-filter, MayBookAll-filter, kept_through-filter, clash_free-deny, is_beside, may_book_said}
 use Rattle.iol_port.proofs.TurnLemmas.{First, Begun, Settles, ahead, images_ahead, under, begun, none_down, terms_of}
-use Rattle.iol_port.proofs.Halves.{halves_are_turns}
 use Rattle.iol_port.proofs.CallLemmas.{none_pending, expect_does, set_cycle_does}
 
 abbrev Bare : Type 0
@@ -272,10 +271,12 @@ module _ (p next : Bare) (far far' : Far) (n n' : ℕ) (said : Said) (free : nex
               kept = settles.keeps
                   ∙ (rw (← x.said_reports) (sym (kept_through-filter x.steps p.kept)));
             };
-            may_images = x.images.0;
-            images = sym x.images.1;
-            image_is_last = x.image_is_last;
-            output_is_wanted = λ calm. x.output_is_wanted calm ∙ shown.2 calm.0 calm.1;
+            images = record {
+              may_images = x.images.0;
+              images = sym x.images.1;
+              image_is_last = x.image_is_last;
+              output_is_wanted = λ calm. x.output_is_wanted calm ∙ shown.2 calm.0 calm.1;
+            };
             pending = refl;
           },
         ),
@@ -452,6 +453,6 @@ module _ {W : Type 0} (facts : WireFacts W) (wire wire' : W) where
       (record { posts = settles.posts; keeps = settles.keeps })) refl
       (t.takes shows.is_honest) m for_m in (
         b,
-        (refl, halves_are_turns a m b (send_of none sends) receives.1),
+        (refl, (m, send_of none sends, receives.1)),
         over_wire facts wire' next b (rw honesty shows.is_honest) for_b,
       )

@@ -11,7 +11,6 @@ pub mod CorePorts
 pub mod OverWire
 pub mod WireLemmas
 pub mod TurnsRuleOut
-pub mod Halves
 pub mod TieLemmas
 pub mod AskedLemmas
 pub mod AskLemmas

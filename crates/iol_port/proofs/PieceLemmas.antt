@@ -1,25 +1,26 @@
 -- what a piece of a run of the abstract port leaves, and what each piece keeps
-use Rattle.std.proofs.Common.{◌≡◌, ◌∷◌, [], List, true, Option, Some, None, refl, arith, inl, inr, ◌⊎◌, drop, map}
+use Rattle.std.proofs.Common.{◌≡◌, ◌∷◌, ◌++◌, [], List, true, Option, Some, None, IsTrue, refl, ap, sym, ◌∙◌, arith, inl, inr, ◌⊎◌, drop, map}
 use Rattle.std.proofs.lemmas.Grind.{common_steps}
 use Rattle.std.proofs.lemmas.List.{map-append}
 use Rattle.std.specs.Map.{lookup}
+use Rattle.std.specs.List.{list_all}
 use Rattle.iol_isdu.specs.declared.values.Request.{Request}
 use Rattle.iol_book.specs.declared.entries.Ticket.{Ticket}
 use Rattle.iol_book.specs.declared.entries.Outcome.{Outcome}
 use Rattle.iol_book.specs.declared.entries.Entry.TheVariants.{Collected, Withdrawn}
 use Rattle.iol_book.specs.Replay.{same_ticket}
-use Rattle.iol_book.specs.BookModel.{book_with_entry, book_after_submit, next_ticket, book_after_collect, book_after_withdrawal, may_archive, book_after_urgent, flight_refusal}
-use Rattle.iol_steps.specs.Session.{MaySessionAll, session_cancelling, session_through}
+use Rattle.iol_book.specs.BookModel.{BookState, book_with_entry, book_after_submit, next_ticket, book_after_collect, book_after_withdrawal, may_archive, book_after_urgent, flight_refusal}
+use Rattle.iol_steps.specs.Session.{Session, MaySessionAll, session_after, session_cancelling, session_through}
 use Rattle.iol_steps.specs.Images.{Images}
 use Rattle.iol_steps.specs.Step.{PortStep, Moment, Exchanged}
 use Rattle.iol_event.specs.declared.event.Event.{Event}
 use Rattle.iol_page.specs.declared.identity.Identity.{Identity}
-use Rattle.iol_port.specs.Steps.{MayBookAll, book_through}
-use Rattle.iol_port.specs.Owners.{owners_through, owners_after_archive}
+use Rattle.iol_port.specs.Steps.{MayBookAll, book_after, book_through}
+use Rattle.iol_port.specs.Owners.{Owners, owners_after, owners_through, owners_after_archive}
 use Rattle.iol_port.specs.declared.call.Call.TheVariants as call
 use Rattle.iol_port.specs.declared.call.Answered.{Answered}
 use Rattle.iol_port.specs.declared.call.Answered.TheVariants as answered
-use Rattle.iol_port.specs.Run.{PortState, CallOf, Piece, Whole, Send, Receive, PieceOf, moment_in, moment_by, port_after_restart}
+use Rattle.iol_port.specs.Run.{PortState, SendOf, ReceiveOf, CallOf, is_sending_step, Piece, Whole, Send, Receive, PieceOf, moment_in, moment_by, port_after_restart}
 use Rattle.iol_port.specs.Promises.{RunsJoin, PiecesJoin}
 
 -- some steps in the book, the session and the owners, whatever becomes of the events and the images
@@ -31,6 +32,51 @@ pub record IsMoved (m : Moment) (steps : List PortStep) (a b : PortState) : Type
   pub owners : b.owners ≡ owners_through steps a.owners
   pub terms : b.terms ≡ a.terms
   pub at : m.terms ≡ a.terms
+
+-- what goes out, and what comes back, in one list of steps
+module _ (m : Moment) (ys : List PortStep) where
+  book_both : (xs : List PortStep) (b : BookState) → MayBookAll xs b
+      → MayBookAll ys (book_through xs b)
+      → MayBookAll (xs ++ ys) b × (book_through (xs ++ ys) b ≡ book_through ys (book_through xs b))
+  book_both [] b h k = (k, refl)
+  book_both (x ∷ xs) b h k = grind (arith, book_both xs (book_after x b) h.1 k)
+
+  session_both : (xs : List PortStep) (s : Session) → MaySessionAll m xs s
+      → MaySessionAll m ys (session_through xs s) → MaySessionAll m (xs ++ ys) s
+      × (session_through (xs ++ ys) s ≡ session_through ys (session_through xs s))
+  session_both [] s h k = (k, refl)
+  session_both (x ∷ xs) s h k = grind (arith, session_both xs (session_after x s) h.1 k)
+
+owners_both : (xs ys : List PortStep) (l : Owners)
+    → owners_through (xs ++ ys) l ≡ owners_through ys (owners_through xs l)
+owners_both [] ys l = refl
+owners_both (x ∷ xs) ys l = owners_both xs ys (owners_after x l)
+
+sending_mode : (xs : List PortStep) (s : Session) → IsTrue (list_all is_sending_step xs)
+    → (session_through xs s).mode ≡ s.mode
+sending_mode [] s only = refl
+sending_mode (x ∷ xs) s only = grind (arith, common_steps, sending_mode xs (session_after x s))
+
+turned : (a m b : PortState) (s : SendOf a m) (r : ReceiveOf m b)
+    → IsMoved (moment_by a r.turn.call) (s.steps ++ r.turn.steps) a b
+turned a m b s r =
+    let got : List PortStep = r.turn.steps in
+    let first : Moment = moment_by a r.turn.call in
+    let mode : m.session.mode ≡ a.session.mode = ap (λ (x : Session). x.mode) s.session
+    ∙ sending_mode s.steps a.session s.only in
+    let same : moment_by m r.turn.call ≡ first = rw (s.terms, mode, s.silence) refl in
+    let book = book_both first got s.steps a.book s.may_book (rw s.book at r.work.may_book) in
+    let session = session_both first got s.steps a.session (s.may_session r.turn.call)
+    (rw (same, s.session) at r.work.may_session) in
+    record {
+      may_book = book.0;
+      book = (rw s.book at r.work.book) ∙ sym book.1;
+      may_session = session.0;
+      session = (rw s.session at r.work.session) ∙ sym session.1;
+      owners = (rw s.owners at r.work.owners) ∙ sym (owners_both s.steps got a.owners);
+      terms = r.all.terms ∙ s.terms;
+      at = refl;
+    }
 
 -- What a piece did, by the port behind it
 pub data Did (a : PortState) (c : Piece) (reply : Answered) : PortState → Type 0 where
@@ -94,8 +140,8 @@ module _ (a b : PortState) where
       did (Stays (drop 1 a.kept) a.images a.terms.expected) (grind (arith, common_steps))
   piece_did (Whole call.Counters) reply (k, e) = stayed e.1
   piece_did (Whole call.LastLoss) reply (loss, e) = stayed e.1
-  piece_did (Whole call.Turn) reply (_, (t, all, work, _, _, _)) =
-      Moves (moment_in a t) t.steps (grind (arith, common_steps))
+  piece_did (Whole call.Turn) reply (_, (m, s, r)) =
+      Moves (moment_by a r.turn.call) (s.steps ++ r.turn.steps) (turned a m b s r)
   piece_did (Whole _) reply e = stayed e.1
   piece_did Send reply (_, inl s) = Moves (moment_by a (Exchanged true)) s.steps
       (grind (arith, common_steps, s.may_session (Exchanged true)))
