@@ -11,7 +11,7 @@ use Rattle.iol_link.specs.Honest.{Passage, OutLost}
 use Rattle.iol_far.specs.Isdu.{IsduState}
 use Rattle.iol_far.specs.Far.{Far, accepted_message, far_after_message, output_of}
 use Rattle.iol_far.specs.Local.{LocalStep, local, locals}
-use Rattle.iol_steps.specs.Step.{PortStep, Carry, Again, LateCarry, Freeze, Confirm, Make, OutputOn, OutputOff, Input, PowerLoss, Busy, ImageOctets, clash, is_clash_free, is_for_book, is_report, no_make}
+use Rattle.iol_steps.specs.Step.{PortStep, Carry, Again, LateCarry, Freeze, Confirm, OutputOn, OutputOff, Input, PowerLoss, Busy, ImageOctets, clash, is_clash_free, is_for_book, is_report, no_make}
 use Rattle.iol_steps.specs.Bridge.{Hidden, again_steps, own_step, own_steps, hidden_after, hidden_through, release_steps, event_steps, output_steps, confirms_by, heard_steps_as, passed_steps, exchange_steps, woken_steps, wake_steps}
 
 -- a step of the far end but the confirm
@@ -84,10 +84,6 @@ own_apart x ys own = apart x no_busy (λ y ys h. grind (arith, common_steps)) ys
 confirm_apart : (ys : List PortStep) → no_confirm ys ≡ true
     → list_all (λ other. not (clash Confirm other)) ys ≡ true
 confirm_apart = apart Confirm no_confirm (λ y ys h. grind (arith, common_steps))
-
-pub make_apart : (ys : List PortStep) → no_make ys ≡ true
-    → list_all (λ other. not (clash Make other)) ys ≡ true
-make_apart = apart Make no_make (λ y ys h. grind (arith, common_steps))
 
 -- these steps may stand before those
 pub record Before (xs ys : List PortStep) : Type 0 where

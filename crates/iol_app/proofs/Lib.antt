@@ -45,7 +45,6 @@ pub mod CaseFacts
 pub mod Cases
 pub mod Receiving
 pub mod Sending
-pub mod Halves
 pub mod Pieces
 pub mod Asking
 pub mod CoreCalls

@@ -539,8 +539,6 @@ free_core layouts t = record {
 
 pub record SendGives (c next : CoreState) (g after : Ghost) (far : Far) (silence : ℕ) : Type 0 where
   pub stands : BothEndsStand next after far silence
-  pub mode : mode_in next.state ≡ mode_in c.state
-  pub reset : is_reset next.state ≡ is_reset c.state
   pub session : session_in c g far ≡ session_in next after far
   pub frozen : frozen_in g far ≡ frozen_in after far
   pub may : (call : WireCall) → MayImages (moment_of c g silence call) Make (images_in c g far)
@@ -549,7 +547,6 @@ pub record SendGives (c next : CoreState) (g after : Ghost) (far : Far) (silence
   pub images : (call : WireCall)
       → images_after (moment_of c g silence call) Make (images_in c g far)
       ≡ images_in next after far
-  pub wants : ordered_output c.state c.session ≡ c.session.output.wanted
   pub asks : ordered_output next.state next.session ≡ c.session.output.wanted
 
 pub record Sends : Type 0 where

@@ -3,7 +3,7 @@ use Rattle.std.proofs.Common.{true, false}
 use Rattle.iol_steps.specs.declared.said.Said.TheVariants.{Idle}
 use Rattle.iol_app.specs.Asking.{asked_in}
 use Rattle.iol_app.specs.Pieces.{IsOutAsAsked}
-use Rattle.iol_app.proofs.Stepping.{Woken, sent_down, woken_turn, woken_pieces, wake_stands, exchange_turn, exchange_pieces, exchange_stands}
+use Rattle.iol_app.proofs.Stepping.{Woken, sent_down, woken_turn, wake_stands, exchange_turn, exchange_stands}
 use Rattle.iol_app.proofs.core_data.Core.turn.Given as given
 use Rattle.iol_app.proofs.core_data.Core.turn.Goals as goal
 
@@ -18,11 +18,6 @@ returns-then-put_next-clause-turn g c =
     exchange_turn _ _ _ _ _ _ c.put_next.ensures.puts (is_out g c) c.requires
     c.exchange.ensures c.station_laws.ensures (rw (← c.self.view_is) c.self.invariant.0)
     (rw (← c.self.view_is) c.self.invariant.1) (rw (← c.self.view_is) c.is_valid.ensures)
-
-pub returns-then-put_next-clause-pieces : goal.returns-then-put_next-clause-pieces
-returns-then-put_next-clause-pieces g c =
-    exchange_pieces _ _ _ _ _ c.station_laws.ensures c.put_next.ensures.puts (is_out g c).0
-    c.exchange.ensures
 
 pub returns-then-put_next-clause-stands : goal.returns-then-put_next-clause-stands
 returns-then-put_next-clause-stands g c =
@@ -45,12 +40,8 @@ woken g c =
 
 pub returns-else-put_next-clause-turn : goal.returns-else-put_next-clause-turn
 returns-else-put_next-clause-turn g c =
-    woken_turn _ _ _ _ _ c.station_laws.ensures (woken g c) (is_down g c).1 c.of_wake.ensures
-
-pub returns-else-put_next-clause-pieces : goal.returns-else-put_next-clause-pieces
-returns-else-put_next-clause-pieces g c =
-    woken_pieces _ _ _ _ _ c.station_laws.ensures c.put_next.ensures.puts (is_down g c).0
-    (woken g c)
+    woken_turn _ _ _ _ _ c.station_laws.ensures c.put_next.ensures.puts (is_down g c).0
+    (woken g c) (is_down g c).1 c.of_wake.ensures
 
 pub returns-else-put_next-clause-stands : goal.returns-else-put_next-clause-stands
 returns-else-put_next-clause-stands g c =

@@ -80,7 +80,7 @@ returns-clause-does g c =
           (parts_in c.self.inside) (bare_after g c) c.event_room-room.result
           c.turn-brought.new.said (station_without_wire c.begin_next.new.core)
           c.begin_next.new.book.state (free g c) (free g c) c.begin_next.ensures.next
-          c.turn-brought.ensures.pieces c.turn-brought.ensures.honest
+          c.turn-brought.ensures.turn.pieces c.turn-brought.ensures.honest
           (record { posts = cc; keeps = c.settle.ensures.kept });
       book = turn_gives_none _ _ _ _ _
           (cond c.resets-reset.result (Reset ∷ []) [] ++ book_said c.turn-brought.new.said)
