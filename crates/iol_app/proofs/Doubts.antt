@@ -17,13 +17,13 @@ use Rattle.iol_link.specs.Attempts.{Sending}
 use Rattle.iol_mode.specs.declared.configuration.Devices.{Devices}
 use Rattle.iol_mode.specs.declared.states.State.{State}
 use Rattle.iol_mode.specs.declared.states.State.TheVariants.{Operate as AtOperate}
-use Rattle.iol_mode.specs.States.{NextMode, OperateFits, NextModeFits, StateFits, operate_by, mode_after_wake, next_state}
+use Rattle.iol_mode.specs.States.{NextMode, OperateFits, NextModeFits, StateFits, operate_by, next_state}
 use Rattle.iol_app.specs.declared.request.Current.{Current}
 use Rattle.iol_app.specs.declared.session.Purpose.{Purpose}
 use Rattle.iol_app.specs.Reports.{has_begun_reading}
 use Rattle.iol_app.specs.Requests.{request_under_way}
 use Rattle.iol_app.specs.State.{SessionState, IsSession, told_output_length, doubts, question_instead, missed_by, missed_in, IsOutBy}
-use Rattle.iol_app.specs.StationState.{SessionFits, missed_state, missed_session, missed_out, settled_session, state_after_turn, session_after_turn}
+use Rattle.iol_app.specs.StationState.{SessionFits, missed_state, missed_session, missed_out, settled_session}
 use Rattle.iol_app.specs.Core.{CoreState, after_missed, after_exchange}
 
 pub missed_request_by : (devices : Devices) (exchange : Option Purpose) (current : Option Current)
@@ -37,17 +37,6 @@ missed_request state s = grind (arith, common_steps, missed_request_by)
 pub missed_reading : (state : State) (s : SessionState)
     → has_begun_reading (missed_session state s) ≡ has_begun_reading s
 missed_reading state s = grind (arith, common_steps)
-
--- a wake leaves no message out
-pub woken_state : (devices : Devices) (answered : Bool) (s : SessionState)
-    → state_after_turn (mode_after_wake devices answered) s
-    ≡ next_state (mode_after_wake devices answered)
-woken_state devices answered s = grind (arith, common_steps)
-
-pub woken_session : (devices : Devices) (answered : Bool) (s : SessionState)
-    → session_after_turn (mode_after_wake devices answered) s
-    ≡ settled_session (mode_after_wake devices answered) s
-woken_session devices answered s = grind (arith, common_steps)
 
 -- A question in place of a message that is out, which is one of the session
 

@@ -30,7 +30,7 @@ use Rattle.iol_app.specs.declared.session.Purpose.{Purpose}
 use Rattle.iol_app.specs.declared.brought.WireResult.{WireResult}
 use Rattle.iol_app.specs.Due.{due_of}
 use Rattle.iol_app.specs.Outputs.{output_to_carry}
-use Rattle.iol_app.specs.State.{SessionState, IsSession, IsOutBy, IsMessageFor, session_sending}
+use Rattle.iol_app.specs.State.{SessionState, IsSession, IsMessageFor, session_sending, IsOutBy}
 use Rattle.iol_app.specs.StationState.{SessionFits, IsStill, NextFits, IsSettledSaid, mode_in}
 use Rattle.iol_app.specs.StationLaws.{StationLaws}
 use Rattle.iol_app.specs.Core.{CoreState, Ghost, BothEndsStand, CallGives, IsAttempted, ordered_output, moment_of, images_in, after_exchange, settled_core, after_wake, core_out, free_core}
@@ -52,12 +52,7 @@ pub still_said : (outcome : NextMode) (s : SessionState) (said : Said) → IsSti
     → IsSettledSaid outcome s said → said ≡ Idle
 still_said outcome s said still h = grind (arith, common_steps)
 
--- a message that is out is the session's, and none is out where the session has none
-pub some_exchange : (e : Option Purpose) (s : SessionState) (m : MasterMsg)
-    → IsOutBy e s (Some m) → (x : Purpose) × (e ≡ Some x)
-some_exchange None s m h = absurd h
-some_exchange (Some x) s m h = (x, refl)
-
+-- none is out where the session has none
 pub no_exchange : (e : Option Purpose) (s : SessionState) → IsOutBy e s None → e ≡ None
 no_exchange e s h = grind (arith, common_steps)
 

@@ -1,16 +1,10 @@
 -- What the one call of the wire in a turn brought.
-use Rattle.std.specs.Prelude.{◌≡◌, ℕ, Bool, ◌==◌, not, if◌then◌else◌, List, length, Option, Some, None, is_some}
-use Rattle.arrayvec.specs.ArrayVec.{ArrayVec}
+use Rattle.std.specs.Prelude.{ℕ, Bool, ◌==◌, not, if◌then◌else◌, List, length, Option, Some, None}
 use Rattle.iol_mseq.specs.Replies.{is_checked}
-use Rattle.iol_far.specs.Octets.{octets_in}
-use Rattle.iol_link.specs.WireFacts.{WireFacts}
 use Rattle.iol_link.specs.declared.handler.Attempt.{Attempt}
 use Rattle.iol_link.specs.declared.handler.Attempt.TheVariants.{Got}
-use Rattle.iol_link.specs.declared.wire.Rate.{Rate}
 use Rattle.iol_mode.specs.declared.states.State.{State}
 use Rattle.iol_mode.specs.Exchanges.{text_out, layout_out, tries_in}
-use Rattle.iol_app.specs.declared.asked.Asked.{Asked}
-use Rattle.iol_app.specs.declared.asked.Asked.TheVariants.{Wake, Exchange}
 use Rattle.iol_app.specs.declared.asked.Outgoing.{Outgoing}
 use Rattle.iol_app.specs.declared.brought.WireResult.{WireResult}
 use Rattle.iol_app.specs.declared.brought.WireResult.TheVariants.{NoDevice, Woken, Exchanged}
@@ -40,26 +34,3 @@ woken_by answered = if answered then Woken else NoDevice
 abbrev pub brought_in : State → Option (List ℕ) → WireResult
 brought_in state came =
     Exchanged (tries_in state) (verdict_on (outgoing_of (layout_out state) (text_out state)) came)
-
--- an exchange of these octets is the one asked for, and brought this, where so many attempts at
--- its message were made before and this came back
-abbrev pub ExchangeBrings : Asked → List ℕ → ℕ → Option (List ℕ) → WireResult → Type 0
-ExchangeBrings Wake octets tries came brought = ⊥
-ExchangeBrings (Exchange out) octets tries came brought =
-    (out.octets.items ≡ octets) × (brought ≡ Exchanged tries (verdict_on out came))
-
-module _ {W : Type 0} (facts : WireFacts W) (asked : Asked) (tries : ℕ) (brought : WireResult) where
-  open facts use {wake_gives, exchange_gives}
-
-  abbrev pub BroughtWakes : W → Option Rate → W → Type 0
-  BroughtWakes old answer new =
-      (asked ≡ Wake) × (brought ≡ woken_by (is_some answer)) × wake_gives old answer new
-
-  abbrev pub BroughtGives : W → List ℕ → Option (ArrayVec ℕ) → W → Type 0
-  BroughtGives old octets answer new =
-      ExchangeBrings asked octets tries (octets_in answer) brought
-      × exchange_gives old octets answer new
-
-  -- the wire, whose one call is the one asked for, and brought this
-  abbrev pub brought_facts : WireFacts W
-  brought_facts = record facts { wake_gives = BroughtWakes; exchange_gives = BroughtGives }

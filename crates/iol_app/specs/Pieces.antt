@@ -1,5 +1,5 @@
 -- The two pieces of a turn, without the wire: what goes out, and what is made of what comes back.
-use Rattle.std.specs.Prelude.{◌≡◌, ◌⊎◌, ℕ, Bool, true, false, List, Option, Some, None, IsTrue}
+use Rattle.std.specs.Prelude.{◌≡◌, ◌⊎◌, ℕ, Bool, true, false, List, Option, Some, None, IsTrue, is_some}
 use Rattle.arrayvec.specs.ArrayVec.{ArrayVec}
 use Rattle.iol_octets.specs.Checksum.{has_checksum}
 use Rattle.iol_mseq.specs.Master.{HasMasterParts}
@@ -9,12 +9,13 @@ use Rattle.iol_far.specs.Octets.{octets_in}
 use Rattle.iol_page.specs.declared.page.Layouts.{Layouts}
 use Rattle.iol_link.specs.Attempts.{Sending}
 use Rattle.iol_link.specs.Honest.{HonestWake, HonestExchange}
-use Rattle.iol_link.specs.WireFacts.{WireFacts, Passes}
+use Rattle.iol_link.specs.WireFacts.{WireFacts, Passes, Wakes}
+use Rattle.iol_link.specs.declared.wire.Rate.{Rate}
 use Rattle.iol_mode.specs.declared.states.State.{State}
 use Rattle.iol_mode.specs.declared.states.State.TheVariants.{Operate as AtOperate}
-use Rattle.iol_mode.specs.Exchanges.{IsSending, AreFew, ExchangeGives, StandsOn, text_out, layout_out}
+use Rattle.iol_mode.specs.Exchanges.{IsSending, AreFew, ExchangeGives, StandsOn, WakeStands, text_out, layout_out}
 use Rattle.iol_mode.specs.Messages.{new_sending}
-use Rattle.iol_mode.specs.States.{IsDown, NextModeFits, next_state}
+use Rattle.iol_mode.specs.States.{IsDown, StateFits, NextModeFits, next_state}
 use Rattle.iol_steps.specs.Step.{no_make}
 use Rattle.iol_steps.specs.declared.said.Said.{Said}
 use Rattle.iol_steps.specs.declared.said.Said.TheVariants.{Idle}
@@ -22,16 +23,16 @@ use Rattle.iol_app.specs.declared.asked.Asked.{Asked}
 use Rattle.iol_app.specs.declared.asked.Asked.TheVariants.{Wake, Exchange}
 use Rattle.iol_app.specs.declared.brought.WireResult.{WireResult}
 use Rattle.iol_app.specs.declared.event_work.EventRoom.{EventRoom}
-use Rattle.iol_app.specs.declared.event_work.EventRoom.TheVariants.{Left}
-use Rattle.iol_app.specs.Asking.{outgoing_of}
-use Rattle.iol_app.specs.Brought.{brought_in}
+use Rattle.iol_app.specs.declared.event_work.EventRoom.TheVariants.{Left, Full}
+use Rattle.iol_app.specs.Asking.{outgoing_of, asked_in, IsCall}
+use Rattle.iol_app.specs.Brought.{brought_in, woken_by}
 use Rattle.iol_app.specs.Due.{due_of}
 use Rattle.iol_app.specs.Outputs.{output_to_carry}
-use Rattle.iol_app.specs.Reports.{has_begun_reading}
+use Rattle.iol_app.specs.Reports.{has_begun_reading, SaidFits}
 use Rattle.iol_app.specs.Requests.{request_under_way, request_after}
 use Rattle.iol_app.specs.State.{SessionState, IsSession, session_sending, IsMessageFor}
 use Rattle.iol_app.specs.StationState.{SessionFits, IsSettledSaid, settled_session}
-use Rattle.iol_app.specs.Core.{CoreState, Ghost, BothEndsStand, IsAttempted, CallGives, SendGives, after_exchange, came_of, core_out, made_ghost, ordered_output}
+use Rattle.iol_app.specs.Core.{CoreState, Ghost, BothEndsStand, IsAttempted, CallGives, SendGives, after_exchange, after_wake, came_of, core_out, made_ghost, ordered_output}
 
 -- What is out
 
@@ -164,12 +165,41 @@ ReceiveSteps old came said new =
     → HonestExchange far silence (text_out old.state) came far_new silence_new
     → TakeUpGives old g far silence said new far_new silence_new
 
--- A turn over this wire: what goes out, and, where the wire is honest, what is made of what came
--- back
-pub record IsInPieces {W : Type 0} (facts : WireFacts W) (room : EventRoom) (wire wire_new : W)
-    (old : CoreState) (said : Said) (new : CoreState) : Type 0 where
+-- A wake went out over the wire, and what it brought was taken up
+pub record IsWoken {W : Type 0} (facts : WireFacts W) (wire wire_new : W) (old : CoreState)
+    (said : Said) (brought : WireResult) (new : CoreState) : Type 0 where
+  pub answer : Option Rate
+  pub called : facts.wake_gives wire answer wire_new
+  pub passes : Wakes facts wire answer wire_new
+  pub honesty : facts.honest wire_new ≡ facts.honest wire
+  pub quiet : facts.silence wire_new ≡ facts.silence wire
+  -- the session was still, and a start-up begins where the wake was answered
+  pub still : SessionFits old.state old.session
+  pub stands : WakeStands old.session.configuration.devices (is_some answer)
+  pub idle : said ≡ Idle
+  pub is : new ≡ after_wake (is_some answer) old.session
+  pub brought_is : brought ≡ woken_by (is_some answer)
+
+-- The one call of the wire between the two pieces of a turn is the one asked for; what it brought
+-- was taken up
+abbrev pub IsMade : {W : Type 0} → WireFacts W → W → W → Asked → CoreState → Said → WireResult
+    → CoreState → Type 0
+IsMade facts wire wire_new asked mid said brought new =
+    (IsOutAsAsked true asked mid.state × IsPassed facts wire wire_new mid said brought new)
+    ⊎ (IsOutAsAsked false asked mid.state × IsWoken facts wire wire_new mid said brought new)
+
+-- A turn over this wire, where there is room for events or not: what goes out, one call of the
+-- wire, and what is made of what came back
+pub record IsWholeTurn {W : Type 0} (facts : WireFacts W) (room : EventRoom) (wire wire_new : W)
+    (old : CoreState) (said : Said) (brought : WireResult) (new : CoreState) : Type 0 where
+  pub fits : StateFits old.state
   pub mid : CoreState
   pub puts : PutsOut room old mid
+  pub made : IsMade facts wire wire_new (asked_in old.state old.session room) mid said brought new
+  pub asked : IsCall facts (asked_in old.state old.session room) wire wire_new
+  -- what is said of it
+  pub told : SaidFits Full mid.session said new.session
+  -- where the wire is honest, both ends stand on
   pub takes : IsTrue (facts.honest wire) → (g : Ghost)
       → BothEndsStand mid g (facts.far wire) (facts.silence wire)
       → TakeUpGives mid g (facts.far wire) (facts.silence wire) said new (facts.far wire_new)

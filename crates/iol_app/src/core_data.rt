@@ -14,8 +14,8 @@ ghost use Rattle.iol_app.specs.Reports.{SaidFits};
 ghost use Rattle.iol_app.specs.StationState.{mode_in, why_in, page_in, operates, settled_session, NextFits, IsSettledSaid, SessionFits};
 ghost use Rattle.iol_app.specs.Asking.{asked_in, beginning_in, outgoing_of};
 ghost use Rattle.iol_app.specs.Core.{after_missed, settled_core, after_wake, came_of, opened_core, restarted_core, wanting_core, IsRight};
-ghost use Rattle.iol_app.specs.Pieces.{IsAskedOut, IsOutAsAsked, IsSettledBy, IsTakenUp, IsPassed, PutsOut, WakeSteps, ReceiveSteps};
-ghost use Rattle.iol_app.specs.Seen.{station_of, NewSteps, BeginSteps, DenySteps, AbortSteps, CancelSteps, WantSteps, RestartSteps, LinkStands, IsWholeTurn};
+ghost use Rattle.iol_app.specs.Pieces.{IsAskedOut, IsOutAsAsked, IsSettledBy, IsTakenUp, IsPassed, IsWholeTurn, PutsOut, WakeSteps, ReceiveSteps};
+ghost use Rattle.iol_app.specs.Seen.{NewSteps, BeginSteps, DenySteps, AbortSteps, CancelSteps, WantSteps, RestartSteps, LinkStands};
 
 use crate::asked::{Asked, Outgoing};
 use crate::brought::{Out, WireResult};
@@ -411,8 +411,8 @@ impl Core {
     /// Rules LINK-1, PD-7.
     pub fn turn<W: Wire>(&mut self, wire: &mut W, room: EventRoom, said: &mut Said) -> WireResult
         requires { LinkStands W.facts wire.old self.old }
-        ensures turn { IsWholeTurn W.facts room (station_of wire.old self.old) said.new result
-            (station_of wire.new self.new) }
+        ensures turn { IsWholeTurn W.facts room wire.old wire.new self.old said.new result
+            self.new }
         ensures honest { W.facts.honest wire.new ≡ W.facts.honest wire.old }
         ensures stands { LinkStands W.facts wire.new self.new }
     {

@@ -1,5 +1,5 @@
 -- A session that has nothing to do but its request, and one turn of it over a clean wire.
-use Rattle.std.proofs.Common.{append-nil, ◌≡◌, inr, ℕ, Bool, true, false, ◌&&◌, List, [], ◌∷◌, ◌++◌, refl, sym, ap, subst, ◌∙◌, Option, Some, None, arith}
+use Rattle.std.proofs.Common.{append-nil, ◌≡◌, inl, inr, ℕ, Bool, true, false, ◌&&◌, List, [], ◌∷◌, ◌++◌, refl, sym, ap, subst, ◌∙◌, Option, Some, None, arith}
 use Rattle.std.proofs.lemmas.Grind.{common_steps}
 use Rattle.std.specs.Prelude.{IsTrue, if◌then◌else◌, MatchBool}
 use Rattle.iol_octets.specs.declared.control.Channel.{Channel}
@@ -19,8 +19,7 @@ use Rattle.iol_far.specs.Far.{Far}
 use Rattle.iol_far.specs.Local.{Carry, local, locals, carried_by, has_room, IsWorkedOff}
 use Rattle.iol_far.specs.Level.{FarLink, Quiet, Stands, IsLevelBefore, link_of}
 use Rattle.iol_far.specs.Laws.{IsSized, MuchStays}
-use Rattle.iol_mode.specs.States.{InOperate as OutOperate}
-use Rattle.iol_mode.specs.Stands.{operate_link, IsAccepted}
+use Rattle.iol_mode.specs.Stands.{operate_link, IsOperating, IsAccepted}
 use Rattle.iol_mode.specs.Kinds.{SeesPulses}
 use Rattle.iol_mode.specs.declared.configuration.Devices.{Devices}
 use Rattle.iol_steps.specs.declared.said.Said.{Said}
@@ -33,13 +32,23 @@ use Rattle.iol_app.specs.declared.session.Purpose.TheVariants.{Request as NextMe
 use Rattle.iol_app.specs.Requests.{current_after, IsSaid}
 use Rattle.iol_app.specs.Due.{due_of, is_ready, may_follow}
 use Rattle.iol_app.specs.Messages.{Head, head_of, progress_head, head_for, progress_data, request_head, request_data}
-use Rattle.iol_app.specs.State.{SessionState, session_sending, session_after_send, session_after_exchange, IsMessageFor, IsExchangeSaid}
-use Rattle.iol_app.specs.StationState.{StationState, link_wire, IsTurnSettled, IsTurn, IsOperateExchange}
+use Rattle.iol_app.specs.State.{SessionState, session_sending, session_after_exchange, IsMessageFor, IsExchangeSaid}
+use Rattle.iol_app.specs.StationState.{StationState, link_wire}
+use Rattle.iol_app.specs.Core.{CoreState, core_out}
+use Rattle.iol_app.specs.Pieces.{NewOut, IsPassed, IsWholeTurn}
+use Rattle.iol_app.specs.Seen.{core_of, LinkStands}
+use Rattle.iol_app.specs.declared.brought.WireResult.{WireResult}
+use Rattle.iol_mode.specs.Stands.{StateStands}
+use Rattle.iol_mode.specs.States.{IsDown}
+use Rattle.iol_mode.specs.Kept.{link_over}
+use Rattle.iol_mode.specs.Messages.{new_sending}
+use Rattle.iol_mode.specs.declared.states.State.TheVariants.{Operate as AtOperate}
 use Rattle.iol_link.specs.Honest.{Passage, far_after, HonestExchange}
-use Rattle.iol_link.specs.WireFacts.{WireFacts}
+use Rattle.iol_link.specs.WireFacts.{WireFacts, Passes}
+use Rattle.iol_link.specs.Attempts.{good_reply}
+use Rattle.arrayvec.specs.ArrayVec.{ArrayVec}
 use Rattle.iol_port.specs.Clean.{CleanLaws, ExchangesCleanly, IsCalm, Stood}
 use Rattle.iol_port.proofs.CleanHearing.{HeardWell, heard_well}
-use Rattle.iol_port.proofs.TieLemmas.{turn_asks}
 
 -- What is due
 
@@ -148,8 +157,16 @@ sees_on devices far next same sees = grind (arith, common_steps)
 
 -- One turn
 
+-- over the wire of these stations, where the link stood to the far end before it
+abbrev pub IsTurn : {W : Type 0} → WireFacts W → EventRoom → StationState W → Said → StationState W
+    → Type 0
+IsTurn facts room old said new = (brought : WireResult)
+    × IsWholeTurn facts room (link_wire old.link) (link_wire new.link) (core_of old) said brought
+    (core_of new)
+    × LinkStands facts (link_wire old.link) (core_of old)
+
 module _ {W : Type 0} (facts : WireFacts W) where
-  open facts use {far}
+  open facts use {far, silence}
 
   -- between requests both ends are level
   pub level_between : {kind : Kind} {layouts : Layouts} {station : StationState W} {wire : W}
@@ -189,54 +206,108 @@ module _ {W : Type 0} (facts : WireFacts W) where
     pub clear : new.session.clear ≡ false
     pub said_is : IsSaid NextMessage old.session.limit turn.reply.od.items (Some c) said
 
+  -- a new message of a session went out, and what came back was taken up
+  record Goes (layouts : Layouts) (exchange : Purpose) (s : SessionState) (wire wire' : W)
+      (said : Said) (new : CoreState) : Type 0 where
+    message : MasterMsg
+    for : IsMessageFor exchange (session_sending exchange s) message
+    parts : HasMasterParts layouts.run message
+    came : Option (ArrayVec ℕ)
+    called : facts.exchange_gives wire (master_text layouts.run message) came wire'
+    passes : Passes facts wire (master_text layouts.run message) came wire'
+    honesty : facts.honest wire' ≡ facts.honest wire
+    accepted : (link : FarLink) → IsOperating layouts link
+        → IsAccepted layouts (far wire).page link message
+    settled : (reply : Reply) → good_reply layouts.run message (octets_in came) ≡ Some reply
+        → (new.state ≡ AtOperate (record { out = None; layouts = layouts }))
+        × (new.session ≡ session_after_exchange exchange reply (session_sending exchange s))
+        × IsExchangeSaid exchange reply.od.items (session_sending exchange s) said
+
+  module _ (layouts : Layouts) (exchange : Purpose) (s : SessionState) (wire wire' : W)
+      (said : Said) (brought : WireResult) (new : CoreState) (up : IsTrue (facts.honest wire)) where
+    abbrev free : CoreState
+    free = record { state = AtOperate (record { out = None; layouts = layouts }); session = s }
+
+    passed_goes : (m : MasterMsg) → IsMessageFor exchange (session_sending exchange s) m
+        → HasMasterParts layouts.run m
+        → let mid : CoreState =
+        core_out layouts (new_sending m) (session_sending exchange s) exchange s.current in
+        StateStands mid.state (silence wire) (far wire)
+        → IsPassed facts wire wire' mid said brought new → Goes layouts exchange s wire wire' said new
+    passed_goes m for parts stands p = record {
+      message = m;
+      for = for;
+      parts = parts;
+      came = p.came;
+      called = p.called;
+      passes = p.passes;
+      honesty = p.honesty;
+      accepted = (p.taken.settled.gives (far wire) (far wire') (silence wire) (silence wire')
+          stands (p.passes up)).1;
+      settled = λ reply good.
+          let is = rw good at p.taken.is in (
+            ap (λ (c : CoreState). c.state) is,
+            ap (λ (c : CoreState). c.session) is,
+            rw good at p.taken.settled.said_is,
+          );
+    }
+
+    goes : (room : EventRoom) → due_of s room ≡ exchange
+        → IsWholeTurn facts room wire wire' free said brought new
+        → StateStands free.state (silence wire) (far wire)
+        → Goes layouts exchange s wire wire' said new
+    goes room due t stands =
+        let n : NewOut layouts s room t.mid = t.puts.sent in
+        let mid : CoreState =
+        core_out layouts (new_sending n.message) (session_sending exchange s) exchange s.current in
+        let mid_is : t.mid ≡ mid = rw due at n.is in
+        passed_goes n.message (rw due at n.due) n.parts
+        (subst (λ (k : CoreState). StateStands k.state (silence wire) (far wire)) mid_is
+        (t.puts.on (far wire) (silence wire) stands))
+        (elim t.made [
+          | inl (out, p) ↦ rw mid_is at p
+          | inr (down, w) ↦
+              absurd (subst (λ (k : CoreState). IsDown k.state) mid_is down.0)
+        ])
+
   module _ (cleanly : ExchangesCleanly facts) (laws : CleanLaws) {kind : Kind} {layouts : Layouts}
       {link : FarLink} {old : StationState W} {wire : W} {said : Said} {new : StationState W}
       (room : EventRoom) (stood : Stood facts kind layouts link old wire)
       (turn : IsTurn facts room old said new) where
-    pub exchanged : (exchange : Purpose) → due_of old.session room ≡ exchange
-        → channel_for exchange old.session ≡ Isdu
+    exchanged_by : (exchange : Purpose) → channel_for exchange old.session ≡ Isdu
+        → Goes layouts exchange old.session wire (link_wire new.link) said (core_of new)
         → Exchanged kind layouts exchange old wire said new
-    exchanged exchange due channel_is =
+    exchanged_by exchange channel_is t =
         let s : SessionState = old.session in
-        let sent_is : session_after_send (due_of s room) s ≡ session_sending exchange s =
-        rw (stood.calm.exchange, due) refl in
-        let t : IsOperateExchange facts wire (record { out = None; layouts = layouts }) s room said
-        new =
-        rw stood.link_is at turn in
-        let for : IsMessageFor exchange (session_sending exchange s) t.message =
-        rw sent_is at t.is_for in
-        let channel : t.message.mc.channel ≡ Isdu =
-        ap (λ (h : Head). h.channel) for.head ∙ channel_is in
+        let m : MasterMsg = t.message in
+        let channel : m.mc.channel ≡ Isdu =
+        ap (λ (h : Head). h.channel) t.for.head ∙ channel_is in
         let (x, clean) =
-        cleanly wire (master_text layouts.run t.message) t.exchange.answer (link_wire new.link)
-        stood.is_clean t.exchange.called in
+        cleanly wire (master_text layouts.run m) t.came (link_wire new.link)
+        stood.is_clean t.called in
         let same = work_same (far wire) x.ready (handed_request (far wire).isdu) x.work in
-        let accepted : IsAccepted layouts x.ready.page link t.message =
-        rw same.page (t.accepted stood.is_honest link stood.operating) in
-        let sized = laws.sized.hears x.ready (master_text layouts.run t.message)
-        (same.sized (t.exchange.passes stood.is_honest.0).regular.sized) in
-        let (reply, well) = heard_well laws.read_back kind layouts t.message link x.ready x.far_is
+        let accepted : IsAccepted layouts x.ready.page link m =
+        rw same.page (t.accepted link stood.operating) in
+        let sized = laws.sized.hears x.ready (master_text layouts.run m)
+        (same.sized (t.passes stood.is_honest.0).regular.sized) in
+        let (reply, well) = heard_well laws.read_back kind layouts m link x.ready x.far_is
         x.answer_is accepted channel (same.awake ∙ stood.awake) (same.kind ∙ stood.kind_is)
         (rw same.page stood.isdu) (same.link_is ∙ stood.at) (rw same.events stood.quiet)
         (rw x.far_is sized) in
-        let settled : IsTurnSettled (OutOperate (record { out = None; layouts = layouts })
-        (Some reply)) (session_sending exchange s) said new =
-        rw (sent_is, well.good) at t.exchange.settled in
+        let (state_is, session_is, heard_is) = t.settled reply well.good in
         record {
           next = link_wire new.link;
           stood = record {
-            link_is = settled.link;
+            link_is = ap (link_over (link_wire new.link)) state_is;
             is_honest = (
-              rw t.exchange.both.honesty stood.is_honest.0,
-              rw (turn_asks facts room old said new turn)
-                  (sees_on s.configuration.devices (far wire) (far (link_wire new.link))
-                  (exchange_misses laws.much _ _ _ _ _ _ (t.exchange.passes stood.is_honest.0))
+              rw t.honesty stood.is_honest.0,
+              rw session_is (sees_on s.configuration.devices (far wire) (far (link_wire new.link))
+                  (exchange_misses laws.much _ _ _ _ _ _ (t.passes stood.is_honest.0))
                   stood.is_honest.1),
             );
             is_clean = clean;
-            calm = rw settled.session (absorbed_calm exchange s reply stood.calm channel_is
-                well.event);
-            told = rw settled.session stood.told;
+            calm = rw session_is (absorbed_calm exchange s reply stood.calm channel_is well.event);
+            told = rw session_is stood.told;
             operating = inr refl;
             awake = well.awake;
             kind_is = well.kind_is;
@@ -244,17 +315,27 @@ module _ {W : Type 0} (facts : WireFacts W) where
             isdu = rw (well.page, same.page) stood.isdu;
             quiet = well.quiet;
           };
-          message = t.message;
-          for = for;
-          parts = t.parts refl;
+          message = m;
+          for = t.for;
+          parts = t.parts;
           ready = x.ready;
           work = x.work;
-          answer = octets_in t.exchange.answer;
+          answer = octets_in t.came;
           reply = reply;
           heard_as = well;
-          session = settled.session;
-          said_is = settled.said_is;
+          session = session_is;
+          said_is = heard_is;
         }
+
+    pub exchanged : (exchange : Purpose) → due_of old.session room ≡ exchange
+        → channel_for exchange old.session ≡ Isdu
+        → Exchanged kind layouts exchange old wire said new
+    exchanged exchange due channel_is =
+        let s : SessionState = old.session in
+        let (brought, t, stands) = rw stood.link_is at turn in
+        exchanged_by exchange channel_is
+        (goes layouts exchange s wire (link_wire new.link) said brought (core_of new)
+        stood.is_honest.0 room due t (stands stood.is_honest))
 
     pub turned : {c : Current} → old.session.current ≡ Some c → c.abort ≡ None
         → Turned kind layouts old wire c said new

@@ -40,9 +40,9 @@ use Rattle.iol_far.specs.Local.{Carry, local, has_room, IsWorkedOff}
 use Rattle.iol_far.specs.Level.{FarLink, grown_by}
 use Rattle.iol_link.specs.WireFacts.{WireFacts}
 use Rattle.iol_app.specs.Messages.{Head, progress_head, progress_data}
-use Rattle.iol_app.specs.StationState.{StationState, IsTurn}
+use Rattle.iol_app.specs.StationState.{StationState}
 use Rattle.iol_port.specs.Clean.{CleanLaws, ExchangesCleanly, Stood, At}
-use Rattle.iol_port.proofs.CleanSession.{SameBut, work_same, Turned, turned}
+use Rattle.iol_port.proofs.CleanSession.{IsTurn, SameBut, work_same, Turned, turned}
 
 -- Numbers of segments
 

@@ -18,10 +18,11 @@ use Rattle.iol_steps.specs.Step.{PortStep, Make, Reset, WireCall, Moment, is_cla
 use Rattle.iol_steps.specs.Session.{Session, MaySessionAll, session_through}
 use Rattle.iol_steps.specs.Images.{MayImagesAll, images_through}
 use Rattle.iol_app.specs.declared.event_work.EventRoom.{EventRoom}
+use Rattle.iol_app.specs.declared.brought.WireResult.{WireResult}
 use Rattle.iol_app.specs.State.{session_expecting, session_with_cycle}
 use Rattle.iol_app.specs.StationState.{StationState, mode_in}
 use Rattle.iol_app.specs.Core.{CoreState, Ghost, BothEndsStand, TermsStay, IsAttempted, ordered_output, session_in, frozen_in, images_in, moment_of, made_ghost}
-use Rattle.iol_app.specs.Pieces.{SendsMessage, IsInPieces, SendSteps, WakeSteps, ReceiveSteps, TakeUpGives}
+use Rattle.iol_app.specs.Pieces.{SendsMessage, IsWholeTurn, SendSteps, WakeSteps, ReceiveSteps, TakeUpGives}
 use Rattle.iol_app.specs.Seen.{WantSteps, core_of, station_of}
 use Rattle.iol_port.specs.declared.call.Call.{Call}
 use Rattle.iol_port.specs.declared.call.Answered.{Answered}
@@ -424,15 +425,15 @@ sent_reset room old mid sent = grind (arith, common_steps)
 module _ {W : Type 0} (facts : WireFacts W) (wire wire' : W) where
   open facts use {honest, far, silence}
 
-  pub turn_does : (p next : Bare) (room : EventRoom) (said : Said)
+  pub turn_does : (p next : Bare) (room : EventRoom) (said : Said) (brought : WireResult)
       (s : StationState (Unit {0})) (start : BookState)
       → p.sent ≡ false → next.sent ≡ false → BeginsNext p.station p.book.state s start
-      → IsInPieces facts room wire wire' (core_of s) said (core_of next.station)
+      → IsWholeTurn facts room wire wire' (core_of s) said brought (core_of next.station)
       → honest wire' ≡ honest wire → Settles p next said (is_reset s.link.state) start
       → IsAbstractCall facts (parts_over wire p) call.Turn answered.Nothing
       (parts_over wire' next)
   unfolding IsAbstractCall SendDoes
-  turn_does p next room said s start free after begins t honesty settles = λ a for_a.
+  turn_does p next room said brought s start free after begins t honesty settles = λ a for_a.
       let (u, shows, is) = for_a in
       let between : Bare = record {
         station = station_without_wire t.mid;

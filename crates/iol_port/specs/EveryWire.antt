@@ -17,7 +17,6 @@ use Rattle.iol_book.specs.declared.fault.BookFault.TheVariants.{Outstanding}
 use Rattle.iol_book.specs.declared.entries.Outcome.TheVariants.{NoIsdu}
 use Rattle.iol_book.specs.Replay.{same_ticket}
 use Rattle.iol_book.specs.BookModel.{BookState, BookValue, MemoryGrows, memory_archived, RefusesFor, submit_refusal, book_after_submit, book_after_urgent, next_ticket, next_taken, book_after_take, book_after_denial, waits, collect_answer, book_after_collect, withdraw_refusal, book_after_withdrawal, flight_refusal, may_archive, book_after_archive}
-use Rattle.iol_mode.specs.Exchanges.{tries_in}
 use Rattle.iol_mode.specs.States.{is_reset}
 use Rattle.iol_mode.specs.declared.why.Why.{Why}
 use Rattle.iol_steps.specs.declared.mode.Mode.TheVariants.{Down}
@@ -28,8 +27,10 @@ use Rattle.iol_app.specs.State as session
 use Rattle.iol_app.specs.Due.{is_ready}
 use Rattle.iol_app.specs.Asking.{station_with_request, IsCall}
 use Rattle.iol_app.specs.declared.brought.WireResult.{WireResult}
-use Rattle.iol_app.specs.Brought.{brought_facts}
-use Rattle.iol_app.specs.StationState.{StationState, link_wire, mode_of, why_down, page_in, is_operating, IsTurn}
+use Rattle.iol_app.specs.Core.{CoreState}
+use Rattle.iol_app.specs.Pieces.{SendsMessage, IsMade}
+use Rattle.iol_app.specs.Seen.{core_of}
+use Rattle.iol_app.specs.StationState.{StationState, link_wire, mode_of, why_down, page_in, is_operating}
 use Rattle.iol_port.specs.declared.fault.PortFault.{PortFault}
 use Rattle.iol_port.specs.declared.fault.PortFault.TheVariants as fault
 use Rattle.iol_port.specs.declared.call.Call.{Call}
@@ -233,17 +234,19 @@ module _ {W : Type 0} where
     pub book : new.book.state ≡ book_after_denial old.book.state ticket
 
   module _ (facts : WireFacts W) where
-    -- A turn: the next request is begun or denied; the station makes its own one, with room
-    -- for events where at most 58 are kept, and what that says goes to the book and to the
-    -- kept events; a reset of the device ends what a request that was cut off may still do
+    -- A turn: the next request is begun or denied; a message is out, with room for events where at
+    -- most 58 are kept; what came back to it is taken up, and what that says goes to the book and
+    -- to the kept events; a reset of the device ends what a request that was cut off may still do
     -- PORT-1
     pub record PortTurnGives (old new : PortParts W) : Type 0 where
       pub said : Said
       pub brought : WireResult
+      -- what goes out
+      pub mid : CoreState
+      pub sent : SendsMessage (event_room old.kept) (core_of (station_begun old)) mid
       -- its one call of the wire is the one that the port asks for, and brought this
-      pub turn :
-          IsTurn (brought_facts facts (asks_of old) (tries_in old.station.link.state) brought)
-          (event_room old.kept) (station_begun old) said new.station
+      pub made : IsMade facts (link_wire old.station.link) (link_wire new.station.link)
+          (asks_of old) mid said brought (core_of new.station)
       pub book : new.book.state
           ≡ book_through
           (resets (is_reset old.station.link.state) (is_reset new.station.link.state)

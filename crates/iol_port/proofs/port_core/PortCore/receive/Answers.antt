@@ -1,7 +1,6 @@
 -- What comes back goes to the book and to the kept events, and is one piece of a run.
-use Rattle.std.proofs.Common.{◌≡◌, ◌∙◌, ◌++◌, refl, ap, inl}
+use Rattle.std.proofs.Common.{◌≡◌, ◌∙◌, ◌++◌, refl, ap}
 use Rattle.iol_far.specs.Octets.{octets_in}
-use Rattle.iol_app.specs.declared.event_work.EventRoom.TheVariants.{Left, Full}
 use Rattle.iol_app.specs.Core.{CoreState, came_of}
 use Rattle.iol_mode.specs.States.{is_reset}
 use Rattle.iol_steps.specs.Step.{resets, book_said}
@@ -20,16 +19,12 @@ settle-requires-clause-asked g c =
 pub invariant_of-self : goal.invariant_of-self
 invariant_of-self g c =
     let p : PortParts (Unit {0}) = parts_in c.self.inside in
-    turn_tied p p.station (station_without_wire c.receive-brought.new.self) p.book.state
-    c.settle.new.kept.items
-    c.settle.new.book c.resets-reset.result Full c.receive-brought.new.said c.self.invariant
-    (inl (refl, refl))
+    turn_tied p (station_without_wire c.receive-brought.new.self) c.settle.new.kept.items
+    c.settle.new.book c.resets-reset.result c.receive-brought.new.said c.self.invariant
     (ap (λ (k : CoreState). k.session.limit) c.receive-brought.ensures.taken.is
     ∙ settled_limit (came_of c.self.inside.core (octets_in c.args.came.now))
     c.self.inside.core.session)
-    c.receive-brought.ensures.told.request c.receive-brought.ensures.told.reading
-    (λ room. absurd (let k : Full ≡ Left = room in cc)) c.settle.ensures.book
-    c.settle.ensures.kept
+    c.receive-brought.ensures.told c.settle.ensures.book c.settle.ensures.kept
 
 -- the book heard of a reset where both cores say so
 book_is : (g : given.Over) (c : goal.After-settle g) → c.settle.new.book.state

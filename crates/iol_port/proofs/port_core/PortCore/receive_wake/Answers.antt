@@ -1,10 +1,9 @@
 -- What a wake brought is one piece of a run.
-use Rattle.std.proofs.Common.{◌≡◌, ◌∙◌, ◌++◌, refl, ap, inl, append-nil}
+use Rattle.std.proofs.Common.{◌≡◌, ◌∙◌, ◌++◌, refl, ap, append-nil}
 use Rattle.std.specs.Prelude.{is_some}
 use Rattle.iol_mode.specs.States.{is_reset}
 use Rattle.iol_steps.specs.Step.{resets, book_said}
 use Rattle.iol_steps.specs.declared.said.Said.TheVariants.{Idle}
-use Rattle.iol_app.specs.declared.event_work.EventRoom.TheVariants.{Left, Full}
 use Rattle.iol_app.specs.Core.{CoreState}
 use Rattle.iol_port.specs.Steps.{book_through}
 use Rattle.iol_port.specs.View.{PortParts}
@@ -17,14 +16,11 @@ use Rattle.iol_port.proofs.port_core.PortCore.receive_wake.Goals as goal
 pub invariant_of-self : goal.invariant_of-self
 invariant_of-self g c =
     let p : PortParts (Unit {0}) = parts_in c.self.inside in
-    turn_tied p p.station (station_without_wire c.receive_wake.new.self) p.book.state
-    c.settle.new.kept.items
-    c.settle.new.book c.resets-reset.result Full Idle c.self.invariant (inl (refl, refl))
+    turn_tied p (station_without_wire c.receive_wake.new.self) c.settle.new.kept.items
+    c.settle.new.book c.resets-reset.result Idle c.self.invariant
     (ap (λ (k : CoreState). k.session.limit) c.receive_wake.ensures.core
     ∙ woken_limit (is_some c.args.rate) c.self.inside.core.session)
-    c.receive_wake.ensures.told.request c.receive_wake.ensures.told.reading
-    (λ room. absurd (let k : Full ≡ Left = room in cc)) c.settle.ensures.book
-    c.settle.ensures.kept
+    c.receive_wake.ensures.told c.settle.ensures.book c.settle.ensures.kept
 
 -- the book heard of a reset where both cores say so
 book_is : (g : given.Over) (c : goal.After-settle g) → c.settle.new.book.state

@@ -1,5 +1,6 @@
 -- What goes out: the next request is begun before it where nothing was out.
-use Rattle.std.proofs.Common.{◌≡◌, ◌∙◌, true, false, refl, sym, ap, inl}
+use Rattle.std.proofs.Common.{◌≡◌, ◌∙◌, true, false, refl, sym, ap, inl, arith}
+use Rattle.std.proofs.lemmas.Grind.{common_steps}
 use Rattle.iol_app.specs.Pieces.{SendsMessage}
 use Rattle.iol_app.specs.Seen.{core_of}
 use Rattle.iol_port.specs.Asks.{event_room}
@@ -27,8 +28,8 @@ invariant_of-self g c =
       | else-not-self w ↦ rw w.self-inside-is (inl (refl, refl), refl)
     ] in
     send_tied p now.core c.send.new.self now.book now.kept.items now.sent c.event_room-room.result
-    c.send.result c.self.invariant begun.0 begun.1 (room g c) c.send.ensures.puts.sent
-    c.send.ensures.puts.reads c.send.ensures.says
+    c.self.invariant begun.0 begun.1 (room g c) c.send.ensures.puts.sent
+    c.send.ensures.puts.reads (λ _. grind (arith, common_steps, c.send.ensures.says))
 
 -- the parts after the sending
 abbrev after : (g : given.Over) (c : goal.After-send g) → PortParts (Unit {0})

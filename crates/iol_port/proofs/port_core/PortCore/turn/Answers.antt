@@ -5,16 +5,17 @@ use Rattle.iol_steps.specs.Step.{Reset, book_said}
 use Rattle.iol_app.specs.Due.{is_ready}
 use Rattle.iol_app.specs.StationState.{StationState, is_operating}
 use Rattle.iol_app.specs.Asking.{station_with_request}
-use Rattle.iol_app.specs.Seen.{station_of}
+use Rattle.iol_app.specs.Seen.{station_of, core_of}
 use Rattle.iol_isdu.specs.declared.values.Request.{Request}
 use Rattle.iol_book.specs.BookModel.{next_taken}
 use Rattle.iol_port.specs.Asks.{event_room, lacks_isdu, to_begin}
-use Rattle.iol_port.specs.View.{PortParts, BeginsNext}
+use Rattle.iol_port.specs.EveryWire.{station_begun}
+use Rattle.iol_port.specs.View.{PortParts, BeginsNext, IsTied}
 use Rattle.iol_port.specs.CorePort.{station_without_wire, parts_over}
-use Rattle.iol_port.proofs.AskLemmas.{book_told, turn_begun_asked}
+use Rattle.iol_port.proofs.AskLemmas.{book_told, turned_at}
 use Rattle.iol_port.proofs.CorePorts.{parts_in, begins_over, takes_over, turn_does}
 use Rattle.iol_port.proofs.Denying.{turn_denies}
-use Rattle.iol_port.proofs.TieLemmas.{begun_same, ends_ask, turn_tied, turn_limit}
+use Rattle.iol_port.proofs.TieLemmas.{ends_ask, sent_tied, turn_tied, made_limit}
 use Rattle.iol_port.proofs.TurnLemmas.{turn_gives_none}
 use Rattle.iol_port.proofs.CleanTurns.{clean_turn, none_reset}
 use Rattle.iol_port.proofs.port_core.PortCore.turn.Given as given
@@ -22,24 +23,46 @@ use Rattle.iol_port.proofs.port_core.PortCore.turn.Goals as goal
 
 pub settle-requires-clause-asked : goal.settle-requires-clause-asked
 settle-requires-clause-asked g c =
-    ends_ask _ _ _ (begun_same _ _ _ _ c.begin_next.ensures.next c.self.invariant.same)
-    c.turn-brought.ensures.turn.told.ends
+    let t = c.turn-brought.ensures.turn in
+    ends_ask _ _ _ (sent_tied (parts_in c.self.inside) c.begin_next.new.core t.mid
+    c.begin_next.new.book _ c.self.invariant c.begin_next.ensures.next
+    (c.event_room-room.ensures ∙ ap (λ (q : PortParts (Unit {0})). event_room q.kept)
+    (sym c.self.view_is)) t.puts.sent t.puts.reads).same t.told.ends
+
+pub settle-requires-clause-room : goal.settle-requires-clause-room
+settle-requires-clause-room g c =
+    let t = c.turn-brought.ensures.turn in
+    let tied = sent_tied (parts_in c.self.inside) c.begin_next.new.core t.mid
+    c.begin_next.new.book _ c.self.invariant c.begin_next.ensures.next
+    (c.event_room-room.ensures ∙ ap (λ (q : PortParts (Unit {0})). event_room q.kept)
+    (sym c.self.view_is)) t.puts.sent t.puts.reads in
+    grind (arith, common_steps, tied.room, t.told.reading)
 
 free : (g : given.Over) (c : goal.After-settle g) → c.self.inside.sent ≡ false
 free g c = ap (λ (q : PortParts (Unit {0})). q.sent) c.self.view_is ∙ c.requires.free
 
+room : (g : given.Over) (c : goal.After-settle g)
+    → c.event_room-room.result ≡ event_room (parts_in c.self.inside).kept
+room g c = c.event_room-room.ensures
+    ∙ ap (λ (q : PortParts (Unit {0})). event_room q.kept) (sym c.self.view_is)
+
+mid_tied : (g : given.Over) (c : goal.After-settle g) → IsTied (record (parts_in c.self.inside) {
+  station = station_without_wire c.turn-brought.ensures.turn.mid;
+  book = c.begin_next.new.book;
+  sent = false;
+})
+mid_tied g c = let t = c.turn-brought.ensures.turn in
+    sent_tied (parts_in c.self.inside) c.begin_next.new.core t.mid c.begin_next.new.book _
+    c.self.invariant c.begin_next.ensures.next (room g c) t.puts.sent t.puts.reads
+
 pub invariant_of-self : goal.invariant_of-self
 invariant_of-self g c =
+    let t = c.turn-brought.ensures.turn in
     rw (free g c)
-    (turn_tied (parts_in c.self.inside) (station_without_wire c.begin_next.new.core)
-    (station_without_wire c.turn-brought.new.self)
-    c.begin_next.new.book.state c.settle.new.kept.items c.settle.new.book _ _
-    c.turn-brought.new.said c.self.invariant c.begin_next.ensures.next
-    (turn_limit g.W.Wire.facts _ (station_of c.args.wire.now c.begin_next.new.core)
-    c.turn-brought.new.said (station_of c.turn-brought.new.wire c.turn-brought.new.self)
-    c.turn-brought.ensures.turn.is)
-    c.turn-brought.ensures.turn.told.request c.turn-brought.ensures.turn.told.reading
-    (λ room. grind (arith, common_steps)) c.settle.ensures.book c.settle.ensures.kept)
+    (turn_tied _ (station_without_wire c.turn-brought.new.self) c.settle.new.kept.items
+    c.settle.new.book c.resets-reset.result c.turn-brought.new.said (mid_tied g c)
+    (made_limit g.W.Wire.facts c.args.wire.now c.turn-brought.new.wire _ _ _ _ _ t) t.told
+    c.settle.ensures.book c.settle.ensures.kept)
 
 -- and what was begun, over the wire
 abbrev before : (g : given.Over) (c : goal.After-settle g) → PortParts g.row.W.Denot
@@ -78,9 +101,9 @@ returns-clause-does g c =
     (record {
       follows = turn_does g.W.Wire.facts c.args.wire.now c.turn-brought.new.wire
           (parts_in c.self.inside) (bare_after g c) c.event_room-room.result
-          c.turn-brought.new.said (station_without_wire c.begin_next.new.core)
-          c.begin_next.new.book.state (free g c) (free g c) c.begin_next.ensures.next
-          c.turn-brought.ensures.turn.pieces c.turn-brought.ensures.honest
+          c.turn-brought.new.said c.turn-brought.result
+          (station_without_wire c.begin_next.new.core) c.begin_next.new.book.state (free g c) (free g c) c.begin_next.ensures.next
+          c.turn-brought.ensures.turn c.turn-brought.ensures.honest
           (record { posts = cc; keeps = c.settle.ensures.kept });
       book = turn_gives_none _ _ _ _ _
           (cond c.resets-reset.result (Reset ∷ []) [] ++ book_said c.turn-brought.new.said)
@@ -96,7 +119,9 @@ returns-clause-clean g c =
     (begins g c)
     (takes_over c.args.wire.now c.event_room-room.result c.self.inside.core c.begin_next.new.core
     c.self.inside.book.state c.begin_next.new.book.state c.begin_next.ensures.takes)
-    c.turn-brought.ensures.turn.is c.self.invariant.busy (unreset g c) c.settle.ensures.book)
+    c.turn-brought.result c.turn-brought.ensures.turn
+    (rw (← c.self.view_is) at c.requires.stands) c.self.invariant.busy (unreset g c)
+    c.settle.ensures.book)
 
 pub returns-clause-gives : goal.returns-clause-gives
 returns-clause-gives g c =
@@ -104,22 +129,23 @@ returns-clause-gives g c =
     let said = c.turn-brought.new.said in
     let next : Option Request = to_begin (lacks_isdu p.station.session.isdu)
     (next_taken p.book.state.standing) in
-    let room : c.event_room-room.result ≡ event_room p.kept = c.event_room-room.ensures
-    ∙ ap (λ (q : PortParts (Unit {0})). event_room q.kept) (sym c.self.view_is) in
     let exact : mid g c ≡ station_with_request next p.station c.event_room-room.result =
     rw c.begin_next.ensures.exact refl in
+    let turned = turned_at g.W.Wire.facts {has = event_room p.kept}
+    {begun = core_of (station_begun p)} c.turn-brought.ensures.turn (room g c)
+    (c.begin_next.ensures.exact ∙ (rw (room g c) refl)) in
     rw (← c.self.view_is)
     (record {
       said = said;
       brought = c.turn-brought.result;
-      turn = turn_begun_asked g.W.Wire.facts p.station (mid g c) (after g c).station next
-          c.event_room-room.result _ said c.turn-brought.result room exact
-          c.turn-brought.ensures.turn.exact;
+      mid = c.turn-brought.ensures.turn.mid;
+      sent = turned.0;
+      made = turned.1;
       book = c.settle.ensures.book
           ∙ book_told p.station (mid g c) (after g c).station next c.event_room-room.result _ _
           _ said
           c.begin_next.new.book.state exact c.is_reset-began.ensures c.is_reset.ensures
-          c.resets-reset.ensures ∙ (rw (c.begin_next.ensures.taken, room) refl);
+          c.resets-reset.ensures ∙ (rw (c.begin_next.ensures.taken, room g c) refl);
       memory = c.settle.ensures.memory ∙ c.begin_next.ensures.memory;
       kept = c.settle.ensures.kept;
       counters = c.turned.ensures;
@@ -130,9 +156,7 @@ returns-clause-gives g c =
       ) refl);
       denies = λ ticket has. turn_denies p (after g c) c.begin_next.new.book.state
           c.resets-reset.result said
-          (ends_ask _ _ _ (begun_same _ _ _ _ c.begin_next.ensures.next c.self.invariant.same)
-          c.turn-brought.ensures.turn.told.ends)
-          c.settle.ensures.book ticket has
+          (ends_ask _ _ _ (mid_tied g c).same c.turn-brought.ensures.turn.told.ends) c.settle.ensures.book ticket has
           (is_operating p.station.link && is_ready p.station.session c.event_room-room.result)
           c.begin_next.ensures.taken
           (λ ready. unreset g c (ap (λ (s : StationState g.row.W.Denot). is_operating s.link) exact
