@@ -233,7 +233,8 @@ module _ {W : Type 0} (facts : WireFacts W) where
         → let mid : CoreState =
         core_out layouts (new_sending m) (session_sending exchange s) exchange s.current in
         StateStands mid.state (silence wire) (far wire)
-        → IsPassed facts wire wire' mid said brought new → Goes layouts exchange s wire wire' said new
+        → IsPassed facts wire wire' mid said brought new
+        → Goes layouts exchange s wire wire' said new
     passed_goes m for parts stands p = record {
       message = m;
       for = for;

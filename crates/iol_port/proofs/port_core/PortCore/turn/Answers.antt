@@ -102,7 +102,8 @@ returns-clause-does g c =
       follows = turn_does g.W.Wire.facts c.args.wire.now c.turn-brought.new.wire
           (parts_in c.self.inside) (bare_after g c) c.event_room-room.result
           c.turn-brought.new.said c.turn-brought.result
-          (station_without_wire c.begin_next.new.core) c.begin_next.new.book.state (free g c) (free g c) c.begin_next.ensures.next
+          (station_without_wire c.begin_next.new.core) c.begin_next.new.book.state (free g c)
+          (free g c) c.begin_next.ensures.next
           c.turn-brought.ensures.turn c.turn-brought.ensures.honest
           (record { posts = cc; keeps = c.settle.ensures.kept });
       book = turn_gives_none _ _ _ _ _
@@ -156,7 +157,8 @@ returns-clause-gives g c =
       ) refl);
       denies = λ ticket has. turn_denies p (after g c) c.begin_next.new.book.state
           c.resets-reset.result said
-          (ends_ask _ _ _ (mid_tied g c).same c.turn-brought.ensures.turn.told.ends) c.settle.ensures.book ticket has
+          (ends_ask _ _ _ (mid_tied g c).same c.turn-brought.ensures.turn.told.ends)
+          c.settle.ensures.book ticket has
           (is_operating p.station.link && is_ready p.station.session c.event_room-room.result)
           c.begin_next.ensures.taken
           (λ ready. unreset g c (ap (λ (s : StationState g.row.W.Denot). is_operating s.link) exact
