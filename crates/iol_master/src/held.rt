@@ -136,10 +136,7 @@ impl<W: Wire, K: Ledger, A: Handle> Held<W, K, A> {
         }
     }
 
-    /// Hands out the outcome of a ticket, which is outstanding no more.
-    ///
-    /// Refused, with nothing changed, by 25 where no such ticket is outstanding, and by 26 where it
-    /// has no outcome yet.
+    /// As [`PortCore::collect`](iol_port::PortCore::collect).
     pub fn collect(&mut self, ticket: Ticket) -> Result<Outcome, PortFault>
         ensures { Collects (MakesCall W.facts self.old self.new) self.old.parts self.new.parts
             ticket result }
@@ -147,10 +144,7 @@ impl<W: Wire, K: Ledger, A: Handle> Held<W, K, A> {
         self.port.collect(ticket)
     }
 
-    /// Takes back a request that waits. Its outcome is then that it was withdrawn.
-    ///
-    /// Refused, with nothing changed, by 25 where no such ticket is outstanding, and by 27 where it
-    /// waits no longer.
+    /// As [`PortCore::withdraw`](iol_port::PortCore::withdraw).
     pub fn withdraw(&mut self, ticket: Ticket) -> Result<(), PortFault>
         ensures { Withdraws (MakesCall W.facts self.old self.new) self.old.parts self.new.parts
             ticket result }
@@ -158,13 +152,7 @@ impl<W: Wire, K: Ledger, A: Handle> Held<W, K, A> {
         self.port.withdraw(ticket)
     }
 
-    /// Asks to cut off the request of a ticket, which is under way.
-    ///
-    /// An ABORT waits then, unless one waits already; a message that is out comes before
-    /// it. The outcome follows in a later turn: that it was cancelled, with the good
-    /// reply to the ABORT; its answer, where that is whole before the ABORT is sent; or
-    /// that it was cut off for another cause. Refused, with nothing changed, by 25 where
-    /// no such ticket is outstanding, and by 36 where it waits, or has an outcome.
+    /// As [`PortCore::cancel`](iol_port::PortCore::cancel).
     pub fn cancel(&mut self, ticket: Ticket) -> Result<(), PortFault>
         ensures { Cancels (MakesCall W.facts self.old self.new) self.old.parts self.new.parts
             ticket result }
@@ -172,11 +160,7 @@ impl<W: Wire, K: Ledger, A: Handle> Held<W, K, A> {
         self.port.cancel(ticket)
     }
 
-    /// Cuts off the request under way, if any, and leaves the link in down, without an image; then
-    /// publishes that there is none, once, where the port was given a writer.
-    ///
-    /// What waits goes on waiting. The device may still carry the request that was cut off out,
-    /// once, until it is reset.
+    /// As [`Port::restart_shown`].
     pub fn restart<R: Wait>(&mut self, rt: &R)
         ensures { PublishesAfter
             (λ new. Restarts (MakesCall W.facts self.old new) self.old.parts new.parts)
@@ -185,10 +169,7 @@ impl<W: Wire, K: Ledger, A: Handle> Held<W, K, A> {
         self.port.restart_shown(rt);
     }
 
-    /// Wants this output of the device, from the next message made in OPERATE on.
-    ///
-    /// Refused, with nothing changed, by the first of 34 where no start-up has told the lengths of
-    /// the process data yet, and 29 where the image has not the length that was told last.
+    /// As [`PortCore::set_output`](iol_port::PortCore::set_output).
     pub fn set_output(&mut self, image: &Image) -> Result<(), PortFault>
         ensures { SetsOutput (MakesCall W.facts self.old self.new) self.old.parts self.new.parts
             image.now result }
@@ -196,19 +177,14 @@ impl<W: Wire, K: Ledger, A: Handle> Held<W, K, A> {
         self.port.set_output(image)
     }
 
-    /// Wants no output of the device.
+    /// As [`PortCore::clear_output`](iol_port::PortCore::clear_output).
     pub fn clear_output(&mut self)
         ensures { ClearsOutput (MakesCall W.facts self.old self.new) self.old.parts self.new.parts }
     {
         self.port.clear_output();
     }
 
-    /// Expects this device from the next page on that a start-up reads whole.
-    ///
-    /// Where that page is another device's, the link goes down in the very turn, with
-    /// `Why::WrongDevice` and the identity that was found, and nothing but DeviceStartup
-    /// was written to the device. Requests wait on. A page that was checked already is not checked
-    /// again.
+    /// As [`PortCore::expect`](iol_port::PortCore::expect).
     pub fn expect(&mut self, identity: Identity) -> Counting
         ensures { Expects (MakesCall W.facts self.old self.new) self.old.parts self.new.parts
             (Some identity) result }
@@ -216,7 +192,7 @@ impl<W: Wire, K: Ledger, A: Handle> Held<W, K, A> {
         self.port.expect(identity)
     }
 
-    /// Expects any device, as a port does that is new.
+    /// As [`PortCore::expect_any`](iol_port::PortCore::expect_any).
     pub fn expect_any(&mut self) -> Counting
         ensures { Expects (MakesCall W.facts self.old self.new) self.old.parts self.new.parts
             None result }
@@ -224,8 +200,7 @@ impl<W: Wire, K: Ledger, A: Handle> Held<W, K, A> {
         self.port.expect_any()
     }
 
-    /// Has start-ups write this cycle time to MasterCycleTime, where it is at least the device's
-    /// MinCycleTime; else, and with none, they write MinCycleTime as it stands in the page.
+    /// As [`PortCore::set_cycle`](iol_port::PortCore::set_cycle).
     pub fn set_cycle(&mut self, cycle: Option<CycleTime>) -> Counting
         ensures { SetsCycle (MakesCall W.facts self.old self.new) self.old.parts self.new.parts
             cycle result }
@@ -233,34 +208,29 @@ impl<W: Wire, K: Ledger, A: Handle> Held<W, K, A> {
         self.port.set_cycle(cycle)
     }
 
-    /// The device's page, once the start-up of the present session has read it whole and checked
-    /// it; none before, and in down.
+    /// As [`PortCore::page`](iol_port::PortCore::page).
     pub fn page(&self) -> Option<Page>
         ensures { ShowsPage (PortOnlyLooks W.facts self.now) self.now.parts result }
     {
         self.port.page()
     }
 
-    /// What the port counted since its opening.
+    /// As [`PortCore::counters`](iol_port::PortCore::counters).
     pub fn counters(&self) -> &Counters
         ensures { ShowsCounters (PortOnlyLooks W.facts self.now) self.now.parts result.now }
     {
         self.port.counters()
     }
 
-    /// Why the port's last session ended, until OPERATE is reached; see
-    /// [`PortCore::last_loss`](iol_port::PortCore::last_loss).
+    /// As [`PortCore::last_loss`](iol_port::PortCore::last_loss).
     pub fn last_loss(&self) -> Option<Why>
         ensures { ShowsLastLoss (PortOnlyLooks W.facts self.now) self.now.parts result }
     {
         self.port.last_loss()
     }
 
-    /// The device's input by the last good reply in OPERATE: one whole image, or none where it was
-    /// not valid. None in every other mode.
-    ///
-    /// This is the read under the port's lock. A seat at the cell in which the port publishes
-    /// (crate iol_image) reads the image without it.
+    /// As [`PortCore::image`](iol_port::PortCore::image), under the port's lock. A seat at the cell
+    /// in which the port publishes (crate iol_cell) reads the image without it.
     pub fn image(&self) -> Option<&Image>
         ensures { ShowsImage (PortOnlyLooks W.facts self.now) self.now.parts
             (option_copied result) }
@@ -268,7 +238,7 @@ impl<W: Wire, K: Ledger, A: Handle> Held<W, K, A> {
         self.port.image()
     }
 
-    /// Hands out the event that was kept longest. Refused by 30 where none is kept.
+    /// As [`PortCore::take_event`](iol_port::PortCore::take_event).
     pub fn take_event(&mut self) -> Result<Event, PortFault>
         ensures { TakesEvent (MakesCall W.facts self.old self.new) self.old.parts self.new.parts
             result }
@@ -276,18 +246,14 @@ impl<W: Wire, K: Ledger, A: Handle> Held<W, K, A> {
         self.port.take_event()
     }
 
-    /// The mode of the link, and why it is down.
+    /// As [`PortCore::status`](iol_port::PortCore::status).
     pub fn status(&self) -> Status
         ensures { ShowsStatus (PortOnlyLooks W.facts self.now) self.now.parts result }
     {
         self.port.status()
     }
 
-    /// Hands the journal out and begins a new one, which is empty. Tickets go on.
-    ///
-    /// Refused, with nothing changed, by 28 where a ticket is outstanding, or where a request was
-    /// cut off by a lost link or a restart and the device wasn't reset since, as it may still carry
-    /// that request out.
+    /// As [`PortCore::archive`](iol_port::PortCore::archive).
     pub fn archive(&mut self) -> Result<Vec<Entry, A>, PortFault>
         ensures is { Archives (MakesCall W.facts self.old self.new) self.old.parts self.new.parts
             (λ entries. entries.items) result }
@@ -296,13 +262,7 @@ impl<W: Wire, K: Ledger, A: Handle> Held<W, K, A> {
         self.port.archive()
     }
 
-    /// One turn: one wake-up request where the link is down, else one exchange with the device.
-    /// Then the image is published, once, where the port was given a writer.
-    ///
-    /// In OPERATE, where nothing else is to be sent, the next request is taken: the urgent one
-    /// that waits longest, or where none waits the other one that does. Its first segment goes out
-    /// in this turn; where the device has no ISDU it is denied, never taken, and IDLE 1 goes out.
-    /// At most 64 events are kept, and a list of events is read only where there is room for it.
+    /// As [`Port::turn_shown`].
     pub fn turn<R: Wait>(&mut self, rt: &R)
         ensures { PublishesAfter (Turns W.facts self.old) self.old self.new }
     {

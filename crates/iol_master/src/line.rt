@@ -101,12 +101,7 @@ impl<K: Ledger, A: Allocator + Copy> LinePort<K, A> {
         (port, hand)
     }
 
-    /// Enters a request and answers its ticket. The request then waits behind all that wait
-    /// already; an urgent one that is submitted later goes before it.
-    ///
-    /// Refused, with nothing changed, by the first of 21 where as many tickets are outstanding as
-    /// the limit of the opening says, 22 where the journal has no room for the request's entries,
-    /// 23 where the last ticket was 2^64 - 1, and 24 where a growth was refused.
+    /// As [`PortCore::submit`].
     pub fn submit(&mut self, request: Request) -> Result<Ticket, PortFault>
         ensures is { Submits (LineCalled self.old self.new) self.old.parts self.new.parts
             request result }
@@ -116,10 +111,7 @@ impl<K: Ledger, A: Allocator + Copy> LinePort<K, A> {
         self.port.submit(request)
     }
 
-    /// Enters an urgent request, which then waits behind the other urgent ones and before all
-    /// others, and answers its ticket. A request that is under way isn't stopped by it.
-    ///
-    /// Refused, with nothing changed, as `submit` is: 21, 22 and 23 count both kinds.
+    /// As [`PortCore::submit_urgent`].
     pub fn submit_urgent(&mut self, request: Request) -> Result<Ticket, PortFault>
         ensures is { SubmitsUrgent (LineCalled self.old self.new) self.old.parts self.new.parts
             request result }
@@ -129,10 +121,7 @@ impl<K: Ledger, A: Allocator + Copy> LinePort<K, A> {
         self.port.submit_urgent(request)
     }
 
-    /// Hands out the outcome of a ticket, which is outstanding no more.
-    ///
-    /// Refused, with nothing changed, by 25 where no such ticket is outstanding, and by 26 where it
-    /// has no outcome yet.
+    /// As [`PortCore::collect`].
     pub fn collect(&mut self, ticket: Ticket) -> Result<Outcome, PortFault>
         ensures { Collects (LineCalled self.old self.new) self.old.parts self.new.parts
             ticket result }
@@ -140,9 +129,7 @@ impl<K: Ledger, A: Allocator + Copy> LinePort<K, A> {
         self.port.collect(ticket)
     }
 
-    /// Hands out the outcome of a ticket as [`collect`](LinePort::collect) does, into a place of
-    /// the caller, which a refusal leaves as it was. Most asks come before the outcome, and cost
-    /// little.
+    /// As [`PortCore::collect_into`].
     pub fn collect_into(&mut self, ticket: Ticket, into: &mut Outcome) -> Result<(), PortFault>
         ensures is { Collects (LineCalled self.old self.new) self.old.parts self.new.parts
             ticket (result_map_both (λ _. into.new) (λ why. why) result) }
@@ -151,10 +138,7 @@ impl<K: Ledger, A: Allocator + Copy> LinePort<K, A> {
         self.port.collect_into(ticket, into)
     }
 
-    /// Takes back a request that waits, urgent or not. Its outcome is then that it was withdrawn.
-    ///
-    /// Refused, with nothing changed, by 25 where no such ticket is outstanding, and by 27 where it
-    /// waits no longer.
+    /// As [`PortCore::withdraw`].
     pub fn withdraw(&mut self, ticket: Ticket) -> Result<(), PortFault>
         ensures { Withdraws (LineCalled self.old self.new) self.old.parts self.new.parts
             ticket result }
@@ -162,13 +146,7 @@ impl<K: Ledger, A: Allocator + Copy> LinePort<K, A> {
         self.port.withdraw(ticket)
     }
 
-    /// Asks to cut off the request of a ticket, which is under way.
-    ///
-    /// An ABORT waits then, unless one waits already; a message that is out comes before it. The
-    /// outcome follows in a later turn: that it was cancelled, with the good reply to the ABORT;
-    /// its answer, where that is whole before the ABORT is sent; or that it was cut off for another
-    /// cause. Refused, with nothing changed, by 25 where no such ticket is outstanding, and by 36
-    /// where it waits, or has an outcome.
+    /// As [`PortCore::cancel`].
     pub fn cancel(&mut self, ticket: Ticket) -> Result<(), PortFault>
         ensures { Cancels (LineCalled self.old self.new) self.old.parts self.new.parts
             ticket result }
@@ -200,10 +178,7 @@ impl<K: Ledger, A: Allocator + Copy> LinePort<K, A> {
         self.restart_waits
     }
 
-    /// Wants this output of the device, from the next message made in OPERATE on.
-    ///
-    /// Refused, with nothing changed, by the first of 34 where no start-up has told the lengths of
-    /// the process data yet, and 29 where the image has not the length that was told last.
+    /// As [`PortCore::set_output`].
     pub fn set_output(&mut self, image: &Image) -> Result<(), PortFault>
         ensures { SetsOutput (LineCalled self.old self.new) self.old.parts self.new.parts
             image.now result }
@@ -211,19 +186,14 @@ impl<K: Ledger, A: Allocator + Copy> LinePort<K, A> {
         self.port.set_output(image)
     }
 
-    /// Wants no output of the device.
+    /// As [`PortCore::clear_output`].
     pub fn clear_output(&mut self)
         ensures { ClearsOutput (LineCalled self.old self.new) self.old.parts self.new.parts }
     {
         self.port.clear_output();
     }
 
-    /// Expects this device from the next page on that a start-up reads whole.
-    ///
-    /// Where that page is another device's, the link goes down in the very turn, with
-    /// `Why::WrongDevice` and the identity that was found, and nothing but DeviceStartup
-    /// was written to the device. Requests wait on. A page that was checked already is not checked
-    /// again.
+    /// As [`PortCore::expect`].
     pub fn expect(&mut self, identity: Identity) -> Counting
         ensures { Expects (LineCalled self.old self.new) self.old.parts self.new.parts
             (Some identity) result }
@@ -231,7 +201,7 @@ impl<K: Ledger, A: Allocator + Copy> LinePort<K, A> {
         self.port.expect(identity)
     }
 
-    /// Expects any device, as a port does that is new.
+    /// As [`PortCore::expect_any`].
     pub fn expect_any(&mut self) -> Counting
         ensures { Expects (LineCalled self.old self.new) self.old.parts self.new.parts
             None result }
@@ -239,8 +209,7 @@ impl<K: Ledger, A: Allocator + Copy> LinePort<K, A> {
         self.port.expect_any()
     }
 
-    /// Has start-ups write this cycle time to MasterCycleTime, where it is at least the device's
-    /// MinCycleTime; else, and with none, they write MinCycleTime as it stands in the page.
+    /// As [`PortCore::set_cycle`].
     pub fn set_cycle(&mut self, cycle: Option<CycleTime>) -> Counting
         ensures { SetsCycle (LineCalled self.old self.new) self.old.parts self.new.parts
             cycle result }
@@ -248,15 +217,14 @@ impl<K: Ledger, A: Allocator + Copy> LinePort<K, A> {
         self.port.set_cycle(cycle)
     }
 
-    /// The device's page, once the start-up of the present session has read it whole and checked
-    /// it; none before, and in down.
+    /// As [`PortCore::page`].
     pub fn page(&self) -> Option<Page>
         ensures { ShowsPage (CoreCalled self.now.parts self.now.parts) self.now.parts result }
     {
         self.port.page()
     }
 
-    /// What the port counted since its opening.
+    /// As [`PortCore::counters`].
     pub fn counters(&self) -> &Counters
         ensures { ShowsCounters (CoreCalled self.now.parts self.now.parts) self.now.parts
             result.now }
@@ -264,16 +232,14 @@ impl<K: Ledger, A: Allocator + Copy> LinePort<K, A> {
         self.port.counters()
     }
 
-    /// Why the port's last session ended, until OPERATE is reached; see
-    /// [`PortCore::last_loss`](iol_port::PortCore::last_loss).
+    /// As [`PortCore::last_loss`].
     pub fn last_loss(&self) -> Option<Why>
         ensures { ShowsLastLoss (CoreCalled self.now.parts self.now.parts) self.now.parts result }
     {
         self.port.last_loss()
     }
 
-    /// The device's input by the last good reply in OPERATE: one whole image, or none where it was
-    /// not valid. None in every other mode.
+    /// As [`PortCore::image`].
     pub fn image(&self) -> Option<&Image>
         ensures { ShowsImage (CoreCalled self.now.parts self.now.parts) self.now.parts
             (option_copied result) }
@@ -281,7 +247,7 @@ impl<K: Ledger, A: Allocator + Copy> LinePort<K, A> {
         self.port.image()
     }
 
-    /// Hands out the event that was kept longest. Refused by 30 where none is kept.
+    /// As [`PortCore::take_event`].
     pub fn take_event(&mut self) -> Result<Event, PortFault>
         ensures { TakesEvent (LineCalled self.old self.new) self.old.parts self.new.parts
             result }
@@ -289,18 +255,14 @@ impl<K: Ledger, A: Allocator + Copy> LinePort<K, A> {
         self.port.take_event()
     }
 
-    /// The mode of the link, and why it is down.
+    /// As [`PortCore::status`].
     pub fn status(&self) -> Status
         ensures { ShowsStatus (CoreCalled self.now.parts self.now.parts) self.now.parts result }
     {
         self.port.status()
     }
 
-    /// Hands the journal out and begins a new one, which is empty. Tickets go on.
-    ///
-    /// Refused, with nothing changed, by 28 where a ticket is outstanding, or where a request was
-    /// cut off by a lost link or a restart and the device wasn't reset since, as it may still carry
-    /// that request out.
+    /// As [`PortCore::archive`].
     pub fn archive(&mut self) -> Result<Vec<Entry, A>, PortFault>
         ensures is { Archives (LineCalled self.old self.new) self.old.parts self.new.parts
             (λ entries. entries.items) result }

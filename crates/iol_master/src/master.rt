@@ -30,7 +30,7 @@ use std::sync::{Mutex, MutexGuard, Wait};
 /// [`Master::lock`] and each worker's turn a port's only, [`Master::desk`] and [`Master::settle`]
 /// the tally's only. No call takes the locks of two ports. So a thread that holds a port's guard
 /// may open and settle desks, and must let go of the guard before it submits at that port, takes
-/// its lock again or waits for `serve`. What a port publishes is read at a seat of crate iol_image,
+/// its lock again or waits for `serve`. What a port publishes is read at a seat of crate iol_cell,
 /// without any lock.
 ///
 /// No call but `open`, both submits and `serve` asks for memory.

@@ -128,12 +128,7 @@ impl<W: Wire, A: Handle> Port<W, A> {
         }
     }
 
-    /// Enters a request and answers its ticket. The request then waits behind all
-    /// that wait already; an urgent one that is submitted later goes before it.
-    ///
-    /// Refused, with nothing changed, by the first of 21 where as many tickets are outstanding
-    /// as the limit of the opening says, 22 where the journal has no room for the request's
-    /// entries, 23 where the last ticket was 2^64 - 1, and 24 where a growth was refused.
+    /// As [`PortCore::submit`].
     pub fn submit(&mut self, request: Request) -> Result<Ticket, PortFault>
         ensures is { Submits (MakesCall W.facts self.old self.new) self.old.parts self.new.parts
             request result }
@@ -143,10 +138,7 @@ impl<W: Wire, A: Handle> Port<W, A> {
         self.core.submit(request)
     }
 
-    /// Enters an urgent request, which then waits behind the other urgent ones and before
-    /// all others, and answers its ticket. A request that is under way isn't stopped by it.
-    ///
-    /// Refused, with nothing changed, as `submit` is: 21, 22 and 23 count both kinds.
+    /// As [`PortCore::submit_urgent`].
     pub fn submit_urgent(&mut self, request: Request) -> Result<Ticket, PortFault>
         ensures is { SubmitsUrgent (MakesCall W.facts self.old self.new) self.old.parts
             self.new.parts
@@ -157,10 +149,7 @@ impl<W: Wire, A: Handle> Port<W, A> {
         self.core.submit_urgent(request)
     }
 
-    /// Hands out the outcome of a ticket, which is outstanding no more.
-    ///
-    /// Refused, with nothing changed, by 25 where no such ticket is outstanding,
-    /// and by 26 where it has no outcome yet.
+    /// As [`PortCore::collect`].
     pub fn collect(&mut self, ticket: Ticket) -> Result<Outcome, PortFault>
         ensures { Collects (MakesCall W.facts self.old self.new) self.old.parts self.new.parts
             ticket result }
@@ -168,9 +157,7 @@ impl<W: Wire, A: Handle> Port<W, A> {
         self.core.collect(ticket)
     }
 
-    /// Hands out the outcome of a ticket as [`collect`](Port::collect) does, into a place of the
-    /// caller, which a refusal leaves as it was. Most asks come before the outcome, and cost
-    /// little.
+    /// As [`PortCore::collect_into`].
     pub fn collect_into(&mut self, ticket: Ticket, into: &mut Outcome) -> Result<(), PortFault>
         ensures is { Collects (MakesCall W.facts self.old self.new) self.old.parts self.new.parts
             ticket (result_map_both (λ _. into.new) (λ why. why) result) }
@@ -179,10 +166,7 @@ impl<W: Wire, A: Handle> Port<W, A> {
         self.core.collect_into(ticket, into)
     }
 
-    /// Takes back a request that waits, urgent or not. Its outcome is then that it was withdrawn.
-    ///
-    /// Refused, with nothing changed, by 25 where no such ticket is outstanding,
-    /// and by 27 where it waits no longer.
+    /// As [`PortCore::withdraw`].
     pub fn withdraw(&mut self, ticket: Ticket) -> Result<(), PortFault>
         ensures { Withdraws (MakesCall W.facts self.old self.new) self.old.parts self.new.parts
             ticket result }
@@ -190,15 +174,7 @@ impl<W: Wire, A: Handle> Port<W, A> {
         self.core.withdraw(ticket)
     }
 
-    /// Asks to cut off the request of a ticket, which is under way.
-    ///
-    /// An ABORT waits then, unless one waits already; a message that is out comes before
-    /// it. The outcome follows in a later turn: that it was cancelled, with the good reply
-    /// to the ABORT; its answer, where that is whole before the ABORT is sent; or that it
-    /// was cut off for another cause. Takes no memory, and writes nothing into the journal.
-    ///
-    /// Refused, with nothing changed, by 25 where no such ticket is outstanding,
-    /// and by 36 where it waits, or has an outcome.
+    /// As [`PortCore::cancel`].
     pub fn cancel(&mut self, ticket: Ticket) -> Result<(), PortFault>
         ensures { Cancels (MakesCall W.facts self.old self.new) self.old.parts self.new.parts
             ticket result }
@@ -206,21 +182,14 @@ impl<W: Wire, A: Handle> Port<W, A> {
         self.core.cancel(ticket)
     }
 
-    /// Cuts off the request under way, if any, and leaves the link in down, without an image.
-    ///
-    /// What waits goes on waiting. The device may still carry the request that was cut off out,
-    /// once, until it is reset: by a wake that succeeds; at a port for any device, once it has left
-    /// its mode.
+    /// As [`PortCore::restart`]. Between two calls nothing is out.
     pub fn restart(&mut self)
         ensures { Restarts (MakesCall W.facts self.old self.new) self.old.parts self.new.parts }
     {
         self.core.restart();
     }
 
-    /// Wants this output of the device, from the next message made in OPERATE on.
-    ///
-    /// Refused, with nothing changed, by the first of 34 where no start-up has told the lengths
-    /// of the process data yet, and 29 where the image has not the length that was told last.
+    /// As [`PortCore::set_output`].
     pub fn set_output(&mut self, image: &Image) -> Result<(), PortFault>
         ensures { SetsOutput (MakesCall W.facts self.old self.new) self.old.parts self.new.parts
             image.now result }
@@ -228,19 +197,14 @@ impl<W: Wire, A: Handle> Port<W, A> {
         self.core.set_output(image)
     }
 
-    /// Wants no output of the device.
+    /// As [`PortCore::clear_output`].
     pub fn clear_output(&mut self)
         ensures { ClearsOutput (MakesCall W.facts self.old self.new) self.old.parts self.new.parts }
     {
         self.core.clear_output();
     }
 
-    /// Expects this device from the next page on that a start-up reads whole.
-    ///
-    /// Where that page is another device's, the link goes down in the very turn, with
-    /// `Why::WrongDevice` and the identity that was found, and nothing but DeviceStartup
-    /// was written to the device. Requests wait on. A page that was checked already is not checked
-    /// again.
+    /// As [`PortCore::expect`].
     pub fn expect(&mut self, identity: Identity) -> Counting
         ensures { Expects (MakesCall W.facts self.old self.new) self.old.parts self.new.parts
             (Some identity) result }
@@ -248,7 +212,7 @@ impl<W: Wire, A: Handle> Port<W, A> {
         self.core.expect(identity)
     }
 
-    /// Expects any device, as a port does that is new.
+    /// As [`PortCore::expect_any`].
     pub fn expect_any(&mut self) -> Counting
         ensures { Expects (MakesCall W.facts self.old self.new) self.old.parts self.new.parts
             None result }
@@ -256,8 +220,7 @@ impl<W: Wire, A: Handle> Port<W, A> {
         self.core.expect_any()
     }
 
-    /// Has start-ups write this cycle time to MasterCycleTime, where it is at least the device's
-    /// MinCycleTime; else, and with none, they write MinCycleTime as it stands in the page.
+    /// As [`PortCore::set_cycle`].
     pub fn set_cycle(&mut self, cycle: Option<CycleTime>) -> Counting
         ensures { SetsCycle (MakesCall W.facts self.old self.new) self.old.parts self.new.parts
             cycle result }
@@ -265,31 +228,28 @@ impl<W: Wire, A: Handle> Port<W, A> {
         self.core.set_cycle(cycle)
     }
 
-    /// The device's page, once the start-up of the present session has read it whole and checked
-    /// it; none before, and in down.
+    /// As [`PortCore::page`].
     pub fn page(&self) -> Option<Page>
         ensures { ShowsPage (PortOnlyLooks W.facts self.now) self.now.parts result }
     {
         self.core.page()
     }
 
-    /// What was counted since the opening.
+    /// As [`PortCore::counters`].
     pub fn counters(&self) -> &Counters
         ensures { ShowsCounters (PortOnlyLooks W.facts self.now) self.now.parts result.now }
     {
         self.core.counters()
     }
 
-    /// Why the last session ended, until OPERATE is reached; see
-    /// [`PortCore::last_loss`](crate::PortCore::last_loss).
+    /// As [`PortCore::last_loss`].
     pub fn last_loss(&self) -> Option<Why>
         ensures { ShowsLastLoss (PortOnlyLooks W.facts self.now) self.now.parts result }
     {
         self.core.last_loss()
     }
 
-    /// The device's input by the last good reply in OPERATE: one whole image, or
-    /// none where it was not valid. None in every other mode.
+    /// As [`PortCore::image`].
     pub fn image(&self) -> Option<&Image>
         ensures { ShowsImage (PortOnlyLooks W.facts self.now) self.now.parts
             (option_copied result) }
@@ -297,7 +257,7 @@ impl<W: Wire, A: Handle> Port<W, A> {
         self.core.image()
     }
 
-    /// Hands out the event that was kept longest. Refused by 30 where none is kept.
+    /// As [`PortCore::take_event`].
     pub fn take_event(&mut self) -> Result<Event, PortFault>
         ensures { TakesEvent (MakesCall W.facts self.old self.new) self.old.parts self.new.parts
             result }
@@ -305,19 +265,14 @@ impl<W: Wire, A: Handle> Port<W, A> {
         self.core.take_event()
     }
 
-    /// The mode of the link, and why it is down.
+    /// As [`PortCore::status`].
     pub fn status(&self) -> Status
         ensures { ShowsStatus (PortOnlyLooks W.facts self.now) self.now.parts result }
     {
         self.core.status()
     }
 
-    /// Hands the journal out and begins a new one, which is empty. Tickets go on.
-    ///
-    /// Refused, with nothing changed, by 28 where a ticket is outstanding, or where
-    /// a request was cut off by a lost link or a restart and the device wasn't reset
-    /// since, as it may still carry that request out. A wake that succeeds resets it; at
-    /// a port for any device it is reset once it has left its mode.
+    /// As [`PortCore::archive`].
     pub fn archive(&mut self) -> Result<Vec<Entry, A>, PortFault>
         ensures is { Archives (MakesCall W.facts self.old self.new) self.old.parts self.new.parts
             (λ entries. entries.items) result }
@@ -326,9 +281,7 @@ impl<W: Wire, A: Handle> Port<W, A> {
         self.core.archive()
     }
 
-    /// What the one call of the wire in the next turn will be.
-    ///
-    /// Each call but this and the others that only look may change it: ask right before the turn.
+    /// As [`PortCore::asks`].
     pub fn asks(&self) -> Asked
         ensures { result ≡ asks_of self.now.parts }
     {
@@ -337,10 +290,8 @@ impl<W: Wire, A: Handle> Port<W, A> {
 
     /// One turn: one wake-up request where the link is down, else one exchange with the device.
     ///
-    /// In OPERATE, where nothing else is to be sent, the next request is taken: the urgent one that
-    /// waits longest, or where none is urgent the other one that does. Its first segment goes out
-    /// in this turn; where the device has no ISDU it is denied, never taken, and IDLE 1 goes out.
-    /// At most 64 events are kept, and a list of events is read only where there is room for it.
+    /// It sends as [`PortCore::send`] does, and takes what came as [`PortCore::receive`] and
+    /// [`PortCore::receive_wake`] do.
     pub fn turn(&mut self)
         ensures { Turns W.facts self.old self.new }
     {

@@ -183,7 +183,7 @@ impl<A: Allocator + Copy> PortCore<A> {
         by_book(self.book.collect(ticket))
     }
 
-    /// Hands out the outcome of a ticket as [`collect`](Port::collect) does, into a place of the
+    /// Hands out the outcome of a ticket as [`collect`](PortCore::collect) does, into a place of the
     /// caller, which a refusal leaves as it was. Most asks come before the outcome, and cost
     /// little.
     pub fn collect_into(&mut self, ticket: Ticket, into: &mut Outcome) -> Result<(), PortFault>
