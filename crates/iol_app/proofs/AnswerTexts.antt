@@ -13,7 +13,7 @@ use Rattle.iol_isdu.specs.Laws.{OneAnswerInFront, OneAnswerText}
 use Rattle.iol_segment.specs.Cut.{segment}
 use Rattle.iol_segment.specs.TextLaws.{segments_up_to}
 use Rattle.iol_far.specs.Isdu.{is_kind, answer_text_to}
-use Rattle.iol_steps.specs.Exchange.{TextNamesAnswer}
+use Rattle.iol_app.specs.Exchange.{TextNamesAnswer}
 
 -- the first octets of a text that is filled up: a part of it, or all of it and more
 abbrev Filled : ℕ → List ℕ → List ℕ → Type 0

@@ -18,11 +18,11 @@ use Rattle.iol_far.specs.Level.{FarLink, IsIdle}
 use Rattle.iol_link.specs.Attempts.{Sending}
 use Rattle.iol_mode.specs.declared.states.Operate.{Operate}
 use Rattle.iol_mode.specs.Next.{message_out}
-use Rattle.iol_steps.specs.Session.{MaySession}
-use Rattle.iol_steps.specs.Step.{ImageOctets, Moment, Deny, repeats_at, doubts_at}
-use Rattle.iol_steps.specs.Bridge.{Hidden, IsOpen}
-use Rattle.iol_steps.specs.Station.{ReadingState, AnswerFits}
-use Rattle.iol_steps.specs.Exchange.{MayAbort}
+use Rattle.iol_app.specs.Abstract.Session.{MaySession}
+use Rattle.iol_app.specs.Abstract.Steps.{ImageOctets, Moment, Deny, repeats_at, doubts_at}
+use Rattle.iol_app.specs.Abstract.OfDevice.{Hidden, IsOpen}
+use Rattle.iol_app.specs.BothEnds.{ReadingState, AnswerFits}
+use Rattle.iol_app.specs.Exchange.{MayAbort}
 use Rattle.iol_app.specs.declared.event_work.ReadingProgress as app
 use Rattle.iol_app.specs.declared.request.Current.{Current}
 use Rattle.iol_app.specs.declared.session.Purpose.{Purpose}

@@ -4,18 +4,19 @@ use Rattle.std.proofs.Common.{arith, ◌≡◌, ℕ, Bool, List}
 use Rattle.std.specs.Prelude.{Option, None, IfSome}
 use Rattle.iol_event.specs.declared.event.Event.{Event}
 use Rattle.iol_image.specs.Image.{IsImage}
-use Rattle.iol_steps.specs.Step.{ImageOctets}
+use Rattle.iol_app.specs.Abstract.Steps.{ImageOctets}
 use Rattle.iol_far.specs.declared.carried.Carried.{Carried}
 use Rattle.iol_far.specs.Far.{Far}
 use Rattle.iol_mode.specs.declared.configuration.Configuration.{Configuration}
 use Rattle.iol_mode.specs.declared.configuration.Devices.{Devices}
 use Rattle.iol_mode.specs.declared.states.State.{State}
-use Rattle.iol_steps.specs.declared.mode.Mode.TheVariants.{Down as ModeDown}
-use Rattle.iol_steps.specs.Session.{session_through}
-use Rattle.iol_steps.specs.Bridge.{Hidden, IsOpen}
-use Rattle.iol_steps.specs.Kinds.{MasterFields, restart_steps}
-use Rattle.iol_steps.specs.Station.{session_of}
-use Rattle.iol_steps.specs.Exchange.{hidden_lost}
+use Rattle.iol_app.specs.declared.mode.Mode.TheVariants.{Down as ModeDown}
+use Rattle.iol_app.specs.Abstract.Session.{session_through}
+use Rattle.iol_app.specs.Abstract.OfDevice.{Hidden, IsOpen}
+use Rattle.iol_app.specs.Abstract.Shown.{MasterFields}
+use Rattle.iol_app.specs.Abstract.OfMaster.{restart_steps}
+use Rattle.iol_app.specs.Abstract.Shown.{session_of}
+use Rattle.iol_app.specs.Exchange.{hidden_lost}
 use Rattle.iol_app.proofs.OpenLevel.{lost_opens}
 use Rattle.iol_app.specs.Requests.{request_under_way}
 use Rattle.iol_app.specs.State.{SessionState, session_wanting}

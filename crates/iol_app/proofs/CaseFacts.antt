@@ -20,8 +20,8 @@ use Rattle.iol_far.specs.Level.{Clear, Had as IsHad, Unsure, Move, Leave, Other,
 use Rattle.iol_mode.specs.declared.configuration.Devices.{Devices}
 use Rattle.iol_mode.specs.declared.configuration.Devices.TheVariants.{Own, Any}
 use Rattle.iol_mode.specs.Kinds.{trusted_recalls}
-use Rattle.iol_steps.specs.Step.{repeats_at, misreads_at, doubts_at, Moment}
-use Rattle.iol_steps.specs.Exchange.{ReadsAnswer, MayAbort}
+use Rattle.iol_app.specs.Abstract.Steps.{repeats_at, misreads_at, doubts_at, Moment}
+use Rattle.iol_app.specs.Exchange.{ReadsAnswer, MayAbort}
 use Rattle.iol_app.specs.declared.request.Current.{Current}
 use Rattle.iol_app.specs.declared.request.RequestProgress.TheVariants.{Refused}
 use Rattle.iol_app.specs.declared.session.Purpose.{Purpose}
@@ -36,9 +36,10 @@ use Rattle.iol_isdu.specs.declared.fault.IsduFault.{IsduFault}
 use Rattle.iol_isdu.specs.declared.values.Answer.{Answer}
 use Rattle.iol_far.specs.declared.carried.Carried.{Carried}
 use Rattle.iol_far.specs.Isdu.{IsduState, fits, answer_text_to, isdu_data}
-use Rattle.iol_steps.specs.Bridge.{Hidden}
-use Rattle.iol_steps.specs.Kinds.{MasterFields, WasAborted, brought_steps}
-use Rattle.iol_steps.specs.Station.{AnswerFits}
+use Rattle.iol_app.specs.Abstract.OfDevice.{Hidden}
+use Rattle.iol_app.specs.Abstract.Shown.{MasterFields}
+use Rattle.iol_app.specs.Abstract.OfMaster.{WasAborted, brought_steps}
+use Rattle.iol_app.specs.BothEnds.{AnswerFits}
 use Rattle.iol_app.proofs.OwnSession.{SessionRuns}
 
 pub first_idle : (devices : Devices) (source : Request) (given : ℕ)

@@ -16,12 +16,12 @@ use Rattle.iol_far.specs.Level.{Progress, Busy as IsBusy, Had as IsHad, Unsure, 
 use Rattle.iol_mode.specs.declared.configuration.Devices.{Devices}
 use Rattle.iol_mode.specs.declared.configuration.Devices.TheVariants.{Any}
 use Rattle.iol_mode.specs.Kinds.{trusted_recalls}
-use Rattle.iol_steps.specs.declared.said.Said.TheVariants.{Busy as SaidBusy, Answered, Cut as SaidCut, Reported}
-use Rattle.iol_steps.specs.Step.{Busy, Done, Unknown, Report, ShowImage, misreads_at}
-use Rattle.iol_steps.specs.Kinds.{WasBusy, WasAnswered, WasAborted, WasReported, quiet_said}
-use Rattle.iol_steps.specs.Exchange.{ReadsAnswer, TextNamesAnswer}
+use Rattle.iol_app.specs.declared.said.Said.TheVariants.{Busy as SaidBusy, Answered, Cut as SaidCut, Reported}
+use Rattle.iol_app.specs.Abstract.Steps.{Busy, Done, Unknown, Report, ShowImage, misreads_at}
+use Rattle.iol_app.specs.Abstract.OfMaster.{WasBusy, WasAnswered, WasAborted, WasReported, quiet_said}
+use Rattle.iol_app.specs.Exchange.{ReadsAnswer, TextNamesAnswer}
 use Rattle.iol_app.proofs.EventReading.{undue}
-use Rattle.iol_steps.specs.Station.{frozen_of}
+use Rattle.iol_app.specs.Abstract.Shown.{frozen_of}
 use Rattle.iol_event.specs.declared.event.Event.{Event}
 use Rattle.iol_event.specs.Reading.{reader_step}
 use Rattle.iol_app.proofs.Moves.{had_text, answers_data, answers_base, asks_none}
@@ -39,8 +39,8 @@ use Rattle.iol_app.proofs.Stations.{resting_quiet}
 use Rattle.iol_app.specs.Core.{seen_in, core_out}
 use Rattle.iol_app.proofs.Had.{Good, Replied, its, Reads, Comes, m, Follows, LevelBy, before_brought, keeps, rests, took, goes_on, tied, before, settled, reached, follows, od_is, told_now}
 use Rattle.iol_app.proofs.ReadingOn.{Took}
-use Rattle.iol_steps.specs.Session.{MayTell}
-use Rattle.iol_steps.specs.Bridge.{Hidden}
+use Rattle.iol_app.specs.Abstract.Session.{MayTell}
+use Rattle.iol_app.specs.Abstract.OfDevice.{Hidden}
 use Rattle.iol_link.specs.Honest.{Clean}
 use Rattle.iol_app.proofs.Exchanging.{words}
 use Rattle.iol_app.proofs.Clash.{beside_again, calm_exchange}

@@ -11,8 +11,8 @@ use Rattle.iol_link.specs.Honest.{Passage, OutLost}
 use Rattle.iol_far.specs.Isdu.{IsduState}
 use Rattle.iol_far.specs.Far.{Far, accepted_message, far_after_message, output_of}
 use Rattle.iol_far.specs.Local.{LocalStep, local, locals}
-use Rattle.iol_steps.specs.Step.{PortStep, Carry, Again, LateCarry, Freeze, Confirm, OutputOn, OutputOff, Input, PowerLoss, Busy, ImageOctets, clash, is_clash_free, is_for_book, is_report, no_make}
-use Rattle.iol_steps.specs.Bridge.{Hidden, again_steps, own_step, own_steps, hidden_after, hidden_through, release_steps, event_steps, output_steps, confirms_by, heard_steps_as, passed_steps, exchange_steps, woken_steps, wake_steps}
+use Rattle.iol_app.specs.Abstract.Steps.{PortStep, Carry, Again, LateCarry, Freeze, Confirm, OutputOn, OutputOff, Input, PowerLoss, Busy, ImageOctets, clash, is_clash_free, is_for_book, is_report, no_make}
+use Rattle.iol_app.specs.Abstract.OfDevice.{Hidden, again_steps, own_step, own_steps, hidden_after, hidden_through, release_steps, event_steps, output_steps, confirms_by, heard_steps_as, passed_steps, exchange_steps, woken_steps, wake_steps}
 
 -- a step of the far end but the confirm
 abbrev pub is_own : PortStep → Bool

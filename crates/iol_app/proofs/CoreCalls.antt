@@ -10,9 +10,9 @@ use Rattle.iol_mode.specs.declared.configuration.Configuration.{Configuration}
 use Rattle.iol_mode.specs.declared.configuration.Devices.{Devices}
 use Rattle.iol_mode.specs.declared.states.State.{State}
 use Rattle.iol_mode.specs.declared.states.State.TheVariants.{Down as AtDown, Operate as AtOperate}
-use Rattle.iol_steps.specs.declared.mode.Mode.TheVariants.{Operate as ModeOperate}
-use Rattle.iol_steps.specs.Step.{ImageOctets, Deny, doubts_at}
-use Rattle.iol_steps.specs.Session.{MaySession, session_cancelling}
+use Rattle.iol_app.specs.declared.mode.Mode.TheVariants.{Operate as ModeOperate}
+use Rattle.iol_app.specs.Abstract.Steps.{ImageOctets, Deny, doubts_at}
+use Rattle.iol_app.specs.Abstract.Session.{MaySession, session_cancelling}
 use Rattle.iol_app.specs.declared.request.Current.{Current}
 use Rattle.iol_app.specs.Requests.{waiting_abort}
 use Rattle.iol_app.specs.Ends.{AbortAt}

@@ -2,7 +2,7 @@
 use Rattle.std.proofs.lemmas.Grind.{common_steps}
 use Rattle.std.proofs.Common.{arith, ◌≡◌, true, false}
 use Rattle.std.specs.Prelude.{◌⊎◌}
-use Rattle.iol_steps.specs.Exchange.{output_due}
+use Rattle.iol_app.specs.Exchange.{output_due}
 use Rattle.iol_app.specs.declared.event_work.EventRoom.{EventRoom}
 use Rattle.iol_app.specs.declared.event_work.EventRoom.TheVariants.{Left}
 use Rattle.iol_app.specs.declared.session.Purpose.{Purpose}

@@ -13,14 +13,15 @@ use Rattle.iol_mode.specs.declared.why.Why.{Why}
 use Rattle.iol_mode.specs.Kinds.{SeesPulses}
 use Rattle.iol_mode.specs.Stands.{StateStands}
 use Rattle.iol_mode.specs.States.{InDown, StateFits, is_reset}
-use Rattle.iol_steps.specs.declared.mode.Mode.TheVariants.{Down as ModeDown, Operate as ModeOperate}
-use Rattle.iol_steps.specs.declared.said.Said.TheVariants.{Idle}
-use Rattle.iol_steps.specs.Step.{PortStep, Move as MoveTo, WireCall, Moment, silence_by, CallFits, is_clash_free, is_for_book, is_report, resets}
-use Rattle.iol_steps.specs.Bridge.{Hidden, IsOpen, hidden_through, told_through, wake_steps, told_wake, exchange_steps, told_exchanged}
-use Rattle.iol_steps.specs.Session.{MayMove, MaySession, session_after}
-use Rattle.iol_steps.specs.FrozenEvents.{untold_events, MayFrozen, frozen_after}
-use Rattle.iol_steps.specs.Images.{MayImages, images_after}
-use Rattle.iol_steps.specs.Station.{Resting, frozen_of, images_of}
+use Rattle.iol_app.specs.declared.mode.Mode.TheVariants.{Down as ModeDown, Operate as ModeOperate}
+use Rattle.iol_app.specs.declared.said.Said.TheVariants.{Idle}
+use Rattle.iol_app.specs.Abstract.Steps.{PortStep, Move as MoveTo, WireCall, Moment, silence_by, CallFits, is_clash_free, is_for_book, is_report, resets}
+use Rattle.iol_app.specs.Abstract.OfDevice.{Hidden, IsOpen, hidden_through, told_through, wake_steps, told_wake, exchange_steps, told_exchanged}
+use Rattle.iol_app.specs.Abstract.Session.{MayMove, MaySession, session_after}
+use Rattle.iol_app.specs.Abstract.Events.{untold_events, MayFrozen, frozen_after}
+use Rattle.iol_app.specs.Abstract.Images.{MayImages, images_after}
+use Rattle.iol_app.specs.Abstract.Shown.{frozen_of, images_of}
+use Rattle.iol_app.specs.BothEnds.{Resting}
 use Rattle.iol_app.proofs.Given.{Laws, page_locals, page_after, kind_after, sees_kept, misses_passed}
 use Rattle.iol_app.proofs.Parts.{runs-append}
 use Rattle.iol_app.proofs.OwnSession.{SessionRuns, wake_session, exchange_session, own_open, woken_if, woken_as}

@@ -7,9 +7,9 @@ use Rattle.iol_far.specs.Codec.{layout_in}
 use Rattle.iol_far.specs.Far.{Far, hear, heard_as, events_after}
 use Rattle.iol_far.specs.Local.{LocalStep, locals}
 use Rattle.iol_far.specs.Laws.{confirms as octets_confirm}
-use Rattle.iol_steps.specs.Bridge.{confirms_by}
-use Rattle.iol_steps.specs.Station.{ReadingState, wants_confirm, wants_octet, EventsFit}
-use Rattle.iol_steps.specs.Exchange.{reading_kept}
+use Rattle.iol_app.specs.Abstract.OfDevice.{confirms_by}
+use Rattle.iol_app.specs.BothEnds.{ReadingState, wants_confirm, wants_octet, EventsFit}
+use Rattle.iol_app.specs.Exchange.{reading_kept}
 use Rattle.iol_app.proofs.Given.{by_locals}
 use Rattle.iol_app.proofs.Accepted.{by_accepted}
 use Rattle.iol_app.proofs.FirstOctet.{confirms_of}

@@ -23,19 +23,21 @@ use Rattle.iol_link.specs.Honest.{Passage, far_after}
 use Rattle.iol_mode.specs.Stands.{StateStands}
 use Rattle.iol_mode.specs.States.{InDown, StateFits}
 use Rattle.iol_mode.specs.declared.why.Why.TheVariants.{Lost}
-use Rattle.iol_steps.specs.declared.mode.Mode.TheVariants.{Down as ModeDown, Operate as ModeOperate}
-use Rattle.iol_steps.specs.declared.said.Said.{Said}
-use Rattle.iol_steps.specs.declared.said.Said.TheVariants.{Busy as SaidBusy, Answered, Cut as SaidCut, Reported}
-use Rattle.iol_steps.specs.Step.{PortStep, Moment, silence_left, repeats_at, doubts_at, is_clash_free, WireCall, Exchanged, silence_by, CallFits, is_for_book, is_report, book_said, reports_said, no_make}
-use Rattle.iol_steps.specs.Bridge.{Hidden, IsOpen, hidden_through, hidden_again, again_steps, told_through, exchange_steps, told_exchanged}
-use Rattle.iol_steps.specs.Kinds.{ExchangeResult, Missed, Gone, WasBusy, WasAnswered, WasAborted, WasReported, Had, lost_steps, MasterFields, brought_steps, quiet_said, lost_said}
-use Rattle.iol_steps.specs.Station.{ReadingState, AnswerFits, wants_confirm, images_of}
-use Rattle.iol_steps.specs.Exchange.{hidden_lost, is_output_told}
-use Rattle.iol_steps.specs.Turn.{ImageIsLast}
+use Rattle.iol_app.specs.declared.mode.Mode.TheVariants.{Down as ModeDown, Operate as ModeOperate}
+use Rattle.iol_app.specs.declared.said.Said.{Said}
+use Rattle.iol_app.specs.declared.said.Said.TheVariants.{Busy as SaidBusy, Answered, Cut as SaidCut, Reported}
+use Rattle.iol_app.specs.Abstract.Steps.{PortStep, Moment, silence_left, repeats_at, doubts_at, is_clash_free, WireCall, Exchanged, silence_by, CallFits, is_for_book, is_report, book_said, reports_said, no_make}
+use Rattle.iol_app.specs.Abstract.OfDevice.{Hidden, IsOpen, hidden_through, hidden_again, again_steps, told_through, exchange_steps, told_exchanged}
+use Rattle.iol_app.specs.Abstract.Shown.{MasterFields}
+use Rattle.iol_app.specs.Abstract.OfMaster.{ExchangeResult, Missed, Gone, WasBusy, WasAnswered, WasAborted, WasReported, Had, lost_steps, brought_steps, quiet_said, lost_said}
+use Rattle.iol_app.specs.Abstract.Shown.{images_of}
+use Rattle.iol_app.specs.BothEnds.{ReadingState, AnswerFits, wants_confirm}
+use Rattle.iol_app.specs.Exchange.{hidden_lost, is_output_told}
+use Rattle.iol_app.specs.Abstract.Turn.{ImageIsLast}
 use Rattle.iol_app.proofs.Given.{Laws, page_locals, page_after, kind_after, level_locals, level_after, sees_kept, misses_passed}
-use Rattle.iol_steps.specs.Session.{MaySession, session_after}
-use Rattle.iol_steps.specs.FrozenEvents.{MayFrozen, frozen_after}
-use Rattle.iol_steps.specs.Images.{Images, MayImages, images_after}
+use Rattle.iol_app.specs.Abstract.Session.{MaySession, session_after}
+use Rattle.iol_app.specs.Abstract.Events.{MayFrozen, frozen_after}
+use Rattle.iol_app.specs.Abstract.Images.{Images, MayImages, images_after}
 use Rattle.iol_app.proofs.Parts.{runs-append}
 use Rattle.iol_app.proofs.OwnSession.{SessionRuns, MayAgain, exchange_session, again_session}
 use Rattle.iol_app.proofs.FrozenPart.{FrozenRuns, exchange_frozen, again_frozen}

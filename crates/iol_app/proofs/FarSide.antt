@@ -21,13 +21,13 @@ use Rattle.iol_far.specs.declared.kind.Kind.{Kind}
 use Rattle.iol_far.specs.declared.kind.Recalls.{Recalls}
 use Rattle.iol_far.specs.Level.{FarLink, Progress, Move, Begin, accepting_link, IsOutOnce, IsIdle, RecallsAtLeast, IsSent, IsLevel}
 use Rattle.iol_far.specs.Laws.{IsSized, ReplySays}
-use Rattle.iol_steps.specs.declared.mode.Mode.{Mode}
-use Rattle.iol_steps.specs.declared.mode.Mode.TheVariants.{Operate}
-use Rattle.iol_steps.specs.Step.{ImageOctets}
-use Rattle.iol_steps.specs.Station.{far_mode, output_by, AnswerFits, ProgressFits}
-use Rattle.iol_steps.specs.Exchange.{is_output_told}
+use Rattle.iol_app.specs.declared.mode.Mode.{Mode}
+use Rattle.iol_app.specs.declared.mode.Mode.TheVariants.{Operate}
+use Rattle.iol_app.specs.Abstract.Steps.{ImageOctets}
+use Rattle.iol_app.specs.BothEnds.{far_mode, output_by, AnswerFits, ProgressFits}
+use Rattle.iol_app.specs.Exchange.{is_output_told}
 use Rattle.iol_isdu.specs.declared.values.Request.{Request}
-use Rattle.iol_steps.specs.Bridge.{Hidden, IsOpen, hidden_again}
+use Rattle.iol_app.specs.Abstract.OfDevice.{Hidden, IsOpen, hidden_again}
 use Rattle.iol_app.proofs.OpenLevel.{replied_opens, open_again}
 use Rattle.iol_app.proofs.Moves.{begins_idle}
 use Rattle.iol_app.proofs.Given.{Laws, level_locals, sized_locals}

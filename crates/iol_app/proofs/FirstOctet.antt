@@ -7,7 +7,7 @@ use Rattle.iol_mseq.specs.Shape.{Shape}
 use Rattle.iol_mseq.specs.declared.master.MasterMsg.{MasterMsg}
 use Rattle.iol_far.specs.Codec.{message_in}
 use Rattle.iol_far.specs.Laws.{confirms as octets_confirm}
-use Rattle.iol_steps.specs.Bridge.{confirms_by}
+use Rattle.iol_app.specs.Abstract.OfDevice.{confirms_by}
 
 pub mc_of : (layout : Shape) (o : List ℕ) (m : MasterMsg) → message_in layout o ≡ Some m
     → m.mc ≡ control_of (slice_index o 0)

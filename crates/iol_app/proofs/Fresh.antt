@@ -9,9 +9,9 @@ use Rattle.iol_link.specs.Honest.{Passage}
 use Rattle.iol_far.specs.Isdu.{handed_request}
 use Rattle.iol_far.specs.Far.{Far}
 use Rattle.iol_far.specs.Local.{LocalStep, local, locals}
-use Rattle.iol_steps.specs.Step.{PortStep}
-use Rattle.iol_steps.specs.Bridge.{own_step, own_steps, exchange_steps}
-use Rattle.iol_steps.specs.Turn.{is_calm}
+use Rattle.iol_app.specs.Abstract.Steps.{PortStep}
+use Rattle.iol_app.specs.Abstract.OfDevice.{own_step, own_steps, exchange_steps}
+use Rattle.iol_app.specs.Abstract.Turn.{is_calm}
 use Rattle.iol_app.proofs.Clash.{IsCalm, Each, each-append, no_clash, no_clash-append, calm_passed}
 
 step_unhanded : (far : Far) (step : LocalStep) → handed_request far.isdu ≡ None

@@ -13,11 +13,11 @@ use Rattle.iol_far.specs.Isdu.{IsduState}
 use Rattle.iol_far.specs.Far.{Far, far_in_mode, hear, heard_as, far_after_message, events_after}
 use Rattle.iol_far.specs.Local.{LocalStep, locals}
 use Rattle.iol_far.specs.Laws.{confirms as octets_confirm}
-use Rattle.iol_steps.specs.Step.{PortStep, ImageOctets}
-use Rattle.iol_steps.specs.FrozenEvents.{frozen_through, frozen_after, MayFrozen, MayFrozenAll}
+use Rattle.iol_app.specs.Abstract.Steps.{PortStep, ImageOctets}
+use Rattle.iol_app.specs.Abstract.Events.{frozen_through, frozen_after, MayFrozen, MayFrozenAll}
 use Rattle.iol_app.proofs.Parts.{runs-append, own_runs}
-use Rattle.iol_steps.specs.Bridge.{Hidden, again_steps, own_steps, told_after, told_through, event_steps, output_steps, confirms_by, worked_steps, heard_steps_as, heard_steps, told_worked, told_heard_as, told_heard, passed_steps, told_passed, exchange_steps, told_exchanged, wake_steps, told_wake}
-use Rattle.iol_steps.specs.Station.{frozen_of}
+use Rattle.iol_app.specs.Abstract.OfDevice.{Hidden, again_steps, own_steps, told_after, told_through, event_steps, output_steps, confirms_by, worked_steps, heard_steps_as, heard_steps, told_worked, told_heard_as, told_heard, passed_steps, told_passed, exchange_steps, told_exchanged, wake_steps, told_wake}
+use Rattle.iol_app.specs.Abstract.Shown.{frozen_of}
 use Rattle.iol_app.proofs.Accepted.{by_accepted}
 use Rattle.iol_app.proofs.FirstOctet.{confirms_of}
 use Rattle.iol_app.proofs.OwnSession.{woken_if}

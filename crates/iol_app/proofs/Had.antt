@@ -23,11 +23,12 @@ use Rattle.iol_far.specs.Laws.{IsRegular, ReplySays, confirms as octets_confirm}
 use Rattle.iol_link.specs.Honest.{Clean}
 use Rattle.iol_mode.specs.Stands.{StateStands, operate_link, IsAccepted}
 use Rattle.iol_mode.specs.States.{NextMode, InOperate, StateFits, next_state}
-use Rattle.iol_steps.specs.declared.said.Said.{Said}
-use Rattle.iol_steps.specs.Step.{PortStep, repeats_at, is_clash_free, ShowImage, Exchanged, Moment}
-use Rattle.iol_steps.specs.Kinds.{ExchangeResult, Had, brought_steps, quiet_said}
-use Rattle.iol_steps.specs.Station.{ReadingState, Due, wants_confirm, wants_octet, images_of, frozen_of, AnswerFits, ProgressFits, EventsFit}
-use Rattle.iol_steps.specs.Exchange.{reading_kept, is_output_told}
+use Rattle.iol_app.specs.declared.said.Said.{Said}
+use Rattle.iol_app.specs.Abstract.Steps.{PortStep, repeats_at, is_clash_free, ShowImage, Exchanged, Moment}
+use Rattle.iol_app.specs.Abstract.OfMaster.{ExchangeResult, Had, brought_steps, quiet_said}
+use Rattle.iol_app.specs.Abstract.Shown.{images_of, frozen_of}
+use Rattle.iol_app.specs.BothEnds.{ReadingState, Due, wants_confirm, wants_octet, AnswerFits, ProgressFits, EventsFit}
+use Rattle.iol_app.specs.Exchange.{reading_kept, is_output_told}
 use Rattle.iol_app.proofs.Given.{sized_locals}
 use Rattle.iol_app.proofs.EventReading.{ReaderLaws, memory_locals, memory_hear, kept_fits, kept_due, ends_hold}
 use Rattle.iol_app.specs.Ends.{BusySeen, output_for}

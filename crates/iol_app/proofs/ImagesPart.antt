@@ -10,11 +10,11 @@ use Rattle.iol_link.specs.Honest.{Passage, OutLost, far_after}
 use Rattle.iol_far.specs.Isdu.{IsduState, fits}
 use Rattle.iol_far.specs.Far.{Far, accepted_message, far_in_mode, hear, heard_as, far_after_message, output_of}
 use Rattle.iol_far.specs.Local.{LocalStep, local, locals, carried_by}
-use Rattle.iol_steps.specs.Step.{PortStep, ImageOctets, Moment}
-use Rattle.iol_steps.specs.Images.{Images, images_through, images_after, MayImages, MayImagesAll}
+use Rattle.iol_app.specs.Abstract.Steps.{PortStep, ImageOctets, Moment}
+use Rattle.iol_app.specs.Abstract.Images.{Images, images_through, images_after, MayImages, MayImagesAll}
 use Rattle.iol_app.proofs.Parts.{runs-append, own_runs}
-use Rattle.iol_steps.specs.Bridge.{Hidden, again_steps, carry_steps, own_step, own_steps, worked_steps, heard_steps_as, heard_steps, passed_steps, exchange_steps, wake_steps}
-use Rattle.iol_steps.specs.Station.{ShownProcessData, images_of}
+use Rattle.iol_app.specs.Abstract.OfDevice.{Hidden, again_steps, carry_steps, own_step, own_steps, worked_steps, heard_steps_as, heard_steps, passed_steps, exchange_steps, wake_steps}
+use Rattle.iol_app.specs.Abstract.Shown.{ShownProcessData, images_of}
 use Rattle.iol_app.proofs.Accepted.{by_accepted}
 use Rattle.iol_app.proofs.OwnSession.{woken_if}
 

@@ -32,11 +32,11 @@ use Rattle.iol_mode.specs.Stands.{startup_link, StartupStands, StateStands}
 use Rattle.iol_mode.specs.States.{NextMode, InStartup, NextModeFits, StartupFits, StateFits, next_state, is_behind, startup_at, step_after, startup_by, startup_turned}
 use Rattle.iol_mode.specs.Turns.{IsRisen}
 use Rattle.iol_mode.specs.Exchanges.{text_out, mode_after_reply}
-use Rattle.iol_steps.specs.declared.mode.Mode.TheVariants.{Startup as ModeStartup, Operate as ModeOperate}
-use Rattle.iol_steps.specs.declared.said.Said.TheVariants.{Idle}
-use Rattle.iol_steps.specs.Step.{PortStep, Reset, Exchanged, silence_by}
-use Rattle.iol_steps.specs.Session.{MayReset}
-use Rattle.iol_steps.specs.Bridge.{Hidden}
+use Rattle.iol_app.specs.declared.mode.Mode.TheVariants.{Startup as ModeStartup, Operate as ModeOperate}
+use Rattle.iol_app.specs.declared.said.Said.TheVariants.{Idle}
+use Rattle.iol_app.specs.Abstract.Steps.{PortStep, Reset, Exchanged, silence_by}
+use Rattle.iol_app.specs.Abstract.Session.{MayReset}
+use Rattle.iol_app.specs.Abstract.OfDevice.{Hidden}
 use Rattle.iol_app.proofs.Given.{Laws, sized_locals}
 use Rattle.iol_app.proofs.Orderly.{orderly_locals, alike_sent}
 use Rattle.iol_app.proofs.Effects.{Effect, Ends, untold_effect, opens_passed, untold_of, gives, loses}

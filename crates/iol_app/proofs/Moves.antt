@@ -13,10 +13,10 @@ use Rattle.iol_far.specs.Far.{Far, data_of}
 use Rattle.iol_far.specs.Level.{Progress, Had as IsHad, Move, Begin, Ask, Next, Leave, FarLink, after, IsSent, base_after, IsIdle, IsGrown, Perhaps, Written, Busy as IsBusy, Unsure, Stands as FarStands, progress_after_ask, progress_after_doubt, may_be_none}
 use Rattle.iol_far.specs.declared.kind.HandsOver.{HandsOver}
 use Rattle.iol_mode.specs.declared.configuration.Devices.{Devices}
-use Rattle.iol_steps.specs.Step.{repeats_at}
-use Rattle.iol_steps.specs.Bridge.{Hidden}
-use Rattle.iol_steps.specs.Station.{AnswerFits}
-use Rattle.iol_steps.specs.Exchange.{ReadsAnswer}
+use Rattle.iol_app.specs.Abstract.Steps.{repeats_at}
+use Rattle.iol_app.specs.Abstract.OfDevice.{Hidden}
+use Rattle.iol_app.specs.BothEnds.{AnswerFits}
+use Rattle.iol_app.specs.Exchange.{ReadsAnswer}
 use Rattle.std.proofs.lemmas.List.{append_cancel_right}
 use Rattle.iol_segment.specs.Cut.{segment}
 

@@ -14,12 +14,12 @@ use Rattle.iol_far.specs.declared.kind.HandsOver.{HandsOver}
 use Rattle.iol_far.specs.declared.kind.Recalls.{Recalls}
 use Rattle.iol_far.specs.Level.{Progress, IsWritten, Stands as FarStands, Move, Begin, Leave, after, base_after, FarLink, IsIdle, IsGrown, IsOutOnce}
 use Rattle.iol_far.specs.Laws.{ReplySays}
-use Rattle.iol_steps.specs.Bridge.{Hidden, open_request, IsOpen, hidden_after, hidden_through, hidden_again, again_steps}
-use Rattle.iol_steps.specs.Station.{AnswerFits, ProgressFits}
+use Rattle.iol_app.specs.Abstract.OfDevice.{Hidden, open_request, IsOpen, hidden_after, hidden_through, hidden_again, again_steps}
+use Rattle.iol_app.specs.BothEnds.{AnswerFits, ProgressFits}
 use Rattle.iol_app.proofs.Accepted.{by_accepted}
 use Rattle.iol_app.proofs.Moves.{idle_base}
 use Rattle.iol_app.proofs.OwnSession.{own_open_step}
-use Rattle.iol_steps.specs.Exchange.{hidden_lost}
+use Rattle.iol_app.specs.Exchange.{hidden_lost}
 
 pub handed_opens : (base : List Carried) (request : Option Request) (h : Hidden)
     (carried : List Carried) (q : Request)

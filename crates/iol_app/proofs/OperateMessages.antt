@@ -17,8 +17,8 @@ use Rattle.iol_page.specs.Commands.{command_octet}
 use Rattle.iol_page.specs.declared.master_command.MasterCommand.TheVariants.{ProcessDataOutputOperate, DeviceOperate}
 use Rattle.iol_mseq.specs.Parts.{first_of_zeros}
 use Rattle.iol_mode.specs.Messages.{command_message}
-use Rattle.iol_steps.specs.declared.mode.Mode.TheVariants.{Operate}
-use Rattle.iol_steps.specs.Station.{is_confirm_message, output_by}
+use Rattle.iol_app.specs.declared.mode.Mode.TheVariants.{Operate}
+use Rattle.iol_app.specs.BothEnds.{is_confirm_message, output_by}
 use Rattle.iol_app.specs.Ends.{output_for}
 
 -- a confirm, a read of events

@@ -5,7 +5,7 @@ use Rattle.std.proofs.Common.{arith, Bool, List}
 use Rattle.std.specs.Prelude.{Option}
 use Rattle.iol_far.specs.Far.{Far}
 use Rattle.iol_far.specs.Local.{LocalStep, locals}
-use Rattle.iol_steps.specs.Step.{ImageOctets}
+use Rattle.iol_app.specs.Abstract.Steps.{ImageOctets}
 use Rattle.iol_app.proofs.Given.{by_locals}
 use Rattle.iol_app.specs.Ends.{OutputTold}
 

@@ -10,12 +10,12 @@ use Rattle.iol_far.specs.declared.carried.Carried.{Carried}
 use Rattle.iol_far.specs.Isdu.{IsduState, Handed}
 use Rattle.iol_far.specs.Far.{Far, far_in_mode, hear, heard_as}
 use Rattle.iol_far.specs.Local.{LocalStep, local, locals, far_after_wake}
-use Rattle.iol_steps.specs.Step.{PortStep, Moment, may_repeat}
-use Rattle.iol_steps.specs.Session.{session_through, session_after, MaySession, MaySessionAll}
+use Rattle.iol_app.specs.Abstract.Steps.{PortStep, Moment, may_repeat}
+use Rattle.iol_app.specs.Abstract.Session.{session_through, session_after, MaySession, MaySessionAll}
 use Rattle.iol_app.proofs.Parts.{runs-append, own_runs}
-use Rattle.iol_steps.specs.Bridge.{Hidden, IsOpen, again_steps, hidden_again, own_steps, hidden_after, hidden_through, worked_steps, heard_steps_as, heard_steps, passed_steps, exchange_steps, wake_steps}
-use Rattle.iol_steps.specs.Kinds.{MasterFields}
-use Rattle.iol_steps.specs.Station.{session_of}
+use Rattle.iol_app.specs.Abstract.OfDevice.{Hidden, IsOpen, again_steps, hidden_again, own_steps, hidden_after, hidden_through, worked_steps, heard_steps_as, heard_steps, passed_steps, exchange_steps, wake_steps}
+use Rattle.iol_app.specs.Abstract.Shown.{MasterFields}
+use Rattle.iol_app.specs.Abstract.Shown.{session_of}
 use Rattle.iol_app.proofs.Accepted.{by_accepted}
 
 -- these steps are allowed in the session's part, and leave these choices and this record

@@ -4,8 +4,8 @@ use Rattle.std.specs.Prelude.{Option, ⊤}
 use Rattle.iol_isdu.specs.declared.values.Request.{Request}
 use Rattle.iol_far.specs.Far.{Far}
 use Rattle.iol_far.specs.Local.{LocalStep, local, locals}
-use Rattle.iol_steps.specs.Step.{PortStep}
-use Rattle.iol_steps.specs.Bridge.{own_step, own_steps}
+use Rattle.iol_app.specs.Abstract.Steps.{PortStep}
+use Rattle.iol_app.specs.Abstract.OfDevice.{own_step, own_steps}
 
 module _ {S : Type 0} (May : PortStep → S → Type 0) (after : PortStep → S → S) where
   abbrev pub through : List PortStep → S → S

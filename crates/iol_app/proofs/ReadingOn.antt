@@ -8,7 +8,7 @@ use Rattle.iol_event.specs.Memory.{Events, IsEventMemory, event_octet}
 use Rattle.iol_event.specs.Reading.{ReaderStep, reader_step, next_address, reading, IsEventList}
 use Rattle.iol_event.specs.Laws.{taken_from}
 use Rattle.iol_far.specs.Laws.{IsFrozen}
-use Rattle.iol_steps.specs.Station.{wants_confirm, wants_octet, EventsFit}
+use Rattle.iol_app.specs.BothEnds.{wants_confirm, wants_octet, EventsFit}
 use Rattle.iol_app.proofs.EventReading.{ReaderLaws}
 use Rattle.iol_app.specs.declared.event_work.ReadingProgress.{ReadingProgress}
 use Rattle.iol_app.specs.declared.event_work.ReadingProgress.TheVariants.{Resting, UnderWay}

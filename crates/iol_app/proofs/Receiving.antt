@@ -28,12 +28,12 @@ use Rattle.iol_link.specs.declared.handler.Attempt.TheVariants.{Again, Lost as W
 use Rattle.iol_mode.specs.Stands.{IsOperating, IsAccepted}
 use Rattle.iol_mode.specs.States.{NextMode, StateFits, next_state, operate_by, sending_after_try}
 use Rattle.iol_mode.specs.Turns.{IsMet}
-use Rattle.iol_steps.specs.declared.mode.Mode.TheVariants.{Operate as ModeOperate}
-use Rattle.iol_steps.specs.declared.said.Said.{Said}
-use Rattle.iol_steps.specs.Step.{repeats_at}
-use Rattle.iol_steps.specs.Bridge.{Hidden, IsOpen}
-use Rattle.iol_steps.specs.Station.{AnswerFits, output_by}
-use Rattle.iol_steps.specs.Exchange.{TextNamesAnswer}
+use Rattle.iol_app.specs.declared.mode.Mode.TheVariants.{Operate as ModeOperate}
+use Rattle.iol_app.specs.declared.said.Said.{Said}
+use Rattle.iol_app.specs.Abstract.Steps.{repeats_at}
+use Rattle.iol_app.specs.Abstract.OfDevice.{Hidden, IsOpen}
+use Rattle.iol_app.specs.BothEnds.{AnswerFits, output_by}
+use Rattle.iol_app.specs.Exchange.{TextNamesAnswer}
 use Rattle.iol_app.proofs.Given.{Laws, all_laws, page_locals}
 use Rattle.iol_app.proofs.EventReading.{ReaderLaws}
 use Rattle.iol_app.proofs.OwnSession.{MayAgain, own_open}

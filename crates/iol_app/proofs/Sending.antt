@@ -22,12 +22,12 @@ use Rattle.iol_mode.specs.declared.configuration.Devices.{Devices}
 use Rattle.iol_mode.specs.Messages.{command_message, new_sending}
 use Rattle.iol_mode.specs.Stands.{entering_layout, entering_link, operate_link, StateStands, IsOperating, IsAccepted}
 use Rattle.iol_mode.specs.States.{StateFits}
-use Rattle.iol_steps.specs.declared.mode.Mode.TheVariants.{Operate as ModeOperate}
-use Rattle.iol_steps.specs.Step.{ImageOctets}
+use Rattle.iol_app.specs.declared.mode.Mode.TheVariants.{Operate as ModeOperate}
+use Rattle.iol_app.specs.Abstract.Steps.{ImageOctets}
 use Rattle.iol_app.specs.StationState.{mode_in}
-use Rattle.iol_steps.specs.Images.{image_or}
-use Rattle.iol_steps.specs.Station.{wants_confirm, wants_octet}
-use Rattle.iol_steps.specs.Exchange.{output_due, is_output_told}
+use Rattle.iol_app.specs.Abstract.Images.{image_or}
+use Rattle.iol_app.specs.BothEnds.{wants_confirm, wants_octet}
+use Rattle.iol_app.specs.Exchange.{output_due, is_output_told}
 use Rattle.iol_app.specs.declared.event_work.EventRoom.{EventRoom}
 use Rattle.iol_app.specs.declared.event_work.EventRoom.TheVariants.{Left}
 use Rattle.iol_app.specs.declared.event_work.ReadingProgress as app

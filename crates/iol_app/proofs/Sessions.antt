@@ -29,7 +29,7 @@ use Rattle.iol_app.specs.declared.request.RequestProgress.{RequestProgress}
 use Rattle.iol_app.specs.declared.request.RequestProgress.TheVariants.{Sending, Doubting, Asking, Receiving, Refused}
 use Rattle.iol_app.specs.declared.session.Purpose.{Purpose}
 use Rattle.iol_app.specs.declared.session.Purpose.TheVariants.{Abort, Request as NextMessage}
-use Rattle.iol_steps.specs.declared.said.Said.{Said}
+use Rattle.iol_app.specs.declared.said.Said.{Said}
 use Rattle.iol_app.specs.Outputs.{output_to_carry, IsOutput}
 use Rattle.iol_app.specs.Requests.{text_of, ReplyEffect, GoesOn, effect_of_start_read, effect_of_question, sent_anew, effect_of_text, effect_of_segment, forgotten_by, current_after_refusal, segment_progress, is_doubting, replied_at, effect_of_reply, current_of_effect, current_after, request_under_way, request_after, IsEffectSaid, IsSaid, Suits, CutAndJoinFit, IsAllGiven, IsCurrent, IsSure}
 use Rattle.iol_app.specs.State.{SessionState, IsSession, od_size, told_output_length, session_after_exchange}

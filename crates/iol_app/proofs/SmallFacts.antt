@@ -13,11 +13,11 @@ use Rattle.iol_page.specs.declared.page.Layouts.{Layouts}
 use Rattle.iol_far.specs.Far.{Far, hear, heard_as}
 use Rattle.iol_far.specs.Local.{LocalStep, locals}
 use Rattle.iol_mode.specs.Stands.{entering_mode, IsOperating}
-use Rattle.iol_steps.specs.Step.{ImageOctets}
-use Rattle.iol_steps.specs.Images.{image_or}
-use Rattle.iol_steps.specs.Exchange.{image_had, is_output_told, output_due}
+use Rattle.iol_app.specs.Abstract.Steps.{ImageOctets}
+use Rattle.iol_app.specs.Abstract.Images.{image_or}
+use Rattle.iol_app.specs.Exchange.{image_had, is_output_told, output_due}
 use Rattle.iol_event.specs.Memory.{Events}
-use Rattle.iol_steps.specs.Station.{ReadingState, wants_confirm, EventsFit}
+use Rattle.iol_app.specs.BothEnds.{ReadingState, wants_confirm, EventsFit}
 use Rattle.iol_app.proofs.Accepted.{by_accepted}
 use Rattle.iol_app.proofs.Given.{by_locals}
 use Rattle.iol_app.specs.declared.output.OutputState.{OutputState}

@@ -34,16 +34,17 @@ use Rattle.iol_mode.specs.declared.states.StartupStep.{StartupStep}
 use Rattle.iol_mode.specs.Stands.{startup_link, preoperate_link, entering_link, StepLevel, StateStands, StepStands}
 use Rattle.iol_mode.specs.States.{NextMode, InDown, NextModeFits, StateFits, next_state, is_behind, is_reset, StepFits, is_starting, startup_at, step_behind, step_after, told_of, is_left_out, layouts_taken, page_taken, taken_where, mode_after_check, startup_by, startup_turned, preoperate_by, preoperate_after, preoperate_turned}
 use Rattle.iol_mode.specs.Turns.{IsRisen}
-use Rattle.iol_steps.specs.declared.mode.Mode.{Mode}
-use Rattle.iol_steps.specs.declared.mode.Mode.TheVariants.{Down as ModeDown, Startup as ModeStartup, Operate as ModeOperate}
-use Rattle.iol_steps.specs.declared.said.Said.TheVariants.{Idle}
-use Rattle.iol_steps.specs.Step.{PortStep, resets, TellLength, Move as MoveTo, Exchanged, silence_by, output_length, page_refusal, fault_in}
-use Rattle.iol_steps.specs.Bridge.{Hidden, IsOpen, hidden_through}
-use Rattle.iol_steps.specs.Kinds.{MasterFields}
-use Rattle.iol_steps.specs.Session.{MayMove, HoldsNothing}
-use Rattle.iol_steps.specs.Images.{Images}
-use Rattle.iol_steps.specs.Station.{ShownProcessData, far_mode, output_by, images_of, session_of, wants_confirm}
-use Rattle.iol_steps.specs.Exchange.{reading_flagged}
+use Rattle.iol_app.specs.declared.mode.Mode.{Mode}
+use Rattle.iol_app.specs.declared.mode.Mode.TheVariants.{Down as ModeDown, Startup as ModeStartup, Operate as ModeOperate}
+use Rattle.iol_app.specs.declared.said.Said.TheVariants.{Idle}
+use Rattle.iol_app.specs.Abstract.Steps.{PortStep, resets, TellLength, Move as MoveTo, Exchanged, silence_by, output_length, page_refusal, fault_in}
+use Rattle.iol_app.specs.Abstract.OfDevice.{Hidden, IsOpen, hidden_through}
+use Rattle.iol_app.specs.Abstract.Shown.{MasterFields}
+use Rattle.iol_app.specs.Abstract.Session.{MayMove, HoldsNothing}
+use Rattle.iol_app.specs.Abstract.Images.{Images}
+use Rattle.iol_app.specs.Abstract.Shown.{ShownProcessData, images_of, session_of}
+use Rattle.iol_app.specs.BothEnds.{far_mode, output_by, wants_confirm}
+use Rattle.iol_app.specs.Exchange.{reading_flagged}
 use Rattle.iol_app.proofs.Given.{Laws, page_locals, page_after as page_passed, kind_after, level_locals, all_laws}
 use Rattle.iol_app.proofs.OwnSession.{own_open}
 use Rattle.iol_app.specs.Ends.{OutputTold, ShownSeen}
@@ -77,7 +78,7 @@ use Rattle.iol_mode.specs.Exchanges.{text_out, mode_after_reply}
 use Rattle.iol_app.proofs.SmallFacts.{third_time}
 use Rattle.iol_app.proofs.Stations.{resting_quiet}
 use Rattle.iol_app.proofs.Leaving.{leaving_rises}
-use Rattle.iol_steps.specs.Station as steps
+use Rattle.iol_app.specs.BothEnds as steps
 
 -- a start-up whose device was reset
 data Start : Type 0 where

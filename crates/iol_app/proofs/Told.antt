@@ -9,8 +9,8 @@ use Rattle.iol_far.specs.Codec.{layout_in}
 use Rattle.iol_far.specs.Far.{Far, hear, heard_as}
 use Rattle.iol_far.specs.Local.{LocalStep, local, locals}
 use Rattle.iol_far.specs.Laws.{EventLaws, confirms as octets_confirm}
-use Rattle.iol_steps.specs.Bridge.{told_after, told_through, told_worked, told_heard_as, told_heard, told_exchanged}
-use Rattle.iol_steps.specs.Station.{ReadingState, Resting, Flagged, Under, Due, wants_confirm, EventsFit}
+use Rattle.iol_app.specs.Abstract.OfDevice.{told_after, told_through, told_worked, told_heard_as, told_heard, told_exchanged}
+use Rattle.iol_app.specs.BothEnds.{ReadingState, Resting, Flagged, Under, Due, wants_confirm, EventsFit}
 use Rattle.iol_app.specs.Ends.{EventsTold}
 use Rattle.iol_app.proofs.Accepted.{by_accepted}
 use Rattle.iol_app.proofs.FirstOctet.{confirms_of}

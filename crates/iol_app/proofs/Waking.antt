@@ -16,12 +16,12 @@ use Rattle.iol_mode.specs.declared.states.State.{State}
 use Rattle.iol_mode.specs.declared.states.State.TheVariants.{Down as AtDown}
 use Rattle.iol_mode.specs.declared.why.Why.TheVariants.{NoWake}
 use Rattle.iol_mode.specs.Messages.{page_read}
-use Rattle.iol_steps.specs.Session.{MayReset}
+use Rattle.iol_app.specs.Abstract.Session.{MayReset}
 use Rattle.iol_mode.specs.States.{StateFits, IsDown, next_state, mode_after_wake}
 use Rattle.iol_mode.specs.Stands.{StateStands}
-use Rattle.iol_steps.specs.declared.mode.Mode.TheVariants.{Down as ModeDown, Operate as ModeOperate}
-use Rattle.iol_steps.specs.declared.said.Said.TheVariants.{Idle}
-use Rattle.iol_steps.specs.Step.{Start, Reset, Woke}
+use Rattle.iol_app.specs.declared.mode.Mode.TheVariants.{Down as ModeDown, Operate as ModeOperate}
+use Rattle.iol_app.specs.declared.said.Said.TheVariants.{Idle}
+use Rattle.iol_app.specs.Abstract.Steps.{Start, Reset, Woke}
 use Rattle.iol_app.proofs.Given.{Laws, all_laws}
 use Rattle.iol_app.proofs.OwnSession.{woken_if}
 use Rattle.iol_app.proofs.Orderly.{orderly_locals, alike_sent, test_confirms, test_to_page}

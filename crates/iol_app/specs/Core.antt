@@ -24,19 +24,20 @@ use Rattle.iol_mode.specs.States.{NextMode, NextModeFits, StateFits, IsDown, nex
 use Rattle.iol_mode.specs.Exchanges.{StandsOn, text_out, mode_after_reply}
 use Rattle.iol_mode.specs.Turns.{IsRisen, IsMet}
 use Rattle.iol_mode.specs.Stands.{StateStands, IsOperating, IsAccepted}
-use Rattle.iol_steps.specs.declared.mode.Mode.TheVariants.{Operate as ModeOperate}
-use Rattle.iol_steps.specs.declared.said.Said.{Said}
-use Rattle.iol_steps.specs.declared.said.Said.TheVariants.{Idle}
-use Rattle.iol_steps.specs.Step.{PortStep, repeats_at, doubts_at, Make, Take, WireCall, Moment, ImageOctets, silence_by, CallFits, is_clash_free, no_make, is_for_book, is_report, book_said, reports_said, resets, output_length}
-use Rattle.iol_steps.specs.Session.{Session, MaySession, MaySessionAll, session_after, session_through}
-use Rattle.iol_steps.specs.FrozenEvents.{Frozen, MayFrozenAll, frozen_through}
-use Rattle.iol_steps.specs.Images.{Images, MayImages, MayImagesAll, images_after, images_through, image_or}
-use Rattle.iol_steps.specs.Bridge.{Hidden, IsOpen}
-use Rattle.iol_steps.specs.Kinds.{MasterFields}
-use Rattle.iol_steps.specs.Station.{ShownProcessData, session_of, frozen_of, images_of, AnswerFits, WaitsElsewhere, ReadingState, wants_confirm, wants_octet}
-use Rattle.iol_steps.specs.Station as steps
-use Rattle.iol_steps.specs.Exchange.{reading_flagged, is_output_told, hidden_lost}
-use Rattle.iol_steps.specs.Turn.{ImageIsLast, OutputIsWanted, is_calm}
+use Rattle.iol_app.specs.declared.mode.Mode.TheVariants.{Operate as ModeOperate}
+use Rattle.iol_app.specs.declared.said.Said.{Said}
+use Rattle.iol_app.specs.declared.said.Said.TheVariants.{Idle}
+use Rattle.iol_app.specs.Abstract.Steps.{PortStep, repeats_at, doubts_at, Make, Take, WireCall, Moment, ImageOctets, silence_by, CallFits, is_clash_free, no_make, is_for_book, is_report, book_said, reports_said, resets, output_length}
+use Rattle.iol_app.specs.Abstract.Session.{Session, MaySession, MaySessionAll, session_after, session_through}
+use Rattle.iol_app.specs.Abstract.Events.{Frozen, MayFrozenAll, frozen_through}
+use Rattle.iol_app.specs.Abstract.Images.{Images, MayImages, MayImagesAll, images_after, images_through, image_or}
+use Rattle.iol_app.specs.Abstract.OfDevice.{Hidden, IsOpen}
+use Rattle.iol_app.specs.Abstract.Shown.{MasterFields}
+use Rattle.iol_app.specs.Abstract.Shown.{ShownProcessData, session_of, frozen_of, images_of}
+use Rattle.iol_app.specs.BothEnds.{AnswerFits, WaitsElsewhere, ReadingState, wants_confirm, wants_octet}
+use Rattle.iol_app.specs.BothEnds as steps
+use Rattle.iol_app.specs.Exchange.{reading_flagged, is_output_told, hidden_lost}
+use Rattle.iol_app.specs.Abstract.Turn.{ImageIsLast, OutputIsWanted, is_calm}
 use Rattle.std.specs.List.{list_all}
 use Rattle.iol_app.specs.declared.event_work.EventRoom.{EventRoom}
 use Rattle.iol_app.specs.declared.event_work.ReadingProgress as app

@@ -8,9 +8,10 @@ use Rattle.iol_far.specs.declared.mode.DeviceMode.TheVariants.{Operate as FarOpe
 use Rattle.iol_far.specs.Far.{Far}
 use Rattle.iol_far.specs.Level.{Progress, Quiet, FarLink}
 use Rattle.iol_mode.specs.Stands.{entering_link, operate_link}
-use Rattle.iol_steps.specs.Step.{ImageOctets}
-use Rattle.iol_steps.specs.Station.{ShownProcessData, ReadingState, EventsFit, WaitsElsewhere, wants_confirm}
-use Rattle.iol_steps.specs.Exchange.{MayAbort}
+use Rattle.iol_app.specs.Abstract.Steps.{ImageOctets}
+use Rattle.iol_app.specs.Abstract.Shown.{ShownProcessData}
+use Rattle.iol_app.specs.BothEnds.{ReadingState, EventsFit, WaitsElsewhere, wants_confirm}
+use Rattle.iol_app.specs.Exchange.{MayAbort}
 use Rattle.iol_app.specs.declared.request.Current.{Current}
 use Rattle.iol_app.specs.declared.request.RequestProgress.{RequestProgress}
 use Rattle.iol_app.specs.declared.request.RequestProgress.TheVariants.{Sending, Doubting, Asking, Receiving, Refused as NoText}

@@ -5,8 +5,8 @@ use Rattle.iol_mseq.specs.declared.reply.Reply.{Reply}
 use Rattle.iol_event.specs.declared.event.Event.{Event}
 use Rattle.iol_event.specs.declared.faults.EventForm.{EventForm}
 use Rattle.iol_event.specs.Reading.{reader_step}
-use Rattle.iol_steps.specs.declared.said.Said.{Said}
-use Rattle.iol_steps.specs.declared.said.Said.TheVariants.{Reported}
+use Rattle.iol_app.specs.declared.said.Said.{Said}
+use Rattle.iol_app.specs.declared.said.Said.TheVariants.{Reported}
 use Rattle.iol_app.specs.declared.event_work.EventWork.{EventWork}
 use Rattle.iol_app.specs.declared.event_work.ReadingProgress.{ReadingProgress}
 use Rattle.iol_app.specs.declared.event_work.ReadingProgress.TheVariants.{Resting, UnderWay, ConfirmDue, Refused}

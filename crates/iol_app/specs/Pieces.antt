@@ -16,9 +16,9 @@ use Rattle.iol_mode.specs.declared.states.State.TheVariants.{Operate as AtOperat
 use Rattle.iol_mode.specs.Exchanges.{IsSending, AreFew, ExchangeGives, StandsOn, WakeStands, text_out, layout_out}
 use Rattle.iol_mode.specs.Messages.{new_sending}
 use Rattle.iol_mode.specs.States.{IsDown, StateFits, NextModeFits, next_state}
-use Rattle.iol_steps.specs.Step.{no_make}
-use Rattle.iol_steps.specs.declared.said.Said.{Said}
-use Rattle.iol_steps.specs.declared.said.Said.TheVariants.{Idle}
+use Rattle.iol_app.specs.Abstract.Steps.{no_make}
+use Rattle.iol_app.specs.declared.said.Said.{Said}
+use Rattle.iol_app.specs.declared.said.Said.TheVariants.{Idle}
 use Rattle.iol_app.specs.declared.asked.Asked.{Asked}
 use Rattle.iol_app.specs.declared.asked.Asked.TheVariants.{Wake, Exchange}
 use Rattle.iol_app.specs.declared.brought.WireResult.{WireResult}

@@ -31,7 +31,7 @@ use iol_link::{AttemptView, Rate, Wire};
 use iol_mode::{Devices, Down, State, Why};
 use iol_mseq::{Layout, Message, encode_master};
 use iol_page::{CycleTime, Identity, Page};
-use iol_steps::{Mode, Said};
+use crate::{Mode, Said};
 use std::marker::Model;
 
 /// How the master's end of a port is.

@@ -6,7 +6,7 @@ ghost use Rattle.iol_app.specs.EventReading.{new_event_work, reader_of, event_wo
 use crate::session::Purpose;
 use iol_event::EventReader;
 use iol_mseq::{ReplyView, first};
-use iol_steps::Said;
+use crate::Said;
 use std::mem::replace;
 
 /// Whether a port has room for the six events that one reading may bring: only then it begins one.

@@ -1,7 +1,7 @@
 //! Laws of the definitions, each carried by a function that does nothing when it runs.
 ghost use Rattle.iol_app.specs.Moves.{MessagesAreMoves, AnswersAreTakenUp};
 ghost use Rattle.iol_app.specs.StationLaws.{StationLaws};
-ghost use Rattle.iol_steps.specs.Exchange.{TextNamesAnswer};
+ghost use Rattle.iol_app.specs.Exchange.{TextNamesAnswer};
 ghost use Rattle.iol_app.specs.Core.{WakesDevice, Rises, Receives, Sends};
 
 use iol_event::{memory_stays_valid, reading_gives_the_frozen_list};

@@ -13,7 +13,7 @@ use iol_link::Wire;
 use iol_page::Page;
 use iol_port::Port;
 use iol_sim::{Params, Sim, Step};
-use iol_steps::Mode;
+use iol_app::Mode;
 use std::alloc::Global;
 
 /// The page of a device without process data, and with 8 octets of on-request data.

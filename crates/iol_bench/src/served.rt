@@ -10,7 +10,7 @@ use iol_master::{Gate, Master};
 use iol_page::Page;
 use iol_port::Port;
 use iol_sim::{Params, Sim};
-use iol_steps::Mode;
+use iol_app::Mode;
 use std::alloc::Global;
 use std::marker::Brand;
 use std::sync::Wait;

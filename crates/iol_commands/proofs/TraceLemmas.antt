@@ -4,7 +4,7 @@ use Rattle.std.proofs.Common.{◌≡◌, ℕ, false, Option, List, [], ◌∷◌
 use Rattle.std.proofs.lemmas.List.{length-replicate}
 use Rattle.std.proofs.KnownBytes.{Appends-nil, Appends-trans}
 use Rattle.std.specs.Io.KnownBytes.{Appends}
-use Rattle.iol_tap.specs.Tapped.{TappedWire, wake_noted, exchange_noted, tap_facts}
+use Rattle.iol_sim.specs.Tapped.{TappedWire, wake_noted, exchange_noted, tap_facts}
 use Rattle.iol_app.specs.declared.asked.Asked.{Asked}
 use Rattle.iol_app.specs.declared.asked.Asked.TheVariants.{Wake, Exchange}
 use Rattle.iol_app.specs.StationState.{link_wire}

@@ -5,8 +5,8 @@ use Rattle.iol_mseq.specs.Shape.{Shape}
 use Rattle.iol_far.specs.Octets.{octets_in}
 use Rattle.iol_link.specs.declared.wire.Rate.{Rate}
 use Rattle.iol_link.specs.declared.wire.Rate.TheVariants.{Com1, Com2, Com3}
-use Rattle.iol_tap.specs.declared.tap.TapNote.{TapNote}
-use Rattle.iol_tap.specs.declared.tap.TapNote.TheVariants.{Wake, Exchange}
+use Rattle.iol_sim.specs.declared.tap.TapNote.{TapNote}
+use Rattle.iol_sim.specs.declared.tap.TapNote.TheVariants.{Wake, Exchange}
 use Rattle.iol_commands.specs.Checked.{PrintsMessage, PrintsReply}
 use Rattle.iol_commands.specs.Printed.{octets_text}
 

@@ -11,8 +11,8 @@ use Rattle.iol_event.specs.declared.event.Event.{Event}
 use Rattle.iol_far.specs.declared.carried.Carried.{Carried}
 use Rattle.iol_mode.specs.declared.why.Why.{Why}
 use Rattle.iol_mode.specs.declared.why.Why.TheVariants.{NoWake, Lost, Revision, PdLength, Code, WrongDevice, Interleaved}
-use Rattle.iol_steps.specs.declared.mode.Mode.{Mode}
-use Rattle.iol_steps.specs.declared.mode.Mode.TheVariants.{Down, Startup, Preoperate, Operate}
+use Rattle.iol_app.specs.declared.mode.Mode.{Mode}
+use Rattle.iol_app.specs.declared.mode.Mode.TheVariants.{Down, Startup, Preoperate, Operate}
 use Rattle.iol_app.specs.declared.core_data.Status.{Status}
 use Rattle.iol_app.specs.declared.output.OutputFault.{OutputFault}
 use Rattle.iol_app.specs.declared.output.OutputFault.TheVariants.{WrongImageLength, NoLayout}

@@ -6,13 +6,13 @@ use Rattle.iol_page.specs.Page.{layouts_of}
 use Rattle.iol_page.specs.declared.fault.PageFault.{PageFault}
 use Rattle.iol_page.specs.declared.page.Layouts.{Layouts}
 use Rattle.iol_link.specs.WireFacts.{WireFacts}
-use Rattle.iol_tap.specs.Tapped.{TappedWire, tap_facts, IsNoteOf}
-use Rattle.iol_tap.specs.declared.tap.TapNote.{TapNote}
+use Rattle.iol_sim.specs.Tapped.{TappedWire, tap_facts, IsNoteOf}
+use Rattle.iol_sim.specs.declared.tap.TapNote.{TapNote}
 use Rattle.iol_sim.specs.Params.{Stores}
 use Rattle.iol_sim.specs.declared.params.ParameterEntry.{ParameterEntry}
 use Rattle.iol_sim.specs.Sim.{SimulatedWire, sim_facts}
-use Rattle.iol_steps.specs.declared.mode.Mode.{Mode}
-use Rattle.iol_steps.specs.declared.mode.Mode.TheVariants.{Down, Startup, Preoperate, Operate}
+use Rattle.iol_app.specs.declared.mode.Mode.{Mode}
+use Rattle.iol_app.specs.declared.mode.Mode.TheVariants.{Down, Startup, Preoperate, Operate}
 use Rattle.iol_app.specs.StationState.{link_wire}
 use Rattle.iol_port.specs.declared.call.Call.{Call}
 use Rattle.iol_port.specs.declared.call.Call.TheVariants.{Turn}

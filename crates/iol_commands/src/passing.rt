@@ -9,7 +9,7 @@ use crate::check_command::{answer_message, answer_reply};
 use crate::printing::print_octets;
 use iol_link::Rate;
 use iol_mseq::{Layout, Message};
-use iol_tap::TapNote;
+use iol_sim::TapNote;
 use std::alloc::{AllocError, Allocator};
 
 /// The first octet of a message to read something has this bit.

@@ -27,7 +27,7 @@ use iol_mode::Why;
 use iol_page::Page;
 use iol_port::{Answered, Call, Counting, PortFault};
 use iol_sim::{Params, Sim};
-use iol_steps::Mode;
+use iol_app::Mode;
 use std::alloc::{AllocError, Allocator};
 
 /// The octets, each behind a space, or a dash where there is none.

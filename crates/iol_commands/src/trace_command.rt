@@ -15,7 +15,7 @@ use crate::tracing::Tracer;
 use iol_cell::Handle;
 use iol_port::Port;
 use iol_script::Script;
-use iol_tap::Tap;
+use iol_sim::Tap;
 use std::alloc::Allocator;
 use std::io::{Read, Write};
 

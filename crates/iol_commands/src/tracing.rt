@@ -20,8 +20,8 @@ use iol_mseq::Layout;
 use iol_page::{Layouts, Page};
 use iol_port::{Call, Port, runs_join};
 use iol_script::{CallLine, RunLine, TextLines};
-use iol_steps::Mode;
-use iol_tap::Tap;
+use iol_app::Mode;
+use iol_sim::Tap;
 use std::alloc::{AllocError, Allocator};
 use std::io::Write;
 

@@ -4,9 +4,9 @@ use Rattle.std.proofs.lemmas.Grind.{common_steps}
 use Rattle.iol_isdu.specs.declared.values.Cause.TheVariants.{Cancelled}
 use Rattle.iol_book.specs.declared.entries.Ticket.{Ticket}
 use Rattle.iol_book.specs.BookModel.{is_taken}
-use Rattle.iol_steps.specs.Kinds.{restart_steps}
-use Rattle.iol_steps.specs.Step.{PortStep, Unknown}
-use Rattle.iol_steps.specs.Session.{Session, session_after, session_through}
+use Rattle.iol_app.specs.Abstract.OfMaster.{restart_steps}
+use Rattle.iol_app.specs.Abstract.Steps.{PortStep, Unknown}
+use Rattle.iol_app.specs.Abstract.Session.{Session, session_after, session_through}
 use Rattle.iol_port.specs.declared.call.Call.TheVariants as call
 use Rattle.iol_port.specs.declared.call.Answered.TheVariants as answered
 use Rattle.iol_port.specs.Run.{PortState, Whole, job_request}

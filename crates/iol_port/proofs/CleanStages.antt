@@ -29,8 +29,8 @@ use Rattle.iol_app.specs.declared.request.Current.{Current}
 use Rattle.iol_app.specs.declared.request.RequestProgress.{RequestProgress}
 use Rattle.iol_app.specs.declared.request.RequestProgress.TheVariants.{Sending, Asking, Receiving}
 use Rattle.iol_app.specs.Requests.{current_after_segment, GoesOn, HasText, effect_of_segment, effect_of_start_read, effect_of_count_read, IsEffectSaid, ReplyEffect, effect_of_reply, current_of_effect}
-use Rattle.iol_steps.specs.declared.said.Said.{Said}
-use Rattle.iol_steps.specs.declared.said.Said.TheVariants.{Answered as SaidAnswered, Busy as SaidBusy}
+use Rattle.iol_app.specs.declared.said.Said.{Said}
+use Rattle.iol_app.specs.declared.said.Said.TheVariants.{Answered as SaidAnswered, Busy as SaidBusy}
 use Rattle.iol_port.specs.Turns.{current_at, RequestStage, Written, Waiting, Reading, Ended, busy_replies, turns_at, once_written, StageFits}
 use Rattle.iol_page.specs.declared.page.Layouts.{Layouts}
 use Rattle.iol_far.specs.declared.carried.Carried.{Carried}

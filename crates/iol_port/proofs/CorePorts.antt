@@ -11,12 +11,12 @@ use Rattle.iol_mode.specs.declared.configuration.Devices.{Devices}
 use Rattle.iol_mode.specs.declared.states.State.{State}
 use Rattle.iol_mode.specs.States.{IsDown, is_reset}
 use Rattle.iol_mode.specs.Exchanges.{IsSending}
-use Rattle.iol_steps.specs.declared.mode.Mode.TheVariants.{Operate}
-use Rattle.iol_steps.specs.declared.said.Said.{Said}
-use Rattle.iol_steps.specs.declared.said.Said.TheVariants.{Idle}
-use Rattle.iol_steps.specs.Step.{PortStep, Make, Reset, WireCall, Moment, is_clash_free, no_make, resets, book_said}
-use Rattle.iol_steps.specs.Session.{Session, MaySessionAll, session_through}
-use Rattle.iol_steps.specs.Images.{MayImagesAll, images_through}
+use Rattle.iol_app.specs.declared.mode.Mode.TheVariants.{Operate}
+use Rattle.iol_app.specs.declared.said.Said.{Said}
+use Rattle.iol_app.specs.declared.said.Said.TheVariants.{Idle}
+use Rattle.iol_app.specs.Abstract.Steps.{PortStep, Make, Reset, WireCall, Moment, is_clash_free, no_make, resets, book_said}
+use Rattle.iol_app.specs.Abstract.Session.{Session, MaySessionAll, session_through}
+use Rattle.iol_app.specs.Abstract.Images.{MayImagesAll, images_through}
 use Rattle.iol_app.specs.declared.event_work.EventRoom.{EventRoom}
 use Rattle.iol_app.specs.declared.brought.WireResult.{WireResult}
 use Rattle.iol_app.specs.State.{session_expecting, session_with_cycle}

@@ -10,8 +10,8 @@ use Rattle.iol_book.specs.declared.entries.Outcome.{Outcome}
 use Rattle.iol_book.specs.declared.entries.Outcome.TheVariants.{NoIsdu}
 use Rattle.iol_book.specs.Replay.{same_ticket}
 use Rattle.iol_book.specs.BookModel.{BookState, next_taken, book_after_denial, book_after_post}
-use Rattle.iol_steps.specs.declared.said.Said.{Said}
-use Rattle.iol_steps.specs.Step.{Reset, book_said}
+use Rattle.iol_app.specs.declared.said.Said.{Said}
+use Rattle.iol_app.specs.Abstract.Steps.{Reset, book_said}
 use Rattle.iol_port.specs.Steps.{book_through}
 use Rattle.iol_port.specs.Asks.{lacks_isdu}
 use Rattle.iol_port.specs.EveryWire.{book_after_taking, HasNoIsdu, IsDenied}

@@ -23,3 +23,4 @@ pub mod Served
 pub mod CleanLevel
 pub mod Crosses
 pub mod Claims
+pub mod HonestRuns

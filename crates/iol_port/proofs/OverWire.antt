@@ -8,7 +8,7 @@ use Rattle.iol_book.specs.declared.entries.Ticket.{Ticket}
 use Rattle.iol_book.specs.declared.entries.Entry.{Entry}
 use Rattle.iol_book.specs.declared.entries.Outcome.{Outcome}
 use Rattle.iol_book.specs.BookModel.{BookState}
-use Rattle.iol_steps.specs.Step.{ImageOctets}
+use Rattle.iol_app.specs.Abstract.Steps.{ImageOctets}
 use Rattle.iol_port.specs.declared.call.Counting.{Counting}
 use Rattle.iol_port.specs.declared.fault.PortFault.{PortFault}
 use Rattle.iol_port.specs.View.{PortParts}

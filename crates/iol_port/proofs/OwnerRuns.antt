@@ -16,9 +16,9 @@ use Rattle.iol_book.specs.declared.entries.Outcome.TheVariants as outcome
 use Rattle.iol_book.specs.Replay.{Standing, same_ticket, request_waiting, without, others_without}
 use Rattle.iol_book.specs.BookModel.{BookState, book_with_entry, next_ticket, next_taken, book_after_post}
 use Rattle.iol_book.specs.Takings.{takings, takings_after, first_with}
-use Rattle.iol_steps.specs.Step.{PortStep, Take, Deny, Carry, Done, Unknown, LateCarry, Moment}
-use Rattle.iol_steps.specs.Session.{Job, Session, MaySession, session_after}
-use Rattle.iol_steps.specs.Kinds.{restart_steps}
+use Rattle.iol_app.specs.Abstract.Steps.{PortStep, Take, Deny, Carry, Done, Unknown, LateCarry, Moment}
+use Rattle.iol_app.specs.Abstract.Session.{Job, Session, MaySession, session_after}
+use Rattle.iol_app.specs.Abstract.OfMaster.{restart_steps}
 use Rattle.iol_port.specs.declared.call.Call.TheVariants as call
 use Rattle.iol_port.specs.declared.call.Answered.{Answered}
 use Rattle.iol_port.specs.declared.call.Answered.TheVariants as answered

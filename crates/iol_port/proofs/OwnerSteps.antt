@@ -16,11 +16,11 @@ use Rattle.iol_book.specs.Numbers.{times_in}
 use Rattle.iol_book.specs.Replay.{Standing, nothing, same_ticket, without, without_waiting}
 use Rattle.iol_book.specs.BookModel.{BookState, IsReplayed, next_taken, book_after_take, book_after_post, leaves_unsure}
 use Rattle.iol_book.specs.Takings.{takings, taking_of, first_with, taking_with_outcome}
-use Rattle.iol_steps.specs.Step.{PortStep, Take, Deny, Carry, Again, Done, Unknown, LateCarry, Start, Reset, Busy, Move, Moment, may_repeat, may_misread}
-use Rattle.iol_steps.specs.Session.{Job, Session, MaySession, session_after, session_through, cut_for, unanswered_request, job_to_cancel}
-use Rattle.iol_steps.specs.Kinds.{restart_steps}
-use Rattle.iol_steps.specs.declared.mode.Mode.{Mode}
-use Rattle.iol_steps.specs.declared.mode.Mode.TheVariants.{Down, Startup}
+use Rattle.iol_app.specs.Abstract.Steps.{PortStep, Take, Deny, Carry, Again, Done, Unknown, LateCarry, Start, Reset, Busy, Move, Moment, may_repeat, may_misread}
+use Rattle.iol_app.specs.Abstract.Session.{Job, Session, MaySession, session_after, session_through, cut_for, unanswered_request, job_to_cancel}
+use Rattle.iol_app.specs.Abstract.OfMaster.{restart_steps}
+use Rattle.iol_app.specs.declared.mode.Mode.{Mode}
+use Rattle.iol_app.specs.declared.mode.Mode.TheVariants.{Down, Startup}
 use Rattle.iol_mode.specs.declared.why.Why.{Why}
 use Rattle.iol_port.specs.Owners.{Owner, Owners, all, pairs_of, owner_with_answer, owner_with_outcome, owners_after, owners_through, owners_after_archive, Allowance, IsOneOf, IsToldAs, EndsAs, Fits, HasEnded, allowance_of}
 use Rattle.iol_port.specs.Steps.{ticket_of, MayBook, book_after, book_through}

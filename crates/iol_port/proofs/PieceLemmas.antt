@@ -10,9 +10,9 @@ use Rattle.iol_book.specs.declared.entries.Outcome.{Outcome}
 use Rattle.iol_book.specs.declared.entries.Entry.TheVariants.{Collected, Withdrawn}
 use Rattle.iol_book.specs.Replay.{same_ticket}
 use Rattle.iol_book.specs.BookModel.{BookState, book_with_entry, book_after_submit, next_ticket, book_after_collect, book_after_withdrawal, may_archive, book_after_urgent, flight_refusal}
-use Rattle.iol_steps.specs.Session.{Session, MaySessionAll, session_after, session_cancelling, session_through}
-use Rattle.iol_steps.specs.Images.{Images}
-use Rattle.iol_steps.specs.Step.{PortStep, Moment, Exchanged}
+use Rattle.iol_app.specs.Abstract.Session.{Session, MaySessionAll, session_after, session_cancelling, session_through}
+use Rattle.iol_app.specs.Abstract.Images.{Images}
+use Rattle.iol_app.specs.Abstract.Steps.{PortStep, Moment, Exchanged}
 use Rattle.iol_event.specs.declared.event.Event.{Event}
 use Rattle.iol_page.specs.declared.identity.Identity.{Identity}
 use Rattle.iol_port.specs.Steps.{MayBookAll, book_after, book_through}

@@ -14,8 +14,8 @@ use Rattle.iol_book.specs.declared.entries.Entry.TheVariants.{Taken, Answered}
 use Rattle.iol_book.specs.Replay.{Standing, nothing, same_ticket, request_waiting, without, others_without, waiting_after, standing_after, replay_from}
 use Rattle.iol_book.specs.BookModel.{BookState, IsReplayed, book_with_entry, leaves_unsure, book_after_take, book_after_denial, ended_with, book_after_post, next_taken, may_archive, others_behind, waits}
 use Rattle.iol_book.specs.Takings.{Taking, taking_of, taking_with_outcome, first_with, takings, takings_after, takings_from}
-use Rattle.iol_steps.specs.Step.{PortStep, Moment, Terms, may_misread}
-use Rattle.iol_steps.specs.Session.{Session, MayTell, MaySession, MaySessionAll, session_after, session_through}
+use Rattle.iol_app.specs.Abstract.Steps.{PortStep, Moment, Terms, may_misread}
+use Rattle.iol_app.specs.Abstract.Session.{Session, MayTell, MaySession, MaySessionAll, session_after, session_through}
 use Rattle.iol_port.specs.Owners.{Owners, owners_after, owners_through, IsToldAs}
 use Rattle.iol_port.specs.Steps.{MayBook, MayBookAll, book_after, book_through}
 

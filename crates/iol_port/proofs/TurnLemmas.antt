@@ -5,16 +5,16 @@ use Rattle.iol_isdu.specs.declared.values.Request.{Request}
 use Rattle.iol_isdu.specs.declared.values.Answer.{Answer}
 use Rattle.iol_book.specs.declared.entries.Ticket.{Ticket}
 use Rattle.iol_book.specs.BookModel.{BookState}
-use Rattle.iol_steps.specs.declared.mode.Mode.TheVariants.{Down}
-use Rattle.iol_steps.specs.declared.said.Said.{Said}
+use Rattle.iol_app.specs.declared.mode.Mode.TheVariants.{Down}
+use Rattle.iol_app.specs.declared.said.Said.{Said}
 use Rattle.std.specs.Prelude.{IsTrue}
 use Rattle.std.specs.List.{list_any}
 use Rattle.iol_far.specs.Far.{Far}
-use Rattle.iol_steps.specs.Images.{Images, MayImagesAll, images_through}
+use Rattle.iol_app.specs.Abstract.Images.{Images, MayImagesAll, images_through}
 use Rattle.iol_app.specs.declared.request.Current.{Current}
-use Rattle.iol_steps.specs.Step.{PortStep, Take, Deny, Moment, Terms, resets, book_said, reports_said}
-use Rattle.iol_steps.specs.Session.{MaySessionAll, session_through}
-use Rattle.iol_steps.specs.Station.{job_of}
+use Rattle.iol_app.specs.Abstract.Steps.{PortStep, Take, Deny, Moment, Terms, resets, book_said, reports_said}
+use Rattle.iol_app.specs.Abstract.Session.{MaySessionAll, session_through}
+use Rattle.iol_app.specs.Abstract.Shown.{job_of}
 use Rattle.iol_mode.specs.declared.states.State.{State}
 use Rattle.iol_mode.specs.States.{is_reset}
 use Rattle.iol_app.specs.Requests.{request_under_way}

@@ -12,7 +12,7 @@ use Rattle.iol_book.specs.declared.entries.Outcome.{Outcome}
 use Rattle.iol_book.specs.BookModel.{book_after_submit, book_after_urgent}
 use Rattle.iol_link.specs.WireFacts.{WireFacts}
 use Rattle.iol_mode.specs.declared.why.Why.{Why}
-use Rattle.iol_steps.specs.Step.{ImageOctets}
+use Rattle.iol_app.specs.Abstract.Steps.{ImageOctets}
 use Rattle.iol_app.specs.StationState.{link_wire}
 use Rattle.iol_app.specs.Asking.{IsCall}
 use Rattle.iol_port.specs.declared.call.Call.{Call}

@@ -12,8 +12,8 @@ use Rattle.iol_book.specs.declared.entries.Outcome.TheVariants.{Done, Unknown}
 use Rattle.iol_book.specs.declared.entries.Ticket.{Ticket}
 use Rattle.iol_book.specs.BookModel.{leaves_unsure}
 use Rattle.iol_book.specs.Replay.{same_ticket}
-use Rattle.iol_steps.specs.declared.mode.Mode.{Mode}
-use Rattle.iol_steps.specs.declared.mode.Mode.TheVariants.{Down, Startup}
+use Rattle.iol_app.specs.declared.mode.Mode.{Mode}
+use Rattle.iol_app.specs.declared.mode.Mode.TheVariants.{Down, Startup}
 use Rattle.iol_port.specs.declared.call.Call.TheVariants as call
 use Rattle.iol_port.specs.declared.call.Answered.{Answered}
 use Rattle.iol_port.specs.declared.call.Answered.TheVariants as answered

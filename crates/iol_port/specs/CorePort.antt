@@ -10,8 +10,8 @@ use Rattle.iol_mode.specs.Exchanges.{text_out}
 use Rattle.iol_mode.specs.declared.configuration.Devices.{Devices}
 use Rattle.iol_mode.specs.declared.configuration.Devices.TheVariants.{Own}
 use Rattle.iol_book.specs.declared.limits.Limits.{Limits}
-use Rattle.iol_steps.specs.declared.said.Said.{Said}
-use Rattle.iol_steps.specs.Step.{resets, book_said, reports_said}
+use Rattle.iol_app.specs.declared.said.Said.{Said}
+use Rattle.iol_app.specs.Abstract.Steps.{resets, book_said, reports_said}
 use Rattle.iol_app.specs.StationState.{StationState, IsSettledSaid}
 use Rattle.iol_app.specs.Core.{CoreState, after_exchange, after_wake, came_of}
 use Rattle.iol_app.specs.Brought.{brought_in, woken_by}

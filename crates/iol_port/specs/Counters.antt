@@ -4,8 +4,8 @@ use Rattle.iol_isdu.specs.declared.values.Request.{Request}
 use Rattle.iol_isdu.specs.declared.values.Cause.{Cause}
 use Rattle.iol_isdu.specs.declared.values.Cause.TheVariants as cause
 use Rattle.iol_link.specs.Attempts.{max_retry}
-use Rattle.iol_steps.specs.declared.said.Said.{Said}
-use Rattle.iol_steps.specs.declared.said.Said.TheVariants as said
+use Rattle.iol_app.specs.declared.said.Said.{Said}
+use Rattle.iol_app.specs.declared.said.Said.TheVariants as said
 use Rattle.iol_app.specs.declared.brought.WireResult.{WireResult}
 use Rattle.iol_app.specs.declared.brought.WireResult.TheVariants.{NoDevice, Woken, Exchanged}
 use Rattle.iol_app.specs.declared.brought.ReplyVerdict.{ReplyVerdict}

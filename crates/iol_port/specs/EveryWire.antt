@@ -19,10 +19,10 @@ use Rattle.iol_book.specs.Replay.{same_ticket}
 use Rattle.iol_book.specs.BookModel.{BookState, BookValue, MemoryGrows, memory_archived, RefusesFor, submit_refusal, book_after_submit, book_after_urgent, next_ticket, next_taken, book_after_take, book_after_denial, waits, collect_answer, book_after_collect, withdraw_refusal, book_after_withdrawal, flight_refusal, may_archive, book_after_archive}
 use Rattle.iol_mode.specs.States.{is_reset}
 use Rattle.iol_mode.specs.declared.why.Why.{Why}
-use Rattle.iol_steps.specs.declared.mode.Mode.TheVariants.{Down}
-use Rattle.iol_steps.specs.declared.said.Said.{Said}
-use Rattle.iol_steps.specs.Step.{ImageOctets, resets, book_said, reports_said}
-use Rattle.iol_steps.specs.Kinds.{restart_steps}
+use Rattle.iol_app.specs.declared.mode.Mode.TheVariants.{Down}
+use Rattle.iol_app.specs.declared.said.Said.{Said}
+use Rattle.iol_app.specs.Abstract.Steps.{ImageOctets, resets, book_said, reports_said}
+use Rattle.iol_app.specs.Abstract.OfMaster.{restart_steps}
 use Rattle.iol_app.specs.State as session
 use Rattle.iol_app.specs.Due.{is_ready}
 use Rattle.iol_app.specs.Asking.{station_with_request, IsCall}

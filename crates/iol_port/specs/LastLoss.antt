@@ -1,8 +1,8 @@
 -- Why a port's last session ended.
 use Rattle.std.specs.Prelude.{Option, None}
 use Rattle.iol_mode.specs.declared.why.Why.{Why}
-use Rattle.iol_steps.specs.declared.mode.Mode.{Mode}
-use Rattle.iol_steps.specs.declared.mode.Mode.TheVariants.{Down, Operate}
+use Rattle.iol_app.specs.declared.mode.Mode.{Mode}
+use Rattle.iol_app.specs.declared.mode.Mode.TheVariants.{Down, Operate}
 
 -- a session lasts from a wake that succeeded until the link is down: a wake in vain ends none
 -- PORT-13

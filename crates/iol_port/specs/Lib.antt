@@ -19,3 +19,5 @@ pub mod Claim
 pub mod Denials
 pub mod CorePort
 pub mod Called
+pub mod Standing
+pub mod Honestly

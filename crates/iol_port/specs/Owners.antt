@@ -11,7 +11,7 @@ use Rattle.iol_book.specs.declared.entries.Outcome.TheVariants as outcome
 use Rattle.iol_book.specs.declared.entries.Outcome.TheVariants.{NoIsdu}
 use Rattle.iol_book.specs.declared.entries.Ticket.{Ticket}
 use Rattle.iol_book.specs.Takings.{Taking, taking_of, taking_with_outcome, first_with}
-use Rattle.iol_steps.specs.Step.{PortStep, Take, Carry, Done, Unknown, LateCarry, Terms, may_repeat, may_misread}
+use Rattle.iol_app.specs.Abstract.Steps.{PortStep, Take, Carry, Done, Unknown, LateCarry, Terms, may_repeat, may_misread}
 use Rattle.iol_port.specs.Steps.{ticket_of}
 
 -- an owner: a request that was taken, and what the device answered it, the last answer first. Each

@@ -5,9 +5,9 @@ use Rattle.iol_book.specs.declared.limits.Limits.{Limits}
 use Rattle.iol_book.specs.declared.entries.Ticket.{Ticket}
 use Rattle.iol_book.specs.BookModel.{is_taken}
 use Rattle.iol_isdu.specs.declared.values.Cause.TheVariants.{Cancelled}
-use Rattle.iol_steps.specs.Step.{PortStep, Unknown, Moment}
-use Rattle.iol_steps.specs.Session.{Job, Session, MaySessionAll}
-use Rattle.iol_steps.specs.declared.mode.Mode.TheVariants.{Operate}
+use Rattle.iol_app.specs.Abstract.Steps.{PortStep, Unknown, Moment}
+use Rattle.iol_app.specs.Abstract.Session.{Job, Session, MaySessionAll}
+use Rattle.iol_app.specs.declared.mode.Mode.TheVariants.{Operate}
 use Rattle.iol_port.specs.declared.call.Call.{Call}
 use Rattle.iol_port.specs.declared.call.Call.TheVariants as call
 use Rattle.iol_port.specs.declared.call.Answered.{Answered}

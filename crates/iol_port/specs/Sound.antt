@@ -10,7 +10,7 @@ use Rattle.iol_book.specs.declared.entries.Ticket.{Ticket}
 use Rattle.iol_book.specs.Numbers.{times_in}
 use Rattle.iol_book.specs.BookModel.{BookState, IsReplayed, leaves_unsure}
 use Rattle.iol_book.specs.Takings.{takings}
-use Rattle.iol_steps.specs.Session.{Job, Session}
+use Rattle.iol_app.specs.Abstract.Session.{Job, Session}
 use Rattle.iol_port.specs.Owners.{Owner, Owners, Allowance, IsOneOf, HasEnded, Fits, all, allowance_of, pairs_of, times_of}
 use Rattle.iol_port.specs.Run.{PortState}
 

@@ -7,7 +7,7 @@ ghost use Rattle.iol_port.specs.Counters.{cause_counted};
 use iol_app::{ReplyVerdict, WireResult};
 use iol_isdu::Cause;
 use iol_link::MAX_RETRY;
-use iol_steps::Said;
+use iol_app::Said;
 
 /// What a port has counted since it was opened, for diagnosis. Each count stays at 2^64 - 1.
 ///

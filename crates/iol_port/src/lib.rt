@@ -8,7 +8,10 @@
 //! device has no ISDU.
 //!
 //! A [`PortCore`] owns no wire and never calls out: it gives the octets to send, and takes
-//! what came. A [`Port`] is such a core and the wire that its turns call.
+//! what came. A [`Port`] is such a core and the wire that its turns call. An [`HonestPort`] is such
+//! a core beside where its line stands, for a line of one's own that is claimed to lose and never
+//! to lie: what came is what an honest exchange could bring, and that is required of whoever says
+//! it.
 //!
 //! What a port does is said by an abstract port, which knows no octets, segments or
 //! repeats (`specs/Run`). Over an honest wire each call of a [`Port`] is one call of the
@@ -19,8 +22,8 @@
 //! IEC 61131-9 leaves it to the master how requests are queued: that part is this project's
 //! profile.
 //!
-//! Definitions begin in `specs/Run`, the abstract port; then `Owners`, `Sound`, `View`, `EveryWire`
-//! and `CorePort`.
+//! Definitions begin in `specs/Run`, the abstract port; then `Owners`, `Sound`, `View`, `EveryWire`,
+//! `CorePort` and `Honestly`.
 #![tactic(auto)]
 
 mod awaited;
@@ -28,8 +31,10 @@ mod call;
 mod copies;
 mod counters;
 mod fault;
+mod honest_port;
 mod laws;
 mod loss;
+mod place;
 mod port;
 mod port_core;
 mod settle;
@@ -38,6 +43,7 @@ pub use awaited::AwaitedAnswer;
 pub use call::{Answered, Call, Counting};
 pub use counters::{Counters, Unknown};
 pub use fault::PortFault;
+pub use honest_port::HonestPort;
 pub use laws::{
     cancelled_requests_were_asked, denied_requests_stay_out, each_done_has_its_pair,
     late_requests_end, pieces_are_turns, record_fits_journal, runs_join, turns_rule_out,

@@ -4,7 +4,7 @@ ghost use Rattle.iol_port.specs.LastLoss.{loss_after};
 
 use iol_app::Status;
 use iol_mode::Why;
-use iol_steps::Mode;
+use iol_app::Mode;
 
 /// What is known of it behind a call that began in this mode and ends with this status.
 ///

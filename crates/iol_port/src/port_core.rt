@@ -41,7 +41,7 @@ use iol_link::{Rate, Wire};
 use iol_mode::{Devices, Why};
 use iol_mseq::Message;
 use iol_page::{CycleTime, Identity, Page};
-use iol_steps::{Mode, Said};
+use iol_app::{Mode, Said};
 use std::alloc::{Allocator, Global};
 use std::marker::Model;
 

@@ -11,8 +11,8 @@ ghost use Rattle.iol_app.specs.State.{session_after_begin};
 ghost use Rattle.iol_app.specs.StationState.{operates, mode_in};
 ghost use Rattle.iol_port.specs.Asks.{lacks_isdu, to_begin};
 ghost use Rattle.iol_port.specs.EveryWire.{book_after_taking};
-ghost use Rattle.iol_steps.specs.declared.mode.Mode.TheVariants as mode;
-ghost use Rattle.iol_steps.specs.Step.{Reset, book_said, reports_said};
+ghost use Rattle.iol_app.specs.declared.mode.Mode.TheVariants as mode;
+ghost use Rattle.iol_app.specs.Abstract.Steps.{Reset, book_said, reports_said};
 ghost use Rattle.iol_port.specs.Steps.{book_through, kept_through};
 ghost use Rattle.iol_port.specs.Replies.{by_book, by_output};
 ghost use Rattle.iol_port.specs.View.{BeginsNext, TakesNext, Asks, ReportHasRoom};
@@ -22,7 +22,7 @@ use arrayvec::ArrayVec;
 use iol_app::{Core, EventRoom, OutputFault};
 use iol_book::{Book, BookFault, Outcome};
 use iol_event::{Event, EventList};
-use iol_steps::Said;
+use iol_app::Said;
 use std::alloc::Allocator;
 
 /// How many events a port keeps.

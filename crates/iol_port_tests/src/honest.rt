@@ -5,14 +5,14 @@ ghost use Rattle.iol_far.specs.Octets.{octets_in};
 ghost use Rattle.iol_link.specs.Honest.{HonestExchange, HonestWake, silence_after};
 ghost use Rattle.iol_port.specs.declared.awaited.AwaitedAnswer.{AwaitedAnswer};
 ghost use Rattle.iol_port.specs.CorePort.{awaited_answer};
-ghost use Rattle.iol_line.specs.Honestly.{Exchanges};
+ghost use Rattle.iol_port.specs.Honestly.{Exchanges};
 
 use crate::device::{PLACE, Parameter, octets_of, open_device};
 use iol_app::{Asked, Mode};
 use iol_book::{Limits, Outcome, Ticket};
 use iol_device::{App, Device};
 use iol_isdu::{Answer, Request};
-use iol_line::HonestPort;
+use iol_port::HonestPort;
 use iol_link::Rate;
 use iol_mseq::Message;
 use iol_peers::PLAIN;

@@ -3,7 +3,7 @@
 use iol_link::{Rate, Wire};
 use iol_mseq::Message;
 use iol_peers::{AnyWire, Peer};
-use iol_tap::{Tap, TapNote};
+use iol_sim::{Tap, TapNote};
 
 /// A peer that answers each message by its octets but the first, as far as they are a message.
 #[derive(Drop)]

@@ -5,9 +5,11 @@
 //! whatever the script; with two, which the script exchanges, it is not.
 //! A [`Raw`] answers given messages in order, and is not honest.
 //! [`Params`] is an application for the device: parameters that are read and written.
+//! A [`Tap`] stands round any wire, is as honest as that, and keeps a note of its last call: so a
+//! trace of any length takes no memory.
 //!
 //! Definitions begin in `specs/Script` and `specs/Sim`. A script whose steps have ended is a clean
-//! wire.
+//! wire. `specs/Tapped`: the wire within, with the note.
 #![tactic(auto)]
 
 mod fault;
@@ -15,9 +17,11 @@ mod params;
 mod raw;
 mod script;
 mod sim;
+mod tap;
 
 pub use fault::SimFault;
 pub use params::{ParameterEntry, Params};
 pub use raw::Raw;
 pub use script::{Fate, Step};
 pub use sim::Sim;
+pub use tap::{Tap, TapNote};

@@ -11,8 +11,8 @@ use Rattle.iol_book.specs.declared.entries.Outcome.TheVariants.{Done, Unknown, W
 use Rattle.iol_mode.specs.declared.why.Why.{Why}
 use Rattle.iol_mode.specs.declared.why.Why.TheVariants.{WrongDevice}
 use Rattle.iol_mode.specs.Why.{why_number}
-use Rattle.iol_steps.specs.declared.mode.Mode.{Mode}
-use Rattle.iol_steps.specs.declared.mode.Mode.TheVariants.{Down, Startup, Preoperate, Operate}
+use Rattle.iol_app.specs.declared.mode.Mode.{Mode}
+use Rattle.iol_app.specs.declared.mode.Mode.TheVariants.{Down, Startup, Preoperate, Operate}
 use Rattle.iol_app.specs.declared.core_data.Status.{Status}
 use Rattle.iol_port.specs.declared.counters.Counters.{Counters}
 use Rattle.iolink_handle.specs.Shown.{AreShown, RequestIsShown}

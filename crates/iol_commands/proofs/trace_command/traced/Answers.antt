@@ -5,7 +5,7 @@ use Rattle.iol_script.specs.Script.{calls_in, value_of}
 use Rattle.iol_script.specs.Text.{numbered_lines}
 use Rattle.iol_sim.specs.Params.{Stores}
 use Rattle.iol_sim.specs.Sim.{sim_facts}
-use Rattle.iol_tap.specs.Tapped.{tap_facts}
+use Rattle.iol_sim.specs.Tapped.{tap_facts}
 use Rattle.iol_commands.specs.RunPlayed.{ending_text}
 use Rattle.iol_commands.specs.TracePrinted.{TracesOut, first_tap, trace_stage}
 use Rattle.iol_commands.proofs.RunLemmas.{runs_alike}

@@ -1,6 +1,6 @@
 use Rattle.std.proofs.Common.{◌≡◌, ◌∙◌, ap}
 use Rattle.iol_app.specs.declared.asked.Outgoing.{Outgoing}
-use Rattle.iol_line.specs.Honestly.{HonestParts}
+use Rattle.iol_port.specs.Honestly.{HonestParts}
 use Rattle.iol_port_tests.proofs.honest.meet.Goals as goal
 
 pub answered_by-requires-clause-premise : goal.answered_by-requires-clause-premise

@@ -1,6 +1,6 @@
 -- A turn: what goes out, one call of the wire, and what is made of what came.
 use Rattle.std.proofs.Common.{true, false, refl}
-use Rattle.iol_steps.specs.declared.said.Said.TheVariants.{Idle}
+use Rattle.iol_app.specs.declared.said.Said.TheVariants.{Idle}
 use Rattle.iol_mode.specs.States.{StateFits}
 use Rattle.iol_app.specs.Asking.{asked_in}
 use Rattle.iol_app.specs.Pieces.{IsOutAsAsked, IsWoken}

@@ -3,7 +3,7 @@ use Rattle.std.proofs.Common.{◌≡◌, ◌∙◌, ◌++◌, refl, ap}
 use Rattle.iol_far.specs.Octets.{octets_in}
 use Rattle.iol_app.specs.Core.{CoreState, came_of}
 use Rattle.iol_mode.specs.States.{is_reset}
-use Rattle.iol_steps.specs.Step.{resets, book_said}
+use Rattle.iol_app.specs.Abstract.Steps.{resets, book_said}
 use Rattle.iol_port.specs.Steps.{book_through}
 use Rattle.iol_port.specs.View.{PortParts}
 use Rattle.iol_port.specs.CorePort.{awaited_answer, station_without_wire}

@@ -1,7 +1,7 @@
 -- A turn of a port: what goes out, one call of the wire, and what is made of what came.
 use Rattle.std.proofs.Common.{◌≡◌, ◌&&◌, Option, true, false, refl, ap, sym, ◌∙◌, cond, ◌∷◌, [], ◌++◌, arith}
 use Rattle.std.proofs.lemmas.Grind.{common_steps}
-use Rattle.iol_steps.specs.Step.{Reset, book_said}
+use Rattle.iol_app.specs.Abstract.Steps.{Reset, book_said}
 use Rattle.iol_app.specs.Due.{is_ready}
 use Rattle.iol_app.specs.StationState.{StationState, is_operating}
 use Rattle.iol_app.specs.Asking.{station_with_request}

@@ -1,0 +1,67 @@
+-- What a turn's exchange brought the master: its steps after the far end's own, and
+-- what the turn says.
+use Rattle.std.specs.Prelude.{ℕ, Bool, List, [], ◌∷◌, Option, Some, None}
+use Rattle.iol_isdu.specs.declared.values.Request.{Request}
+use Rattle.iol_isdu.specs.declared.values.Answer.{Answer}
+use Rattle.iol_isdu.specs.declared.values.Cause.{Cause}
+use Rattle.iol_isdu.specs.declared.values.Cause.TheVariants.{LinkLost, Restarted}
+use Rattle.iol_event.specs.declared.event.Event.{Event}
+use Rattle.iol_app.specs.declared.mode.Mode.{Mode}
+use Rattle.iol_app.specs.declared.mode.Mode.TheVariants.{Down}
+use Rattle.iol_mode.specs.declared.why.Why.{Why}
+use Rattle.iol_mode.specs.declared.why.Why.TheVariants.{Lost}
+use Rattle.iol_app.specs.declared.said.Said.{Said}
+use Rattle.iol_app.specs.declared.said.Said.TheVariants.{Idle, Busy as SaidBusy, Cut}
+use Rattle.iol_app.specs.Abstract.Steps.{PortStep, Done, Unknown, Report, ShowImage, DropImage, TellLength, Busy, Move}
+
+pub data ExchangeResult : Type 0 where
+  -- no good reply, and not for the third time
+  Missed : ExchangeResult
+  -- no good reply for the third time: the link is lost
+  Gone : ExchangeResult
+  -- good replies in OPERATE: a busy reply, the whole answer, the reply to an ABORT,
+  -- the last octet of the events, any other
+  WasBusy : ExchangeResult
+  WasAnswered : Answer → ExchangeResult
+  WasAborted : Cause → ExchangeResult
+  WasReported : List Event → ExchangeResult
+  Had : ExchangeResult
+  -- good replies in start-up: the page is checked; it has a fault; the next mode; any other
+  Checked : ExchangeResult
+  Faulted : Why → ExchangeResult
+  Rose : Mode → ExchangeResult
+  Went : ExchangeResult
+
+-- a loss cuts off the request under way
+-- REQ-11
+abbrev pub lost_steps : Option Request → List PortStep
+lost_steps None = DropImage ∷ Move Down (Some Lost) ∷ []
+lost_steps (Some request) = Unknown LinkLost ∷ DropImage ∷ Move Down (Some Lost) ∷ []
+
+abbrev pub brought_steps : ExchangeResult → Option Request → List PortStep
+brought_steps Missed request = []
+brought_steps Gone request = lost_steps request
+brought_steps WasBusy request = Busy ∷ ShowImage ∷ []
+brought_steps (WasAnswered answer) request = Done answer ∷ ShowImage ∷ []
+brought_steps (WasAborted cause) request = Unknown cause ∷ ShowImage ∷ []
+brought_steps (WasReported events) request = Report events ∷ ShowImage ∷ []
+brought_steps Had request = ShowImage ∷ []
+brought_steps Checked request = TellLength ∷ []
+brought_steps (Faulted why) request = Move Down (Some why) ∷ []
+brought_steps (Rose mode) request = Move mode None ∷ []
+brought_steps Went request = []
+
+-- a restart cuts it off too
+-- REQ-11
+abbrev pub restart_steps : Option Request → List PortStep
+restart_steps None = DropImage ∷ Move Down None ∷ []
+restart_steps (Some request) = Unknown Restarted ∷ DropImage ∷ Move Down None ∷ []
+
+-- what the turn says where nothing ended in it
+abbrev pub quiet_said : Option Request → Said
+quiet_said None = Idle
+quiet_said (Some request) = SaidBusy
+
+abbrev pub lost_said : Option Request → Said
+lost_said None = Idle
+lost_said (Some request) = Cut LinkLost

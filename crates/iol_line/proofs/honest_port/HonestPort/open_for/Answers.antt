@@ -1,7 +1,0 @@
-use Rattle.iol_line.proofs.Runs.{began}
-use Rattle.iol_line.proofs.honest_port.HonestPort.open_for.Goals as goal
-
-pub invariant_of-result : goal.invariant_of-result
-invariant_of-result g c =
-    rw (c.of-at.ensures, c.of-from.ensures, c.of.ensures, c.of-in-Ok.ensures)
-    (began c.in-Ok.core c.args.devices c.args.limits.now g.at c.in-Ok.ensures.opens)

@@ -1,4 +1,0 @@
-use Rattle.iol_line.proofs.honest_port.HonestPort.open_for.Given as goal
-
-abbrev pub ghost-of : goal.ghost-of
-ghost-of g a = g.at

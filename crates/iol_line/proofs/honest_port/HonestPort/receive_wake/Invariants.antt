@@ -1,4 +1,0 @@
-use Rattle.iol_line.proofs.honest_port.HonestPort.receive_wake.Given as goal
-
-abbrev pub ghost-of : goal.ghost-of
-ghost-of g a = record a.near.now.at { far = g.after }

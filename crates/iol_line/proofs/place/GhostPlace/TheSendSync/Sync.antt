@@ -1,7 +1,0 @@
--- A place owns nothing, so any thread may share it.
-use denote.Param.Send.{IsSync, part_keyless}
-use Rattle.iol_line.specs.contracts.place.GhostPlace.{the_row}
-use Rattle.iol_line.proofs.place.GhostPlace.TheSendSync.Send.{send}
-
-pub sync : IsSync the_row
-sync = record { shared = λ d b o κ q. part_keyless the_row send q d b o }

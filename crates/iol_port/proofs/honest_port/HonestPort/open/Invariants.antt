@@ -1,0 +1,4 @@
+use Rattle.iol_port.proofs.honest_port.HonestPort.open.Given as goal
+
+abbrev pub ghost-open_for : goal.ghost-open_for
+ghost-open_for g a = g.at

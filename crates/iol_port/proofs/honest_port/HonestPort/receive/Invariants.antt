@@ -1,0 +1,4 @@
+use Rattle.iol_port.proofs.honest_port.HonestPort.receive.Given as goal
+
+abbrev pub ghost-of : goal.ghost-of
+ghost-of g a = g.after

@@ -1,9 +1,0 @@
-pub mod Step
-pub mod Session
-pub mod FrozenEvents
-pub mod Images
-pub mod Bridge
-pub mod Kinds
-pub mod Station
-pub mod Turn
-pub mod Exchange
