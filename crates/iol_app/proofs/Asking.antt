@@ -118,10 +118,8 @@ module _ (t : SessionState) (old new : Option Current)
 
   -- both ends stand with it
   stands_same : (s : Operate) (g : Ghost) (far : Far) (n : ℕ) (hidden : Hidden) (busy : ℕ)
-      (asked fresh : Bool) → BothEndsStand (operate_core s t old) g far n
+      (asked : Bool) → BothEndsStand (operate_core s t old) g far n
       → IfSome t.exchange Same
-      → (IsTrue fresh
-      → IsIdle (progress_of t.configuration.devices t.clear new) × (handed_request far.isdu ≡ None))
       → hidden.late ≡ None → IsOpen far.isdu (request_under_way new) hidden
       → (repeats_in g.kind.hands_over s.layouts.run.od (at t.exchange new) ≡ false
       → AnswerFits g.request.base (request_under_way new) hidden far.carried)
@@ -129,12 +127,10 @@ module _ (t : SessionState) (old new : Option Current)
       → (IsSome (request_under_way new) → IsTrue (knows_isdu g.page))
       → BothEndsStand (operate_core s t new) (record g {
         request = record g.request { hidden = hidden; busy = busy; asked = asked };
-        fresh = fresh;
       }) far n
-  stands_same s g far n hidden busy asked fresh h same idle late opens answer seen known =
+  stands_same s g far n hidden busy asked h same late opens answer seen known =
       let after : Ghost = record g {
         request = record g.request { hidden = hidden; busy = busy; asked = asked };
-        fresh = fresh;
       } in
       let linked = rw progress at h.request.linked in
       let level = level_same g s.layouts.run h.request.link t.exchange s.out far same
@@ -157,7 +153,7 @@ unbegun : (devices : Devices) (hands_over : HandsOver) (size : ℕ) (e : Option 
 unbegun devices hands_over size e = grind (arith, common_steps)
 
 opened : (state : IsduState) (h : Hidden) (r : Request) → IsOpen state None h → h.late ≡ None
-    → IsOpen state (Some r) (record { answer = None; late = None }) × (handed_request state ≡ None)
+    → IsOpen state (Some r) (record { answer = None; late = None })
 opened state h r opens late = grind (arith, common_steps)
 
 pub begin_gives : (s : Operate) (t : SessionState) (g : Ghost) (far : Far) (n : ℕ)
@@ -175,9 +171,9 @@ begin_gives s t g far n request h suits known follows =
     let opens = opened far.isdu g.request.hidden request h.request.opens h.request.late in
     record {
       stands = stands_same t None next (sym stays) (λ k. refl) s g far n
-          (record { answer = None; late = None }) 0 false true h
+          (record { answer = None; late = None }) 0 false h
           (begun_same devices t.exchange (new_current (od_size t.layout) request) refl suits)
-          (λ k. (rw stays (resting_idle devices t.clear), opens.1)) refl opens.0
+          refl opens
           (λ once. inl (
             refl,
             h.request.answer (unbegun devices g.kind.hands_over s.layouts.run.od t.exchange),
@@ -210,7 +206,7 @@ aborts_by cause asks s t current g far n h may =
     let next : Option Current = Some (current_with_abort cause current) in
     let same = aborted_same t.configuration.devices cause current t.exchange in
     stands_same t (Some current) next refl (λ k. k) s g far n g.request.hidden g.request.busy asks
-    g.fresh h same h.fresh h.request.late h.request.opens
+    h same h.request.late h.request.opens
     (λ once. h.request.answer (repeats_same t (Some current) next refl (λ k. k)
     g.kind.hands_over s.layouts.run.od t.exchange same ∙ once)) (h.request.busy.0, may)
     h.request.known

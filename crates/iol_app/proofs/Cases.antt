@@ -24,7 +24,7 @@ use Rattle.iol_app.proofs.EventReading.{undue}
 use Rattle.iol_app.specs.Abstract.Shown.{frozen_of}
 use Rattle.iol_event.specs.declared.event.Event.{Event}
 use Rattle.iol_event.specs.Reading.{reader_step}
-use Rattle.iol_app.proofs.Moves.{had_text, answers_data, answers_base, asks_none}
+use Rattle.iol_app.proofs.Moves.{had_text, answers_data, answers_base}
 use Rattle.iol_app.specs.declared.request.Current.{Current}
 use Rattle.iol_app.specs.declared.request.RequestProgress.{RequestProgress}
 use Rattle.iol_app.specs.declared.request.RequestProgress.TheVariants.{Sending as Cut, Doubting, Asking, Receiving, Refused}
@@ -37,13 +37,12 @@ use Rattle.iol_app.specs.State.{IsExchangeSaid, clear_after, od_size}
 use Rattle.iol_app.proofs.Moving.{sent_busy, sent_follows, busy_follows, asked_after, resting_idle, unsent_idle}
 use Rattle.iol_app.proofs.Stations.{resting_quiet}
 use Rattle.iol_app.specs.Core.{seen_in, core_out}
-use Rattle.iol_app.proofs.Had.{Good, Replied, its, Reads, Comes, m, Follows, LevelBy, before_brought, keeps, rests, took, goes_on, tied, before, settled, reached, follows, od_is, told_now}
+use Rattle.iol_app.proofs.Had.{Good, Replied, its, Reads, Comes, m, Follows, LevelBy, keeps, rests, took, goes_on, tied, before, settled, reached, follows, od_is, told_now}
 use Rattle.iol_app.proofs.ReadingOn.{Took}
 use Rattle.iol_app.specs.Abstract.Session.{MayTell}
 use Rattle.iol_app.specs.Abstract.OfDevice.{Hidden}
 use Rattle.iol_link.specs.Honest.{Clean}
 use Rattle.iol_app.proofs.Exchanging.{words}
-use Rattle.iol_app.proofs.Clash.{beside_again, calm_exchange}
 use Rattle.iol_app.proofs.CaseFacts.{aborted_session, busy_unanswered, had_answer, grown_answered, first_idle, busy_waits, hands_none, any_again, refused_waits, anew_busy, anew_clear, vain_again, vain_some, forgotten_none, EndsText, none_ends, trusts_none, doubts_of, asked_nothing, not_zero, not_both, other_once}
 
 module _ (names : TextNamesAnswer) (taken : AnswersAreTakenUp) (good : Good) where
@@ -131,7 +130,6 @@ module _ (names : TextNamesAnswer) (taken : AnswersAreTakenUp) (good : Good) whe
         let none : h.answer ≡ None = busy_unanswered g.kind.hands_over layouts.run.od base source
         far'.isdu far'.counted far'.carried h level.stands answer
         (rw (od_is a ∙ answers_data up.out.goes far' asking) at is) in
-        let beside = beside_again (Some source) far'.isdu own (Busy ∷ ShowImage ∷ []) in
         record {
           reads = reads;
           kind = WasBusy;
@@ -140,11 +138,6 @@ module _ (names : TextNamesAnswer) (taken : AnswersAreTakenUp) (good : Good) whe
           session = rw none ((refl, (tt, tt)), refl);
           frozen = ((tt, (tt, tt)), reads.same refl);
           images = ((tt, ((refl, refl), tt)), refl);
-          apart = calm_exchange source far steps Clean o g.request.hidden
-              (back ++ Busy ∷ ShowImage ∷ [])
-              (ap (λ (q : Hidden). q.answer) (sym (a.passes.kept (once asking))) ∙ none)
-              (beside.confirm refl) (beside.free refl);
-          calm = λ k. absurd (asks_none up.out.goes asks (stands.fresh k).0);
           base = base;
           level = rw (busy_follows devices cutter counted) level;
           answer = answer;
@@ -174,8 +167,6 @@ module _ (names : TextNamesAnswer) (taken : AnswersAreTakenUp) (good : Good) whe
           session = ((tells, (tt, tt)), refl);
           frozen = ((tt, (tt, tt)), reads.same refl);
           images = ((tt, ((refl, refl), tt)), refl);
-          apart = before_brought a (Done x ∷ ShowImage ∷ []) refl refl refl;
-          calm = λ k. refl;
           base = far'.carried;
           level = rw (resting_quiet devices false refl) (settled a p over had);
           answer = refl;
@@ -377,8 +368,6 @@ module _ (names : TextNamesAnswer) (taken : AnswersAreTakenUp) (good : Good) whe
             cause refl (rw is at a.stands.request.busy.1);
         frozen = ((tt, (tt, tt)), reads.same refl);
         images = ((tt, ((refl, refl), tt)), refl);
-        apart = before_brought a (Unknown cause ∷ ShowImage ∷ []) refl refl refl;
-        calm = λ k. refl;
         base = far'.carried;
         level = reached a None (inr (refl, resting_idle devices true));
         answer = refl;
@@ -435,8 +424,6 @@ module _ (names : TextNamesAnswer) (taken : AnswersAreTakenUp) (good : Good) whe
             session = ((tt, (tt, tt)), refl);
             frozen = rw (untold, whole.2, whole.1, whole.0) ((refl, (tt, tt)), refl);
             images = ((tt, ((refl, refl), tt)), refl);
-            apart = before_brought a (Report l ∷ ShowImage ∷ []) refl refl refl;
-            calm = λ k. refl;
             base = g.request.base;
             level = before a refl;
             answer = tied a (hands_none devices g.kind.hands_over layouts.run.od Other (inr refl));

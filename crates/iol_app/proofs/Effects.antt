@@ -15,7 +15,7 @@ use Rattle.iol_mode.specs.Stands.{StateStands}
 use Rattle.iol_mode.specs.States.{InDown, StateFits, is_reset}
 use Rattle.iol_app.specs.declared.mode.Mode.TheVariants.{Down as ModeDown, Operate as ModeOperate}
 use Rattle.iol_app.specs.declared.said.Said.TheVariants.{Idle}
-use Rattle.iol_app.specs.Abstract.Steps.{PortStep, Move as MoveTo, WireCall, Moment, silence_by, CallFits, is_clash_free, is_for_book, is_report, resets}
+use Rattle.iol_app.specs.Abstract.Steps.{PortStep, Move as MoveTo, WireCall, Moment, silence_by, CallFits, is_for_book, is_report, resets}
 use Rattle.iol_app.specs.Abstract.OfDevice.{Hidden, IsOpen, hidden_through, told_through, wake_steps, told_wake, exchange_steps, told_exchanged}
 use Rattle.iol_app.specs.Abstract.Session.{MayMove, MaySession, session_after}
 use Rattle.iol_app.specs.Abstract.Events.{untold_events, MayFrozen, frozen_after}
@@ -27,18 +27,13 @@ use Rattle.iol_app.proofs.Parts.{runs-append}
 use Rattle.iol_app.proofs.OwnSession.{SessionRuns, wake_session, exchange_session, own_open, woken_if, woken_as}
 use Rattle.iol_app.proofs.FrozenPart.{FrozenRuns, ConfirmsTold, wake_frozen, exchange_frozen}
 use Rattle.iol_app.proofs.ImagesPart.{ImagesRuns, OutputsSent, wake_images, exchange_images}
-use Rattle.iol_app.proofs.Clash.{Before, no_busy, no_confirm, wake_before, exchange_before}
+use Rattle.iol_app.proofs.Aside.{Aside, wake_aside, exchange_aside}
 use Rattle.iol_app.specs.Requests.{request_under_way}
 use Rattle.iol_app.proofs.Told.{told_exchange}
 use Rattle.iol_app.proofs.Shown.{shown_as}
 use Rattle.iol_app.specs.Ends.{SentSeen}
 use Rattle.iol_app.specs.StationState.{SessionFits, mode_in}
-use Rattle.iol_app.specs.Core.{CoreState, Ghost, BothEndsStand, CallGives, Work, work_of, RequestStands, EventsStand, OutputStands, CalmAt, FreshAt, ShownStands, moment_of, seen_in, shown_in, images_in, settled_core}
-
--- outside OPERATE no request was begun just now
-stale : (state : State) (w : Work) (far : Far) → mode_in state ≢ ModeOperate → FreshAt state w far
-    → ⊥
-stale state w far below h = grind (arith, common_steps)
+use Rattle.iol_app.specs.Core.{CoreState, Ghost, BothEndsStand, CallGives, Work, work_of, RequestStands, EventsStand, OutputStands, CalmAt, ShownStands, moment_of, seen_in, shown_in, images_in, settled_core}
 
 no_reset : (was : Bool) → [] ≡ resets was false ++ []
 no_reset was = grind (arith, common_steps)
@@ -72,8 +67,7 @@ module _ (c : CoreState) (g : Ghost) (far : Far) where
     pub frozen : FrozenRuns far.events.frozen g.events.told steps far'.events.frozen told
     pub images : (m : Moment) → ImagesRuns m (images_in c g far) steps
         (images_of (shown_in c.session g.sent) far')
-    pub before : (ys : List PortStep) → no_busy ys ≡ true → no_confirm ys ≡ true
-        → IsTrue (is_clash_free ys) → Before steps ys
+    pub aside : (ys : List PortStep) → Aside steps ys
     pub opens : IsOpen far'.isdu None hidden
     pub page : far'.page ≡ far.page
     pub kind : far'.kind ≡ far.kind
@@ -108,7 +102,7 @@ module _ (c : CoreState) (g : Ghost) (far : Far) where
               wake_session m (seen_in c g) g.request.hidden far own wakes free opens_seen;
           frozen = wake_frozen far own wakes g.events.told;
           images = λ m. wake_images m (shown_in c.session g.sent) far own wakes;
-          before = λ ys busy confirm calm. wake_before far own wakes ys busy calm;
+          aside = wake_aside far own wakes;
           opens = kept.3;
           page = kept.0;
           kind = kept.1;
@@ -137,8 +131,7 @@ module _ (c : CoreState) (g : Ghost) (far : Far) where
       frozen = exchange_frozen None far own passage o g.events.told
           (unconfirming o there (told_through far own g.events.told) unconfirmed);
       images = λ m. exchange_images m None (shown_in c.session g.sent) far own passage o sent;
-      before = λ ys busy confirm calm.
-          exchange_before None far own passage o ys busy confirm calm;
+      aside = exchange_aside None far own passage o;
       opens = still_open;
       page = page_after laws passage there o ∙ page_locals laws own far;
       kind = kind_after laws passage there o ∙ laws.much.kind_kept far own;
@@ -163,7 +156,6 @@ module _ (c : CoreState) (g : Ghost) (far : Far) where
     ended hidden told = record g {
       request = record g.request { hidden = hidden; base = far'.carried };
       events = record g.events { told = told };
-      fresh = false;
     }
 
     -- how the new mode and the session stand
@@ -181,8 +173,7 @@ module _ (c : CoreState) (g : Ghost) (far : Far) where
         (told : Bool) : Type 0 where
       pub limit : next.session.limit ≡ c.session.limit
       pub configuration : next.session.configuration ≡ c.session.configuration
-      pub plain : (no_busy ys ≡ true) × (no_confirm ys ≡ true) × IsTrue (is_clash_free ys)
-          × (filter is_report ys ≡ [])
+      pub reports : filter is_report ys ≡ []
       pub book : filter is_for_book ys ≡ resets (is_reset c.state) (is_reset next.state) ++ []
       pub session : SessionRuns (moment_of c g n call) (seen_in c g) effect.hidden far'.carried ys
           (seen_in next (ended hidden told)) hidden far'.carried
@@ -202,13 +193,11 @@ module _ (c : CoreState) (g : Ghost) (far : Far) where
         → SessionFits next.state next.session → CallGives c g far n Idle next far' n'
     gives call ys next hidden told e fits_call silence fits link joined =
         let m = moment_of c g n call in
-        let before = effect.before ys e.plain.0 e.plain.1 e.plain.2 in
+        let aside = effect.aside ys in
         let after : Ghost = ended hidden told in
         let was : c.session.image ≡ None = stands.shown.image below in
         let sees : SeesPulses next.session.configuration.devices far' = rw e.configuration
         (sees_kept c.session.configuration.devices far far' effect.misses stands.sees) in
-        let never : IsTrue after.fresh → FreshAt next.state (work_of next.session) far' =
-        λ k. absurd (let z : false ≡ true = k in cc) in
         record {
           call = call;
           steps = effect.steps ++ ys;
@@ -216,16 +205,14 @@ module _ (c : CoreState) (g : Ghost) (far : Far) where
           fits = fits_call;
           silent = silence;
           terms = (e.limit, refl, e.configuration, refl);
-          clash_free = before.free;
-          fresh = λ k. absurd (stale c.state (work_of c.session) far below (stands.fresh k));
-          said_book = before.book ∙ e.book;
-          said_reports = before.reports ∙ e.plain.3;
+          said_book = aside.book ∙ e.book;
+          said_reports = aside.reports ∙ e.reports;
           session = runs-append (MaySession m) session_after _ _ _ (effect.session m) e.session;
           frozen = runs-append MayFrozen frozen_after _ _ _ effect.frozen e.frozen;
           images = runs-append (MayImages m) (images_after m) _ _ _ (effect.images m) e.images;
           image_is_last = ((λ k. absurd (below k.0)), (λ k. e.image), (λ k f. e.image ∙ sym was));
           output_is_wanted = λ k. absurd (below k.0);
-          stands = assumption (effect.page ∙ stands.page, effect.kind ∙ stands.kind, sees, never);
+          stands = assumption (effect.page ∙ stands.page, effect.kind ∙ stands.kind, sees);
         }
 
     -- it goes down, for a cause
@@ -236,7 +223,7 @@ module _ (c : CoreState) (g : Ghost) (far : Far) where
     falls call why free may = record {
       limit = refl;
       configuration = refl;
-      plain = (refl, refl, refl, refl);
+      reports = refl;
       book = no_reset (is_reset c.state);
       session = (((may, tt), tt), rw free refl);
       frozen = ((tt, tt), refl);

@@ -26,7 +26,7 @@ use Rattle.iol_mode.specs.declared.why.Why.TheVariants.{Lost}
 use Rattle.iol_app.specs.declared.mode.Mode.TheVariants.{Down as ModeDown, Operate as ModeOperate}
 use Rattle.iol_app.specs.declared.said.Said.{Said}
 use Rattle.iol_app.specs.declared.said.Said.TheVariants.{Busy as SaidBusy, Answered, Cut as SaidCut, Reported}
-use Rattle.iol_app.specs.Abstract.Steps.{PortStep, Moment, silence_left, repeats_at, doubts_at, is_clash_free, WireCall, Exchanged, silence_by, CallFits, is_for_book, is_report, book_said, reports_said, no_make}
+use Rattle.iol_app.specs.Abstract.Steps.{PortStep, Moment, silence_left, repeats_at, doubts_at, WireCall, Exchanged, silence_by, CallFits, is_for_book, is_report, book_said, reports_said, no_make}
 use Rattle.iol_app.specs.Abstract.OfDevice.{Hidden, IsOpen, hidden_through, hidden_again, again_steps, told_through, exchange_steps, told_exchanged}
 use Rattle.iol_app.specs.Abstract.Shown.{MasterFields}
 use Rattle.iol_app.specs.Abstract.OfMaster.{ExchangeResult, Missed, Gone, WasBusy, WasAnswered, WasAborted, WasReported, Had, lost_steps, brought_steps, quiet_said, lost_said}
@@ -44,8 +44,7 @@ use Rattle.iol_app.proofs.FrozenPart.{FrozenRuns, exchange_frozen, again_frozen}
 use Rattle.iol_app.proofs.ImagesPart.{ImagesRuns, OutputsSent, exchange_images, again_images}
 use Rattle.iol_app.specs.Ends.{OutputTold, EventsTold, output_for, SentSeen}
 use Rattle.iol_app.proofs.OpenLevel.{lost_opens, IsTied, tied_locals, again_late, carried_after}
-use Rattle.iol_app.proofs.Clash.{Before, exchange_before, beside_again, no_busy, no_confirm, no_clash}
-use Rattle.iol_app.proofs.Fresh.{fresh_turn}
+use Rattle.iol_app.proofs.Aside.{exchange_aside, again_aside}
 use Rattle.iol_app.proofs.Told.{told_locals, told_exchange, confirms_told}
 use Rattle.iol_app.proofs.FirstOctet.{confirms_of}
 use Rattle.iol_app.proofs.Shown.{shown_as}
@@ -93,9 +92,7 @@ said_of kind request said says = grind (arith, common_steps)
 
 -- a loss, with a request under way or none
 lost_parts : (m : Moment) (f : List Event) (told : Bool) (i : Images) (r : Option Request)
-    → (no_busy (lost_steps r) ≡ true) × (no_confirm (lost_steps r) ≡ true)
-    × IsTrue (is_clash_free (lost_steps r)) × no_clash (lost_steps r)
-    × FrozenRuns f told (lost_steps r) f told
+    → FrozenRuns f told (lost_steps r) f told
     × ImagesRuns m i (lost_steps r) (record i { image = None })
 lost_parts m f told i r = grind (arith, common_steps)
 
@@ -230,14 +227,6 @@ module _ (turn : Turn) (passage : Passage) (e : Purpose) (current : Option Curre
   pub tied' : repeats ≡ false → AnswerFits g.request.base request h passed.carried
   tied' once = rw (carried_after passage (locals far steps) o) (own_tied.1 once)
 
-  -- the steps stand before those of an outcome
-  pub before_ends : (ys : List PortStep) → no_busy ys ≡ true → no_confirm ys ≡ true
-      → IsTrue (is_clash_free ys) → Before xs (back ++ ys)
-  before_ends ys busy confirm free =
-      let b = beside_again request passed.isdu h ys in
-      exchange_before request far steps passage o (back ++ ys) (b.busy busy)
-      (b.confirm confirm) (b.free free)
-
   pub confirms : octets_confirm o ≡ confirms_events e
   confirms = sym (confirms_of (layout_in g.page (accepting_link up.link o).mode) o w.message
       up.out.goes.spells) ∙ exchange_confirms e t.events.reading current w.message
@@ -254,7 +243,7 @@ module _ (turn : Turn) (passage : Passage) (e : Purpose) (current : Option Curre
 
   abbrev pub ended : OfRequest → OfEvents → Ghost
   ended of_request of_events =
-      record g { request = of_request; events = of_events; fresh = false }
+      record g { request = of_request; events = of_events }
 
   -- what an outcome has to bring
   pub record Ends (said : Said) (call : WireCall) (next : CoreState) (of_request : OfRequest)
@@ -268,8 +257,6 @@ module _ (turn : Turn) (passage : Passage) (e : Purpose) (current : Option Curre
         passed.events.frozen of_events.told
     pub images : ImagesRuns (moment_of c g n call) (images_of (shown_in t g.sent) passed)
         (brought_steps kind request) (images_in next (ended of_request of_events) passed)
-    pub apart : Before xs (back ++ brought_steps kind request)
-    pub calm : IsTrue g.fresh → no_clash (brought_steps kind request)
     pub says : Says kind request said
     pub last : ImageIsLast (moment_of c g n call) (mode_in next.state) (images_in c g far)
         (images_in next (ended of_request of_events) passed)
@@ -297,10 +284,11 @@ module _ (turn : Turn) (passage : Passage) (e : Purpose) (current : Option Curre
         let ys : List PortStep = brought_steps kind request in
         let said_is = said_of kind request said b.says in
         let m = moment_of c g n call in
-        let beside = beside_again request passed.isdu h ys in
+        let again = again_aside request passed.isdu h ys in
+        let aside = exchange_aside request far steps passage o (back ++ ys) in
         let after : Ghost = ended of_request of_events in
         subst (λ (f : Far). ReceiveGives c g far n said next f n') (sym far_is) (record {
-          unmade = b.apart.make (beside.make said_is.2);
+          unmade = aside.make (again.make said_is.2);
           given = record {
             call = call;
             steps = xs ++ (back ++ ys);
@@ -308,11 +296,8 @@ module _ (turn : Turn) (passage : Passage) (e : Purpose) (current : Option Curre
             fits = fits;
             silent = silent;
             terms = (b.terms.0, refl, b.terms.1, refl);
-            clash_free = b.apart.free;
-            fresh = λ k. fresh_turn request far steps passage o (back ++ ys)
-                (stands.fresh k).1 (beside.calm (b.calm k));
-            said_book = b.apart.book ∙ beside.book ∙ said_is.0;
-            said_reports = b.apart.reports ∙ beside.reports ∙ said_is.1;
+            said_book = aside.book ∙ again.book ∙ said_is.0;
+            said_reports = aside.reports ∙ again.reports ∙ said_is.1;
             session = runs-append (MaySession m) session_after _ _ _
                 (exchange_session m (seen_in c g) g.request.hidden far steps passage o up.opens)
                 (runs-append (MaySession m) session_after back ys _
@@ -339,7 +324,6 @@ module _ (turn : Turn) (passage : Passage) (e : Purpose) (current : Option Curre
               link = rw far_is at link;
               joined = joined;
               calm = calm;
-              fresh = λ k. cc;
               sent = b.sent;
               request = b.request_is;
               events = b.events;
@@ -413,8 +397,6 @@ module _ (turn : Turn) (passage : Passage) (e : Purpose) (current : Option Curre
         session = (tt, rw same_request refl);
         frozen = (tt, refl);
         images = (tt, refl);
-        apart = before_ends [] refl refl refl;
-        calm = λ k. refl;
         says = says;
         last = ((λ k. absurd (more_silence n k.1)), (λ k. absurd (k refl)), (λ k l. refl));
         wanted = λ k. absurd (more_silence n k);
@@ -436,10 +418,8 @@ module _ (turn : Turn) (passage : Passage) (e : Purpose) (current : Option Curre
         record {
           terms = (refl, refl);
           session = lost_session m (seen_in c g) h' passed.carried refl third;
-          frozen = parts.4;
-          images = parts.5;
-          apart = before_ends (lost_steps request) parts.0 parts.1 parts.2;
-          calm = λ k. parts.3;
+          frozen = parts.0;
+          images = parts.1;
           says = says;
           last = ((λ k. absurd (more_silence n k.1)), (λ k. refl), (λ k l. cc));
           wanted = λ k. absurd (more_silence n k);

@@ -24,7 +24,7 @@ use Rattle.iol_link.specs.Honest.{Clean}
 use Rattle.iol_mode.specs.Stands.{StateStands, operate_link, IsAccepted}
 use Rattle.iol_mode.specs.States.{NextMode, InOperate, StateFits, next_state}
 use Rattle.iol_app.specs.declared.said.Said.{Said}
-use Rattle.iol_app.specs.Abstract.Steps.{PortStep, repeats_at, is_clash_free, ShowImage, Exchanged, Moment}
+use Rattle.iol_app.specs.Abstract.Steps.{PortStep, repeats_at, ShowImage, Exchanged, Moment}
 use Rattle.iol_app.specs.Abstract.OfMaster.{ExchangeResult, Had, brought_steps, quiet_said}
 use Rattle.iol_app.specs.Abstract.Shown.{images_of, frozen_of}
 use Rattle.iol_app.specs.BothEnds.{ReadingState, Due, wants_confirm, wants_octet, AnswerFits, ProgressFits, EventsFit}
@@ -37,7 +37,6 @@ use Rattle.iol_app.proofs.OwnSession.{SessionRuns}
 use Rattle.iol_app.proofs.FrozenPart.{FrozenRuns}
 use Rattle.iol_app.proofs.ImagesPart.{ImagesRuns}
 use Rattle.iol_app.proofs.OpenLevel.{stands_open}
-use Rattle.iol_app.proofs.Clash.{Before, no_busy, no_confirm, no_clash}
 use Rattle.iol_app.proofs.Moves.{data_had, data_after, answer_after, idle_base, begins_idle, whole_begins}
 use Rattle.iol_app.specs.declared.event_work.ReadingProgress as app
 use Rattle.iol_app.specs.declared.event_work.ReadingProgress.TheVariants.{Resting}
@@ -54,7 +53,7 @@ use Rattle.iol_app.specs.declared.output.OutputState.{OutputState}
 use Rattle.iol_app.specs.Core.{BothEndsStand, ReceiveGives, reading_at, moment_of, seen_in, shown_in, settled_core}
 use Rattle.iol_app.proofs.ReadingOn.{Took, reads_next}
 use Rattle.iol_app.proofs.SmallFacts.{begins_request, confirms_is, same_output, input_is, input_hear, input_locals, image_octets}
-use Rattle.iol_app.proofs.Exchanging.{Says, Passes, RequestWords, Turn, words, request_words, before_ends, gives, at, some_od, late', tied', confirms, told'}
+use Rattle.iol_app.proofs.Exchanging.{Says, Passes, RequestWords, Turn, words, request_words, gives, at, some_od, late', tied', confirms, told'}
 use Rattle.iol_app.proofs.CaseFacts.{more_grown}
 use Rattle.iol_app.proofs.Shown.{shown_as}
 
@@ -188,11 +187,6 @@ module _ {good : Good} {e : Purpose} {current : Option Current} (a : Replied goo
   quiet_base once idle = idle_base g.request.base there.carried progress idle
       (a.says.grown (a.once once))
 
-  -- the steps of the exchange stand before those of what it brought
-  pub before_brought : (ys : List PortStep) → no_busy ys ≡ true → no_confirm ys ≡ true
-      → IsTrue (is_clash_free ys) → Before xs (back ++ ys)
-  before_brought = before_ends turn Clean e current stands
-
   -- The events
 
   event_is : r.event ≡ not (is_empty there.events.frozen)
@@ -304,8 +298,6 @@ module _ {good : Good} {e : Purpose} {current : Option Current} (a : Replied goo
         there.events.frozen (wants_confirm (reading_then reads.due))
     pub images : ImagesRuns m (images_of (shown_in t g.sent) there) (brought_steps kind request)
         (images_of (record (shown_in t g.sent) { image = there.input }) there)
-    pub apart : Before xs (back ++ brought_steps kind request)
-    pub calm : IsTrue g.fresh → no_clash (brought_steps kind request)
     pub base : List Carried
     pub level : LevelBy base (progress_of devices clear next)
     pub answer : AnswerFits base (request_under_way next) h there.carried
@@ -330,8 +322,6 @@ module _ {good : Good} {e : Purpose} {current : Option Current} (a : Replied goo
         session = b.session;
         frozen = b.frozen;
         images = rw (same_output e t.output, image) b.images;
-        apart = b.apart;
-        calm = b.calm;
         says = b.says;
         last = (
           (λ k. image),
@@ -393,8 +383,6 @@ module _ {good : Good} {e : Purpose} {current : Option Current} (a : Replied goo
     session = ((tt, tt), rw same refl);
     frozen = ((tt, tt), reads.same none);
     images = (((refl, refl), tt), refl);
-    apart = before_brought (ShowImage ∷ []) refl refl refl;
-    calm = λ k. refl;
     base = base_now;
     level = reached next is;
     answer = rw same (answer_now leaves);

@@ -169,7 +169,7 @@ module _ (laws : Laws) (leaves : OrderlyLaws) (heard : TextsAreHeard) (s : Start
       stays_up {answered = answered} {ys = []} {hidden = effect.hidden} (record {
         limit = refl;
         configuration = refl;
-        plain = (refl, refl, refl, refl);
+        reports = refl;
         book = rw (b, before) refl;
         session = (tt, refl);
         frozen = (tt, refl);
@@ -205,7 +205,7 @@ module _ (laws : Laws) (leaves : OrderlyLaws) (heard : TextsAreHeard) (s : Start
       (record {
         limit = refl;
         configuration = refl;
-        plain = (refl, refl, refl, refl);
+        reports = refl;
         book = rw b refl;
         session = ((may_reset t.configuration.devices (stands.request.3 b), tt), rw nothing refl);
         frozen = ((tt, tt), untold_of passed.events.frozen effect.told);

@@ -5,12 +5,11 @@ pub mod Parts
 pub mod OwnSession
 pub mod FrozenPart
 pub mod ImagesPart
-pub mod Clash
+pub mod Aside
 pub mod Told
 pub mod OpenLevel
 pub mod Given
 pub mod Outputs
-pub mod Fresh
 pub mod EventReading
 pub mod Moves
 pub mod AnswerTexts

@@ -45,9 +45,6 @@ module _ {page : List ℕ} {size : ℕ} {link : FarLink} {p : Progress} {o : Lis
   pub begins_idle : (q : Request) → what ≡ Begin q → IsIdle p
   begins_idle q e = grind (arith, common_steps, sent.move)
 
-  pub asks_none : what ≡ Ask → IsIdle p → ⊥
-  asks_none e idle = grind (arith, common_steps, sent.move)
-
 -- a COUNT read wants a segment that each answer has whose text begins with the octets so far
 pub next_wants : {page : List ℕ} {size : ℕ} {link : FarLink} {r : Request} {i : ℕ} {t o : List ℕ}
     {m : MasterMsg} → IsSent page size link (IsHad r i t) o m Next → (a : Answer)

@@ -417,7 +417,7 @@ module _ {start : Start} {session : SessionState} {g : Ghost} {far far' : Far} {
                 page = w.page i;
               }) passed in y,
         );
-        plain = (refl, refl, refl, refl);
+        reports = refl;
         book = no_book _;
         left = record {
           request = q.request;

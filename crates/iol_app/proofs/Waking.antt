@@ -70,7 +70,7 @@ module _ (s : Down) (t : SessionState) (g : Ghost) (far : Far) (silence : ℕ)
       (woken_by Any true t) effect.hidden false (record {
         limit = refl;
         configuration = refl;
-        plain = (refl, refl, refl, refl);
+        reports = refl;
         book = refl;
         session = (((any, refl, refl), tt), rw free refl);
         frozen = ((tt, tt), untold_of far'.events.frozen effect.told);
@@ -94,7 +94,7 @@ module _ (s : Down) (t : SessionState) (g : Ghost) (far : Far) (silence : ℕ)
       (Reset ∷ []) (woken_by Own true t) (record effect.hidden { late = None }) false (record {
         limit = refl;
         configuration = refl;
-        plain = (refl, refl, refl, refl);
+        reports = refl;
         book = refl;
         session = ((may_reset t.configuration.devices own, tt), rw free refl);
         frozen = ((tt, tt), untold_of (far_after_wake there).events.frozen effect.told);

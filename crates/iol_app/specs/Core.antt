@@ -27,7 +27,7 @@ use Rattle.iol_mode.specs.Stands.{StateStands, IsOperating, IsAccepted}
 use Rattle.iol_app.specs.declared.mode.Mode.TheVariants.{Operate as ModeOperate}
 use Rattle.iol_app.specs.declared.said.Said.{Said}
 use Rattle.iol_app.specs.declared.said.Said.TheVariants.{Idle}
-use Rattle.iol_app.specs.Abstract.Steps.{PortStep, repeats_at, doubts_at, Make, Take, WireCall, Moment, ImageOctets, silence_by, CallFits, is_clash_free, no_make, is_for_book, is_report, book_said, reports_said, resets, output_length}
+use Rattle.iol_app.specs.Abstract.Steps.{PortStep, repeats_at, doubts_at, Make, Take, WireCall, Moment, ImageOctets, silence_by, CallFits, no_make, is_for_book, is_report, book_said, reports_said, resets, output_length}
 use Rattle.iol_app.specs.Abstract.Session.{Session, MaySession, MaySessionAll, session_after, session_through}
 use Rattle.iol_app.specs.Abstract.Events.{Frozen, MayFrozenAll, frozen_through}
 use Rattle.iol_app.specs.Abstract.Images.{Images, MayImages, MayImagesAll, images_after, images_through, image_or}
@@ -37,8 +37,7 @@ use Rattle.iol_app.specs.Abstract.Shown.{ShownProcessData, session_of, frozen_of
 use Rattle.iol_app.specs.BothEnds.{AnswerFits, WaitsElsewhere, ReadingState, wants_confirm, wants_octet}
 use Rattle.iol_app.specs.BothEnds as steps
 use Rattle.iol_app.specs.Exchange.{reading_flagged, is_output_told, hidden_lost}
-use Rattle.iol_app.specs.Abstract.Turn.{ImageIsLast, OutputIsWanted, is_calm}
-use Rattle.std.specs.List.{list_all}
+use Rattle.iol_app.specs.Abstract.Turn.{ImageIsLast, OutputIsWanted}
 use Rattle.iol_app.specs.declared.event_work.EventRoom.{EventRoom}
 use Rattle.iol_app.specs.declared.event_work.ReadingProgress as app
 use Rattle.iol_app.specs.declared.event_work.ReadingProgress.TheVariants.{Resting, UnderWay, ConfirmDue, Refused}
@@ -86,8 +85,6 @@ pub record Ghost : Type 0 where
   pub events : OfEvents
   -- the last output wanted that a message carried
   pub sent : Option ImageOctets
-  -- the request was begun since the last call of the wire
-  pub fresh : Bool
 
 -- The abstract port that it shows
 
@@ -279,12 +276,6 @@ abbrev pub CalmBy : Option Sending → ℕ → Type 0
 CalmBy None silence = silence ≡ 0
 CalmBy (Some out) silence = ⊤
 
--- of a request begun since the last call of the wire no segment had a good reply, and none is
--- handed
-abbrev pub FreshAt : State → Work → Far → Type 0
-FreshAt (AtOperate s) w far = IsIdle (progress_in w) × (handed_request far.isdu ≡ None)
-FreshAt s w far = ⊥
-
 abbrev pub CalmAt : State → ℕ → Type 0
 CalmAt (AtOperate s) silence = CalmBy s.out silence
 CalmAt s silence = ⊤
@@ -310,7 +301,6 @@ pub record BothEndsStand (c : CoreState) (g : Ghost) (far : Far) (silence : ℕ)
   pub link : StateStands c.state silence far
   pub joined : SessionFits c.state c.session
   pub calm : CalmAt c.state silence
-  pub fresh : IsTrue g.fresh → FreshAt c.state (work_of c.session) far
   -- the image sent is the one carried last
   pub sent : SentSeen c.session.layout c.session.output.carried.items g.sent
   pub request : RequestStands c.state (work_of c.session) c.session.events g far
@@ -373,9 +363,6 @@ pub record CallGives (c : CoreState) (g : Ghost) (far : Far) (silence : ℕ) (sa
   pub fits : CallFits (mode_in c.state) call
   pub silent : silence_new ≡ silence_by call silence
   pub terms : TermsStay c next g after
-  pub clash_free : IsTrue (is_clash_free steps)
-  -- in the call of a request begun since the last one, no step clashes with its taking
-  pub fresh : IsTrue g.fresh → IsTrue (list_all is_calm steps)
   pub said_book : filter is_for_book steps
       ≡ resets (is_reset c.state) (is_reset next.state) ++ book_said said
   pub said_reports : filter is_report steps ≡ reports_said said
@@ -470,7 +457,6 @@ opened_ghost far told due = record {
   };
   events = record { told = told; due = due };
   sent = None;
-  fresh = false;
 }
 
 abbrev pub wanting_core : Option ImageOctets → CoreState → CoreState
@@ -487,7 +473,6 @@ restarted_ghost c g = record g {
   request = record g.request {
     hidden = hidden_lost (request_under_way c.session.current) g.request.hidden;
   };
-  fresh = false;
 }
 
 -- In OPERATE: a request is begun where none is under way, or its abort is let wait
@@ -503,7 +488,6 @@ begun_ghost g = record g {
     asked = false;
     base = g.request.base;
   };
-  fresh = true;
 }
 
 pub record BeginGives (c next : CoreState) (g : Ghost) (far : Far) (silence : ℕ)
@@ -543,7 +527,6 @@ pub record SendGives (c next : CoreState) (g after : Ghost) (far : Far) (silence
   pub session : session_in c g far ≡ session_in next after far
   pub frozen : frozen_in g far ≡ frozen_in after far
   pub may : (call : WireCall) → MayImages (moment_of c g silence call) Make (images_in c g far)
-  pub fresh : g.fresh ≡ after.fresh
   pub terms : TermsStay c next g after
   pub images : (call : WireCall)
       → images_after (moment_of c g silence call) Make (images_in c g far)

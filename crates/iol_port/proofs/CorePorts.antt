@@ -2,7 +2,7 @@
 -- port.
 use Rattle.std.proofs.Common.{◌≡◌, ◌∷◌, ◌++◌, [], List, ℕ, Bool, true, false, cond, not, ◌&&◌, Option, Some, None, refl, ap, sym, ◌∙◌, subst, inl, inr, arith}
 use Rattle.std.specs.Prelude.{IsTrue}
-use Rattle.std.specs.List.{list_all, list_any}
+use Rattle.std.specs.List.{list_all}
 use Rattle.std.proofs.lemmas.Grind.{common_steps}
 use Rattle.iol_far.specs.Far.{Far}
 use Rattle.iol_link.specs.WireFacts.{WireFacts}
@@ -14,7 +14,7 @@ use Rattle.iol_mode.specs.Exchanges.{IsSending}
 use Rattle.iol_app.specs.declared.mode.Mode.TheVariants.{Operate}
 use Rattle.iol_app.specs.declared.said.Said.{Said}
 use Rattle.iol_app.specs.declared.said.Said.TheVariants.{Idle}
-use Rattle.iol_app.specs.Abstract.Steps.{PortStep, Make, Reset, WireCall, Moment, is_clash_free, no_make, resets, book_said}
+use Rattle.iol_app.specs.Abstract.Steps.{PortStep, Make, Reset, WireCall, Moment, no_make, resets, book_said}
 use Rattle.iol_app.specs.Abstract.Session.{Session, MaySessionAll, session_through}
 use Rattle.iol_app.specs.Abstract.Images.{MayImagesAll, images_through}
 use Rattle.iol_app.specs.declared.event_work.EventRoom.{EventRoom}
@@ -34,13 +34,13 @@ use Rattle.iol_page.specs.declared.identity.Identity.{Identity}
 use Rattle.iol_port.specs.declared.call.Counting.{Counting}
 use Rattle.iol_port.specs.declared.call.Call.TheVariants as call
 use Rattle.iol_port.specs.EveryWire.{page_shown}
-use Rattle.iol_port.specs.Run.{counting_of, PortState, Pending, SendOf, PieceOf, Send, Receive, port_at_opening, is_sending_step, is_take, moment_by}
+use Rattle.iol_port.specs.Run.{counting_of, PortState, Pending, SendOf, PieceOf, Send, Receive, port_at_opening, is_sending_step, moment_by}
 use Rattle.iol_port.specs.declared.awaited.AwaitedAnswer.TheVariants.{Nothing, Wake, Reply}
 use Rattle.iol_port.specs.Owners.{owners_through}
 use Rattle.iol_port.specs.View.{PortParts, Choice, IsOutInOperate, IsTied, PendingAt, StandsFor, OpensWell, IsOpened, opening_for, IsAbstractCall, Does, BeginsNext, TakesNext, abstract_port}
 use Rattle.iol_book.specs.declared.limits.Limits.{Limits}
 use Rattle.iol_port.specs.CorePort.{IsNewFor, CoreOpensFor, station_without_wire, awaited_answer, at_end, parts_over, CoreDoes, PieceDoes, SendDoes, ReceiveDoes, WakeDoes}
-use Rattle.iol_port.proofs.Filters.{book_through-filter, MayBookAll-filter, kept_through-filter, clash_free-deny, is_beside, may_book_said}
+use Rattle.iol_port.proofs.Filters.{book_through-filter, MayBookAll-filter, kept_through-filter, takes_none, is_no_taking, may_book_said}
 use Rattle.iol_port.proofs.TurnLemmas.{First, Begun, Settles, ahead, images_ahead, under, begun, none_down, terms_of}
 use Rattle.iol_port.proofs.CallLemmas.{none_pending, expect_does, set_cycle_does}
 
@@ -95,7 +95,6 @@ record Sent (mid k : CoreState) (g after : Ghost) (far : Far) (n : ℕ) (made : 
       (images_in mid g far)
   images : (call : WireCall) → images_in k after far
       ≡ images_through (moment_of mid g n call) (make_of made) (images_in mid g far)
-  fresh : IsTrue g.fresh → IsTrue after.fresh
   terms : TermsStay mid k g after
   asks : mode_in k.state ≡ Operate → n ≡ 0
       → ordered_output k.state k.session ≡ mid.session.output.wanted
@@ -116,24 +115,16 @@ is_sent {mid = mid} {g = g} {far = far} {n = n} sends tried stands =
           frozen = sym s.frozen;
           may = λ call. (s.may call, tt);
           images = λ call. sym (s.images call);
-          fresh = subst IsTrue s.fresh;
           terms = s.terms;
           asks = λ up calm. s.asks;
         },
       )
     ]
 
--- what comes first is of the sending too, and clashes with nothing
+-- what comes first is of the sending too
 ahead_sends : (first : First) (made : Bool)
     → IsTrue (list_all is_sending_step (ahead first (make_of made)))
 ahead_sends first made = grind (arith, common_steps)
-
-ahead_free : (first : First) (made : Bool) → IsTrue (is_clash_free (ahead first (make_of made)))
-ahead_free first made = grind (arith, common_steps)
-
-ahead_takes : (first : First) (made : Bool)
-    → list_any is_take (ahead first (make_of made)) ≡ list_any is_take (ahead first [])
-ahead_takes first made = grind (arith, common_steps)
 
 -- where nothing was out
 goes_out : {s : StationState (Unit {0})} {start : BookState} {after : Ghost} {made : Bool}
@@ -141,7 +132,7 @@ goes_out : {s : StationState (Unit {0})} {start : BookState} {after : Ghost} {ma
     → next.sent ≡ true → next.book.state ≡ start
     → (b : Begun p.station p.book.state s start u.ghost far n)
     → Sent (core_of (under b.current p.station)) (core_of next.station)
-    (record u.ghost { request = b.request; fresh = b.fresh }) after far n made
+    (record u.ghost { request = b.request }) after far n made
     → (m : PortState) × PieceOf (abstract_port (at_end far n) p u) Send answered.Nothing m
     × StandsFor (at_end far n) next m
 goes_out {start = start} {after = after} {made = made} p next far n u none kept sent book_is b s =
@@ -153,10 +144,7 @@ goes_out {start = start} {after = after} {made = made} p next far n u none kept 
     let c : Choice = record {
       owners = owners_through steps u.owners;
       ghost = after;
-      pending = Some (record {
-        took = list_any is_take steps;
-        wanted = p.station.session.output.wanted;
-      });
+      pending = Some (record { wanted = p.station.session.output.wanted });
     } in (
       abstract_port (at_end far n) next c,
       (
@@ -165,7 +153,6 @@ goes_out {start = start} {after = after} {made = made} p next far n u none kept 
           free = none;
           steps = steps;
           only = ahead_sends b.first made;
-          clash_free = ahead_free b.first made;
           may_book = book.0;
           book = book_is ∙ (made_book made start).1 ∙ book.1;
           may_session = λ call. b.may_session (moment_by before call) refl (make_of made)
@@ -186,7 +173,7 @@ goes_out {start = start} {after = after} {made = made} p next far n u none kept 
         record {
           is_honest = refl;
           both = s.stands;
-          out = (sent, (λ took. s.fresh (b.takes (rw (ahead_takes b.first made) at took))), s.asks);
+          out = (sent, s.asks);
         },
         refl,
       ),
@@ -199,7 +186,7 @@ pub send_does : (p next : Bare) (s : StationState (Unit {0})) (start : BookState
 unfolding SendDoes
 send_does p next s start free begins sends book kept sent = λ far n a for_a.
     let (u, shows, is) = for_a in
-    let none = none_pending u.pending p.sent (core_of p.station) u.ghost n free shows.out in
+    let none = none_pending u.pending p.sent (core_of p.station) n free shows.out in
     let b = begun begins shows.both in
     let (m, piece, after) = goes_out p next far n u none kept sent book b
     (is_sent (rw b.is at sends) (rw none at shows.out).1 b.stands).2 in
@@ -214,10 +201,10 @@ again_does p sent = λ far n a for_a.
 
 -- What comes back
 
-unsent_all : (t : ℕ) (steps : List PortStep) → IsTrue (list_all (is_beside t) steps)
+unsent_all : (steps : List PortStep) → IsTrue (list_all is_no_taking steps)
     → no_make steps ≡ true → IsTrue (list_all (λ step. not (is_sending_step step)) steps)
-unsent_all t [] h k = refl
-unsent_all t (step ∷ steps) h k = grind (arith, common_steps, unsent_all t steps)
+unsent_all [] h k = refl
+unsent_all (step ∷ steps) h k = grind (arith, common_steps, unsent_all steps)
 
 -- to what is out
 module _ (p next : Bare) (far far' : Far) (n n' : ℕ) (said : Said) (free : next.sent ≡ false)
@@ -227,7 +214,7 @@ module _ (p next : Bare) (far far' : Far) (n n' : ℕ) (said : Said) (free : nex
       × StandsFor (at_end far' n') next b
 
   receives : (u : Choice) (out : Pending) → u.pending ≡ Some out
-      → PendingAt (Some out) p.sent (core_of p.station) u.ghost n
+      → PendingAt (Some out) p.sent (core_of p.station) n
       → TakeUpGives (core_of p.station) u.ghost far n said (core_of next.station) far' n'
       → Receives (abstract_port (at_end far n) p u)
   receives u out was shown r =
@@ -246,13 +233,10 @@ module _ (p next : Bare) (far far' : Far) (n n' : ℕ) (said : Said) (free : nex
             out = out;
             was = was;
             turn = record { call = x.call; steps = x.steps };
-            only = unsent_all 0 x.steps (clash_free-deny 0 x.steps began ended said x.said_book)
-                r.unmade;
-            calm = λ took. x.fresh (shown.1 took);
+            only = unsent_all x.steps (takes_none x.steps began ended said x.said_book) r.unmade;
             all = record {
               fits = x.fits;
               silence = x.silent;
-              clash_free = x.clash_free;
               terms = terms_of x.terms;
             };
             work = record {
@@ -276,7 +260,7 @@ module _ (p next : Bare) (far far' : Far) (n n' : ℕ) (said : Said) (free : nex
               may_images = x.images.0;
               images = sym x.images.1;
               image_is_last = x.image_is_last;
-              output_is_wanted = λ calm. x.output_is_wanted calm ∙ shown.2 calm.0 calm.1;
+              output_is_wanted = λ silent. x.output_is_wanted silent ∙ shown.1 silent.0 silent.1;
             };
             pending = refl;
           },
@@ -293,7 +277,7 @@ module _ (p next : Bare) (far far' : Far) (n n' : ℕ) (said : Said) (free : nex
       subst Receives (sym is) (by u u.pending refl shows.out (gives u.ghost shows.both))
     where
       by : (u : Choice) (x : Option Pending) → u.pending ≡ x
-          → PendingAt x p.sent (core_of p.station) u.ghost n
+          → PendingAt x p.sent (core_of p.station) n
           → TakeUpGives (core_of p.station) u.ghost far n said (core_of next.station) far' n'
           → Receives (abstract_port (at_end far n) p u)
       by u None was shown r = absurd (let k : true ≡ false = sym sent ∙ shown.0 in cc)
@@ -443,7 +427,7 @@ module _ {W : Type 0} (facts : WireFacts W) (wire wire' : W) where
         counters = p.counters;
       } in
       let none : a.pending ≡ None = ap (λ (x : PortState). x.pending) is
-      ∙ none_pending u.pending p.sent (core_of p.station) u.ghost (silence wire) free shows.out in
+      ∙ none_pending u.pending p.sent (core_of p.station) (silence wire) free shows.out in
       let (m, sends, for_m) =
       send_does p between s start free begins t.puts.steps refl refl refl (far wire)
       (silence wire) a

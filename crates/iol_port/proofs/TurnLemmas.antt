@@ -8,7 +8,6 @@ use Rattle.iol_book.specs.BookModel.{BookState}
 use Rattle.iol_app.specs.declared.mode.Mode.TheVariants.{Down}
 use Rattle.iol_app.specs.declared.said.Said.{Said}
 use Rattle.std.specs.Prelude.{IsTrue}
-use Rattle.std.specs.List.{list_any}
 use Rattle.iol_far.specs.Far.{Far}
 use Rattle.iol_app.specs.Abstract.Images.{Images, MayImagesAll, images_through}
 use Rattle.iol_app.specs.declared.request.Current.{Current}
@@ -26,7 +25,6 @@ use Rattle.iol_app.specs.Seen.{BeginSteps, DenySteps, core_of}
 use Rattle.iol_port.specs.declared.call.Call.{Call}
 use Rattle.iol_port.specs.declared.call.Answered.{Answered}
 use Rattle.iol_port.specs.Steps.{MayBookAll, book_after, book_through, kept_through}
-use Rattle.iol_port.specs.Run.{is_take}
 use Rattle.iol_port.specs.View.{PortParts, BeginsNext, BookDoes, KeepsLimits}
 use Rattle.iol_far.specs.declared.kind.Kind.{Kind}
 use Rattle.iol_mode.specs.declared.configuration.Configuration.{Configuration}
@@ -91,20 +89,18 @@ module _ {W : Type 0} where
     pub first : First
     pub current : Option Current
     pub request : OfRequest
-    pub fresh : Bool
     pub is : mid ≡ under current s
     pub stands : BothEndsStand (core_of (under current s))
-        (record g { request = request; fresh = fresh }) far n
-    pub takes : IsTrue (list_any is_take (ahead first [])) → IsTrue fresh
+        (record g { request = request }) far n
     pub book : (steps : List PortStep) → MayBookAll steps after → MayBookAll (ahead first steps) b
         × (book_through steps after ≡ book_through (ahead first steps) b)
     pub may_session : (m : Moment) → m.terms.page ≡ g.page → (steps : List PortStep)
         → MaySessionAll m steps (core.session_in (core_of (under current s))
-        (record g { request = request; fresh = fresh }) far)
+        (record g { request = request }) far)
         → MaySessionAll m (ahead first steps) (core.session_in (core_of s) g far)
     pub session : (steps : List PortStep)
         → session_through steps (core.session_in (core_of (under current s))
-        (record g { request = request; fresh = fresh }) far)
+        (record g { request = request }) far)
         ≡ session_through (ahead first steps) (core.session_in (core_of s) g far)
 
   pub begun : {s mid : StationState W} {b after : BookState} {g : Ghost} {far : Far} {n : ℕ}
@@ -114,10 +110,8 @@ module _ {W : Type 0} where
     first = Neither;
     current = s.session.current;
     request = g.request;
-    fresh = g.fresh;
     is = is;
     stands = stands;
-    takes = λ none. absurd (cc);
     book = rw b_is (λ steps may. (may, refl));
     may_session = λ m page steps may. may;
     session = λ steps. refl;
@@ -131,10 +125,8 @@ module _ {W : Type 0} where
         first = Takes t q;
         current = (session_after_begin q s.session).current;
         request = (begun_ghost g).request;
-        fresh = true;
         is = is;
         stands = gives.stands;
-        takes = λ _. refl;
         book = rw b_is (λ steps may. ((head, may), refl));
         may_session = λ m page steps may. (gives.may m t.0 page, rw (gives.is t.0) may);
         session = λ steps. ap (session_through steps) (sym (gives.is t.0));
@@ -144,10 +136,8 @@ module _ {W : Type 0} where
         first = Denies t;
         current = s.session.current;
         request = g.request;
-        fresh = g.fresh;
         is = is;
         stands = stands;
-        takes = λ none. absurd (cc);
         book = rw b_is (λ steps may. ((head, may), refl));
         may_session = λ m page steps may. (denies g far n stands m t.0 page, may);
         session = λ steps. refl;

@@ -157,34 +157,6 @@ pub record Moment : Type 0 where
 abbrev pub silence_left : Moment → ℕ
 silence_left moment = silence_by moment.call moment.silence
 
--- Steps of one turn beside each other
-
--- two steps that don't stand in one turn: a second of a kind, a denial beside a
--- taking, and a busy reply beside the taking or the carrying out of its request
-abbrev pub clash : PortStep → PortStep → Bool
-clash (Take ticket request) (Take other next) = true
-clash (Take ticket request) (Deny other) = true
-clash (Deny ticket) (Take other next) = true
-clash (Deny ticket) (Deny other) = true
-clash (Done answer) (Done other) = true
-clash (Unknown cause) (Unknown other) = true
-clash (Report events) (Report others) = true
-clash Confirm Confirm = true
-clash Make Make = true
-clash Start Start = true
-clash Reset Reset = true
-clash Busy Busy = true
-clash Busy (Take ticket request) = true
-clash (Take ticket request) Busy = true
-clash Busy (Carry answer) = true
-clash (Carry answer) Busy = true
-clash step other = false
-
-abbrev pub is_clash_free : List PortStep → Bool
-is_clash_free [] = true
-is_clash_free (step ∷ steps) =
-    list_all (λ other. not (clash step other)) steps && is_clash_free steps
-
 -- no message is made in them
 abbrev pub no_make : List PortStep → Bool
 no_make [] = true

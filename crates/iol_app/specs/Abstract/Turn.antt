@@ -3,12 +3,8 @@
 use Rattle.std.specs.Prelude.{◌≡◌, ◌≢◌, ◌⊎◌, ◌≤◌, Bool, not, None}
 use Rattle.iol_app.specs.declared.mode.Mode.{Mode}
 use Rattle.iol_app.specs.declared.mode.Mode.TheVariants.{Operate}
-use Rattle.iol_app.specs.Abstract.Steps.{PortStep, Busy, silence_by, Moment, clash}
+use Rattle.iol_app.specs.Abstract.Steps.{silence_by, Moment}
 use Rattle.iol_app.specs.Abstract.Images.{Images}
-
--- whether a step may stand in the turn in which its request is taken
-abbrev pub is_calm : PortStep → Bool
-is_calm step = not (clash Busy step)
 
 -- a turn that began in OPERATE and leaves no silence leaves the image equal to the device's
 -- input; one that ends in another mode leaves none; any other leaves the image as it was
