@@ -1,6 +1,6 @@
--- The steps of the far end make no message, and say nothing to the book nor of reports: beside those
--- of the master they are what `said_book` and `said_reports` of a call leave out.
-use Rattle.std.proofs.Common.{◌≡◌, ℕ, Bool, true, false, List, [], ◌∷◌, ◌++◌, filter, arith}
+-- The steps of the far end make no message, and say nothing to the book nor of reports: what a call
+-- says is what the steps of the master beside them say.
+use Rattle.std.proofs.Common.{◌≡◌, ℕ, Bool, true, false, not, ◌&&◌, List, [], ◌∷◌, ◌++◌, filter, arith}
 use Rattle.std.proofs.lemmas.Grind.{common_steps}
 use Rattle.std.specs.Prelude.{Option, Some, None, ⊤}
 use Rattle.iol_mseq.specs.declared.master.MasterMsg.{MasterMsg}

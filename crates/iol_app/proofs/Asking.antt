@@ -9,12 +9,12 @@ use Rattle.iol_page.specs.declared.page.Layouts.{Layouts}
 use Rattle.iol_isdu.specs.declared.values.Request.{Request}
 use Rattle.iol_isdu.specs.declared.values.Cause.{Cause}
 use Rattle.iol_isdu.specs.declared.values.Cause.TheVariants.{Cancelled}
-use Rattle.iol_far.specs.Isdu.{IsduState, handed_request}
+use Rattle.iol_far.specs.Isdu.{IsduState}
 use Rattle.iol_far.specs.Far.{Far}
 use Rattle.iol_mseq.specs.Shape.{Shape}
 use Rattle.iol_far.specs.declared.kind.Kind.{Kind}
 use Rattle.iol_far.specs.declared.kind.HandsOver.{HandsOver}
-use Rattle.iol_far.specs.Level.{FarLink, IsIdle}
+use Rattle.iol_far.specs.Level.{FarLink}
 use Rattle.iol_link.specs.Attempts.{Sending}
 use Rattle.iol_mode.specs.declared.states.Operate.{Operate}
 use Rattle.iol_mode.specs.Next.{message_out}
@@ -34,7 +34,7 @@ use Rattle.iol_app.specs.Requests.{request_under_way, new_current, current_with_
 use Rattle.iol_app.specs.Moves.{progress_of, move_for}
 use Rattle.iol_app.specs.Ends.{BusySeen, AbortAt}
 use Rattle.iol_app.specs.State.{SessionState, IsOutBy, OutSuits, od_size}
-use Rattle.iol_app.proofs.Moving.{resting_idle, sent_busy}
+use Rattle.iol_app.proofs.Moving.{sent_busy}
 use Rattle.iol_app.proofs.Shown.{shown_as}
 use Rattle.iol_app.specs.Core.{Ghost, BothEndsStand, BeginGives, Work, work_of, repeats_in, vain_by, vain_in, AgainBy, OutBy, LevelOut, OperateRequest, operate_core, asking_ghost, session_in, reading_in}
 

@@ -1,5 +1,5 @@
 -- The good replies of OPERATE, kind by kind, by the code's own data.
-use Rattle.std.proofs.Common.{◌≡◌, inl, inr, ℕ, suc, ◌+◌, ◌*◌, ◌%◌, min, Bool, true, false, ◌==◌, List, [], ◌∷◌, ◌++◌, length, refl, sym, ap, ◌∙◌, subst, arith, Option, Some, None, ◌⊎◌}
+use Rattle.std.proofs.Common.{◌≡◌, inl, inr, ℕ, suc, ◌+◌, ◌*◌, ◌%◌, min, Bool, true, false, ◌==◌, List, ◌++◌, length, refl, sym, ap, ◌∙◌, subst, arith, Option, Some, None, ◌⊎◌}
 use Rattle.std.specs.Prelude.{IfSome, IsTrue, is_some, if◌then◌else◌, nat_lt, slice_index, MatchOption}
 use Rattle.arrayvec.specs.ArrayVec.{ArrayVec}
 use Rattle.iol_octets.specs.declared.flow_control.Flow.{Flow}
@@ -17,7 +17,7 @@ use Rattle.iol_mode.specs.declared.configuration.Devices.{Devices}
 use Rattle.iol_mode.specs.declared.configuration.Devices.TheVariants.{Any}
 use Rattle.iol_mode.specs.Kinds.{trusted_recalls}
 use Rattle.iol_app.specs.declared.said.Said.TheVariants.{Busy as SaidBusy, Answered, Cut as SaidCut, Reported}
-use Rattle.iol_app.specs.Abstract.Steps.{Busy, Done, Unknown, Report, ShowImage, misreads_at}
+use Rattle.iol_app.specs.Abstract.Steps.{misreads_at}
 use Rattle.iol_app.specs.Abstract.OfMaster.{WasBusy, WasAnswered, WasAborted, WasReported, quiet_said}
 use Rattle.iol_app.specs.Exchange.{ReadsAnswer, TextNamesAnswer}
 use Rattle.iol_app.proofs.EventReading.{undue}
@@ -40,7 +40,6 @@ use Rattle.iol_app.specs.Core.{seen_in, core_out}
 use Rattle.iol_app.proofs.Had.{Good, Replied, its, Reads, Comes, m, Follows, LevelBy, keeps, rests, took, goes_on, tied, before, settled, reached, follows, od_is, told_now}
 use Rattle.iol_app.proofs.ReadingOn.{Took}
 use Rattle.iol_app.specs.Abstract.Session.{MayTell}
-use Rattle.iol_app.specs.Abstract.OfDevice.{Hidden}
 use Rattle.iol_link.specs.Honest.{Clean}
 use Rattle.iol_app.proofs.Exchanging.{words}
 use Rattle.iol_app.proofs.CaseFacts.{aborted_session, busy_unanswered, had_answer, grown_answered, first_idle, busy_waits, hands_none, any_again, refused_waits, anew_busy, anew_clear, vain_again, vain_some, forgotten_none, EndsText, none_ends, trusts_none, doubts_of, asked_nothing, not_zero, not_both, other_once}

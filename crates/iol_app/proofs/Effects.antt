@@ -1,14 +1,13 @@
 -- What the far end does in one call of a port outside OPERATE, and what the port makes of it.
 use Rattle.std.proofs.Common.{◌≡◌, ◌≢◌, ◌⊎◌, ℕ, Bool, true, false, ◌&&◌, List, [], ◌∷◌, ◌++◌, filter, refl, sym, ◌∙◌, arith}
 use Rattle.std.proofs.lemmas.Grind.{common_steps}
-use Rattle.std.specs.Prelude.{Some, None, IsTrue}
+use Rattle.std.specs.Prelude.{Some, None}
 use Rattle.iol_event.specs.declared.event.Event.{Event}
 use Rattle.iol_far.specs.Isdu.{Empty}
 use Rattle.iol_far.specs.Far.{Far, hear}
 use Rattle.iol_far.specs.Local.{LocalStep, locals}
 use Rattle.iol_far.specs.Laws.{confirms as octets_confirm}
 use Rattle.iol_link.specs.Honest.{Passage, far_after}
-use Rattle.iol_mode.specs.declared.states.State.{State}
 use Rattle.iol_mode.specs.declared.why.Why.{Why}
 use Rattle.iol_mode.specs.Kinds.{SeesPulses}
 use Rattle.iol_mode.specs.Stands.{StateStands}
@@ -33,7 +32,7 @@ use Rattle.iol_app.proofs.Told.{told_exchange}
 use Rattle.iol_app.proofs.Shown.{shown_as}
 use Rattle.iol_app.specs.Ends.{SentSeen}
 use Rattle.iol_app.specs.StationState.{SessionFits, mode_in}
-use Rattle.iol_app.specs.Core.{CoreState, Ghost, BothEndsStand, CallGives, Work, work_of, RequestStands, EventsStand, OutputStands, CalmAt, ShownStands, moment_of, seen_in, shown_in, images_in, settled_core}
+use Rattle.iol_app.specs.Core.{CoreState, Ghost, BothEndsStand, CallGives, work_of, RequestStands, EventsStand, OutputStands, CalmAt, ShownStands, moment_of, seen_in, shown_in, images_in, settled_core}
 
 no_reset : (was : Bool) → [] ≡ resets was false ++ []
 no_reset was = grind (arith, common_steps)

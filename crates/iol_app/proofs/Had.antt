@@ -1,8 +1,8 @@
 -- A good reply in OPERATE: once for all kinds, over what a kind has to bring.
 use Rattle.std.proofs.lemmas.Grind.{common_steps}
 use Rattle.std.proofs.lemmas.Bool.Decides.{nat_tests}
-use Rattle.std.proofs.Common.{◌≡◌, ◌⊎◌, inl, inr, ℕ, suc, Bool, true, false, not, ◌&&◌, List, [], ◌∷◌, ◌++◌, length, refl, sym, ◌∙◌, ap, arith}
-use Rattle.std.specs.Prelude.{Option, Some, None, IsTrue, IsSome, IfSome, if◌then◌else◌, slice_index, nat_lt}
+use Rattle.std.proofs.Common.{◌≡◌, ◌⊎◌, inl, inr, ℕ, suc, Bool, true, false, not, ◌&&◌, List, [], length, refl, sym, ◌∙◌, ap, arith}
+use Rattle.std.specs.Prelude.{Option, Some, None, IsSome, IfSome, if◌then◌else◌, slice_index, nat_lt}
 use Rattle.iol_mseq.specs.Shape.{Shape}
 use Rattle.iol_mseq.specs.declared.reply.Reply.{Reply}
 use Rattle.iol_octets.specs.declared.control.Channel.TheVariants.{Diagnosis}
@@ -24,7 +24,7 @@ use Rattle.iol_link.specs.Honest.{Clean}
 use Rattle.iol_mode.specs.Stands.{StateStands, operate_link, IsAccepted}
 use Rattle.iol_mode.specs.States.{NextMode, InOperate, StateFits, next_state}
 use Rattle.iol_app.specs.declared.said.Said.{Said}
-use Rattle.iol_app.specs.Abstract.Steps.{PortStep, repeats_at, ShowImage, Exchanged, Moment}
+use Rattle.iol_app.specs.Abstract.Steps.{repeats_at, Exchanged, Moment}
 use Rattle.iol_app.specs.Abstract.OfMaster.{ExchangeResult, Had, brought_steps, quiet_said}
 use Rattle.iol_app.specs.Abstract.Shown.{images_of, frozen_of}
 use Rattle.iol_app.specs.BothEnds.{ReadingState, Due, wants_confirm, wants_octet, AnswerFits, ProgressFits, EventsFit}

@@ -22,7 +22,8 @@ use Rattle.iol_app.specs.Outputs.{output_to_carry}
 use Rattle.iol_app.specs.Messages.{Head, head_of, head_for, data_for}
 use Rattle.iol_app.specs.State.{SessionState, od_size, session_after_begin}
 use Rattle.iol_app.specs.Due.{due_of, is_ready}
-use Rattle.iol_app.specs.StationState.{StationState, operates}
+use Rattle.iol_app.specs.StationState.{operates}
+use Rattle.iol_app.specs.Core.{CoreState}
 
 -- the octets of a message of these parts
 abbrev pub text_by : Shape → Head → List ℕ → List ℕ → List ℕ
@@ -93,20 +94,19 @@ asked_in (AtOperate state) s room =
     Exchange
     (outgoing_of state.layouts.run (text_to_send state.layouts.run (message_out state.out) s room))
 
-module _ {W : Type 0} where
-  abbrev pub station_with_request : Option Request → StationState W → EventRoom → StationState W
-  station_with_request next s room =
-      record s { session = beginning_in next s.link.state s.session room }
+abbrev pub core_with_request : Option Request → CoreState → EventRoom → CoreState
+core_with_request next c room =
+    record c { session = beginning_in next c.state c.session room }
 
-  -- the call that the next turn makes, where there is room for events or not
-  abbrev pub asked_of : StationState W → EventRoom → Asked
-  asked_of s room = asked_in s.link.state s.session room
+-- the call that the next turn makes, where there is room for events or not
+abbrev pub asked_by : CoreState → EventRoom → Asked
+asked_by c room = asked_in c.state c.session room
 
-  -- one call of the wire is the one that was asked
-  module _ (facts : WireFacts W) where
-    open facts use {wake_gives, exchange_gives}
+-- one call of the wire is the one that was asked
+module _ {W : Type 0} (facts : WireFacts W) where
+  open facts use {wake_gives, exchange_gives}
 
-    abbrev pub IsCall : Asked → W → W → Type 0
-    IsCall Wake old new = (answer : Option Rate) × wake_gives old answer new
-    IsCall (Exchange out) old new = (answer : Option (ArrayVec ℕ))
-        × exchange_gives old out.octets.items answer new
+  abbrev pub IsCall : Asked → W → W → Type 0
+  IsCall Wake old new = (answer : Option Rate) × wake_gives old answer new
+  IsCall (Exchange out) old new = (answer : Option (ArrayVec ℕ))
+      × exchange_gives old out.octets.items answer new

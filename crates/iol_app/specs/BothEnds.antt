@@ -1,5 +1,5 @@
 -- How a session's request, its reading of events and the device stand together.
-use Rattle.std.specs.Prelude.{◌≡◌, ◌⊎◌, ℕ, ◌*◌, ◌≤◌, Bool, true, false, List, [], ◌∷◌, length, Option, Some, None, IfSome, ⊤}
+use Rattle.std.specs.Prelude.{◌≡◌, ◌⊎◌, ℕ, ◌*◌, ◌≤◌, Bool, true, false, List, ◌∷◌, length, Option, Some, None, IfSome, ⊤}
 use Rattle.iol_mseq.specs.declared.master.MasterMsg.{MasterMsg}
 use Rattle.iol_page.specs.declared.master_command.MasterCommand.{MasterCommand}
 use Rattle.iol_page.specs.declared.master_command.MasterCommand.TheVariants.{ProcessDataOutputOperate, DeviceOperate}
@@ -11,17 +11,12 @@ use Rattle.iol_event.specs.Reading.{reading}
 use Rattle.iol_far.specs.declared.carried.Carried.{Carried}
 use Rattle.iol_far.specs.declared.mode.DeviceMode as far
 use Rattle.iol_far.specs.declared.mode.DeviceMode.TheVariants.{Startup as FarStartup, Preoperate as FarPreoperate, Operate as FarOperate}
-use Rattle.iol_far.specs.Far.{Far, is_mode, output_of}
+use Rattle.iol_far.specs.Far.{Far, is_mode}
 use Rattle.iol_far.specs.Level.{Progress, Quiet, Clear, Perhaps, Written, Had, Unsure, grown_by, Busy as IsBusy}
 use Rattle.iol_far.specs.Laws.{IsFrozen, IsConfirming}
 use Rattle.iol_app.specs.declared.mode.Mode.{Mode}
 use Rattle.iol_app.specs.declared.mode.Mode.TheVariants.{Down, Startup, Preoperate, Operate}
-use Rattle.iol_app.specs.Abstract.Steps.{ImageOctets}
-use Rattle.iol_app.specs.Abstract.Session.{Job, Session}
-use Rattle.iol_app.specs.Abstract.Events.{Frozen}
-use Rattle.iol_app.specs.Abstract.Images.{Images}
 use Rattle.iol_app.specs.Abstract.OfDevice.{Hidden, confirms_by}
-use Rattle.iol_app.specs.Abstract.Shown.{MasterFields}
 
 -- The fields
 

@@ -11,7 +11,7 @@ use Rattle.iol_far.specs.declared.carried.Carried.{Carried}
 use Rattle.iol_far.specs.declared.mode.DeviceMode.TheVariants.{Operate as FarOperate}
 use Rattle.iol_far.specs.declared.kind.Kind.{Kind}
 use Rattle.iol_far.specs.declared.kind.HandsOver.{HandsOver}
-use Rattle.iol_far.specs.Level.{FarLink, Progress, IsLevelBefore, IsLevel, IsSent, IsIdle, IsOutOnce, accepting_link}
+use Rattle.iol_far.specs.Level.{FarLink, Progress, IsLevelBefore, IsLevel, IsSent, IsOutOnce, accepting_link}
 use Rattle.iol_link.specs.Attempts.{Sending, most_attempts}
 use Rattle.iol_link.specs.Honest.{HonestWake, HonestExchange}
 use Rattle.iol_mode.specs.declared.configuration.Devices.{Devices}

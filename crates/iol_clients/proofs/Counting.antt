@@ -1,13 +1,12 @@
 -- One port more is counted, for the loop of `count_ports`.
 use Rattle.std.proofs.Common.{◌≡◌, ◌+◌, ℕ, List, [], ◌∷◌, ◌++◌, length, arith, add-zero}
-use Rattle.iol_link.specs.WireFacts.{WireFacts}
 use Rattle.iol_clients.specs.declared.counts.PortCounts.{PortCounts}
 use Rattle.iol_clients.specs.Counts.{ClientState, WasCounted, AreCounted}
 
-module _ {W : Type 0} (facts : WireFacts W) (clients : List ClientState) (last : PortCounts) where
-  pub one_more : (first : ℕ) (counts : List PortCounts) → AreCounted facts first clients counts
-      → WasCounted facts (first + length counts) clients last
-      → AreCounted facts first clients (counts ++ (last ∷ []))
+module _ {W : Type 0} (clients : List ClientState) (last : PortCounts) where
+  pub one_more : (first : ℕ) (counts : List PortCounts) → AreCounted W first clients counts
+      → WasCounted W (first + length counts) clients last
+      → AreCounted W first clients (counts ++ (last ∷ []))
   one_more first [] are was = (rw add-zero at was, tt)
   one_more first (counted ∷ counts) are was =
       let one : first + length (counted ∷ counts) ≡ first + 1 + length counts = omega arith in

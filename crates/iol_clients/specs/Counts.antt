@@ -1,7 +1,6 @@
 -- What is counted of a port.
 use Rattle.std.specs.Prelude.{◌≡◌, ℕ, ◌+◌, ◌==◌, if◌then◌else◌, List, [], ◌∷◌, ⊤, Result, Ok}
 use Rattle.std.specs.List.{FoldsTo}
-use Rattle.iol_link.specs.WireFacts.{WireFacts}
 use Rattle.iol_book.specs.declared.entries.Outcome.{Outcome}
 use Rattle.iol_book.specs.declared.entries.Outcome.TheVariants.{Done, Unknown}
 use Rattle.iol_book.specs.declared.entries.Ticket.{Ticket}
@@ -9,7 +8,8 @@ use Rattle.iol_port.specs.declared.call.Call.TheVariants as call
 use Rattle.iol_port.specs.declared.fault.PortFault.{PortFault}
 use Rattle.iol_port.specs.EveryWire.{CollectGives}
 use Rattle.iol_port.specs.Replies.{outcome_reply}
-use Rattle.iol_port.specs.View.{PortValue, Does}
+use Rattle.iol_port.specs.View.{PortValue}
+use Rattle.iol_port.specs.CorePort.{CoreDoes}
 use Rattle.iol_master.specs.declared.accounts.Settled.{Settled}
 use Rattle.iol_master.specs.declared.accounts.Settled.TheVariants.{Part, Last}
 use Rattle.iol_master.specs.Counts.{DeskState}
@@ -63,39 +63,40 @@ SettlesClient total client next =
 abbrev pub AreSettled : List ClientState → ℕ → Type 0
 AreSettled clients total = FoldsTo SettlesClient 0 clients total
 
-module _ {W : Type 0} (facts : WireFacts W) where
-  -- the port's own collect
-  pub record PortCollects (p : PortValue W) (ticket : Ticket) (answer : Result Outcome PortFault)
-      (next : PortValue W) : Type 0 where
-    pub does : Does facts p.parts (call.Collect ticket) (outcome_reply answer) next.parts
-    pub gives : CollectGives p.parts ticket answer next.parts
-    pub rest : next ≡ record p { parts = next.parts }
+-- the port's own collect
+pub record PortCollects {W : Type 0} (p : PortValue W) (ticket : Ticket)
+    (answer : Result Outcome PortFault)
+    (next : PortValue W) : Type 0 where
+  pub does : CoreDoes p.parts (call.Collect ticket) (outcome_reply answer) next.parts
+  pub gives : CollectGives p.parts ticket answer next.parts
+  pub rest : next ≡ record p { parts = next.parts }
 
-  -- a ticket is collected, and counted by what that answered: the port and the counts
-  abbrev pub Notes : PortValue W × RequestCounts → Ticket → PortValue W × RequestCounts → Type 0
-  Notes (p, counted) ticket (next, more) =
-      (answer : Result Outcome PortFault) × PortCollects p ticket answer next
-      × (more ≡ counts_with_ticket counted answer)
+-- a ticket is collected, and counted by what that answered: the port and the counts
+abbrev pub Notes : {W : Type 0} → PortValue W × RequestCounts → Ticket
+    → PortValue W × RequestCounts → Type 0
+Notes (p, counted) ticket (next, more) =
+    (answer : Result Outcome PortFault) × PortCollects p ticket answer next
+    × (more ≡ counts_with_ticket counted answer)
 
-  -- so are a client's tickets, in their order
-  abbrev pub NotesClientTickets : ℕ → PortValue W × RequestCounts → ClientState
-      → PortValue W × RequestCounts → Type 0
-  NotesClientTickets port before client after = FoldsTo Notes before (tickets_at port client) after
+-- so are a client's tickets, in their order
+abbrev pub NotesClientTickets : {W : Type 0} → ℕ → PortValue W × RequestCounts → ClientState
+    → PortValue W × RequestCounts → Type 0
+NotesClientTickets port before client after = FoldsTo Notes before (tickets_at port client) after
 
-  -- some port, whose lock was held, at which this was so of each client, and of nobody else, and
-  -- which had counted this then
-  abbrev pub WasCounted : ℕ → List ClientState → PortCounts → Type 0
-  WasCounted port clients counts = (p : PortValue W) × (next : PortValue W)
-      × FoldsTo (NotesClientTickets port) (p, no_tickets) clients (next, counts.requests)
-      × (counts.counters ≡ next.parts.counters)
+-- some port, whose lock was held, at which this was so of each client, and of nobody else, and
+-- which had counted this then
+abbrev pub WasCounted : (W : Type 0) → ℕ → List ClientState → PortCounts → Type 0
+WasCounted W port clients counts = (p : PortValue W) × (next : PortValue W)
+    × FoldsTo (NotesClientTickets port) (p, no_tickets) clients (next, counts.requests)
+    × (counts.counters ≡ next.parts.counters)
 
-  -- the ports from the first on were counted
-  abbrev pub AreCounted : ℕ → List ClientState → List PortCounts → Type 0
-  AreCounted first clients [] = ⊤
-  AreCounted first clients (port ∷ ports) =
-      WasCounted first clients port × AreCounted (first + 1) clients ports
+-- the ports from the first on were counted
+abbrev pub AreCounted : (W : Type 0) → ℕ → List ClientState → List PortCounts → Type 0
+AreCounted W first clients [] = ⊤
+AreCounted W first clients (port ∷ ports) =
+    WasCounted W first clients port × AreCounted W (first + 1) clients ports
 
-  -- Some clients, whose tickets were all counted, and whose desks were settled with this total
-  abbrev pub ClientsAreServed : List PortCounts → ℕ → Type 0
-  ClientsAreServed ports total = (clients : List ClientState)
-      × AreCounted 1 clients ports × AreSettled clients total
+-- Some clients, whose tickets were all counted, and whose desks were settled with this total
+abbrev pub ClientsAreServed : (W : Type 0) → List PortCounts → ℕ → Type 0
+ClientsAreServed W ports total = (clients : List ClientState)
+    × AreCounted W 1 clients ports × AreSettled clients total

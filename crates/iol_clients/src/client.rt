@@ -95,7 +95,7 @@ impl<L: Ledger> Client<L> {
         ensures tickets { counted.new.tickets
             ≡ counted.old.tickets + accepted_at port self.now.desk }
         ensures few { accepted_at port self.now.desk ≤ 64 }
-        ensures collected { NotesClientTickets W.facts port (held.old, counted.old)
+        ensures collected { NotesClientTickets port (held.old, counted.old)
             (client_state self.now.desk self.now.tickets.items) (held.new, counted.new) }
     {
         if self.desk.port() != port {

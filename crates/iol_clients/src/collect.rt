@@ -28,7 +28,7 @@ fn count_port<W: Wire, L: Ledger, K: Ledger, R: Wait>(
     ensures up { AddsUp result.requests }
     ensures tickets { result.requests.tickets
         ≡ sum_by (λ client. accepted_at port client.desk) clients.now }
-    ensures counted { WasCounted W.facts port
+    ensures counted { WasCounted W port
         (map (λ client. client_state client.desk client.tickets.items) clients.now) result }
 {
     let Ok(mut held) = master.lock(rt, port) else {
@@ -56,7 +56,7 @@ pub(crate) fn count_ports<W: Wire, L: Ledger, K: Ledger, R: Wait>(
     requires few { length clients.now ≤ 512 }
     ensures count { IfOk result (λ counts. vec_len counts ≡ ports) }
     ensures up { IfOk result (λ counts. All (λ port. AddsUp port.requests) counts.items) }
-    ensures counted { IfOk result (λ counts. AreCounted W.facts 1
+    ensures counted { IfOk result (λ counts. AreCounted W 1
         (map (λ client. client_state client.desk client.tickets.items) clients.now) counts.items) }
 {
     let mut counts = Vec::new(alloc);

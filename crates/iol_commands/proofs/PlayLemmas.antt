@@ -7,7 +7,7 @@ use Rattle.iol_port.specs.declared.call.Call.{Call}
 use Rattle.iol_port.specs.declared.call.Answered.{Answered}
 use Rattle.iol_port.specs.Promises.{RunsJoin}
 use Rattle.iol_port.specs.EveryWire.{RunGives}
-use Rattle.iol_port.specs.View.{PortParts, Runs}
+use Rattle.iol_port.specs.View.{PortOver, Runs}
 use Rattle.iol_script.specs.RunLines.{run_form}
 use Rattle.iol_script.specs.Script.{calls_in, line_calls}
 use Rattle.iol_script.specs.declared.call_line.CallLine.{CallLine}
@@ -36,7 +36,7 @@ calls_in-first lines rest number line call is fits = rw (is, fits) refl
 
 module _ {W : Type 0} (facts : WireFacts W) where
   -- what a port makes one after the other, it makes, and answers so
-  gives_join : (p q r : PortParts W) (calls more : List Call) (replies others : List Answered)
+  gives_join : (p q r : PortOver W) (calls more : List Call) (replies others : List Answered)
       → RunGives facts p calls replies q → RunGives facts q more others r
       → RunGives facts p (calls ++ more) (replies ++ others) r
       × (answers_text (calls ++ more) (replies ++ others)
@@ -48,11 +48,11 @@ module _ {W : Type 0} (facts : WireFacts W) where
   gives_join p q r calls more replies others made later = absurd made
 
   -- and so it is for what it stands for
-  pub runs_none : (p : PortParts W) → Runs facts p [] [] p
+  pub runs_none : (p : PortOver W) → Runs facts p [] [] p
   unfolding Runs
   runs_none p a stands = (a, refl, stands)
 
-  pub runs_more : RunsJoin → (p q r : PortParts W) (calls more : List Call)
+  pub runs_more : RunsJoin → (p q r : PortOver W) (calls more : List Call)
       (replies others : List Answered) → Runs facts p calls replies q → Runs facts q more others r
       → Runs facts p (calls ++ more) (replies ++ others) r
   unfolding Runs
@@ -62,7 +62,7 @@ module _ {W : Type 0} (facts : WireFacts W) where
       (c, join a b c calls more replies others run goes_on, last)
 
   -- no call is made
-  pub plays_none : (p : PortParts W) → PortPlays facts p [] p []
+  pub plays_none : (p : PortOver W) → PortPlays facts p [] p []
   plays_none p = record {
     answers = [];
     made = refl;
@@ -72,7 +72,7 @@ module _ {W : Type 0} (facts : WireFacts W) where
   }
 
   -- more calls are made
-  pub port_plays_join : RunsJoin → (p q r : PortParts W) (calls more : List Call)
+  pub port_plays_join : RunsJoin → (p q r : PortOver W) (calls more : List Call)
       (text later : List ℕ)
       → PortPlays facts p calls q text → PortPlays facts q more r later
       → PortPlays facts p (calls ++ more) r (text ++ later)

@@ -7,13 +7,12 @@ use Rattle.std.specs.Io.KnownBytes.{Appends}
 use Rattle.iol_sim.specs.Tapped.{TappedWire, wake_noted, exchange_noted, tap_facts}
 use Rattle.iol_app.specs.declared.asked.Asked.{Asked}
 use Rattle.iol_app.specs.declared.asked.Asked.TheVariants.{Wake, Exchange}
-use Rattle.iol_app.specs.StationState.{link_wire}
 use Rattle.iol_port.specs.declared.call.Call.{Call}
 use Rattle.iol_port.specs.declared.call.Call.TheVariants as call
 use Rattle.iol_port.specs.declared.call.Answered.{Answered}
 use Rattle.iol_port.specs.Asks.{IsWireCall}
 use Rattle.iol_port.specs.Promises.{RunsJoin}
-use Rattle.iol_port.specs.View.{PortParts, IsAbstractCall, Runs}
+use Rattle.iol_port.specs.View.{PortOver, IsAbstractCall, Runs}
 use Rattle.iol_port.specs.EveryWire.{PortCallGives}
 use Rattle.iol_link.specs.WireFacts.{WireFacts}
 use Rattle.iol_commands.proofs.PlayLemmas.{runs_none, runs_more}
@@ -74,13 +73,12 @@ module _ {W : Type 0} (facts : WireFacts W) where
   traces_join s m t calls more replies others text later goes second = absurd goes
 
   -- one call, by what its port says of itself, of the call and of the wire
-  pub call_traced : (n m : ℕ) (p q : PortParts (TappedWire W)) (made : Call) (reply : Answered)
+  pub call_traced : (n m : ℕ) (p q : PortOver (TappedWire W)) (made : Call) (reply : Answered)
       (asked : Asked) (passed : List ℕ) → IsAbstractCall (tap_facts facts) p made reply q
       → PortCallGives (tap_facts facts) p made reply q
-      → IsWireCall (tap_facts facts) made asked (link_wire p.station.link)
-      (link_wire q.station.link)
+      → IsWireCall (tap_facts facts) made asked p.wire q.wire
       → lacks_memory reply ≡ false
-      → PrintsNoteOf made n (layout_at p) (link_wire q.station.link).last m passed
+      → PrintsNoteOf made n (layout_at p) q.wire.last m passed
       → PortTraces facts n p (made ∷ []) m q (passed ++ printed_answer made reply)
   unfolding IsAbstractCall Runs
   call_traced n m p q made reply asked passed goes gives_it called granted printed = record {

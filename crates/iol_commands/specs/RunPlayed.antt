@@ -11,13 +11,12 @@ use Rattle.iol_mode.specs.Kinds.{SeesPulses}
 use Rattle.iol_sim.specs.Params.{Stores}
 use Rattle.iol_sim.specs.declared.params.ParameterEntry.{ParameterEntry}
 use Rattle.iol_sim.specs.Sim.{SimulatedWire, sim_facts}
-use Rattle.iol_app.specs.StationState.{link_wire}
 use Rattle.iol_port.specs.declared.call.Call.{Call}
 use Rattle.iol_port.specs.declared.call.Answered.{Answered}
 use Rattle.iol_port.specs.declared.call.Answered.TheVariants as answered
 use Rattle.iol_port.specs.declared.fault.PortFault.TheVariants as fault
 use Rattle.iol_port.specs.Run.{PortState, Run, port_at_opening}
-use Rattle.iol_port.specs.View.{PortParts, Runs, IsOpened, opening_for}
+use Rattle.iol_port.specs.View.{PortOver, Runs, IsNewFor}
 use Rattle.iol_port.specs.EveryWire.{RunGives}
 use Rattle.iol_script.specs.Script.{ScriptValue, script_in, calls_in}
 use Rattle.iol_commands.specs.RunPrinted.{answers_text, record_text, away_text, refused_events_text}
@@ -80,7 +79,7 @@ pub record HasItsDevice (script : ScriptValue) : Type 0 where
 -- Calls are made on a port, one after the other: none of the answers lacks memory,
 -- and the text is what they are.
 module _ {W : Type 0} (facts : WireFacts W) where
-  pub record PortPlays (p : PortParts W) (calls : List Call) (next : PortParts W)
+  pub record PortPlays (p : PortOver W) (calls : List Call) (next : PortOver W)
       (text : List ℕ) : Type 0 where
     pub answers : List Answered
     -- each call does to the port's own parts, and to its wire, just what a call does there
@@ -103,15 +102,15 @@ pub record RunsAlike (script : ScriptValue) (calls : List Call) (answers : List 
 -- makes them alike.
 pub record PlaysOut (script : ScriptValue) (calls : List Call) (text : List ℕ) : Type 0 where
   pub answers : List Answered
-  pub first : PortParts (SimulatedWire (List ParameterEntry))
-  pub opens : IsOpened
-      (opening_for (sim_facts Stores) script.devices script.limits (first_wire script)) first
-  pub last : PortParts (SimulatedWire (List ParameterEntry))
+  pub first : PortOver (SimulatedWire (List ParameterEntry))
+  pub opens : IsNewFor script.devices script.limits first.parts
+  pub over_wire : first.wire ≡ first_wire script
+  pub last : PortOver (SimulatedWire (List ParameterEntry))
   pub made : RunGives (sim_facts Stores) first calls answers last
-  pub alike : HasItsDevice script → RunsAlike script calls answers (link_wire last.station.link)
+  pub alike : HasItsDevice script → RunsAlike script calls answers last.wire
   pub granted : list_any lacks_memory answers ≡ false
   pub text_is : text
-      ≡ answers_text calls answers ++ ending_text calls (link_wire last.station.link)
+      ≡ answers_text calls answers ++ ending_text calls last.wire
 
 -- what `run` prints for lines, which are a script
 abbrev pub PrintsRun : List (ℕ × List ℕ) → List ℕ → Type 0

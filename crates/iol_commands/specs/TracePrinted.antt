@@ -13,11 +13,10 @@ use Rattle.iol_sim.specs.declared.params.ParameterEntry.{ParameterEntry}
 use Rattle.iol_sim.specs.Sim.{SimulatedWire, sim_facts}
 use Rattle.iol_app.specs.declared.mode.Mode.{Mode}
 use Rattle.iol_app.specs.declared.mode.Mode.TheVariants.{Down, Startup, Preoperate, Operate}
-use Rattle.iol_app.specs.StationState.{link_wire}
 use Rattle.iol_port.specs.declared.call.Call.{Call}
 use Rattle.iol_port.specs.declared.call.Call.TheVariants.{Turn}
 use Rattle.iol_port.specs.declared.call.Answered.{Answered}
-use Rattle.iol_port.specs.View.{PortParts, Runs, IsOpened, opening_for, status_of}
+use Rattle.iol_port.specs.View.{PortOver, Runs, IsNewFor, status_of}
 use Rattle.iol_port.specs.EveryWire.{PortCallGives, page_shown}
 use Rattle.iol_script.specs.Script.{ScriptValue, script_in, calls_in}
 use Rattle.iol_commands.specs.Passing.{PrintsPassed}
@@ -41,20 +40,20 @@ layout_now mode None = startup_shape
 layout_now mode (Some page) = layout_or_startup mode (layouts_of page)
 
 -- the layout in which a port sends, as the page of its session asks for it
-abbrev pub layout_at : {W : Type 0} → PortParts W → Shape
-layout_at p = layout_now (status_of p.station).mode (page_shown p)
+abbrev pub layout_at : {W : Type 0} → PortOver W → Shape
+layout_at q = layout_now (status_of q.parts.core).mode (page_shown q.parts)
 
 -- where a trace is: the number of the next call of the wire, and the port over a tap
 pub record TraceStage (W : Type 0) : Type 0 where
   pub number : ℕ
-  pub port : PortParts (TappedWire W)
+  pub port : PortOver (TappedWire W)
 
-abbrev pub trace_stage : {W : Type 0} → ℕ → PortParts (TappedWire W) → TraceStage W
+abbrev pub trace_stage : {W : Type 0} → ℕ → PortOver (TappedWire W) → TraceStage W
 trace_stage number port = record { number = number; port = port }
 
 -- the tap, and the wire within it
 abbrev pub tap_at : {W : Type 0} → TraceStage W → TappedWire W
-tap_at s = link_wire s.port.station.link
+tap_at s = s.port.wire
 
 abbrev pub wire_at : {W : Type 0} → TraceStage W → W
 wire_at s = (tap_at s).wire
@@ -96,9 +95,9 @@ first_tap script = record { wire = first_wire script; last = None }
 -- abstract port makes them alike.
 pub record TracesOut (script : ScriptValue) (calls : List Call) (text : List ℕ) : Type 0 where
   pub answers : List Answered
-  pub first : PortParts (TappedWire (SimulatedWire (List ParameterEntry)))
-  pub opens : IsOpened (opening_for (tap_facts (sim_facts Stores))
-      script.devices script.limits (first_tap script)) first
+  pub first : PortOver (TappedWire (SimulatedWire (List ParameterEntry)))
+  pub opens : IsNewFor script.devices script.limits first.parts
+  pub over_tap : first.wire ≡ first_tap script
   pub last : TraceStage (SimulatedWire (List ParameterEntry))
   pub calls_text : List ℕ
   pub traces : Traces (sim_facts Stores) (trace_stage 1 first) calls answers last calls_text
@@ -123,9 +122,9 @@ pub record TracePlace (W : Type 0) : Type 0 where
   pub number : ℕ
   pub waits : List ℕ
   pub written : Option (List ℕ)
-  pub port : PortParts (TappedWire W)
+  pub port : PortOver (TappedWire W)
 
-abbrev pub place : {W : Type 0} → ℕ → List ℕ → Option (List ℕ) → PortParts (TappedWire W)
+abbrev pub place : {W : Type 0} → ℕ → List ℕ → Option (List ℕ) → PortOver (TappedWire W)
     → TracePlace W
 place number waits written port =
     record { number = number; waits = waits; written = written; port = port }
@@ -133,8 +132,8 @@ place number waits written port =
 module _ {W : Type 0} (facts : WireFacts W) where
   -- calls of a port over a tap are traced, from the one number to the other; and whatever
   -- abstract port it stands for, that makes these calls with the same answers
-  pub record PortTraces (number : ℕ) (p : PortParts (TappedWire W)) (calls : List Call) (after : ℕ)
-      (next : PortParts (TappedWire W)) (text : List ℕ) : Type 0 where
+  pub record PortTraces (number : ℕ) (p : PortOver (TappedWire W)) (calls : List Call) (after : ℕ)
+      (next : PortOver (TappedWire W)) (text : List ℕ) : Type 0 where
     pub answers : List Answered
     pub traces : Traces facts (trace_stage number p) calls answers (trace_stage after next) text
     pub runs : Runs (tap_facts facts) p calls answers next

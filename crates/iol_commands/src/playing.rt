@@ -2,6 +2,7 @@
 ghost use Rattle.std.specs.Prelude.{◌≡◌, IfOk, replicate};
 ghost use Rattle.std.specs.List.{list_any};
 ghost use Rattle.iol_port.specs.declared.call.Call.TheVariants.{Turn};
+ghost use Rattle.iol_port.specs.View.{over};
 ghost use Rattle.iol_script.specs.Printing.{Prints};
 ghost use Rattle.iol_script.specs.Script.{calls_in, line_calls};
 ghost use Rattle.iol_script.specs.Text.{numbered_lines};
@@ -29,7 +30,7 @@ pub(crate) fn play_lines<W: Wire, A: Handle>(
     input: &[u8],
 ) -> Result<(), AllocError>
     ensures { PrintsSome result output.old output.new
-        (PortPlays W.facts port.old.parts (calls_in (numbered_lines input.now)) port.new.parts) }
+        (PortPlays W.facts (over port.old) (calls_in (numbered_lines input.now)) (over port.new)) }
 {
     runs_join();
     let turns = turns_of(alloc)?;
@@ -62,7 +63,7 @@ fn play_line<W: Wire, A: Handle>(
 ) -> Result<(), AllocError>
     requires { turns.now ≡ replicate PIECE Turn }
     ensures { PrintsSome result output.old output.new
-        (PortPlays W.facts port.old.parts (line_calls line.now) port.new.parts) }
+        (PortPlays W.facts (over port.old) (line_calls line.now) (over port.new)) }
 {
     match line {
         CallLine::Once(call) => play(alloc, output, port, slice::from_ref(call)),
@@ -80,7 +81,7 @@ fn play_turns<W: Wire, A: Handle>(
 ) -> Result<(), AllocError>
     requires { turns.now ≡ replicate PIECE Turn }
     ensures { PrintsSome result output.old output.new
-        (PortPlays W.facts port.old.parts (replicate count Turn) port.new.parts) }
+        (PortPlays W.facts (over port.old) (replicate count Turn) (over port.new)) }
 {
     runs_join();
     let mut made = 0;
@@ -100,7 +101,7 @@ fn play<W: Wire, A: Handle>(
     calls: &[Call],
 ) -> Result<(), AllocError>
     ensures { PrintsSome result output.old output.new
-        (PortPlays W.facts port.old.parts calls.now port.new.parts) }
+        (PortPlays W.facts (over port.old) calls.now (over port.new)) }
 {
     let Ok(answers) = port.run(alloc, calls) else {
         return Err(AllocError);

@@ -3,6 +3,7 @@
 ghost use Rattle.std.specs.Prelude.{◌≡◌, ◌+◌, ◌<◌, ◌≤◌, ◌^◌, ◌⊎◌, [], ◌∷◌, OnOk, IfErr, length, replicate};
 ghost use Rattle.std.specs.String.{string_bytes};
 ghost use Rattle.iol_port.specs.declared.call.Call.TheVariants.{Turn};
+ghost use Rattle.iol_port.specs.View.{over};
 ghost use Rattle.iol_script.specs.Script.{calls_in, line_calls};
 ghost use Rattle.iol_script.specs.Text.{numbered_lines};
 ghost use Rattle.iol_commands.specs.declared.fault.ProgramFault.TheVariants.{OutOfMemory, WriteFailed};
@@ -60,10 +61,10 @@ impl<A: Handle> Tracer<A> {
         ensures traced { OnOk result
             (TracesFrom W.facts
             (place self.old.number (string_bytes self.old.output)
-            (O.contents writer.old) port.old.parts)
+            (O.contents writer.old) (over port.old))
             (calls_in (numbered_lines input.now))
             (place self.new.number (string_bytes self.new.output)
-            (O.contents writer.new) port.new.parts)) }
+            (O.contents writer.new) (over port.new))) }
         ensures faults { IfErr result (λ e. (e ≡ OutOfMemory) ⊎ (e ≡ WriteFailed)) }
     {
         runs_join();
@@ -87,10 +88,10 @@ impl<A: Handle> Tracer<A> {
         ensures traced { OnOk result
             (TracesFrom W.facts
             (place self.old.number (string_bytes self.old.output)
-            (O.contents writer.old) port.old.parts)
+            (O.contents writer.old) (over port.old))
             (line_calls line.now)
             (place self.new.number (string_bytes self.new.output)
-            (O.contents writer.new) port.new.parts)) }
+            (O.contents writer.new) (over port.new))) }
         ensures number { OnOk result (self.new.number ≤ self.old.number + length
             (line_calls line.now)) }
         ensures faults { IfErr result (λ e. (e ≡ OutOfMemory) ⊎ (e ≡ WriteFailed)) }
@@ -112,10 +113,10 @@ impl<A: Handle> Tracer<A> {
         ensures traced { OnOk result
             (TracesFrom W.facts
             (place self.old.number (string_bytes self.old.output)
-            (O.contents writer.old) port.old.parts)
+            (O.contents writer.old) (over port.old))
             (replicate count Turn)
             (place self.new.number (string_bytes self.new.output)
-            (O.contents writer.new) port.new.parts)) }
+            (O.contents writer.new) (over port.new))) }
         ensures number { OnOk result (self.new.number ≤ self.old.number + count) }
         ensures faults { IfErr result (λ e. (e ≡ OutOfMemory) ⊎ (e ≡ WriteFailed)) }
     {
@@ -137,10 +138,10 @@ impl<A: Handle> Tracer<A> {
         ensures traced { OnOk result
             (TracesFrom W.facts
             (place self.old.number (string_bytes self.old.output)
-            (O.contents writer.old) port.old.parts)
+            (O.contents writer.old) (over port.old))
             (call.now ∷ [])
             (place self.new.number (string_bytes self.new.output)
-            (O.contents writer.new) port.new.parts)) }
+            (O.contents writer.new) (over port.new))) }
         ensures number { OnOk result (self.new.number ≤ self.old.number + 1) }
         ensures faults { IfErr result (λ e. (e ≡ OutOfMemory) ⊎ (e ≡ WriteFailed)) }
     {
@@ -152,7 +153,7 @@ impl<A: Handle> Tracer<A> {
     fn make<W: Wire>(&mut self, port: &mut Port<Tap<W>, A>, call: &Call) -> Result<(), AllocError>
         requires { self.old.number + 1 < 2 ^ 64 }
         ensures traced { PrintsSome result self.old.output self.new.output (PortTraces W.facts
-            self.old.number port.old.parts (call.now ∷ []) self.new.number port.new.parts) }
+            self.old.number (over port.old) (call.now ∷ []) self.new.number (over port.new)) }
         ensures number { OnOk result (self.new.number ≤ self.old.number + 1) }
     {
         let layout = layout_now(port.status().mode, port.page());

@@ -19,7 +19,7 @@ use Rattle.iol_port.specs.CorePort.{awaited_answer, PortSendGives, SendDoes, Por
 use Rattle.iol_master.specs.Served.{GateFacts, IsLet}
 
 pub record LineState : Type 0 where
-  pub parts : PortParts (Unit {0})
+  pub parts : PortParts
   -- a restart waits until what is out has been answered
   pub restart_waits : Bool
 
@@ -30,7 +30,7 @@ pub record LineCalled (old new : LineState) (c : Call) (reply : Answered) (given
   pub rest : new ≡ record old { parts = new.parts }
 
 -- the port's own restart
-abbrev pub CoreRestarts : PortParts (Unit {0}) → PortParts (Unit {0}) → Type 0
+abbrev pub CoreRestarts : PortParts → PortParts → Type 0
 CoreRestarts p next = Restarts (CoreCalled p next) p next
 
 -- it is made at once where nothing is out, else it waits
@@ -43,13 +43,13 @@ abbrev pub RestartsOnce : LineState → LineState → Type 0
 RestartsOnce p next = RestartsIn (awaited_answer p.parts) p next
 
 -- once what was out has been answered the restart that waited is made, and waits no more
-abbrev pub RestartsWhere : Bool → PortParts (Unit {0}) → LineState → Type 0
+abbrev pub RestartsWhere : Bool → PortParts → LineState → Type 0
 RestartsWhere true p next = CoreRestarts p next.parts × (next.restart_waits ≡ false)
 RestartsWhere false p next = next ≡ record { parts = p; restart_waits = false }
 
 -- The port's own sending, which the restart that waits waits through
 pub record LineSends (p : LineState) (asked : Asked) (next : LineState) : Type 0 where
-  pub says : IsAskedOut asked next.parts.station.link.state
+  pub says : IsAskedOut asked next.parts.core.state
   pub asked_is : asked ≡ asks_of p.parts
   pub again : IsTrue p.parts.sent → next ≡ p
   pub gives : PortSendGives p.parts next.parts
@@ -59,13 +59,13 @@ pub record LineSends (p : LineState) (asked : Asked) (next : LineState) : Type 0
 -- what came back is taken
 abbrev pub TakesReply : LineState → Option (List ℕ) → LineState → Type 0
 TakesReply p came next =
-    (mid : PortParts (Unit {0})) × PortReceiveGives p.parts came mid × ReceiveDoes p.parts came mid
+    (mid : PortParts) × PortReceiveGives p.parts came mid × ReceiveDoes p.parts came mid
     × RestartsWhere p.restart_waits mid next
 
 -- and so is what came of a wake
 abbrev pub TakesRate : LineState → Bool → LineState → Type 0
 TakesRate p answered next =
-    (mid : PortParts (Unit {0})) × WakeGives p.parts answered mid × WakeDoes p.parts answered mid
+    (mid : PortParts) × WakeGives p.parts answered mid × WakeDoes p.parts answered mid
     × RestartsWhere p.restart_waits mid next
 
 -- The ledger by which a port and its worker agree on what is out

@@ -1,7 +1,6 @@
 -- The tickets of a port, and a submit at a desk.
 use Rattle.std.specs.Prelude.{◌≡◌, ℕ, ◌+◌, ◌^◌, ◌<◌, ◌⊎◌, List, [], ◌∷◌, length, Result, Ok, Err, IfErr}
 use Rattle.iol_isdu.specs.declared.values.Request.{Request}
-use Rattle.iol_link.specs.WireFacts.{WireFacts}
 use Rattle.iol_book.specs.declared.entries.Ticket.{Ticket}
 use Rattle.iol_book.specs.declared.fault.BookFault.TheVariants.{TicketsSpent, OutOfMemory as NoMemory}
 use Rattle.iol_port.specs.declared.fault.PortFault.{PortFault}
@@ -36,48 +35,48 @@ pub record WasClosed (W : Type 0) (count : ℕ) (tally : Tally) : Type 0 where
   pub settled : tally.settled ≡ accounts.settled
   pub total : tally.tickets ≡ accounts.total
 
-module _ {W : Type 0} (facts : WireFacts W) where
-  -- the port's own submit, or its urgent one
-  abbrev pub SubmitsBy : DeskUrgency → PortValue W → Request → Result Ticket PortFault
-      → PortValue W → Type 0
-  SubmitsBy Ordinary p request answer p' =
-      Submits (MakesCall facts p p') p.parts p'.parts request answer
-  SubmitsBy Urgent p request answer p' =
-      SubmitsUrgent (MakesCall facts p p') p.parts p'.parts request answer
+-- the port's own submit, or its urgent one
+abbrev pub SubmitsBy : {W : Type 0} → DeskUrgency → PortValue W → Request → Result Ticket PortFault
+    → PortValue W → Type 0
+SubmitsBy Ordinary p request answer p' =
+    Submits (MakesCall p p') p.parts p'.parts request answer
+SubmitsBy Urgent p request answer p' =
+    SubmitsUrgent (MakesCall p p') p.parts p'.parts request answer
 
-  -- memory is lacking only where the book had no room left
-  abbrev pub SubmitsAs : PortValue W → DeskUrgency → Request → Result Ticket PortFault
-      → PortValue W → Type 0
-  SubmitsAs p kind request answer p' = SubmitsBy kind p request answer p'
-      × IfErr answer (λ why. why ≡ Book NoMemory → p.parts.book.room ≡ 0)
+-- memory is lacking only where the book had no room left
+abbrev pub SubmitsAs : {W : Type 0} → PortValue W → DeskUrgency → Request → Result Ticket PortFault
+    → PortValue W → Type 0
+SubmitsAs p kind request answer p' = SubmitsBy kind p request answer p'
+    × IfErr answer (λ why. why ≡ Book NoMemory → p.parts.book.room ≡ 0)
 
-  -- because the tally is as large as it can be, and then the port isn't asked; or
-  -- as the port refuses it
-  abbrev pub SubmitIsRefused : PortValue W → AccountState → DeskUrgency → Request → PortFault
-      → PortValue W → Type 0
-  SubmitIsRefused p a kind request why p' =
-      ((a.total + 1 ≡ 2 ^ 64) × (why ≡ Book TicketsSpent) × (p' ≡ p))
-      ⊎ ((a.total + 1 < 2 ^ 64) × SubmitsAs p kind request (Err why) p')
+-- because the tally is as large as it can be, and then the port isn't asked; or
+-- as the port refuses it
+abbrev pub SubmitIsRefused : {W : Type 0} → PortValue W → AccountState → DeskUrgency → Request
+    → PortFault
+    → PortValue W → Type 0
+SubmitIsRefused p a kind request why p' =
+    ((a.total + 1 ≡ 2 ^ 64) × (why ≡ Book TicketsSpent) × (p' ≡ p))
+    ⊎ ((a.total + 1 < 2 ^ 64) × SubmitsAs p kind request (Err why) p')
 
-  -- A submit at a desk: the port, the tally and the desk, before and after.
-  -- Where a ticket is answered, each counts one more; else none does.
-  abbrev pub Enters : PortValue W → AccountState → DeskState → DeskUrgency → Request
-      → Result Ticket MasterFault
-      → PortValue W → AccountState → DeskState → Type 0
-  Enters p a d kind request (Ok ticket) p' a' d' =
-      (a.total + 1 < 2 ^ 64) × SubmitsAs p kind request (Ok ticket) p'
-      × (a' ≡ record a { total = a.total + 1 })
-      × (d' ≡ record d { accepted = d.accepted + 1 })
-  Enters p a d kind request (Err (OfPort why)) p' a' d' = (a' ≡ a) × (d' ≡ d)
-      × SubmitIsRefused p a kind request why p'
-  Enters p a d kind request (Err OutOfMemory) p' a' d' = ⊥
-  Enters p a d kind request (Err NoSuchPort) p' a' d' = ⊥
-  Enters p a d kind request (Err NoThread) p' a' d' = ⊥
-  Enters p a d kind request (Err DesksFull) p' a' d' = ⊥
+-- A submit at a desk: the port, the tally and the desk, before and after.
+-- Where a ticket is answered, each counts one more; else none does.
+abbrev pub Enters : {W : Type 0} → PortValue W → AccountState → DeskState → DeskUrgency → Request
+    → Result Ticket MasterFault
+    → PortValue W → AccountState → DeskState → Type 0
+Enters p a d kind request (Ok ticket) p' a' d' =
+    (a.total + 1 < 2 ^ 64) × SubmitsAs p kind request (Ok ticket) p'
+    × (a' ≡ record a { total = a.total + 1 })
+    × (d' ≡ record d { accepted = d.accepted + 1 })
+Enters p a d kind request (Err (OfPort why)) p' a' d' = (a' ≡ a) × (d' ≡ d)
+    × SubmitIsRefused p a kind request why p'
+Enters p a d kind request (Err OutOfMemory) p' a' d' = ⊥
+Enters p a d kind request (Err NoSuchPort) p' a' d' = ⊥
+Enters p a d kind request (Err NoThread) p' a' d' = ⊥
+Enters p a d kind request (Err DesksFull) p' a' d' = ⊥
 
-  -- some port and some tally, whose locks were held, between which this very submit was made
-  abbrev pub WasEntered : DeskState → DeskUrgency → Request → Result Ticket MasterFault → DeskState
-      → Type 0
-  WasEntered d kind request result d' =
-      (p : PortValue W) × (a : AccountState) × (p' : PortValue W) × (a' : AccountState)
-      × Enters p a d kind request result p' a' d'
+-- some port and some tally, whose locks were held, between which this very submit was made
+abbrev pub WasEntered : (W : Type 0) → DeskState → DeskUrgency → Request
+    → Result Ticket MasterFault → DeskState → Type 0
+WasEntered W d kind request result d' =
+    (p : PortValue W) × (a : AccountState) × (p' : PortValue W) × (a' : AccountState)
+    × Enters p a d kind request result p' a' d'

@@ -1,12 +1,11 @@
 //! What lies under a port's lock: the port, and its share of the tickets.
 ghost use Rattle.std.specs.Prelude.{◌≡◌, ◌≤◌, None, Some, IfOk, [], length};
 ghost use Rattle.std.specs.Option.{option_copied};
-ghost use Rattle.iol_app.specs.StationState.{link_wire};
 ghost use Rattle.iol_book.specs.BookModel.{IsReplayed};
-ghost use Rattle.iol_port.specs.View.{IsRun, OpensWell, KeepsRecord};
+ghost use Rattle.iol_port.specs.View.{IsRun, OpensWell, KeepsRecordOver, over};
 ghost use Rattle.iol_port.specs.Called.{Collects, Withdraws, Cancels, Restarts, SetsOutput, ClearsOutput};
 ghost use Rattle.iol_port.specs.Called.{Expects, SetsCycle, TakesEvent, Archives, Turns, PublishesAfter};
-ghost use Rattle.iol_port.specs.Called.{ShowsPage, ShowsCounters, ShowsLastLoss, ShowsImage, ShowsStatus, MakesCall, PortOnlyLooks};
+ghost use Rattle.iol_port.specs.Called.{ShowsPage, ShowsCounters, ShowsLastLoss, ShowsImage, ShowsStatus, CoreCalled, MakesCall};
 ghost use Rattle.iol_port.specs.Claim.{Claim};
 ghost use Rattle.iol_port.specs.WireCalls.{ComesFrom};
 ghost use Rattle.iol_port.specs.RightDevice.{IsForRightDevice};
@@ -49,7 +48,7 @@ fn submit_as<W: Wire, A: Handle>(
     urgency: DeskUrgency,
     request: Request,
 ) -> Result<Ticket, PortFault>
-    ensures { SubmitsAs W.facts port.old urgency request result port.new }
+    ensures { SubmitsAs port.old urgency request result port.new }
 {
     match urgency {
         DeskUrgency::Ordinary => port.submit(request),
@@ -114,7 +113,7 @@ impl<W: Wire, K: Ledger, A: Handle> Held<W, K, A> {
         urgency: DeskUrgency,
         request: Request,
     ) -> Result<Ticket, MasterFault>
-        ensures { Enters W.facts self.old accounts.old desk.old urgency request result
+        ensures { Enters self.old accounts.old desk.old urgency request result
             self.new accounts.new desk.new }
     {
         if accounts.is_spent() {
@@ -138,7 +137,7 @@ impl<W: Wire, K: Ledger, A: Handle> Held<W, K, A> {
 
     /// As [`PortCore::collect`](iol_port::PortCore::collect).
     pub fn collect(&mut self, ticket: Ticket) -> Result<Outcome, PortFault>
-        ensures { Collects (MakesCall W.facts self.old self.new) self.old.parts self.new.parts
+        ensures { Collects (MakesCall self.old self.new) self.old.parts self.new.parts
             ticket result }
     {
         self.port.collect(ticket)
@@ -146,7 +145,7 @@ impl<W: Wire, K: Ledger, A: Handle> Held<W, K, A> {
 
     /// As [`PortCore::withdraw`](iol_port::PortCore::withdraw).
     pub fn withdraw(&mut self, ticket: Ticket) -> Result<(), PortFault>
-        ensures { Withdraws (MakesCall W.facts self.old self.new) self.old.parts self.new.parts
+        ensures { Withdraws (MakesCall self.old self.new) self.old.parts self.new.parts
             ticket result }
     {
         self.port.withdraw(ticket)
@@ -154,7 +153,7 @@ impl<W: Wire, K: Ledger, A: Handle> Held<W, K, A> {
 
     /// As [`PortCore::cancel`](iol_port::PortCore::cancel).
     pub fn cancel(&mut self, ticket: Ticket) -> Result<(), PortFault>
-        ensures { Cancels (MakesCall W.facts self.old self.new) self.old.parts self.new.parts
+        ensures { Cancels (MakesCall self.old self.new) self.old.parts self.new.parts
             ticket result }
     {
         self.port.cancel(ticket)
@@ -163,7 +162,7 @@ impl<W: Wire, K: Ledger, A: Handle> Held<W, K, A> {
     /// As [`Port::restart_shown`].
     pub fn restart<R: Wait>(&mut self, rt: &R)
         ensures { PublishesAfter
-            (λ new. Restarts (MakesCall W.facts self.old new) self.old.parts new.parts)
+            (λ new. Restarts (MakesCall self.old new) self.old.parts new.parts)
             self.old self.new }
     {
         self.port.restart_shown(rt);
@@ -171,7 +170,7 @@ impl<W: Wire, K: Ledger, A: Handle> Held<W, K, A> {
 
     /// As [`PortCore::set_output`](iol_port::PortCore::set_output).
     pub fn set_output(&mut self, image: &Image) -> Result<(), PortFault>
-        ensures { SetsOutput (MakesCall W.facts self.old self.new) self.old.parts self.new.parts
+        ensures { SetsOutput (MakesCall self.old self.new) self.old.parts self.new.parts
             image.now result }
     {
         self.port.set_output(image)
@@ -179,14 +178,14 @@ impl<W: Wire, K: Ledger, A: Handle> Held<W, K, A> {
 
     /// As [`PortCore::clear_output`](iol_port::PortCore::clear_output).
     pub fn clear_output(&mut self)
-        ensures { ClearsOutput (MakesCall W.facts self.old self.new) self.old.parts self.new.parts }
+        ensures { ClearsOutput (MakesCall self.old self.new) self.old.parts self.new.parts }
     {
         self.port.clear_output();
     }
 
     /// As [`PortCore::expect`](iol_port::PortCore::expect).
     pub fn expect(&mut self, identity: Identity) -> Counting
-        ensures { Expects (MakesCall W.facts self.old self.new) self.old.parts self.new.parts
+        ensures { Expects (MakesCall self.old self.new) self.old.parts self.new.parts
             (Some identity) result }
     {
         self.port.expect(identity)
@@ -194,7 +193,7 @@ impl<W: Wire, K: Ledger, A: Handle> Held<W, K, A> {
 
     /// As [`PortCore::expect_any`](iol_port::PortCore::expect_any).
     pub fn expect_any(&mut self) -> Counting
-        ensures { Expects (MakesCall W.facts self.old self.new) self.old.parts self.new.parts
+        ensures { Expects (MakesCall self.old self.new) self.old.parts self.new.parts
             None result }
     {
         self.port.expect_any()
@@ -202,7 +201,7 @@ impl<W: Wire, K: Ledger, A: Handle> Held<W, K, A> {
 
     /// As [`PortCore::set_cycle`](iol_port::PortCore::set_cycle).
     pub fn set_cycle(&mut self, cycle: Option<CycleTime>) -> Counting
-        ensures { SetsCycle (MakesCall W.facts self.old self.new) self.old.parts self.new.parts
+        ensures { SetsCycle (MakesCall self.old self.new) self.old.parts self.new.parts
             cycle result }
     {
         self.port.set_cycle(cycle)
@@ -210,21 +209,22 @@ impl<W: Wire, K: Ledger, A: Handle> Held<W, K, A> {
 
     /// As [`PortCore::page`](iol_port::PortCore::page).
     pub fn page(&self) -> Option<Page>
-        ensures { ShowsPage (PortOnlyLooks W.facts self.now) self.now.parts result }
+        ensures { ShowsPage (CoreCalled self.now.parts self.now.parts) self.now.parts result }
     {
         self.port.page()
     }
 
     /// As [`PortCore::counters`](iol_port::PortCore::counters).
     pub fn counters(&self) -> &Counters
-        ensures { ShowsCounters (PortOnlyLooks W.facts self.now) self.now.parts result.now }
+        ensures { ShowsCounters (CoreCalled self.now.parts self.now.parts) self.now.parts
+            result.now }
     {
         self.port.counters()
     }
 
     /// As [`PortCore::last_loss`](iol_port::PortCore::last_loss).
     pub fn last_loss(&self) -> Option<Why>
-        ensures { ShowsLastLoss (PortOnlyLooks W.facts self.now) self.now.parts result }
+        ensures { ShowsLastLoss (CoreCalled self.now.parts self.now.parts) self.now.parts result }
     {
         self.port.last_loss()
     }
@@ -232,7 +232,7 @@ impl<W: Wire, K: Ledger, A: Handle> Held<W, K, A> {
     /// As [`PortCore::image`](iol_port::PortCore::image), under the port's lock. A seat at the cell
     /// in which the port publishes (crate iol_cell) reads the image without it.
     pub fn image(&self) -> Option<&Image>
-        ensures { ShowsImage (PortOnlyLooks W.facts self.now) self.now.parts
+        ensures { ShowsImage (CoreCalled self.now.parts self.now.parts) self.now.parts
             (option_copied result) }
     {
         self.port.image()
@@ -240,7 +240,7 @@ impl<W: Wire, K: Ledger, A: Handle> Held<W, K, A> {
 
     /// As [`PortCore::take_event`](iol_port::PortCore::take_event).
     pub fn take_event(&mut self) -> Result<Event, PortFault>
-        ensures { TakesEvent (MakesCall W.facts self.old self.new) self.old.parts self.new.parts
+        ensures { TakesEvent (MakesCall self.old self.new) self.old.parts self.new.parts
             result }
     {
         self.port.take_event()
@@ -248,14 +248,14 @@ impl<W: Wire, K: Ledger, A: Handle> Held<W, K, A> {
 
     /// As [`PortCore::status`](iol_port::PortCore::status).
     pub fn status(&self) -> Status
-        ensures { ShowsStatus (PortOnlyLooks W.facts self.now) self.now.parts result }
+        ensures { ShowsStatus (CoreCalled self.now.parts self.now.parts) self.now.parts result }
     {
         self.port.status()
     }
 
     /// As [`PortCore::archive`](iol_port::PortCore::archive).
     pub fn archive(&mut self) -> Result<Vec<Entry, A>, PortFault>
-        ensures is { Archives (MakesCall W.facts self.old self.new) self.old.parts self.new.parts
+        ensures is { Archives (MakesCall self.old self.new) self.old.parts self.new.parts
             (λ entries. entries.items) result }
         ensures within { IfOk result (λ entries. length entries.items ≤ 1000000) }
     {
@@ -277,13 +277,14 @@ impl<W: Wire, K: Ledger, A: Handle> Held<W, K, A> {
     /// ends are level between requests.
     pub fn keeps_record(&self)
         ensures replayed { IsReplayed self.now.parts.book.state }
-        ensures run { IsRun W.facts self.now.opening self.now.parts }
+        ensures run { IsRun W.facts self.now.opening (over self.now) }
         ensures claim { OpensWell self.now.opening
-            → Claim W.facts self.now.opening [] [] self.now.parts }
+            → Claim W.facts self.now.opening [] [] (over self.now) }
         ensures wire { ComesFrom W.facts
-            self.now.opening.wire (link_wire self.now.parts.station.link) }
-        ensures record_fits { OpensWell self.now.opening → KeepsRecord W.facts self.now.parts }
-        ensures level { OpensWell self.now.opening → IsLevelBetween W.facts self.now.parts }
+            self.now.opening.wire self.now.wire }
+        ensures record_fits { OpensWell self.now.opening → KeepsRecordOver W.facts (over self.now) }
+        ensures level { OpensWell self.now.opening
+            → IsLevelBetween (W.facts.far self.now.wire) self.now.parts }
     {
         self.port.keeps_record();
     }

@@ -139,7 +139,7 @@ impl<W: Wire, L: Ledger, K: Ledger, A: Handle> Master<W, L, K, A> {
     ) -> Result<Ticket, MasterFault>
         ensures submitted { DeskCountsSubmit self.now desk.old result desk.new }
         ensures entered { (result ≡ Err fault.NoSuchPort)
-            ⊎ WasEntered W.facts desk.old urgency.Ordinary request result desk.new }
+            ⊎ WasEntered W desk.old urgency.Ordinary request result desk.new }
     {
         self.enter(rt, desk, DeskUrgency::Ordinary, request)
     }
@@ -156,7 +156,7 @@ impl<W: Wire, L: Ledger, K: Ledger, A: Handle> Master<W, L, K, A> {
     ) -> Result<Ticket, MasterFault>
         ensures submitted { DeskCountsSubmit self.now desk.old result desk.new }
         ensures entered { (result ≡ Err fault.NoSuchPort)
-            ⊎ WasEntered W.facts desk.old urgency.Urgent request result desk.new }
+            ⊎ WasEntered W desk.old urgency.Urgent request result desk.new }
     {
         self.enter(rt, desk, DeskUrgency::Urgent, request)
     }
@@ -170,7 +170,7 @@ impl<W: Wire, L: Ledger, K: Ledger, A: Handle> Master<W, L, K, A> {
     ) -> Result<Ticket, MasterFault>
         ensures submitted { DeskCountsSubmit self.now desk.old result desk.new }
         ensures entered { (result ≡ Err fault.NoSuchPort)
-            ⊎ WasEntered W.facts desk.old urgency request result desk.new }
+            ⊎ WasEntered W desk.old urgency request result desk.new }
     {
         let Some(port) = self.port(desk.port()) else {
             return Err(MasterFault::NoSuchPort);

@@ -1,7 +1,7 @@
 //! Calls of a port under its lock in a master, and what they are to answer.
 ghost use Rattle.std.specs.Sync.Mutex.{mutex_guard_value};
 ghost use Rattle.iol_port.specs.declared.call.Call.TheVariants as call;
-ghost use Rattle.iol_port.specs.View.{Does};
+ghost use Rattle.iol_port.specs.CorePort.{CoreDoes};
 ghost use Rattle.iol_port.specs.Replies.{outcome_reply};
 
 use iol_book::{BookFault, Outcome, Ticket};
@@ -54,7 +54,7 @@ fn through<W: Wire, K: Ledger, A: Handle>(
     guard: &mut MutexGuard<'_, Held<W, K, A>>,
     ticket: Ticket,
 ) -> Result<Outcome, PortFault>
-    ensures { Does W.facts (mutex_guard_value guard.old).parts
+    ensures { CoreDoes (mutex_guard_value guard.old).parts
         (call.Collect ticket) (outcome_reply result) (mutex_guard_value guard.new).parts }
 {
     guard.collect(ticket)

@@ -7,25 +7,23 @@ use Rattle.iol_book.specs.BookModel.{BookState}
 use Rattle.iol_app.specs.declared.said.Said.{Said}
 use Rattle.iol_app.specs.Abstract.Steps.{Reset, resets, book_said}
 use Rattle.iol_app.specs.declared.event_work.EventRoom.{EventRoom}
-use Rattle.iol_app.specs.StationState.{StationState}
 use Rattle.iol_app.specs.Core.{CoreState}
 use Rattle.iol_app.specs.Pieces.{SendsMessage, IsMade, IsWholeTurn}
-use Rattle.iol_app.specs.Asking.{asked_in, station_with_request}
+use Rattle.iol_app.specs.Asking.{asked_in, core_with_request}
 use Rattle.iol_port.specs.Steps.{book_through}
 use Rattle.iol_mode.specs.States.{is_reset}
 use Rattle.iol_app.specs.declared.brought.WireResult.{WireResult}
 
-module _ {W : Type 0} where
-  -- the device was reset where both stations say so
-  pub book_told : (old mid new : StationState W) (next : Option Request)
-      (room : EventRoom) (reset began ended : Bool) (said : Said) (b : BookState)
-      → mid ≡ station_with_request next old room → began ≡ is_reset mid.link.state
-      → ended ≡ is_reset new.link.state → reset ≡ (not began && ended)
-      → book_through (cond reset (Reset ∷ []) [] ++ book_said said) b
-      ≡ book_through (resets (is_reset old.link.state) (is_reset new.link.state)
-      ++ book_said said) b
-  book_told old mid new next room reset began ended said b begun from to is =
-      grind (arith, common_steps)
+-- the device was reset where both cores say so
+pub book_told : (old mid new : CoreState) (next : Option Request)
+    (room : EventRoom) (reset began ended : Bool) (said : Said) (b : BookState)
+    → mid ≡ core_with_request next old room → began ≡ is_reset mid.state
+    → ended ≡ is_reset new.state → reset ≡ (not began && ended)
+    → book_through (cond reset (Reset ∷ []) [] ++ book_said said) b
+    ≡ book_through (resets (is_reset old.state) (is_reset new.state)
+    ++ book_said said) b
+book_told old mid new next room reset began ended said b begun from to is =
+    grind (arith, common_steps)
 
 module _ {W : Type 0} (facts : WireFacts W) {wire wire' : W} {said : Said} {brought : WireResult}
     {new : CoreState} where

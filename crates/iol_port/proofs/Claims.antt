@@ -5,18 +5,18 @@ use Rattle.iol_port.specs.declared.call.Call.{Call}
 use Rattle.iol_port.specs.declared.call.Answered.{Answered}
 use Rattle.iol_port.specs.Run.{PortState, Run, Whole}
 use Rattle.iol_port.specs.Claim.{Claim, Has, opened_with}
-use Rattle.iol_port.specs.View.{PortParts, Opening, OpensWell, StandsFor, IsRun, Runs}
+use Rattle.iol_port.specs.View.{PortOver, Opening, OpensWell, StandsOver, IsRun, Runs}
 use Rattle.iol_port.proofs.OwnerRuns.{each_done_has_its_pair, opened_sound, runs_sound}
 use Rattle.iol_port.proofs.PieceLemmas.{runs_join}
 
-module _ {W : Type 0} (facts : WireFacts W) (o : Opening W) (p : PortParts W) where
-  has_it : (a : PortState) → StandsFor facts p a → Has facts a p
-  has_it a (c, shows, same) = rw same
+module _ {W : Type 0} (facts : WireFacts W) (o : Opening W) (q : PortOver W) where
+  has_it : (a : PortState) → StandsOver facts q a → Has facts a q
+  has_it a (up, stands) = let (c, shows, same) = stands in rw same
       record { book = refl; kept = refl; image = refl; input = refl; output = refl; carried = refl }
 
   holds : (earlier calls : List Call) (answered replies : List Answered) (b : PortState)
-      → Run (opened_with o) (earlier ++ calls) (answered ++ replies) b → StandsFor facts p b
-      → Claim facts o calls replies p
+      → Run (opened_with o) (earlier ++ calls) (answered ++ replies) b → StandsOver facts q b
+      → Claim facts o calls replies q
   holds earlier calls answered replies b run stands = record {
     earlier = earlier;
     answered = answered;
@@ -29,15 +29,15 @@ module _ {W : Type 0} (facts : WireFacts W) (o : Opening W) (p : PortParts W) wh
         (opened_sound o.devices o.limits o.far o.silence)).fits;
   }
 
-  pub claim_holds : IsRun facts o p → OpensWell o → Claim facts o [] [] p
+  pub claim_holds : IsRun facts o q → OpensWell o → Claim facts o [] [] q
   unfolding IsRun
   claim_holds is well =
       let (calls, replies, b, run, stands) = is well in
       holds calls [] replies [] b (rw (append-nil calls, append-nil replies) run) stands
 
-  pub claim_grows : (old : PortParts W) (calls : List Call) (replies : List Answered)
-      → IsRun facts o old → Runs facts old calls replies p → OpensWell o
-      → Claim facts o calls replies p
+  pub claim_grows : (old : PortOver W) (calls : List Call) (replies : List Answered)
+      → IsRun facts o old → Runs facts old calls replies q → OpensWell o
+      → Claim facts o calls replies q
   unfolding IsRun Runs
   claim_grows old calls replies is goes well =
       let (earlier, answered, a, run, stands) = is well in

@@ -33,21 +33,19 @@ use Rattle.iol_app.specs.Requests.{current_after, IsSaid}
 use Rattle.iol_app.specs.Due.{due_of, is_ready, may_follow}
 use Rattle.iol_app.specs.Messages.{Head, head_of, progress_head, head_for, progress_data, request_head, request_data}
 use Rattle.iol_app.specs.State.{SessionState, session_sending, session_after_exchange, IsMessageFor, IsExchangeSaid}
-use Rattle.iol_app.specs.StationState.{StationState, link_wire}
 use Rattle.iol_app.specs.Core.{CoreState, core_out}
 use Rattle.iol_app.specs.Pieces.{NewOut, IsPassed, IsWholeTurn}
-use Rattle.iol_app.specs.Seen.{core_of, LinkStands}
+use Rattle.iol_app.specs.Seen.{LinkStands}
 use Rattle.iol_app.specs.declared.brought.WireResult.{WireResult}
 use Rattle.iol_mode.specs.Stands.{StateStands}
 use Rattle.iol_mode.specs.States.{IsDown}
-use Rattle.iol_mode.specs.Kept.{link_over}
+use Rattle.iol_mode.specs.declared.states.State.{State}
 use Rattle.iol_mode.specs.Messages.{new_sending}
-use Rattle.iol_mode.specs.declared.states.State.TheVariants.{Operate as AtOperate}
 use Rattle.iol_link.specs.Honest.{Passage, far_after, HonestExchange}
 use Rattle.iol_link.specs.WireFacts.{WireFacts, Passes}
 use Rattle.iol_link.specs.Attempts.{good_reply}
 use Rattle.arrayvec.specs.ArrayVec.{ArrayVec}
-use Rattle.iol_port.specs.Clean.{CleanLaws, ExchangesCleanly, IsCalm, Stood}
+use Rattle.iol_port.specs.Clean.{CleanLaws, ExchangesCleanly, IsCalm, Stood, resting_in}
 use Rattle.iol_port.proofs.CleanHearing.{HeardWell, heard_well}
 
 -- What is due
@@ -157,20 +155,18 @@ sees_on devices far next same sees = grind (arith, common_steps)
 
 -- One turn
 
--- over the wire of these stations, where the link stood to the far end before it
-abbrev pub IsTurn : {W : Type 0} → WireFacts W → EventRoom → StationState W → Said → StationState W
+-- from this core over this wire, which it stood to before, to those
+abbrev pub IsTurn : {W : Type 0} → WireFacts W → EventRoom → CoreState → W → Said → CoreState → W
     → Type 0
-IsTurn facts room old said new = (brought : WireResult)
-    × IsWholeTurn facts room (link_wire old.link) (link_wire new.link) (core_of old) said brought
-    (core_of new)
-    × LinkStands facts (link_wire old.link) (core_of old)
+IsTurn facts room old wire said new wire' = (brought : WireResult)
+    × IsWholeTurn facts room wire wire' old said brought new × LinkStands facts wire old
 
 module _ {W : Type 0} (facts : WireFacts W) where
   open facts use {far, silence}
 
   -- between requests both ends are level
-  pub level_between : {kind : Kind} {layouts : Layouts} {station : StationState W} {wire : W}
-      → Stood facts kind layouts operate_link station wire
+  pub level_between : {kind : Kind} {layouts : Layouts} {core : CoreState} {wire : W}
+      → Stood facts kind layouts operate_link core wire
       → Stands kind.hands_over layouts.run.od (far wire).carried Quiet (far wire).isdu
       (far wire).counted (far wire).carried
       → IsLevelBefore (far wire).page kind layouts.run.od (far wire).carried operate_link Quiet
@@ -179,9 +175,8 @@ module _ {W : Type 0} (facts : WireFacts W) where
 
   -- What a turn gives that sends a message of the ISDU channel
   pub record Exchanged (kind : Kind) (layouts : Layouts) (exchange : Purpose)
-      (old : StationState W) (wire : W) (said : Said) (new : StationState W) : Type 0 where
-    pub next : W
-    pub stood : Stood facts kind layouts operate_link new next
+      (old : CoreState) (wire : W) (said : Said) (new : CoreState) (wire' : W) : Type 0 where
+    pub stood : Stood facts kind layouts operate_link new wire'
     pub message : MasterMsg
     pub for : IsMessageFor exchange (session_sending exchange old.session) message
     pub parts : HasMasterParts layouts.run message
@@ -189,15 +184,15 @@ module _ {W : Type 0} (facts : WireFacts W) where
     pub work : IsWorkedOff (handed_request (far wire).isdu) (far wire) ready
     pub answer : Option (List ℕ)
     pub reply : Reply
-    pub heard_as : HeardWell kind layouts message ready (far next) answer reply
+    pub heard_as : HeardWell kind layouts message ready (far wire') answer reply
     pub session : new.session ≡ session_after_exchange exchange reply
         (session_sending exchange old.session)
     pub said_is : IsExchangeSaid exchange reply.od.items (session_sending exchange old.session) said
 
   -- and one of the request
-  pub record Turned (kind : Kind) (layouts : Layouts) (old : StationState W) (wire : W)
-      (c : Current) (said : Said) (new : StationState W) : Type 0 where
-    pub turn : Exchanged kind layouts NextMessage old wire said new
+  pub record Turned (kind : Kind) (layouts : Layouts) (old : CoreState) (wire : W)
+      (c : Current) (said : Said) (new : CoreState) (wire' : W) : Type 0 where
+    pub turn : Exchanged kind layouts NextMessage old wire said new wire'
     pub head : head_of turn.message.mc ≡ progress_head c.progress
     pub octets : turn.message.od.items ≡ progress_data c.progress
     pub current : new.session.current
@@ -219,14 +214,14 @@ module _ {W : Type 0} (facts : WireFacts W) where
     accepted : (link : FarLink) → IsOperating layouts link
         → IsAccepted layouts (far wire).page link message
     settled : (reply : Reply) → good_reply layouts.run message (octets_in came) ≡ Some reply
-        → (new.state ≡ AtOperate (record { out = None; layouts = layouts }))
+        → (new.state ≡ resting_in layouts)
         × (new.session ≡ session_after_exchange exchange reply (session_sending exchange s))
         × IsExchangeSaid exchange reply.od.items (session_sending exchange s) said
 
   module _ (layouts : Layouts) (exchange : Purpose) (s : SessionState) (wire wire' : W)
       (said : Said) (brought : WireResult) (new : CoreState) (up : IsTrue (facts.honest wire)) where
     abbrev free : CoreState
-    free = record { state = AtOperate (record { out = None; layouts = layouts }); session = s }
+    free = record { state = resting_in layouts; session = s }
 
     passed_goes : (m : MasterMsg) → IsMessageFor exchange (session_sending exchange s) m
         → HasMasterParts layouts.run m
@@ -272,20 +267,19 @@ module _ {W : Type 0} (facts : WireFacts W) where
         ])
 
   module _ (cleanly : ExchangesCleanly facts) (laws : CleanLaws) {kind : Kind} {layouts : Layouts}
-      {link : FarLink} {old : StationState W} {wire : W} {said : Said} {new : StationState W}
+      {link : FarLink} {old : CoreState} {wire wire' : W} {said : Said} {new : CoreState}
       (room : EventRoom) (stood : Stood facts kind layouts link old wire)
-      (turn : IsTurn facts room old said new) where
+      (turn : IsTurn facts room old wire said new wire') where
     exchanged_by : (exchange : Purpose) → channel_for exchange old.session ≡ Isdu
-        → Goes layouts exchange old.session wire (link_wire new.link) said (core_of new)
-        → Exchanged kind layouts exchange old wire said new
+        → Goes layouts exchange old.session wire wire' said new
+        → Exchanged kind layouts exchange old wire said new wire'
     exchanged_by exchange channel_is t =
         let s : SessionState = old.session in
         let m : MasterMsg = t.message in
         let channel : m.mc.channel ≡ Isdu =
         ap (λ (h : Head). h.channel) t.for.head ∙ channel_is in
         let (x, clean) =
-        cleanly wire (master_text layouts.run m) t.came (link_wire new.link)
-        stood.is_clean t.called in
+        cleanly wire (master_text layouts.run m) t.came wire' stood.is_clean t.called in
         let same = work_same (far wire) x.ready (handed_request (far wire).isdu) x.work in
         let accepted : IsAccepted layouts x.ready.page link m =
         rw same.page (t.accepted link stood.operating) in
@@ -297,12 +291,11 @@ module _ {W : Type 0} (facts : WireFacts W) where
         (rw x.far_is sized) in
         let (state_is, session_is, heard_is) = t.settled reply well.good in
         record {
-          next = link_wire new.link;
           stood = record {
-            link_is = ap (link_over (link_wire new.link)) state_is;
+            state_is = state_is;
             is_honest = (
               rw t.honesty stood.is_honest.0,
-              rw session_is (sees_on s.configuration.devices (far wire) (far (link_wire new.link))
+              rw session_is (sees_on s.configuration.devices (far wire) (far wire')
                   (exchange_misses laws.much _ _ _ _ _ _ (t.passes stood.is_honest.0))
                   stood.is_honest.1),
             );
@@ -330,16 +323,18 @@ module _ {W : Type 0} (facts : WireFacts W) where
 
     pub exchanged : (exchange : Purpose) → due_of old.session room ≡ exchange
         → channel_for exchange old.session ≡ Isdu
-        → Exchanged kind layouts exchange old wire said new
+        → Exchanged kind layouts exchange old wire said new wire'
     exchanged exchange due channel_is =
         let s : SessionState = old.session in
-        let (brought, t, stands) = rw stood.link_is at turn in
+        let (brought, t, stands) =
+        subst (λ (x : State). IsTurn facts room (record { state = x; session = s }) wire said new
+        wire') stood.state_is turn in
         exchanged_by exchange channel_is
-        (goes layouts exchange s wire (link_wire new.link) said brought (core_of new)
-        stood.is_honest.0 room due t (stands stood.is_honest))
+        (goes layouts exchange s wire wire' said brought new stood.is_honest.0 room due t
+        (stands stood.is_honest))
 
     pub turned : {c : Current} → old.session.current ≡ Some c → c.abort ≡ None
-        → Turned kind layouts old wire c said new
+        → Turned kind layouts old wire c said new wire'
     turned {c = c} is abort =
         let x = exchanged NextMessage (request_due old.session room c stood.calm is abort)
         (rw is (progress_channel c.progress)) in

@@ -40,7 +40,7 @@ use Rattle.iol_far.specs.Local.{Carry, local, has_room, IsWorkedOff}
 use Rattle.iol_far.specs.Level.{FarLink, grown_by}
 use Rattle.iol_link.specs.WireFacts.{WireFacts}
 use Rattle.iol_app.specs.Messages.{Head, progress_head, progress_data}
-use Rattle.iol_app.specs.StationState.{StationState}
+use Rattle.iol_app.specs.Core.{CoreState}
 use Rattle.iol_port.specs.Clean.{CleanLaws, ExchangesCleanly, Stood, At}
 use Rattle.iol_port.proofs.CleanSession.{IsTurn, SameBut, work_same, Turned, turned}
 
@@ -256,18 +256,19 @@ module _ {W : Type 0} (facts : WireFacts W) where
   open facts use {far}
 
   pub record Next (kind : Kind) (layouts : Layouts) (request : Request) (base : List Carried)
-      (turns : ℕ) (said : Said) (new : StationState W) : Type 0 where
+      (turns : ℕ) (said : Said) (new : CoreState) (wire' : W) : Type 0 where
     pub stage : RequestStage
-    pub wire : W
-    pub at : At facts kind layouts request base stage new wire
+    pub at : At facts kind layouts request base stage new wire'
     pub turns_are : turns_at kind.hands_over layouts.run.od request stage ≡ suc turns
     pub said_is : SaidAt stage said
 
   module _ (laws : CleanLaws) (cleanly : ExchangesCleanly facts) {kind : Kind} {layouts : Layouts}
       (low : 1 ≤ layouts.run.od) (request : Request) (valid : IsRequest request)
-      (base : List Carried) (room : EventRoom) {link : FarLink} {old : StationState W} {wire : W}
-      (said : Said) (new : StationState W) (stood : Stood facts kind layouts link old wire)
-      (turn : IsTurn facts room old said new) (some : takes_more (far wire).room base ≡ true)
+      (base : List Carried) (room : EventRoom) {link : FarLink} {old : CoreState}
+      {wire wire' : W} (said : Said) (new : CoreState)
+      (stood : Stood facts kind layouts link old wire)
+      (turn : IsTurn facts room old wire said new wire')
+      (some : takes_more (far wire).room base ≡ true)
       (limit : 2 ≤ old.session.limit) where
     abbrev size : ℕ
     size = layouts.run.od
@@ -277,14 +278,14 @@ module _ {W : Type 0} (facts : WireFacts W) where
     delivered = segments size (request_text request) + busy_replies kind.hands_over
 
     abbrev Goes : ℕ → Type 0
-    Goes n = Next kind layouts request base n said new
+    Goes n = Next kind layouts request base n said new wire'
 
     abbrev Fits : RequestStage → Type 0
     Fits stage = StageFits kind.hands_over size request base stage old.session.current
         (far wire).isdu (far wire).carried
 
     abbrev Turns : Current → Type 0
-    Turns c = Turned facts kind layouts old wire c said new
+    Turns c = Turned facts kind layouts old wire c said new wire'
 
     takes : {c : Current} → old.session.current ≡ Some c → c.abort ≡ None → Turns c
     takes is free = turned facts cleanly laws room stood turn is free
@@ -298,11 +299,11 @@ module _ {W : Type 0} (facts : WireFacts W) where
       same : SameBut (far wire) t.turn.ready
       same = work_same (far wire) t.turn.ready (handed_request (far wire).isdu) t.turn.work
 
-      state_by : (far t.turn.next).isdu ≡ after c t.turn.heard_as.counted t.turn.heard_as.before
+      state_by : (far wire').isdu ≡ after c t.turn.heard_as.counted t.turn.heard_as.before
       state_by = grind (arith, common_steps)
 
       state_is : {state : IsduState} → link.waits ≡ None → t.turn.ready.isdu ≡ state
-          → (far t.turn.next).isdu ≡ after c t.turn.heard_as.counted state
+          → (far wire').isdu ≡ after c t.turn.heard_as.counted state
       state_is none is = state_by ∙ ap (after c t.turn.heard_as.counted)
           (t.turn.heard_as.before_is (ap (λ (l : FarLink). l.waits) (same.link_is ∙ stood.at)
           ∙ none)
@@ -310,7 +311,7 @@ module _ {W : Type 0} (facts : WireFacts W) where
 
       -- where nothing was handed over, nothing was worked off, and the record stays
       stays : handed_request (far wire).isdu ≡ None → (t.turn.ready.isdu ≡ (far wire).isdu)
-          × ((far t.turn.next).carried ≡ (far wire).carried)
+          × ((far wire').carried ≡ (far wire).carried)
       stays none =
           let still = work_none (far wire) t.turn.ready none t.turn.work in (
             ap (λ (f : Far). f.isdu) still,
@@ -318,7 +319,7 @@ module _ {W : Type 0} (facts : WireFacts W) where
           )
 
       -- what the reply makes of the request, and what is said of it
-      comes_to : {state : IsduState} → (far t.turn.next).isdu ≡ state → (o : ReplyEffect)
+      comes_to : {state : IsduState} → (far wire').isdu ≡ state → (o : ReplyEffect)
           → effect_of_reply old.session.limit
           (if (progress_head c.progress).read then isdu_data size state else []) c ≡ o
           → (new.session.current ≡ current_of_effect o)
@@ -335,11 +336,10 @@ module _ {W : Type 0} (facts : WireFacts W) where
 
       -- the request goes on, or has its answer
       next_is : {n : ℕ} (stage : RequestStage) → StageFits kind.hands_over size request base stage
-          new.session.current (far t.turn.next).isdu (far t.turn.next).carried
+          new.session.current (far wire').isdu (far wire').carried
           → turns_at kind.hands_over size request stage ≡ suc n → SaidAt stage said → Goes n
       next_is stage fits turns is = record {
         stage = stage;
-        wire = t.turn.next;
         at = grind (
           arith,
           common_steps,
@@ -357,8 +357,8 @@ module _ {W : Type 0} (facts : WireFacts W) where
     had_step : {n : ℕ} (given j : ℕ) (progress : RequestProgress)
         (t : Turns (current_at request size given progress)) (answer : Answer)
         (fitting : IsTrue (fits request answer))
-        → (far t.turn.next).isdu ≡ Answered request answer (Some j)
-        → (far t.turn.next).carried ≡ grown_by base request answer
+        → (far wire').isdu ≡ Answered request answer (Some j)
+        → (far wire').carried ≡ grown_by base request answer
         → j * size < length (answer_text_to request answer)
         → effect_of_reply old.session.limit
         (if (progress_head progress).read then segment size (answer_text_to request answer) j
@@ -478,7 +478,7 @@ module _ {W : Type 0} (facts : WireFacts W) where
         let some_text = text_some request size in
         let t = takes (sends_is request size 0 (rw (same_size other current) at current) some_text)
         refl in
-        let state : (far t.turn.next).isdu ≡ once_written kind.hands_over
+        let state : (far wire').isdu ≡ once_written kind.hands_over
         (isdu_with_octets (segments_up_to size (request_text request) 0) (count_at 0)) =
         state_by t ∙ (rw flow_start (begun kind.hands_over t.turn.heard_as.counted
         (remaining_isdu kind.recalls size t.turn.heard_as.before)

@@ -7,7 +7,6 @@ use Rattle.std.proofs.lemmas.Grind.{common_steps}
 use Rattle.iol_far.specs.Far.{Far}
 use Rattle.iol_link.specs.WireFacts.{WireFacts}
 use Rattle.iol_book.specs.BookModel.{BookState}
-use Rattle.iol_mode.specs.declared.configuration.Devices.{Devices}
 use Rattle.iol_mode.specs.declared.states.State.{State}
 use Rattle.iol_mode.specs.States.{IsDown, is_reset}
 use Rattle.iol_mode.specs.Exchanges.{IsSending}
@@ -20,10 +19,10 @@ use Rattle.iol_app.specs.Abstract.Images.{MayImagesAll, images_through}
 use Rattle.iol_app.specs.declared.event_work.EventRoom.{EventRoom}
 use Rattle.iol_app.specs.declared.brought.WireResult.{WireResult}
 use Rattle.iol_app.specs.State.{session_expecting, session_with_cycle}
-use Rattle.iol_app.specs.StationState.{StationState, mode_in}
+use Rattle.iol_app.specs.StationState.{mode_in}
 use Rattle.iol_app.specs.Core.{CoreState, Ghost, BothEndsStand, TermsStay, IsAttempted, ordered_output, session_in, frozen_in, images_in, moment_of, made_ghost}
 use Rattle.iol_app.specs.Pieces.{SendsMessage, IsWholeTurn, SendSteps, WakeSteps, ReceiveSteps, TakeUpGives}
-use Rattle.iol_app.specs.Seen.{WantSteps, core_of, station_of}
+use Rattle.iol_app.specs.Seen.{WantSteps}
 use Rattle.iol_port.specs.declared.call.Call.{Call}
 use Rattle.iol_port.specs.declared.call.Answered.{Answered}
 use Rattle.iol_port.specs.declared.call.Answered.TheVariants as answered
@@ -34,23 +33,19 @@ use Rattle.iol_page.specs.declared.identity.Identity.{Identity}
 use Rattle.iol_port.specs.declared.call.Counting.{Counting}
 use Rattle.iol_port.specs.declared.call.Call.TheVariants as call
 use Rattle.iol_port.specs.EveryWire.{page_shown}
-use Rattle.iol_port.specs.Run.{counting_of, PortState, Pending, SendOf, PieceOf, Send, Receive, port_at_opening, is_sending_step, moment_by}
+use Rattle.iol_port.specs.Run.{counting_of, PortState, Pending, SendOf, PieceOf, Send, Receive, is_sending_step, moment_by}
 use Rattle.iol_port.specs.declared.awaited.AwaitedAnswer.TheVariants.{Nothing, Wake, Reply}
 use Rattle.iol_port.specs.Owners.{owners_through}
-use Rattle.iol_port.specs.View.{PortParts, Choice, IsOutInOperate, IsTied, PendingAt, StandsFor, OpensWell, IsOpened, opening_for, IsAbstractCall, Does, BeginsNext, TakesNext, abstract_port}
-use Rattle.iol_book.specs.declared.limits.Limits.{Limits}
-use Rattle.iol_port.specs.CorePort.{IsNewFor, CoreOpensFor, station_without_wire, awaited_answer, at_end, parts_over, CoreDoes, PieceDoes, SendDoes, ReceiveDoes, WakeDoes}
+use Rattle.iol_port.specs.View.{PortParts, PortValue, Choice, IsOutInOperate, IsTied, PendingAt, StandsFor, IsAbstractCall, Does, BeginsNext, abstract_port, on_wire, over}
+use Rattle.iol_port.specs.CorePort.{IsCoreCall, awaited_answer, CoreDoes, PieceDoes, SendDoes, ReceiveDoes, WakeDoes}
 use Rattle.iol_port.proofs.Filters.{book_through-filter, MayBookAll-filter, kept_through-filter, takes_none, is_no_taking, may_book_said}
 use Rattle.iol_port.proofs.TurnLemmas.{First, Begun, Settles, ahead, images_ahead, under, begun, none_down, terms_of}
 use Rattle.iol_port.proofs.CallLemmas.{none_pending, expect_does, set_cycle_does}
 
-abbrev Bare : Type 0
-Bare = PortParts (Unit {0})
-
 -- the parts that the fields of a port show
-abbrev pub parts_in : {A : Type 0} → Inside A → Bare
+abbrev pub parts_in : {A : Type 0} → Inside A → PortParts
 parts_in inside = record {
-  station = station_without_wire inside.core;
+  core = inside.core;
   book = inside.book;
   kept = inside.kept.items;
   sent = inside.sent;
@@ -60,14 +55,14 @@ parts_in inside = record {
 
 -- What waits for its answer
 
-pub nothing_out : (p : Bare) → awaited_answer p ≡ Nothing → p.sent ≡ false
+pub nothing_out : (p : PortParts) → awaited_answer p ≡ Nothing → p.sent ≡ false
 nothing_out p e = grind (arith, common_steps)
 
-pub reply_out : (p : Bare) → IsTied p → awaited_answer p ≡ Reply
-    → (p.sent ≡ true) × IsSending p.station.link.state
+pub reply_out : (p : PortParts) → IsTied p → awaited_answer p ≡ Reply
+    → (p.sent ≡ true) × IsSending p.core.state
 reply_out p tied e = grind (arith, common_steps, tied.out)
 
-pub wake_out : (p : Bare) → awaited_answer p ≡ Wake → (p.sent ≡ true) × IsDown p.station.link.state
+pub wake_out : (p : PortParts) → awaited_answer p ≡ Wake → (p.sent ≡ true) × IsDown p.core.state
 wake_out p e = grind (arith, common_steps)
 
 -- What goes out
@@ -127,16 +122,16 @@ ahead_sends : (first : First) (made : Bool)
 ahead_sends first made = grind (arith, common_steps)
 
 -- where nothing was out
-goes_out : {s : StationState (Unit {0})} {start : BookState} {after : Ghost} {made : Bool}
-    (p next : Bare) (far : Far) (n : ℕ) (u : Choice) → u.pending ≡ None → next.kept ≡ p.kept
+goes_out : {s : CoreState} {start : BookState} {after : Ghost} {made : Bool}
+    (p next : PortParts) (far : Far) (n : ℕ) (u : Choice) → u.pending ≡ None → next.kept ≡ p.kept
     → next.sent ≡ true → next.book.state ≡ start
-    → (b : Begun p.station p.book.state s start u.ghost far n)
-    → Sent (core_of (under b.current p.station)) (core_of next.station)
+    → (b : Begun p.core p.book.state s start u.ghost far n)
+    → Sent (under b.current p.core) next.core
     (record u.ghost { request = b.request }) after far n made
-    → (m : PortState) × PieceOf (abstract_port (at_end far n) p u) Send answered.Nothing m
-    × StandsFor (at_end far n) next m
+    → (m : PortState) × PieceOf (abstract_port far n p u) Send answered.Nothing m
+    × StandsFor far n next m
 goes_out {start = start} {after = after} {made = made} p next far n u none kept sent book_is b s =
-    let before : PortState = abstract_port (at_end far n) p u in
+    let before : PortState = abstract_port far n p u in
     let steps : List PortStep = ahead b.first (make_of made) in
     let book = b.book (make_of made) (made_book made start).0 in
     let images = λ (call : WireCall). images_ahead b.first (moment_by before call) (make_of made)
@@ -144,9 +139,9 @@ goes_out {start = start} {after = after} {made = made} p next far n u none kept 
     let c : Choice = record {
       owners = owners_through steps u.owners;
       ghost = after;
-      pending = Some (record { wanted = p.station.session.output.wanted });
+      pending = Some (record { wanted = p.core.session.output.wanted });
     } in (
-      abstract_port (at_end far n) next c,
+      abstract_port far n next c,
       (
         refl,
         inl (record {
@@ -171,7 +166,6 @@ goes_out {start = start} {after = after} {made = made} p next far n u none kept 
       (
         c,
         record {
-          is_honest = refl;
           both = s.stands;
           out = (sent, s.asks);
         },
@@ -179,21 +173,21 @@ goes_out {start = start} {after = after} {made = made} p next far n u none kept 
       ),
     )
 
-pub send_does : (p next : Bare) (s : StationState (Unit {0})) (start : BookState)
-    → p.sent ≡ false → BeginsNext p.station p.book.state s start
-    → SendSteps (core_of s) (core_of next.station) → next.book.state ≡ start
+pub send_does : (p next : PortParts) (s : CoreState) (start : BookState)
+    → p.sent ≡ false → BeginsNext p.core p.book.state s start
+    → SendSteps s next.core → next.book.state ≡ start
     → next.kept ≡ p.kept → next.sent ≡ true → SendDoes p next
 unfolding SendDoes
 send_does p next s start free begins sends book kept sent = λ far n a for_a.
     let (u, shows, is) = for_a in
-    let none = none_pending u.pending p.sent (core_of p.station) n free shows.out in
+    let none = none_pending u.pending p.sent p.core n free shows.out in
     let b = begun begins shows.both in
     let (m, piece, after) = goes_out p next far n u none kept sent book b
     (is_sent (rw b.is at sends) (rw none at shows.out).1 b.stands).2 in
     (m, subst (λ (x : PortState). PieceOf x Send answered.Nothing m) (sym is) piece, after)
 
 -- what is out goes out again
-pub again_does : (p : Bare) → p.sent ≡ true → SendDoes p p
+pub again_does : (p : PortParts) → p.sent ≡ true → SendDoes p p
 unfolding SendDoes
 again_does p sent = λ far n a for_a.
     let (u, shows, is) = for_a in
@@ -207,26 +201,26 @@ unsent_all [] h k = refl
 unsent_all (step ∷ steps) h k = grind (arith, common_steps, unsent_all steps)
 
 -- to what is out
-module _ (p next : Bare) (far far' : Far) (n n' : ℕ) (said : Said) (free : next.sent ≡ false)
-    (settles : Settles p next said (is_reset p.station.link.state) p.book.state) where
+module _ (p next : PortParts) (far far' : Far) (n n' : ℕ) (said : Said) (free : next.sent ≡ false)
+    (settles : Settles p next said (is_reset p.core.state) p.book.state) where
   abbrev Receives : PortState → Type 0
   Receives a = (b : PortState) × PieceOf a Receive answered.Nothing b
-      × StandsFor (at_end far' n') next b
+      × StandsFor far' n' next b
 
   receives : (u : Choice) (out : Pending) → u.pending ≡ Some out
-      → PendingAt (Some out) p.sent (core_of p.station) n
-      → TakeUpGives (core_of p.station) u.ghost far n said (core_of next.station) far' n'
-      → Receives (abstract_port (at_end far n) p u)
+      → PendingAt (Some out) p.sent p.core n
+      → TakeUpGives p.core u.ghost far n said next.core far' n'
+      → Receives (abstract_port far n p u)
   receives u out was shown r =
       let x = r.given in
-      let began : Bool = is_reset p.station.link.state in
-      let ended : Bool = is_reset next.station.link.state in
+      let began : Bool = is_reset p.core.state in
+      let ended : Bool = is_reset next.core.state in
       let c : Choice = record {
         owners = owners_through x.steps u.owners;
         ghost = x.after;
         pending = None;
       } in (
-        abstract_port (at_end far' n') next c,
+        abstract_port far' n' next c,
         (
           refl,
           record {
@@ -247,7 +241,7 @@ module _ (p next : Bare) (far far' : Far) (n n' : ℕ) (said : Said) (free : nex
               may_session = x.session.0;
               session = sym x.session.1;
               owners = refl;
-              down = none_down next.station.link.state next.station.session x.after
+              down = none_down next.core.state next.core.session x.after
                   x.after.request.hidden.answer x.stands.joined;
             };
             events = record {
@@ -265,21 +259,21 @@ module _ (p next : Bare) (far far' : Far) (n n' : ℕ) (said : Said) (free : nex
             pending = refl;
           },
         ),
-        (c, record { is_honest = refl; both = x.stands; out = (free, r.attempted) }, refl),
+        (c, record { both = x.stands; out = (free, r.attempted) }, refl),
       )
 
   -- with whatever was out
-  taken_up : p.sent ≡ true → ((g : Ghost) → BothEndsStand (core_of p.station) g far n
-      → TakeUpGives (core_of p.station) g far n said (core_of next.station) far' n')
+  taken_up : p.sent ≡ true → ((g : Ghost) → BothEndsStand p.core g far n
+      → TakeUpGives p.core g far n said next.core far' n')
       → PieceDoes p far n Receive next far' n'
   taken_up sent gives = λ a for_a.
       let (u, shows, is) = for_a in
       subst Receives (sym is) (by u u.pending refl shows.out (gives u.ghost shows.both))
     where
       by : (u : Choice) (x : Option Pending) → u.pending ≡ x
-          → PendingAt x p.sent (core_of p.station) n
-          → TakeUpGives (core_of p.station) u.ghost far n said (core_of next.station) far' n'
-          → Receives (abstract_port (at_end far n) p u)
+          → PendingAt x p.sent p.core n
+          → TakeUpGives p.core u.ghost far n said next.core far' n'
+          → Receives (abstract_port far n p u)
       by u None was shown r = absurd (let k : true ≡ false = sym sent ∙ shown.0 in cc)
       by u (Some out) was shown r = receives u out was shown r
 
@@ -291,17 +285,17 @@ pub heard_reset : {reset began ended : Bool} (old new : State) (said : Said) (b 
     → after ≡ book_through (resets (is_reset old) (is_reset new) ++ book_said said) b
 heard_reset old new said b from to is told = rw (is, from, to) at told
 
-pub receive_does : (p next : Bare) (came : Option (List ℕ)) (said : Said) → p.sent ≡ true
-    → ReceiveSteps (core_of p.station) came said (core_of next.station) → next.sent ≡ false
-    → Settles p next said (is_reset p.station.link.state) p.book.state → ReceiveDoes p came next
+pub receive_does : (p next : PortParts) (came : Option (List ℕ)) (said : Said) → p.sent ≡ true
+    → ReceiveSteps p.core came said next.core → next.sent ≡ false
+    → Settles p next said (is_reset p.core.state) p.book.state → ReceiveDoes p came next
 unfolding ReceiveSteps ReceiveDoes
 receive_does p next came said sent steps free settles = λ far far' n n' x.
     taken_up p next far far' n n' said free settles sent
     (λ g stands. steps g far far' n n' stands x)
 
-pub wake_does : (p next : Bare) (answered : Bool) → p.sent ≡ true
-    → WakeSteps (core_of p.station) answered (core_of next.station) → next.sent ≡ false
-    → Settles p next Idle (is_reset p.station.link.state) p.book.state → WakeDoes p answered next
+pub wake_does : (p next : PortParts) (answered : Bool) → p.sent ≡ true
+    → WakeSteps p.core answered next.core → next.sent ≡ false
+    → Settles p next Idle (is_reset p.core.state) p.book.state → WakeDoes p answered next
 unfolding WakeSteps WakeDoes
 wake_does p next answered sent steps free settles = λ far far' n x.
     taken_up p next far far' n n Idle free settles sent (λ g stands. steps g far far' n stands x)
@@ -314,85 +308,46 @@ sent_same room old new is_out sent = grind (arith, common_steps)
 
 -- What start-ups are to ask is changed
 
-module _ {p q : Bare} {r : Counting} {k : CoreState} (same : p ≡ q)
+module _ {p q : PortParts} {r : Counting} {k : CoreState} (same : p ≡ q)
     (counts : r ≡ counting_of (page_shown q))
   where
     pub expect_core : {identity : Option Identity}
-        → k ≡ record (core_of p.station) { session = session_expecting identity p.station.session }
-        → WantSteps (core_of p.station) k
-        → CoreDoes p (call.Expect identity) (answered.Counts r)
-        (record p { station = station_without_wire k })
-    expect_core is gives = λ far n. record {
-      follows = expect_does (at_end far n) p _ r (station_without_wire k) (rw same counts)
-          (ap station_without_wire is) gives;
+        → k ≡ record p.core { session = session_expecting identity p.core.session }
+        → WantSteps p.core k
+        → CoreDoes p (call.Expect identity) (answered.Counts r) (record p { core = k })
+    expect_core is gives = record {
+      follows = expect_does p _ r k (rw same counts) is gives;
       book = refl;
     }
 
     pub set_cycle_core : {cycle : Option CycleTime}
-        → k ≡ record (core_of p.station) { session = session_with_cycle cycle p.station.session }
-        → WantSteps (core_of p.station) k
-        → CoreDoes p (call.Cycle cycle) (answered.Counts r)
-        (record p { station = station_without_wire k })
-    set_cycle_core is gives = λ far n. record {
-      follows = set_cycle_does (at_end far n) p _ r (station_without_wire k) (rw same counts)
-          (ap station_without_wire is) gives;
+        → k ≡ record p.core { session = session_with_cycle cycle p.core.session }
+        → WantSteps p.core k
+        → CoreDoes p (call.Cycle cycle) (answered.Counts r) (record p { core = k })
+    set_cycle_core is gives = record {
+      follows = set_cycle_does p _ r k (rw same counts) is gives;
       book = refl;
     }
 
--- A call of a port over a wire is that of the port without it
+-- A call that leaves the wire is that of the parts
 
-module _ {W : Type 0} (wire : W) where
-  abbrev over : StationState (Unit {0}) → StationState W
-  over s = station_of wire (core_of s)
+pub call_over : {W : Type 0} (facts : WireFacts W) (wire : W) (p next : PortParts) (c : Call)
+    (reply : Answered) → CoreDoes p c reply next
+    → Does facts (on_wire p wire) c reply (on_wire next wire)
+unfolding IsAbstractCall IsCoreCall
+call_over facts wire p next c reply does = record {
+  follows = λ a for_a.
+      let (b, step, stands) = does.follows (facts.far wire) (facts.silence wire) a for_a.1 in
+      (b, step, (for_a.0, stands));
+  book = does.book;
+}
 
-  -- what is begun without a wire is begun over it
-  pub begins_over : (c d : CoreState) (b after : BookState)
-      → BeginsNext (station_without_wire c) b (station_without_wire d) after
-      → BeginsNext (station_of wire c) b (station_of wire d) after
-  begins_over c d b after begins = grind (arith, common_steps)
-
-  pub takes_over : (room : EventRoom) (c d : CoreState) (b after : BookState)
-      → TakesNext room (station_without_wire c) b (station_without_wire d) after
-      → TakesNext room (station_of wire c) b (station_of wire d) after
-  takes_over room c d b after takes t q ready told head =
-      let taken = takes t q ready told head in (ap over taken.0, taken.1, taken.2)
-
-module _ {W : Type 0} (facts : WireFacts W) (wire : W) where
-  open facts use {honest, far, silence}
-
-  abbrev here : WireFacts (Unit {0})
-  here = at_end (far wire) (silence wire)
-
-  pub over_wire : (p : Bare) (a : PortState) → IsTrue (honest wire) → StandsFor here p a
-      → StandsFor facts (parts_over wire p) a
-  over_wire p a is_honest (u, shows, is) =
-      (u, record { is_honest = is_honest; both = shows.both; out = shows.out }, is)
-
-  -- a port that is new is so over a wire
-  pub new_over : {devices : Devices} {limits : Limits} {p : Bare} → IsNewFor devices limits p
-      → IsOpened (opening_for facts devices limits wire) (parts_over wire p)
-  new_over new = grind (arith, common_steps, new (far wire) (silence wire))
-
-  pub opens_over : (devices : Devices) (limits : Limits) (p : Bare) → CoreOpensFor devices limits p
-      → OpensWell (opening_for facts devices limits wire)
-      → StandsFor facts (parts_over wire p)
-      (port_at_opening devices limits (far wire) (silence wire))
-  opens_over devices limits p opens (is_honest, quiet, sees) =
-      over_wire p _ is_honest (opens (far wire) (silence wire) (refl, quiet, sees))
-
-  pub call_over : (p next : Bare) (c : Call) (reply : Answered) → CoreDoes p c reply next
-      → Does facts (parts_over wire p) c reply (parts_over wire next)
-  unfolding IsAbstractCall
-  call_over p next c reply does =
-      let here_does = does (far wire) (silence wire) in
-      record {
-        follows = λ a for_a.
-            let (u, shows, is) = for_a in
-            let (b, step, stands) = here_does.follows a
-            (u, record { is_honest = refl; both = shows.both; out = shows.out }, is) in
-            (b, step, over_wire next b shows.is_honest stands);
-        book = here_does.book;
-      }
+-- a port's call, which leaves its wire
+pub port_call_over : {W : Type 0} (facts : WireFacts W) (old new : PortValue W) (c : Call)
+    (reply : Answered) → CoreDoes old.parts c reply new.parts → new.wire ≡ old.wire
+    → Does facts (over old) c reply (over new)
+port_call_over facts old new c reply does same =
+    rw same (call_over facts old.wire old.parts new.parts c reply does)
 
 -- A turn over a wire is its two pieces
 
@@ -409,35 +364,35 @@ sent_reset room old mid sent = grind (arith, common_steps)
 module _ {W : Type 0} (facts : WireFacts W) (wire wire' : W) where
   open facts use {honest, far, silence}
 
-  pub turn_does : (p next : Bare) (room : EventRoom) (said : Said) (brought : WireResult)
-      (s : StationState (Unit {0})) (start : BookState)
-      → p.sent ≡ false → next.sent ≡ false → BeginsNext p.station p.book.state s start
-      → IsWholeTurn facts room wire wire' (core_of s) said brought (core_of next.station)
-      → honest wire' ≡ honest wire → Settles p next said (is_reset s.link.state) start
-      → IsAbstractCall facts (parts_over wire p) call.Turn answered.Nothing
-      (parts_over wire' next)
+  pub turn_does : (p next : PortParts) (room : EventRoom) (said : Said) (brought : WireResult)
+      (s : CoreState) (start : BookState)
+      → p.sent ≡ false → next.sent ≡ false → BeginsNext p.core p.book.state s start
+      → IsWholeTurn facts room wire wire' s said brought next.core
+      → honest wire' ≡ honest wire → Settles p next said (is_reset s.state) start
+      → IsAbstractCall facts (on_wire p wire) call.Turn answered.Nothing (on_wire next wire')
   unfolding IsAbstractCall SendDoes
   turn_does p next room said brought s start free after begins t honesty settles = λ a for_a.
-      let (u, shows, is) = for_a in
-      let between : Bare = record {
-        station = station_without_wire t.mid;
+      let (up, here) = for_a in
+      let (u, shows, is) = here in
+      let between : PortParts = record {
+        core = t.mid;
         book = record p.book { state = start };
         kept = p.kept;
         sent = true;
         counters = p.counters;
+        last_loss = p.last_loss;
       } in
       let none : a.pending ≡ None = ap (λ (x : PortState). x.pending) is
-      ∙ none_pending u.pending p.sent (core_of p.station) (silence wire) free shows.out in
+      ∙ none_pending u.pending p.sent p.core (silence wire) free shows.out in
       let (m, sends, for_m) =
       send_does p between s start free begins t.puts.steps refl refl refl (far wire)
-      (silence wire) a
-      (u, record { is_honest = refl; both = shows.both; out = shows.out }, is) in
+      (silence wire) a (u, shows, is) in
       let (b, receives, for_b) =
       taken_up between next (far wire) (far wire') (silence wire) (silence wire') said after
-      (rw (sent_reset room (core_of s) t.mid t.puts.sent)
+      (rw (sent_reset room s t.mid t.puts.sent)
       (record { posts = settles.posts; keeps = settles.keeps })) refl
-      (t.takes shows.is_honest) m for_m in (
+      (t.takes up) m for_m in (
         b,
         (refl, (m, send_of none sends, receives.1)),
-        over_wire facts wire' next b (rw honesty shows.is_honest) for_b,
+        (rw honesty up, for_b),
       )

@@ -36,7 +36,7 @@ said_none : (said : Said) (b : BookState) (k : Ticket)
     → HasNoIsdu (book_through (book_said said) b) k → HasNoIsdu b k
 said_none said b k given = grind (arith, common_steps, posted_none)
 
-module _ {W : Type 0} (old next : PortParts W) (mid : BookState) (reset : Bool) (said : Said)
+module _ (old next : PortParts) (mid : BookState) (reset : Bool) (said : Said)
     (asks : Asks said mid.standing.taken)
     (book : next.book.state ≡ book_through (cond reset (Reset ∷ []) [] ++ book_said said) mid)
     (k : Ticket) (has : HasNoIsdu next.book.state k) where
@@ -48,7 +48,7 @@ module _ {W : Type 0} (old next : PortParts W) (mid : BookState) (reset : Bool) 
 
   -- where this turn denied one, it is that of the ticket, or another
   denied_one : (t : Ticket) (q : Request) → next_taken b.standing ≡ Some (t, q)
-      → old.station.session.isdu ≡ Some false → reset ≡ false → mid ≡ book_after_denial b t
+      → old.core.session.isdu ≡ Some false → reset ≡ false → mid ≡ book_after_denial b t
       → HasNoIsdu b k ⊎ IsDenied old next k
   denied_one t q head told asleep is = by (same_ticket t k) refl
     where
@@ -69,14 +69,14 @@ module _ {W : Type 0} (old next : PortParts W) (mid : BookState) (reset : Bool) 
           inl (rw (lookup-entered b.standing.outcomes t k NoIsdu, apart) at (rw is at had))
 
   pub turn_denies : (ready : Bool)
-      → mid ≡ book_after_taking ready (lacks_isdu old.station.session.isdu)
+      → mid ≡ book_after_taking ready (lacks_isdu old.core.session.isdu)
       (next_taken b.standing) b
       → (ready ≡ true → reset ≡ false) → HasNoIsdu b k ⊎ IsDenied old next k
   turn_denies ready mid_is asleep =
-      by (next_taken b.standing) ready (lacks_isdu old.station.session.isdu) refl refl refl mid_is
+      by (next_taken b.standing) ready (lacks_isdu old.core.session.isdu) refl refl refl mid_is
     where
       by : (head : Option (Ticket × Request)) (r lacks : Bool) → next_taken b.standing ≡ head
-          → ready ≡ r → lacks_isdu old.station.session.isdu ≡ lacks
+          → ready ≡ r → lacks_isdu old.core.session.isdu ≡ lacks
           → mid ≡ book_after_taking r lacks head b → HasNoIsdu b k ⊎ IsDenied old next k
       by (Some (t, q)) true true head is_ready told is =
           denied_one t q head (grind arith) (asleep is_ready) is

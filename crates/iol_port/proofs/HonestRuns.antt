@@ -8,13 +8,13 @@ use Rattle.iol_port.specs.declared.call.Call.{Call}
 use Rattle.iol_port.specs.declared.call.Answered.{Answered}
 use Rattle.iol_port.specs.declared.call.Answered.TheVariants as answered
 use Rattle.iol_port.specs.Run.{PortState, Piece, Whole, Send, Receive, PieceOf, Pieces, port_at_opening}
-use Rattle.iol_port.specs.View.{PortParts, StandsFor, IsAbstractCall}
+use Rattle.iol_port.specs.View.{PortParts, StandsFor}
 use Rattle.iol_port.specs.Clean.{IsLevelBetween}
 use Rattle.iol_port.specs.Sound.{PortIsSound}
 use Rattle.iol_port.specs.Promises.{OpensSound, PiecesSound}
-use Rattle.iol_port.specs.CorePort.{CoreDoes, CoreOpensFor, CoreKeeps, SendDoes, ReceiveDoes, WakeDoes}
+use Rattle.iol_port.specs.CorePort.{IsCoreCall, CoreDoes, CoreOpensFor, CoreKeeps, SendDoes, ReceiveDoes, WakeDoes}
 use Rattle.iol_port.specs.Standing.{LinePosition}
-use Rattle.iol_port.specs.Honestly.{HonestParts, IsRunInPieces, BeganWell, RecordFitsJournal, Exchanges, line_at}
+use Rattle.iol_port.specs.Honestly.{HonestParts, IsRunInPieces, BeganWell, RecordFitsJournal, Exchanges}
 
 Pieces-snoc : (a b c : PortState) (ps : List Piece) (rs : List Answered) (p : Piece)
     (r : Answered) → Pieces a ps rs b → PieceOf b p r c → Pieces a (ps ++ p ∷ []) (rs ++ r ∷ []) c
@@ -24,10 +24,10 @@ Pieces-snoc a b c (q ∷ ps) (s ∷ rs) p r (mid, first, rest) step =
 Pieces-snoc a b c _ _ p r is step = absurd is
 
 -- by whatever piece this port makes of the abstract one
-goes_on : (p : HonestParts) (next : PortParts (Unit {0})) (after : LinePosition) (piece : Piece)
+goes_on : (p : HonestParts) (next : PortParts) (after : LinePosition) (piece : Piece)
     (reply : Answered) → IsRunInPieces p
-    → ((a : PortState) → StandsFor (line_at p.at) p.parts a
-    → (b : PortState) × PieceOf a piece reply b × StandsFor (line_at after) next b)
+    → ((a : PortState) → StandsFor p.at.far p.at.silence p.parts a
+    → (b : PortState) × PieceOf a piece reply b × StandsFor after.far after.silence next b)
     → IsRunInPieces (record p { parts = next; at = after })
 unfolding IsRunInPieces
 goes_on p next after piece reply is does well =
@@ -41,19 +41,19 @@ goes_on p next after piece reply is does well =
       stands_c,
     )
 
-pub called : (p : HonestParts) (next : PortParts (Unit {0})) (c : Call) (reply : Answered)
+pub called : (p : HonestParts) (next : PortParts) (c : Call) (reply : Answered)
     → IsRunInPieces p
     → CoreDoes p.parts c reply next → IsRunInPieces (record p { parts = next })
-unfolding IsAbstractCall
+unfolding IsCoreCall
 called p next c reply is does = goes_on p next p.at (Whole c) reply is
-    (does p.at.far p.at.silence).follows
+    (does.follows p.at.far p.at.silence)
 
-pub sent : (p : HonestParts) (next : PortParts (Unit {0})) → IsRunInPieces p → SendDoes p.parts next
+pub sent : (p : HonestParts) (next : PortParts) → IsRunInPieces p → SendDoes p.parts next
     → IsRunInPieces (record p { parts = next })
 unfolding SendDoes
 sent p next is does = goes_on p next p.at Send answered.Nothing is (does p.at.far p.at.silence)
 
-pub received : (p : HonestParts) (next : PortParts (Unit {0})) (came : Option (List ℕ))
+pub received : (p : HonestParts) (next : PortParts) (came : Option (List ℕ))
     (after : LinePosition) → IsRunInPieces p → ReceiveDoes p.parts came next
     → Exchanges p came after
     → IsRunInPieces (record p { parts = next; at = after })
@@ -62,7 +62,7 @@ received p next came after is does premise =
     goes_on p next after Receive answered.Nothing is
     (does p.at.far after.far p.at.silence after.silence premise)
 
-pub woken : (p : HonestParts) (next : PortParts (Unit {0})) (answered : Bool) (after : Far)
+pub woken : (p : HonestParts) (next : PortParts) (answered : Bool) (after : Far)
     → IsRunInPieces p
     → WakeDoes p.parts answered next → HonestWake p.at.far answered after
     → IsRunInPieces (record p { parts = next; at = record p.at { far = after } })
@@ -71,7 +71,7 @@ woken p next came after is does premise =
     goes_on p next (record p.at { far = after }) Receive answered.Nothing is
     (does p.at.far after p.at.silence premise)
 
-pub began : (p : PortParts (Unit {0})) (devices : Devices) (limits : Limits) (from : LinePosition)
+pub began : (p : PortParts) (devices : Devices) (limits : Limits) (from : LinePosition)
     → CoreOpensFor devices limits p
     → IsRunInPieces
     (record { parts = p; at = from; devices = devices; limits = limits; from = from })
@@ -87,7 +87,7 @@ began p devices limits from opens well = (
 
 -- of each run of the one that was opened the record fits the journal
 pub record_kept : OpensSound → PiecesSound → (p : HonestParts) → CoreKeeps p.parts → IsRunInPieces p
-    → BeganWell p → RecordFitsJournal p × IsLevelBetween (line_at p.at) p.parts
+    → BeganWell p → RecordFitsJournal p × IsLevelBetween p.at.far p.parts
 unfolding IsRunInPieces
 record_kept opens stay p keeps is well =
     let (pieces, replies, b, run, stands) = is well in

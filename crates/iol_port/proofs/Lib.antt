@@ -8,7 +8,6 @@ pub mod TurnLemmas
 pub mod RightDevices
 pub mod RunLemmas
 pub mod CorePorts
-pub mod OverWire
 pub mod WireLemmas
 pub mod TurnsRuleOut
 pub mod TieLemmas

@@ -9,24 +9,21 @@ use Rattle.iol_page.specs.declared.page.Layouts.{Layouts}
 use Rattle.iol_isdu.specs.declared.values.Request.{Request}
 use Rattle.iol_isdu.specs.declared.values.Answer.{Answer}
 use Rattle.iol_far.specs.declared.carried.Carried.{Carried}
-use Rattle.iol_far.specs.Far.{Far}
 use Rattle.iol_far.specs.Local.{has_room}
 use Rattle.iol_far.specs.Record.{takes_more}
-use Rattle.iol_far.specs.Level.{FarLink, Quiet, IsLevelBefore, grown_by}
+use Rattle.iol_far.specs.Level.{Quiet, IsLevelBefore, grown_by}
 use Rattle.iol_link.specs.WireFacts.{WireFacts}
 use Rattle.iol_mode.specs.Stands.{operate_link}
-use Rattle.iol_mode.specs.Next.{AnyLinkValue}
 use Rattle.iol_book.specs.declared.entries.Ticket.{Ticket}
 use Rattle.iol_book.specs.declared.entries.Outcome.TheVariants.{Done}
 use Rattle.iol_book.specs.Replay.{Standing}
 use Rattle.iol_book.specs.BookModel.{BookState, next_taken, others_behind, book_after_take, book_after_post}
 use Rattle.iol_app.specs.declared.event_work.EventRoom.TheVariants.{Left}
-use Rattle.iol_app.specs.StationState.{StationState, link_wire}
 use Rattle.iol_port.specs.declared.call.Call.{Call}
 use Rattle.iol_port.specs.declared.call.Call.TheVariants as call
-use Rattle.iol_port.specs.View.{PortParts}
+use Rattle.iol_port.specs.View.{PortOver}
 use Rattle.iol_port.specs.Turns.{RequestStage, Ended, turns_at, turns_needed}
-use Rattle.iol_port.specs.Clean.{CleanLaws, Stood, IsAtStage, IsBetween, MayStart, MayServe, IsAfter, CleanTurn, takes_all, turns_between, record_of, kind_of_device, IsOnTime, IsOnItsWay, AreServed, CleanRuns, CleanServes}
+use Rattle.iol_port.specs.Clean.{CleanLaws, IsAtStage, IsBetween, MayStart, MayServe, IsAfter, CleanTurn, takes_all, turns_between, record_of, kind_of_device, IsOnTime, IsOnItsWay, AreServed, CleanRuns, CleanServes}
 use Rattle.iol_port.proofs.CleanStages.{segment_within}
 use Rattle.iol_mode.specs.declared.configuration.Configuration.{Configuration}
 use Rattle.iol_mode.specs.declared.configuration.Devices.{Devices}
@@ -129,23 +126,13 @@ between Any (next ∷ rest) = inr (refl, refl)
 module _ {W : Type 0} (facts : WireFacts W) where
   open facts use {honest, far}
 
-  far_at : {kind : Kind} {layouts : Layouts} {link : FarLink} {station : StationState W} {wire : W}
-      → Stood facts kind layouts link station wire → far (link_wire station.link) ≡ far wire
-  far_at stood = ap (λ (l : AnyLinkValue W). far (link_wire l)) stood.link_is
-
-  record_at : {kind : Kind} {layouts : Layouts} {link : FarLink} {station : StationState W}
-      {wire : W}
-      → Stood facts kind layouts link station wire
-      → (far (link_wire station.link)).carried ≡ (far wire).carried
-  record_at stood = ap (λ (f : Far). f.carried) (far_at stood)
-
   -- the wire is honest, the device's record has this room, and start-ups ask this
-  pub record Steady (room : Option ℕ) (asks : Configuration) (now : PortParts W) : Type 0 where
-    pub is_honest : IsTrue (honest (link_wire now.station.link))
-    pub room_is : (far (link_wire now.station.link)).room ≡ room
-    pub asks_is : now.station.session.configuration ≡ asks
+  pub record Steady (room : Option ℕ) (asks : Configuration) (now : PortOver W) : Type 0 where
+    pub is_honest : IsTrue (honest now.wire)
+    pub room_is : (far now.wire).room ≡ room
+    pub asks_is : now.parts.core.session.configuration ≡ asks
 
-  steady_more : {room : Option ℕ} {asks : Configuration} {mid next : PortParts W}
+  steady_more : {room : Option ℕ} {asks : Configuration} {mid next : PortOver W}
       → Steady room asks mid → CleanTurn facts mid next → Steady room asks next
   steady_more steady turn = grind (arith, common_steps)
 
@@ -159,18 +146,18 @@ module _ {W : Type 0} (facts : WireFacts W) where
 
     -- between requests: the next one may start, if there is one and the record has room
     pub record Idle (rest : List (Ticket × Request)) (base : List Carried) (book : BookState)
-        (now : PortParts W) : Type 0 where
+        (now : PortOver W) : Type 0 where
       pub kind_is : kind_of_device facts now ≡ kind
       pub record_is : record_of facts now ≡ base
-      pub book_is : now.book.state ≡ book
+      pub book_is : now.parts.book.state ≡ book
       pub may : 1 ≤ length rest → (ticket : Ticket) (request : Request)
-          → next_taken now.book.state.standing ≡ Some (ticket, request)
-          → IsTrue (has_room (far (link_wire now.station.link)))
+          → next_taken now.parts.book.state.standing ≡ Some (ticket, request)
+          → IsTrue (has_room (far now.wire))
           → MayStart facts layouts ticket request now
 
     -- where the port stands after so many turns. Right behind a request IDLE 1 may come before
     -- those behind it
-    abbrev Going : ℕ → List (Ticket × Request) → List Carried → BookState → PortParts W → Type 0
+    abbrev Going : ℕ → List (Ticket × Request) → List Carried → BookState → PortOver W → Type 0
     Going zero requests base book now = Idle requests base book now
     Going (suc n) [] base book now = (more : List Carried) × (record_of facts now ≡ base ++ more)
     Going (suc n) (next ∷ rest) base book now =
@@ -188,12 +175,11 @@ module _ {W : Type 0} (facts : WireFacts W) where
 
     -- a request has its answer
     between_at : {ticket : Ticket} {request : Request} {base : List Carried} {book : BookState}
-        {answer : Answer} {now : PortParts W}
+        {answer : Answer} {now : PortOver W}
         → IsAtStage facts kind layouts ticket request base book (Ended answer) now
         → IsBetween facts kind layouts (grown_by base request answer)
         (served book (ticket, request) answer) false now
     between_at is = record {
-      wire = is.wire;
       stood = is.at.stood;
       free = is.at.fits.0;
       clear_is = is.at.after;
@@ -204,36 +190,36 @@ module _ {W : Type 0} (facts : WireFacts W) where
 
     -- where a request may follow the next one may start
     idle_between : {rest : List (Ticket × Request)} {base : List Carried} {book : BookState}
-        {clear : Bool} {now : PortParts W} → now.station.session.configuration ≡ asks
+        {clear : Bool} {now : PortOver W} → now.parts.core.session.configuration ≡ asks
         → (1 ≤ length rest → may_follow asks.devices clear ≡ true)
         → IsBetween facts kind layouts base book clear now → Idle rest base book now
     idle_between {now = now} asks_is follows is = record {
-      kind_is = ap (λ (f : Far). f.kind) (far_at is.stood) ∙ is.stood.kind_is;
-      record_is = record_at is.stood ∙ is.record_is;
+      kind_is = is.stood.kind_is;
+      record_is = is.record_is;
       book_is = is.book_is;
       may = λ more next other is_next room. record {
-        wire = is.wire;
-        link_is = is.stood.link_is;
+        state_is = is.stood.state_is;
         is_honest = is.stood.is_honest;
         is_clean = is.stood.is_clean;
-        ready = calm_ready now.station.session Left is.stood.calm is.free
+        ready = calm_ready now.parts.core.session Left is.stood.calm is.free
             (rw (asks_is, is.clear_is) (follows more));
         link = operate_link;
         operating = is.stood.operating;
-        level = subst (λ (k : Kind). IsLevelBefore (far is.wire).page k layouts.run.od
-            (far is.wire).carried operate_link Quiet (far is.wire)) (sym is.stood.kind_is) is.level;
+        level = subst (λ (k : Kind). IsLevelBefore (far now.wire).page k layouts.run.od
+            (far now.wire).carried operate_link Quiet (far now.wire)) (sym is.stood.kind_is)
+            is.level;
         isdu = is.stood.isdu;
         told = is.stood.told;
         quiet = is.stood.quiet;
-        room = rw (far_at is.stood) at room;
+        room = room;
         next = is_next;
       };
     }
 
     -- a request after one more turn
     went : (n : ℕ) (next : Ticket × Request) (rest : List (Ticket × Request))
-        (base : List Carried) (book : BookState) (now : PortParts W)
-        → now.station.session.configuration ≡ asks → (stage : RequestStage)
+        (base : List Carried) (book : BookState) (now : PortOver W)
+        → now.parts.core.session.configuration ≡ asks → (stage : RequestStage)
         → IsAtStage facts kind layouts next.0 next.1 base book stage now
         → turns_at kind.hands_over layouts.run.od next.1 stage ≡ suc n
         → Going (suc n) (next ∷ rest) base book now
@@ -249,7 +235,7 @@ module _ {W : Type 0} (facts : WireFacts W) where
     went n next rest base book now asks_is stage is turns =
         inl (record { stage = stage; is_at = is; turns_are = turns }, λ answer e. cc)
 
-    module _ {room : Option ℕ} {mid next : PortParts W} (steady : Steady room asks mid)
+    module _ {room : Option ℕ} {mid next : PortOver W} (steady : Steady room asks mid)
         (turn : CleanTurn facts mid next) where
       -- one turn more
       going_more : (n : ℕ) (requests : List (Ticket × Request)) (base : List Carried)
@@ -262,9 +248,9 @@ module _ {W : Type 0} (facts : WireFacts W) where
           let grown = turn.grows steady.is_honest in
           (more ++ grown.0, grown.1 ∙ (rw (is, append_assoc) refl))
       going_more zero (first ∷ rest) base book queue idle =
-          let some : has_room (far (link_wire mid.station.link)) ≡ true =
+          let some : has_room (far mid.wire) ≡ true =
           rw (steady.room_is, idle.record_is) (takes_first room base (length rest) queue.fits) in
-          let is_next : next_taken mid.book.state.standing ≡ Some first =
+          let is_next : next_taken mid.parts.book.state.standing ≡ Some first =
           rw (idle.book_is, queue.free, queue.order) refl in
           let after = rw (idle.kind_is, idle.record_is, idle.book_is) at (turn.starts layouts
           first.0 first.1 (idle.may (omega arith) first.0 first.1 is_next some)) in
@@ -300,7 +286,7 @@ module _ {W : Type 0} (facts : WireFacts W) where
     module _ (laws : CleanLaws) where
       -- what that says of the record and of the book
       on_its_way : (n : ℕ) (next : Ticket × Request) (base : List Carried) (book : BookState)
-          (now : PortParts W) (stage : RequestStage)
+          (now : PortOver W) (stage : RequestStage)
           → IsAtStage facts kind layouts next.0 next.1 base book stage now
           → turns_at kind.hands_over layouts.run.od next.1 stage ≡ n
           → ((answer : Answer) → stage ≡ Ended answer → ⊥)
@@ -309,12 +295,11 @@ module _ {W : Type 0} (facts : WireFacts W) where
         arith,
         common_steps,
         segment_within (laws.texts layouts.run.od is.low),
-        record_at is.at.stood,
         is.at.fits,
       )
 
       are_served : (n : ℕ) (requests : List (Ticket × Request)) (base : List Carried)
-          (book : BookState) (now : PortParts W) → Going n requests base book now
+          (book : BookState) (now : PortOver W) → Going n requests base book now
           → AreServed facts asks.devices kind.hands_over layouts n requests base book now
       are_served zero requests base book now idle = (idle.record_is, idle.book_is)
       are_served (suc n) [] base book now grown = grown
@@ -324,7 +309,7 @@ module _ {W : Type 0} (facts : WireFacts W) where
           let none : suc n - spent next.1 rest answer ≡ 0 = omega (arith, one, needs) in inr (
             answer,
             omega (arith, needs),
-            rw none (record_at is.stood ∙ is.record_is, is.book_is),
+            rw none (is.record_is, is.book_is),
           )
       are_served (suc n) (next ∷ rest) base book now (inr (answer, inr (few, going))) = inr (
         answer,
@@ -335,9 +320,9 @@ module _ {W : Type 0} (facts : WireFacts W) where
 
   -- of one request alone
   on_time : (layouts : Layouts) (devices : Devices) (ticket : Ticket) (request : Request)
-      (p : PortParts W) (n : ℕ) (now : PortParts W)
+      (p : PortOver W) (n : ℕ) (now : PortOver W)
       → AreServed facts devices (kind_of_device facts p).hands_over layouts (suc n)
-      ((ticket, request) ∷ []) (record_of facts p) p.book.state now
+      ((ticket, request) ∷ []) (record_of facts p) p.parts.book.state now
       → IsOnTime facts layouts ticket request p (suc n) now
   on_time layouts devices ticket request p n now (inl given) = grind (arith, common_steps)
   on_time layouts devices ticket request p n now (inr (answer, few, rest)) =
@@ -350,33 +335,33 @@ module _ {W : Type 0} (facts : WireFacts W) where
           → suc n - (needed + turns_between devices []) ≡ left
           → AreServed facts devices (kind_of_device facts p).hands_over layouts left []
           (grown_by (record_of facts p) request answer)
-          (served p.book.state (ticket, request) answer) now
+          (served p.parts.book.state (ticket, request) answer) now
           → IsOnTime facts layouts ticket request p (suc n) now
       by zero none left (is, book) = inr (inr (inl (answer, is, omega (arith, few), book)))
       by (suc k) none left (more, is) = inr (inr (inr (answer, more, is, omega (arith, few))))
 
   -- Whole runs
 
-  module _ (p : PortParts W) where
+  module _ (p : PortOver W) where
     abbrev asked : Configuration
-    asked = p.station.session.configuration
+    asked = p.parts.core.session.configuration
 
     abbrev ready : Option ℕ
-    ready = (far (link_wire p.station.link)).room
+    ready = (far p.wire).room
 
     -- where the port stands after so many turns and no other call
-    abbrev pub SoFar : List Call → PortParts W → Type 0
+    abbrev pub SoFar : List Call → PortOver W → Type 0
     SoFar calls now =
         (n : ℕ) → calls ≡ replicate n call.Turn
         → (layouts : Layouts) (first : Ticket × Request) (rest : List (Ticket × Request))
         → MayServe facts layouts first rest p → Steady ready asked now
         × Going (kind_of_device facts p) layouts asked n (first ∷ rest) (record_of facts p)
-        p.book.state
+        p.parts.book.state
         now
 
     pub so_far_none : SoFar [] p
     so_far_none zero e layouts first rest may = (
-      grind (arith, common_steps, may.starts.link_is, may.starts.is_honest),
+      grind (arith, common_steps, may.starts.is_honest),
       record {
         kind_is = refl;
         record_is = refl;
@@ -389,7 +374,7 @@ module _ {W : Type 0} (facts : WireFacts W) where
     )
     so_far_none (suc n) e layouts first rest may = absurd (cc)
 
-    pub so_far_more : (mid next : PortParts W) (calls : List Call) (i : ℕ) (d : Call)
+    pub so_far_more : (mid next : PortOver W) (calls : List Call) (i : ℕ) (d : Call)
         → i < length calls → SoFar (take i calls) mid
         → (get_or calls i d ≡ call.Turn → CleanTurn facts mid next)
         → SoFar (take (i + 1) calls) next
@@ -398,8 +383,8 @@ module _ {W : Type 0} (facts : WireFacts W) where
         let found = snoc_turns (take i calls) (get_or calls i d) n e in
         let t = turn found.2 in
         let (steady, going) = so_far (length (take i calls)) found.1 layouts first rest may in
-        let queue : Queue ready (record_of facts p) p.book.state (first ∷ rest) = record {
-          free = (next_heads p.book.state.standing first may.starts.next).0;
+        let queue : Queue ready (record_of facts p) p.parts.book.state (first ∷ rest) = record {
+          free = (next_heads p.parts.book.state.standing first may.starts.next).0;
           others = may.others;
           order = may.in_order;
           fits = may.room;
@@ -407,21 +392,21 @@ module _ {W : Type 0} (facts : WireFacts W) where
           steady_more steady t,
           rw found.0 (going_more (kind_of_device facts p) layouts asked steady t
               (length (take i calls))
-              (first ∷ rest) (record_of facts p) p.book.state queue going),
+              (first ∷ rest) (record_of facts p) p.parts.book.state queue going),
         ))
 
-    pub clean_serves : CleanLaws → (next : PortParts W) (calls : List Call) (i : ℕ)
+    pub clean_serves : CleanLaws → (next : PortOver W) (calls : List Call) (i : ℕ)
         → length calls ≤ i → SoFar (take i calls) next → CleanServes facts p calls next
     clean_serves laws next calls i all so_far n e layouts first rest may =
         are_served (kind_of_device facts p) layouts asked laws n (first ∷ rest) (record_of facts p)
-        p.book.state next (so_far n (take_all i calls all ∙ e) layouts first rest may).1
+        p.parts.book.state next (so_far n (take_all i calls all ∙ e) layouts first rest may).1
 
     -- one request may be served where it may start
-    pub clean_runs : (next : PortParts W) (calls : List Call) → CleanServes facts p calls next
+    pub clean_runs : (next : PortOver W) (calls : List Call) → CleanServes facts p calls next
         → CleanRuns facts p calls next
     clean_runs next calls serves n e layouts ticket request may =
-        let s = p.book.state.standing in
-        let some : has_room (far (link_wire p.station.link)) ≡ true = rw may.link_is may.room in
+        let s = p.parts.book.state.standing in
+        let some : has_room (far p.wire) ≡ true = may.room in
         on_time layouts asked.devices ticket request p n next
         (serves (suc n) e layouts (ticket, request) [] (record {
           starts = may;

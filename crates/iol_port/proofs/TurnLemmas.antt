@@ -1,5 +1,5 @@
 -- the three pieces of a turn make one turn of the abstract port
-use Rattle.std.proofs.Common.{◌≡◌, ◌∷◌, ◌++◌, [], List, ℕ, Bool, Option, None, true, refl, ap, sym, subst, inl, inr, arith}
+use Rattle.std.proofs.Common.{◌≡◌, ◌∷◌, ◌++◌, [], List, ℕ, Bool, Option, None, refl, ap, sym, subst, inl, inr, arith}
 use Rattle.std.proofs.lemmas.Grind.{common_steps}
 use Rattle.iol_isdu.specs.declared.values.Request.{Request}
 use Rattle.iol_isdu.specs.declared.values.Answer.{Answer}
@@ -7,7 +7,6 @@ use Rattle.iol_book.specs.declared.entries.Ticket.{Ticket}
 use Rattle.iol_book.specs.BookModel.{BookState}
 use Rattle.iol_app.specs.declared.mode.Mode.TheVariants.{Down}
 use Rattle.iol_app.specs.declared.said.Said.{Said}
-use Rattle.std.specs.Prelude.{IsTrue}
 use Rattle.iol_far.specs.Far.{Far}
 use Rattle.iol_app.specs.Abstract.Images.{Images, MayImagesAll, images_through}
 use Rattle.iol_app.specs.declared.request.Current.{Current}
@@ -18,10 +17,9 @@ use Rattle.iol_mode.specs.declared.states.State.{State}
 use Rattle.iol_mode.specs.States.{is_reset}
 use Rattle.iol_app.specs.Requests.{request_under_way}
 use Rattle.iol_app.specs.State.{SessionState, session_after_begin}
-use Rattle.iol_app.specs.StationState.{StationState, SessionFits, mode_in}
-use Rattle.iol_app.specs.Core as core
-use Rattle.iol_app.specs.Core.{Ghost, OfRequest, BothEndsStand, BeginGives, begun_ghost}
-use Rattle.iol_app.specs.Seen.{BeginSteps, DenySteps, core_of}
+use Rattle.iol_app.specs.StationState.{SessionFits, mode_in}
+use Rattle.iol_app.specs.Core.{CoreState, Ghost, OfRequest, BothEndsStand, BeginGives, begun_ghost, session_in}
+use Rattle.iol_app.specs.Seen.{BeginSteps, DenySteps}
 use Rattle.iol_port.specs.declared.call.Call.{Call}
 use Rattle.iol_port.specs.declared.call.Answered.{Answered}
 use Rattle.iol_port.specs.Steps.{MayBookAll, book_after, book_through, kept_through}
@@ -53,13 +51,12 @@ pub terms_of : {limit was : ℕ} {page old : List ℕ} {asks asked : Configurati
     } in a ≡ b
 terms_of same = cc
 
-module _ {W : Type 0} where
-  -- what the words of a turn leave in the book and in the kept events
-  pub record Settles (p next : PortParts W) (said : Said) (began : Bool) (start : BookState) :
-      Type 0 where
-    pub posts : next.book.state ≡ book_through
-        (resets began (is_reset next.station.link.state) ++ book_said said) start
-    pub keeps : next.kept ≡ kept_through (reports_said said) p.kept
+-- what the words of a turn leave in the book and in the kept events
+pub record Settles (p next : PortParts) (said : Said) (began : Bool) (start : BookState) :
+    Type 0 where
+  pub posts : next.book.state ≡ book_through
+      (resets began (is_reset next.core.state) ++ book_said said) start
+  pub keeps : next.kept ≡ kept_through (reports_said said) p.kept
 
 -- What a turn begins with: the next request is taken, or it is denied, or neither
 pub data First : Type 0 where
@@ -79,69 +76,68 @@ pub images_ahead : (first : First) (m : Moment) (steps : List PortStep) (i : Ima
     × (images_through m steps i ≡ images_through m (ahead first steps) i)
 images_ahead first m steps i may = grind (arith, common_steps)
 
-module _ {W : Type 0} where
-  abbrev pub under : Option Current → StationState W → StationState W
-  under current s = record s { session = record s.session { current = current } }
+abbrev pub under : Option Current → CoreState → CoreState
+under current s = record s { session = record s.session { current = current } }
 
-  -- With that begun both ends stand together: at the station only the request changes
-  pub record Begun (s : StationState W) (b : BookState) (mid : StationState W) (after : BookState)
-      (g : Ghost) (far : Far) (n : ℕ) : Type 0 where
-    pub first : First
-    pub current : Option Current
-    pub request : OfRequest
-    pub is : mid ≡ under current s
-    pub stands : BothEndsStand (core_of (under current s))
-        (record g { request = request }) far n
-    pub book : (steps : List PortStep) → MayBookAll steps after → MayBookAll (ahead first steps) b
-        × (book_through steps after ≡ book_through (ahead first steps) b)
-    pub may_session : (m : Moment) → m.terms.page ≡ g.page → (steps : List PortStep)
-        → MaySessionAll m steps (core.session_in (core_of (under current s))
-        (record g { request = request }) far)
-        → MaySessionAll m (ahead first steps) (core.session_in (core_of s) g far)
-    pub session : (steps : List PortStep)
-        → session_through steps (core.session_in (core_of (under current s))
-        (record g { request = request }) far)
-        ≡ session_through (ahead first steps) (core.session_in (core_of s) g far)
+-- With that begun both ends stand together: in the core only the request changes
+pub record Begun (s : CoreState) (b : BookState) (mid : CoreState) (after : BookState)
+    (g : Ghost) (far : Far) (n : ℕ) : Type 0 where
+  pub first : First
+  pub current : Option Current
+  pub request : OfRequest
+  pub is : mid ≡ under current s
+  pub stands : BothEndsStand (under current s)
+      (record g { request = request }) far n
+  pub book : (steps : List PortStep) → MayBookAll steps after → MayBookAll (ahead first steps) b
+      × (book_through steps after ≡ book_through (ahead first steps) b)
+  pub may_session : (m : Moment) → m.terms.page ≡ g.page → (steps : List PortStep)
+      → MaySessionAll m steps (session_in (under current s)
+      (record g { request = request }) far)
+      → MaySessionAll m (ahead first steps) (session_in s g far)
+  pub session : (steps : List PortStep)
+      → session_through steps (session_in (under current s)
+      (record g { request = request }) far)
+      ≡ session_through (ahead first steps) (session_in s g far)
 
-  pub begun : {s mid : StationState W} {b after : BookState} {g : Ghost} {far : Far} {n : ℕ}
-      → BeginsNext s b mid after → BothEndsStand (core_of s) g far n → Begun s b mid after g far n
-  unfolding BeginSteps DenySteps
-  begun {s = s} {g = g} (inl (is, b_is)) stands = record {
-    first = Neither;
-    current = s.session.current;
-    request = g.request;
-    is = is;
-    stands = stands;
-    book = rw b_is (λ steps may. (may, refl));
-    may_session = λ m page steps may. may;
-    session = λ steps. refl;
-  }
-  begun {s = s} {g = g} {far = far} {n = n}
-      (inr (inl (t, q, head, b_is, free, is, follows, begins)))
-      stands =
-      let gives = subst (λ (x : StationState W). BeginGives (core_of s) (core_of x) g far n q) is
-      (begins follows g far n stands) in
-      record {
-        first = Takes t q;
-        current = (session_after_begin q s.session).current;
-        request = (begun_ghost g).request;
-        is = is;
-        stands = gives.stands;
-        book = rw b_is (λ steps may. ((head, may), refl));
-        may_session = λ m page steps may. (gives.may m t.0 page, rw (gives.is t.0) may);
-        session = λ steps. ap (session_through steps) (sym (gives.is t.0));
-      }
-  begun {s = s} {g = g} {far = far} {n = n} (inr (inr (t, head, b_is, free, is, told, denies)))
-      stands = record {
-        first = Denies t;
-        current = s.session.current;
-        request = g.request;
-        is = is;
-        stands = stands;
-        book = rw b_is (λ steps may. ((head, may), refl));
-        may_session = λ m page steps may. (denies g far n stands m t.0 page, may);
-        session = λ steps. refl;
-      }
+pub begun : {s mid : CoreState} {b after : BookState} {g : Ghost} {far : Far} {n : ℕ}
+    → BeginsNext s b mid after → BothEndsStand s g far n → Begun s b mid after g far n
+unfolding BeginSteps DenySteps
+begun {s = s} {g = g} (inl (is, b_is)) stands = record {
+  first = Neither;
+  current = s.session.current;
+  request = g.request;
+  is = is;
+  stands = stands;
+  book = rw b_is (λ steps may. (may, refl));
+  may_session = λ m page steps may. may;
+  session = λ steps. refl;
+}
+begun {s = s} {g = g} {far = far} {n = n}
+    (inr (inl (t, q, head, b_is, free, is, follows, begins)))
+    stands =
+    let gives = subst (λ (x : CoreState). BeginGives s x g far n q) is
+    (begins follows g far n stands) in
+    record {
+      first = Takes t q;
+      current = (session_after_begin q s.session).current;
+      request = (begun_ghost g).request;
+      is = is;
+      stands = gives.stands;
+      book = rw b_is (λ steps may. ((head, may), refl));
+      may_session = λ m page steps may. (gives.may m t.0 page, rw (gives.is t.0) may);
+      session = λ steps. ap (session_through steps) (sym (gives.is t.0));
+    }
+begun {s = s} {g = g} {far = far} {n = n} (inr (inr (t, head, b_is, free, is, told, denies)))
+    stands = record {
+      first = Denies t;
+      current = s.session.current;
+      request = g.request;
+      is = is;
+      stands = stands;
+      book = rw b_is (λ steps may. ((head, may), refl));
+      may_session = λ m page steps may. (denies g far n stands m t.0 page, may);
+      session = λ steps. refl;
+    }
 
 -- a turn gives no ticket, and keeps the limits
 abbrev GivesNone : BookState → BookState → Type 0
@@ -154,10 +150,9 @@ none_through : (steps : List PortStep) (b : BookState) → GivesNone b (book_thr
 none_through [] b = (refl, (refl, refl))
 none_through (step ∷ steps) b = grind (arith, common_steps, none_after, none_through steps)
 
-module _ {W : Type 0} where
-  pub turn_gives_none : (s next : StationState W) (b mid after : BookState) (steps : List PortStep)
-      → BeginsNext s b next mid → after ≡ book_through steps mid → GivesNone b after
-  turn_gives_none s next b mid after steps given given2 = grind (arith, common_steps, none_through)
+pub turn_gives_none : (s next : CoreState) (b mid after : BookState) (steps : List PortStep)
+    → BeginsNext s b next mid → after ≡ book_through steps mid → GivesNone b after
+turn_gives_none s next b mid after steps given given2 = grind (arith, common_steps, none_through)
 
 -- each call keeps the limits
 pub book_limits : (c : Call) (reply : Answered) (b next : BookState) → BookDoes c reply b next

@@ -5,7 +5,7 @@ use Rattle.std.proofs.lemmas.Grind.{common_steps}
 use Rattle.std.proofs.lemmas.List.{take_more}
 use Rattle.std.specs.Prelude.{◌⊎◌}
 use Rattle.iol_far.specs.Far.{Far}
-use Rattle.iol_mode.specs.Kinds.{IsHonestFor}
+use Rattle.iol_app.specs.Seen.{LinkStands}
 use Rattle.iol_mode.specs.Stands.{StateStands}
 use Rattle.iol_mode.specs.declared.configuration.Devices.{Devices}
 use Rattle.iol_mode.specs.declared.states.State.{State}
@@ -13,55 +13,54 @@ use Rattle.iol_app.specs.declared.mode.Mode.TheVariants.{Down}
 use Rattle.iol_app.specs.Asking.{IsCall}
 use Rattle.iol_link.specs.WireFacts.{WireFacts}
 use Rattle.iol_app.specs.declared.asked.Asked.{Asked}
-use Rattle.iol_app.specs.StationState.{link_wire, mode_in, mode_of}
+use Rattle.iol_app.specs.StationState.{mode_in}
 use Rattle.iol_port.specs.declared.call.Call.{Call}
 use Rattle.iol_port.specs.declared.call.Call.TheVariants as call
 use Rattle.iol_port.specs.declared.call.Answered.{Answered}
 use Rattle.iol_port.specs.declared.call.Answered.TheVariants as answered
 use Rattle.iol_port.specs.declared.fault.PortFault.{PortFault}
 use Rattle.iol_port.specs.Asks.{asks_of}
-use Rattle.iol_book.specs.BookModel as book
 use Rattle.iol_book.specs.BookModel.{BookState}
-use Rattle.iol_port.specs.Run.{port_at_opening}
+use Rattle.iol_book.specs.declared.limits.Limits.{Limits}
 use Rattle.iol_port.specs.WireCalls.{AreCalls}
-use Rattle.iol_port.specs.View.{PortParts, Opening, OpensWell, StandsFor, Does, IsPort}
+use Rattle.iol_port.specs.View.{PortParts, PortOver, Opening, Does, IsPort, IsNewFor, opening_for, on_wire}
 use Rattle.iol_port.specs.EveryWire.{PortCallGives, RestartGives, RunGives}
-use Rattle.iol_port.specs.CorePort.{CoreDoes, parts_over}
+use Rattle.iol_port.specs.CorePort.{CoreDoes, CoreOpensFor}
 use Rattle.iol_port.proofs.CorePorts.{call_over}
 use Rattle.iol_port.proofs.RunLemmas.{run_kept, run_new}
 use Rattle.iol_port.proofs.TurnLemmas.{book_limits}
 
-abbrev pub devices_of : {W : Type 0} → PortParts W → Devices
-devices_of p = p.station.session.configuration.devices
+abbrev pub devices_of : PortParts → Devices
+devices_of p = p.core.session.configuration.devices
 
--- what each call but a turn leaves of the link: it stays, or it is down. The devices stay
-pub record Leaves (p next : PortParts (Unit {0})) : Type 0 where
+-- what each call but a turn leaves of the mode: it stays, or it is down. The devices stay
+pub record Leaves (p next : PortParts) : Type 0 where
   pub sent : next.sent ≡ p.sent
-  pub link : (next.station.link ≡ p.station.link) ⊎ (mode_of next.station.link ≡ Down)
+  pub state : (next.core.state ≡ p.core.state) ⊎ (mode_in next.core.state ≡ Down)
   pub devices : devices_of next ≡ devices_of p
 
-pub stays : {p next mid : PortParts (Unit {0})} → next ≡ mid → mid.sent ≡ p.sent
-    → mid.station.link ≡ p.station.link → devices_of mid ≡ devices_of p → Leaves p next
-stays same sent link devices = grind (arith, common_steps)
+pub stays : {p next mid : PortParts} → next ≡ mid → mid.sent ≡ p.sent
+    → mid.core.state ≡ p.core.state → devices_of mid ≡ devices_of p → Leaves p next
+stays same sent state devices = grind (arith, common_steps)
 
 -- whether it was refused or not
-pub stays_by : {p next : PortParts (Unit {0})} (mid : PortParts (Unit {0}))
+pub stays_by : {p next : PortParts} (mid : PortParts)
     (r : Result (Unit {0}) PortFault) → OnOk r (next ≡ mid) → OnErr r (next ≡ p)
-    → mid.sent ≡ p.sent → mid.station.link ≡ p.station.link → devices_of mid ≡ devices_of p
+    → mid.sent ≡ p.sent → mid.core.state ≡ p.core.state → devices_of mid ≡ devices_of p
     → Leaves p next
-stays_by mid r changed same sent link devices = grind (arith, common_steps)
+stays_by mid r changed same sent state devices = grind (arith, common_steps)
 
-pub stays_down : {p next : PortParts (Unit {0})} → RestartGives p next → Leaves p next
+pub stays_down : {p next : PortParts} → RestartGives p next → Leaves p next
 stays_down gives = grind (arith, common_steps)
 
 module _ {W : Type 0} (facts : WireFacts W) where
   open facts use {far, silence}
 
   -- a run goes on by one call
-  pub run_none : (p : PortParts W) → RunGives facts p [] [] p
+  pub run_none : (p : PortOver W) → RunGives facts p [] [] p
   run_none p = refl
 
-  run_snoc : (p mid next : PortParts W) (calls : List Call) (replies : List Answered) (c : Call)
+  run_snoc : (p mid next : PortOver W) (calls : List Call) (replies : List Answered) (c : Call)
       (reply : Answered) → RunGives facts p calls replies mid → PortCallGives facts mid c reply next
       → RunGives facts p (calls ++ c ∷ []) (replies ++ reply ∷ []) next
   run_snoc p mid next [] [] c reply run one = (next, rw run at one, refl)
@@ -69,7 +68,7 @@ module _ {W : Type 0} (facts : WireFacts W) where
       (following, first, run_snoc following mid next calls replies c reply rest one)
   run_snoc p mid next _ _ c reply run one = absurd run
 
-  pub run_more : (p mid next : PortParts W) (calls : List Call) (i : ℕ) (d : Call)
+  pub run_more : (p mid next : PortOver W) (calls : List Call) (i : ℕ) (d : Call)
       (replies : List Answered) (reply : Answered) → i < length calls
       → RunGives facts p (take i calls) replies mid
       → PortCallGives facts mid (get_or calls i d) reply next
@@ -88,16 +87,16 @@ module _ {W : Type 0} (facts : WireFacts W) where
   down_stands : (state : State) (n : ℕ) (f : Far) → mode_in state ≡ Down → StateStands state n f
   down_stands state n f down = grind (arith, common_steps)
 
-  stands_on : (wire : W) (p next : PortParts (Unit {0}))
-      → (next.station.link ≡ p.station.link) ⊎ (mode_of next.station.link ≡ Down)
-      → StateStands p.station.link.state (silence wire) (far wire)
-      → StateStands next.station.link.state (silence wire) (far wire)
-  stands_on wire p next link stands = grind (arith, common_steps, down_stands)
+  stands_on : (wire : W) (p next : PortParts)
+      → (next.core.state ≡ p.core.state) ⊎ (mode_in next.core.state ≡ Down)
+      → StateStands p.core.state (silence wire) (far wire)
+      → StateStands next.core.state (silence wire) (far wire)
+  stands_on wire p next state stands = grind (arith, common_steps, down_stands)
 
   -- each call but a turn keeps what a port keeps
-  pub call_kept : {o : Opening W} {wire : W} {p next : PortParts (Unit {0})} {c : Call}
-      {reply : Answered} → IsPort facts o (parts_over wire p) → CoreDoes p c reply next
-      → Leaves p next → IsPort facts o (parts_over wire next)
+  pub call_kept : {o : Opening W} {wire : W} {p next : PortParts} {c : Call}
+      {reply : Answered} → IsPort facts o (on_wire p wire) → CoreDoes p c reply next
+      → Leaves p next → IsPort facts o (on_wire next wire)
   call_kept {wire = wire} {p = p} {next = next} {c = c} {reply = reply} is does leaves =
       let over = call_over facts wire p next c reply does in
       let same = book_limits c reply p.book.state next.book.state over.book in
@@ -106,35 +105,38 @@ module _ {W : Type 0} (facts : WireFacts W) where
         wire = is.wire;
         limits = (same.0 ∙ is.limits.0, same.1 ∙ is.limits.1);
         free = leaves.sent ∙ is.free;
-        stands = λ h. stands_on wire p next leaves.link (is.stands (rw leaves.devices at h));
+        stands = λ h. stands_on wire p next leaves.state (is.stands (rw leaves.devices at h));
       }
 
-  pub port_turned : (o : Opening W) (p next : PortParts W) → IsPort facts o p
+  pub port_turned : (o : Opening W) (p next : PortOver W) → IsPort facts o p
       → Does facts p call.Turn answered.Nothing next
-      → IsCall facts (asks_of p) (link_wire p.station.link) (link_wire next.station.link)
-      → next.sent ≡ false
-      → (IsHonestFor facts (devices_of next) next.station.link.wire
-      → StateStands next.station.link.state (silence next.station.link.wire)
-      (far next.station.link.wire))
+      → IsCall facts (asks_of p.parts) p.wire next.wire
+      → next.parts.sent ≡ false → LinkStands facts next.wire next.parts.core
       → IsPort facts o next
   port_turned o p next is does one free stands = record {
     run = run_kept facts o p next call.Turn answered.Nothing is.run does;
-    wire = (is.wire.0 ++ asks_of p ∷ [], calls_snoc o.wire _ _ is.wire.0 (asks_of p) is.wire.1 one);
+    wire = (
+      is.wire.0 ++ asks_of p.parts ∷ [],
+      calls_snoc o.wire _ _ is.wire.0 (asks_of p.parts) is.wire.1 one,
+    );
     limits = (does.book.1.0 ∙ is.limits.0, does.book.1.1 ∙ is.limits.1);
     free = free;
     stands = stands;
   }
 
   -- a new port
-  pub port_new : (o : Opening W) (p : PortParts W)
-      → (OpensWell o → StandsFor facts p (port_at_opening o.devices o.limits o.far o.silence))
-      → link_wire p.station.link ≡ o.wire → p.book.state ≡ book.empty_book o.limits → p.sent ≡ false
-      → mode_of p.station.link ≡ Down
-      → IsPort facts o p
-  port_new o p stands same is free down = record {
-    run = run_new facts o p stands;
-    wire = ([], same);
-    limits = (ap (λ (b : BookState). b.limit) is, ap (λ (b : BookState). b.queue) is);
-    free = free;
-    stands = λ h. down_stands p.station.link.state _ _ down;
-  }
+  pub port_new : (devices : Devices) (limits : Limits) (p : PortOver W)
+      → let o : Opening W = opening_for facts devices limits p.wire in
+      CoreOpensFor devices limits p.parts → IsNewFor devices limits p.parts → IsPort facts o p
+  port_new devices limits p opens new =
+      let o : Opening W = opening_for facts devices limits p.wire in record {
+        run = run_new facts o p (λ well.
+            (well.0, opens (far p.wire) (silence p.wire) well.1));
+        wire = ([], refl);
+        limits = (
+          ap (λ (b : BookState). b.limit) new.book,
+          ap (λ (b : BookState). b.queue) new.book,
+        );
+        free = new.sent;
+        stands = λ h. down_stands p.parts.core.state _ _ new.mode;
+      }

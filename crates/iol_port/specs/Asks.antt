@@ -9,7 +9,7 @@ use Rattle.iol_book.specs.BookModel.{next_taken}
 use Rattle.iol_app.specs.declared.asked.Asked.{Asked}
 use Rattle.iol_app.specs.declared.event_work.EventRoom.{EventRoom}
 use Rattle.iol_app.specs.declared.event_work.EventRoom.TheVariants.{Left, Full}
-use Rattle.iol_app.specs.Asking.{asked_of, station_with_request, IsCall}
+use Rattle.iol_app.specs.Asking.{asked_by, core_with_request, IsCall}
 use Rattle.iol_port.specs.View.{PortParts}
 use Rattle.iol_port.specs.declared.call.Call.{Call}
 use Rattle.iol_port.specs.declared.call.Call.TheVariants.{Turn}
@@ -28,21 +28,20 @@ lacks_isdu (Some has) = not has
 abbrev pub to_begin : Bool → Option (Ticket × Request) → Option Request
 to_begin lacks next = if lacks then None else option_map (λ t. t.1) next
 
-module _ {W : Type 0} where
-  -- that of a port
-  abbrev pub begun_next : PortParts W → Option Request
-  begun_next p = to_begin (lacks_isdu p.station.session.isdu) (next_taken p.book.state.standing)
+-- that of a port
+abbrev pub begun_next : PortParts → Option Request
+begun_next p = to_begin (lacks_isdu p.core.session.isdu) (next_taken p.book.state.standing)
 
-  -- the one call of the wire in the next turn: that request is begun first, where
-  -- nothing else is due
-  -- PORT-2
-  abbrev pub asks_of : PortParts W → Asked
-  asks_of p = asked_of (station_with_request (begun_next p) p.station (event_room p.kept))
-      (event_room p.kept)
+-- the one call of the wire in the next turn: that request is begun first, where
+-- nothing else is due
+-- PORT-2
+abbrev pub asks_of : PortParts → Asked
+asks_of p = asked_by (core_with_request (begun_next p) p.core (event_room p.kept))
+    (event_room p.kept)
 
-  -- a turn makes the call of the wire that was asked, and no other call of the port
-  -- touches the wire
-  -- PORT-2
-  abbrev pub IsWireCall : WireFacts W → Call → Asked → W → W → Type 0
-  IsWireCall facts Turn asked old new = IsCall facts asked old new
-  IsWireCall facts other asked old new = new ≡ old
+-- a turn makes the call of the wire that was asked, and no other call of the port
+-- touches the wire
+-- PORT-2
+abbrev pub IsWireCall : {W : Type 0} → WireFacts W → Call → Asked → W → W → Type 0
+IsWireCall facts Turn asked old new = IsCall facts asked old new
+IsWireCall facts other asked old new = new ≡ old

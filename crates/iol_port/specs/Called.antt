@@ -13,7 +13,6 @@ use Rattle.iol_book.specs.BookModel.{book_after_submit, book_after_urgent}
 use Rattle.iol_link.specs.WireFacts.{WireFacts}
 use Rattle.iol_mode.specs.declared.why.Why.{Why}
 use Rattle.iol_app.specs.Abstract.Steps.{ImageOctets}
-use Rattle.iol_app.specs.StationState.{link_wire}
 use Rattle.iol_app.specs.Asking.{IsCall}
 use Rattle.iol_port.specs.declared.call.Call.{Call}
 use Rattle.iol_port.specs.declared.call.Call.TheVariants as call
@@ -25,7 +24,7 @@ use Rattle.iol_port.specs.declared.counters.Counters.{Counters}
 use Rattle.iol_port.specs.declared.fault.PortFault.{PortFault}
 use Rattle.iol_port.specs.Asks.{asks_of}
 use Rattle.iol_port.specs.Replies.{ticket_reply, outcome_reply, nothing_reply, event_reply, result_reply}
-use Rattle.iol_port.specs.View.{PortParts, PortValue, Does, writer_after_publish, status_of}
+use Rattle.iol_port.specs.View.{PortParts, PortValue, Does, over, writer_after_publish, status_of}
 use Rattle.iol_port.specs.Clean.{CleanTurn}
 use Rattle.iol_port.specs.CorePort.{CoreDoes}
 use Rattle.iol_port.specs.EveryWire.{SubmitGives, CollectGives, WithdrawGives, CancelGives, ArchiveGives, TakeEventGives, SetOutputGives, ClearOutputGives, ExpectGives, SetCycleGives, RestartGives, PortTurnGives, page_shown}
@@ -35,7 +34,7 @@ abbrev pub Carrier : Type 1
 Carrier = Call → Answered → Type 0 → Type 0
 
 -- The calls, between these parts
-module _ {V : Type 0} (Carries : Carrier) (p next : PortParts V) where
+module _ (Carries : Carrier) (p next : PortParts) where
   abbrev pub Submits : Request → Result Ticket PortFault → Type 0
   Submits request result = Carries (call.Submit request) (ticket_reply result)
       (SubmitGives p (book_after_submit p.book.state request) result next)
@@ -84,7 +83,7 @@ module _ {V : Type 0} (Carries : Carrier) (p next : PortParts V) where
       (ArchiveGives p (result_map_both entries (λ why. why) result) next)
 
 -- and those that only look
-module _ {V : Type 0} (Carries : Carrier) (p : PortParts V) where
+module _ (Carries : Carrier) (p : PortParts) where
   abbrev pub ShowsPage : Option (List ℕ) → Type 0
   ShowsPage page = Carries call.Page (answered.Page page) (page ≡ page_shown p)
 
@@ -96,44 +95,35 @@ module _ {V : Type 0} (Carries : Carrier) (p : PortParts V) where
   ShowsLastLoss loss = Carries call.LastLoss (answered.LastLoss loss) (loss ≡ p.last_loss)
 
   abbrev pub ShowsImage : Option ImageOctets → Type 0
-  ShowsImage image = Carries call.Look (answered.Image image) (image ≡ p.station.session.image)
+  ShowsImage image = Carries call.Look (answered.Image image) (image ≡ p.core.session.image)
 
   abbrev pub ShowsStatus : Status → Type 0
   ShowsStatus status = Carries call.Status (answered.Status status)
-      (status ≡ status_of p.station)
+      (status ≡ status_of p.core)
 
 -- A core's call, with whatever far end
-pub record CoreCalled (old new : PortParts (Unit {0})) (c : Call) (reply : Answered)
-    (given : Type 0) :
+pub record CoreCalled (old new : PortParts) (c : Call) (reply : Answered) (given : Type 0) :
     Type 0 where
   pub does : CoreDoes old c reply new
   pub gives : given
 
-module _ {W : Type 0} (facts : WireFacts W) where
-  -- a port's call changes nothing but its parts
-  pub record MakesCall (old new : PortValue W) (c : Call) (reply : Answered) (given : Type 0) :
-      Type 0 where
-    pub does : Does facts old.parts c reply new.parts
-    pub gives : given
-    pub rest : new ≡ record old { parts = new.parts }
+-- a port's call changes nothing but its parts: the wire stays as it is
+pub record MakesCall {W : Type 0} (old new : PortValue W) (c : Call) (reply : Answered)
+    (given : Type 0) : Type 0 where
+  pub does : CoreDoes old.parts c reply new.parts
+  pub gives : given
+  pub rest : new ≡ record old { parts = new.parts }
 
-  -- and one that only looks nothing
-  pub record PortOnlyLooks (p : PortValue W) (c : Call) (reply : Answered)
-      (shown : Type 0) : Type 0 where
-    pub does : Does facts p.parts c reply p.parts
-    pub value : shown
-
-  -- a turn makes the one call of the wire that the port asks for
-  pub record Turns (old new : PortValue W) : Type 0 where
-    pub does : Does facts old.parts call.Turn answered.Nothing new.parts
-    pub clean : CleanTurn facts old.parts new.parts
-    pub gives : PortTurnGives facts old.parts new.parts
-    pub asked : IsCall facts (asks_of old.parts) (link_wire old.parts.station.link)
-        (link_wire new.parts.station.link)
-    pub rest : new ≡ record old { parts = new.parts }
+-- a turn makes the one call of the wire that the port asks for
+pub record Turns {W : Type 0} (facts : WireFacts W) (old new : PortValue W) : Type 0 where
+  pub does : Does facts (over old) call.Turn answered.Nothing (over new)
+  pub clean : CleanTurn facts (over old) (over new)
+  pub gives : PortTurnGives facts (over old) (over new)
+  pub asked : IsCall facts (asks_of old.parts) old.wire new.wire
+  pub rest : new ≡ record old { parts = new.parts; wire = new.wire }
 
 -- a call behind which the image is published, once, where a writer was given
 pub record PublishesAfter {W : Type 0} (Does : PortValue W → Type 0)
     (old new : PortValue W) : Type 0 where
   pub call : Does (record new { writer = old.writer })
-  pub shown : new.writer ≡ writer_after_publish new.parts.station.session.image old.writer
+  pub shown : new.writer ≡ writer_after_publish new.parts.core.session.image old.writer

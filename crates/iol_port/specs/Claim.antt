@@ -2,14 +2,13 @@
 use Rattle.std.specs.Prelude.{◌≡◌, List, ◌++◌, map}
 use Rattle.iol_far.specs.Far.{output_of}
 use Rattle.iol_link.specs.WireFacts.{WireFacts}
-use Rattle.iol_app.specs.StationState.{link_wire}
 use Rattle.iol_port.specs.declared.call.Call.{Call}
 use Rattle.iol_port.specs.declared.call.Answered.{Answered}
 use Rattle.iol_port.specs.Run.{PortState, Whole, Run, port_at_opening}
 use Rattle.iol_port.specs.Owners.{allowance_of}
 use Rattle.iol_port.specs.Sound.{RecordFits}
 use Rattle.iol_port.specs.CarriesOut.{CarriesOut}
-use Rattle.iol_port.specs.View.{PortParts, Opening}
+use Rattle.iol_port.specs.View.{PortOver, Opening}
 
 -- the abstract port with which a port begins
 abbrev pub opened_with : {W : Type 0} → Opening W → PortState
@@ -20,26 +19,26 @@ module _ {W : Type 0} (facts : WireFacts W) where
 
   -- what an abstract port has of this is what is there: the book, the events that are kept, the
   -- images, and what the device carried out
-  pub record Has (a : PortState) (p : PortParts W) : Type 0 where
-    pub book : p.book.state ≡ a.book
-    pub kept : p.kept ≡ a.kept
-    pub image : p.station.session.image ≡ a.images.image
-    pub input : (far (link_wire p.station.link)).input ≡ a.images.input
-    pub output : output_of (far (link_wire p.station.link)) ≡ a.images.output
-    pub carried : (far (link_wire p.station.link)).carried ≡ a.session.carried
+  pub record Has (a : PortState) (q : PortOver W) : Type 0 where
+    pub book : q.parts.book.state ≡ a.book
+    pub kept : q.parts.kept ≡ a.kept
+    pub image : q.parts.core.session.image ≡ a.images.image
+    pub input : (far q.wire).input ≡ a.images.input
+    pub output : output_of (far q.wire) ≡ a.images.output
+    pub carried : (far q.wire).carried ≡ a.session.carried
 
   -- All calls since the opening, these the last of them, with what each answered are a run of an
   -- abstract port, which has what is there. The device carried out only whole requests of these
   -- calls, each at most once, in the order taken; and each Done tells its answer to that very
   -- request. Otherwise is only what the allowance says, which is none at a port for any device. The
   -- journal has the requests that were taken since it began, which all ended but the one under way.
-  pub record Claim (o : Opening W) (calls : List Call) (replies : List Answered) (p : PortParts W) :
+  pub record Claim (o : Opening W) (calls : List Call) (replies : List Answered) (q : PortOver W) :
       Type 0 where
     pub earlier : List Call
     pub answered : List Answered
     pub port : PortState
     pub run : Run (opened_with o) (earlier ++ calls) (answered ++ replies) port
-    pub has : Has port p
+    pub has : Has port q
     pub carries :
         CarriesOut (opened_with o) (map Whole (earlier ++ calls)) (answered ++ replies) port
     pub in_order : RecordFits (allowance_of port.terms) port.book port.session port.owners

@@ -15,6 +15,7 @@ use Rattle.iol_far.specs.declared.carried.Carried.{Carried}
 use Rattle.iol_far.specs.declared.kind.Kind.{Kind}
 use Rattle.iol_far.specs.declared.kind.HandsOver.{HandsOver}
 use Rattle.iol_far.specs.Octets.{octets_in}
+use Rattle.iol_far.specs.Far.{Far}
 use Rattle.iol_far.specs.Local.{has_room}
 use Rattle.iol_far.specs.Record.{takes_more}
 use Rattle.iol_far.specs.Level.{FarLink, Quiet, link_of, IsLevelBefore, grown_by}
@@ -26,18 +27,19 @@ use Rattle.iol_link.specs.WireFacts.{WireFacts}
 use Rattle.iol_book.specs.declared.entries.Ticket.{Ticket}
 use Rattle.iol_book.specs.declared.entries.Outcome.TheVariants.{Done}
 use Rattle.iol_book.specs.BookModel.{BookState, next_taken, book_after_take, book_after_post}
-use Rattle.iol_mode.specs.Next.{operate_as_any}
+use Rattle.iol_mode.specs.declared.states.State.{State}
+use Rattle.iol_mode.specs.declared.states.State.TheVariants.{Operate as AtOperate}
 use Rattle.iol_mode.specs.declared.configuration.Devices.{Devices}
 use Rattle.iol_mode.specs.declared.configuration.Devices.TheVariants.{Any}
 use Rattle.iol_mode.specs.Kinds.{IsHonestFor}
 use Rattle.iol_app.specs.declared.event_work.EventRoom.TheVariants.{Left}
 use Rattle.iol_app.specs.Due.{is_under_way, is_confirm_due, is_resting, is_ready}
 use Rattle.iol_app.specs.State.{SessionState}
-use Rattle.iol_app.specs.StationState.{StationState, link_wire}
+use Rattle.iol_app.specs.Core.{CoreState}
 use Rattle.iol_port.specs.declared.call.Call.{Call}
 use Rattle.iol_port.specs.declared.call.Call.TheVariants as call
 use Rattle.iol_port.specs.Turns.{RequestStage, Ended, busy_replies, turns_needed, turns_at, StageFits}
-use Rattle.iol_port.specs.View.{PortParts}
+use Rattle.iol_port.specs.View.{PortParts, PortOver}
 
 -- each exchange of a clean wire is one, and leaves it clean
 abbrev pub ExchangesCleanly : {W : Type 0} → WireFacts W → Type 0
@@ -92,38 +94,37 @@ book_at book ticket request (Ended answer) =
 book_at book ticket request stage = book_after_take book (ticket, request)
 
 -- what the device of a port carried out
-abbrev pub record_of : {W : Type 0} → WireFacts W → PortParts W → List Carried
-record_of facts p = (facts.far (link_wire p.station.link)).carried
+abbrev pub record_of : {W : Type 0} → WireFacts W → PortOver W → List Carried
+record_of facts q = (facts.far q.wire).carried
 
 -- the kind of that device
-abbrev pub kind_of_device : {W : Type 0} → WireFacts W → PortParts W → Kind
-kind_of_device facts p = (facts.far (link_wire p.station.link)).kind
+abbrev pub kind_of_device : {W : Type 0} → WireFacts W → PortOver W → Kind
+kind_of_device facts q = (facts.far q.wire).kind
+
+-- OPERATE, with no message out
+abbrev pub resting_in : Layouts → State
+resting_in layouts = AtOperate (record { out = None; layouts = layouts })
 
 -- between requests, with no message out in OPERATE, both ends are level and the device is awake
-abbrev pub IsLevelBetween : {W : Type 0} → WireFacts W → PortParts W → Type 0
-IsLevelBetween {W} facts p =
-    (wire : W) (layouts : Layouts)
-    → p.station.link
-    ≡ operate_as_any (record { wire = wire; state = record { out = None; layouts = layouts } })
-    → p.station.session.current ≡ None
+abbrev pub IsLevelBetween : Far → PortParts → Type 0
+IsLevelBetween far p =
+    (layouts : Layouts) → p.core.state ≡ resting_in layouts → p.core.session.current ≡ None
     → (link : FarLink) × IsOperating layouts link
-    × IsLevelBefore (facts.far wire).page (facts.far wire).kind layouts.run.od
-    (facts.far wire).carried
-    link Quiet (facts.far wire)
+    × IsLevelBefore far.page far.kind layouts.run.od far.carried link Quiet far
 
 module _ {W : Type 0} (facts : WireFacts W) where
   open facts use {honest, far, clean}
 
-  -- in OPERATE over a clean wire, honest to the station, with no message out; the device is awake,
-  -- of this kind, in that link, has ISDU, as the port was told, and has no events
-  pub record Stood (kind : Kind) (layouts : Layouts) (link : FarLink) (station : StationState W)
-      (wire : W) : Type 0 where
-    pub link_is : station.link
-        ≡ operate_as_any (record { wire = wire; state = record { out = None; layouts = layouts } })
-    pub is_honest : IsHonestFor facts station.session.configuration.devices wire
+  -- in OPERATE over a clean wire, honest to the core, with no message out; the device is awake, of
+  -- this kind, in that link, has ISDU, as the port was told, and has no events
+  pub record Stood (kind : Kind) (layouts : Layouts) (link : FarLink) (core : CoreState)
+      (wire : W) :
+      Type 0 where
+    pub state_is : core.state ≡ resting_in layouts
+    pub is_honest : IsHonestFor facts core.session.configuration.devices wire
     pub is_clean : IsTrue (clean wire)
-    pub calm : IsCalm station.session
-    pub told : station.session.isdu ≡ Some true
+    pub calm : IsCalm core.session
+    pub told : core.session.isdu ≡ Some true
     pub operating : IsOperating layouts link
     pub awake : (far wire).awake ≡ true
     pub kind_is : (far wire).kind ≡ kind
@@ -131,42 +132,40 @@ module _ {W : Type 0} (facts : WireFacts W) where
     pub isdu : knows_isdu (far wire).page ≡ true
     pub quiet : IsQuiet (far wire).events
 
-  -- a station over its wire, at this stage of a request that the device's record,
+  -- a core over its wire, at this stage of a request that the device's record,
   -- then `base`, had room for
   pub record At (kind : Kind) (layouts : Layouts) (request : Request) (base : List Carried)
-      (stage : RequestStage) (station : StationState W) (wire : W) : Type 0 where
-    pub stood : Stood kind layouts operate_link station wire
+      (stage : RequestStage) (core : CoreState) (wire : W) : Type 0 where
+    pub stood : Stood kind layouts operate_link core wire
     pub fits : StageFits kind.hands_over layouts.run.od request base stage
-        station.session.current (far wire).isdu (far wire).carried
+        core.session.current (far wire).isdu (far wire).carried
     pub room : IsTrue (takes_more (far wire).room base)
-    pub limit : 2 ≤ station.session.limit
+    pub limit : 2 ≤ core.session.limit
     -- its last good reply was to a message of the request
-    pub after : station.session.clear ≡ false
+    pub after : core.session.clear ≡ false
 
   -- a port at this stage of the request of that ticket
   pub record IsAtStage (kind : Kind) (layouts : Layouts) (ticket : Ticket) (request : Request)
-      (base : List Carried) (book : BookState) (stage : RequestStage) (p : PortParts W) : Type 0
+      (base : List Carried) (book : BookState) (stage : RequestStage) (q : PortOver W) : Type 0
     where
-      pub wire : W
-      pub at : At kind layouts request base stage p.station wire
-      pub book_is : p.book.state ≡ book_at book ticket request stage
+      pub at : At kind layouts request base stage q.parts.core q.wire
+      pub book_is : q.parts.book.state ≡ book_at book ticket request stage
       pub valid : IsRequest request
       pub low : 1 ≤ layouts.run.od
 
   -- a port between requests, with this book: none is under way, and the device, whose record is
   -- so, has none in hand
   pub record IsBetween (kind : Kind) (layouts : Layouts) (base : List Carried) (book : BookState)
-      (clear : Bool) (p : PortParts W) : Type 0 where
-    pub wire : W
-    pub stood : Stood kind layouts operate_link p.station wire
-    pub free : p.station.session.current ≡ None
+      (clear : Bool) (q : PortOver W) : Type 0 where
+    pub stood : Stood kind layouts operate_link q.parts.core q.wire
+    pub free : q.parts.core.session.current ≡ None
     -- whether the device surely holds no text
-    pub clear_is : p.station.session.clear ≡ clear
-    pub level : IsLevelBefore (far wire).page kind layouts.run.od (far wire).carried
+    pub clear_is : q.parts.core.session.clear ≡ clear
+    pub level : IsLevelBefore (far q.wire).page kind layouts.run.od (far q.wire).carried
         operate_link Quiet
-        (far wire)
-    pub record_is : (far wire).carried ≡ base
-    pub book_is : p.book.state ≡ book
+        (far q.wire)
+    pub record_is : (far q.wire).carried ≡ base
+    pub book_is : q.parts.book.state ≡ book
 
   -- From here a request takes an exact number of turns, whatever the kind of device: the port is in
   -- OPERATE over a clean wire, which is honest to it, and its next turn would send IDLE 1, with
@@ -174,38 +173,37 @@ module _ {W : Type 0} (facts : WireFacts W) where
   -- no events, and its record has room; the request is the next to be taken: no urgent one waits,
   -- or it is the first of them
   pub record MayStart (layouts : Layouts) (ticket : Ticket) (request : Request)
-      (p : PortParts W) : Type 0 where
-    pub wire : W
-    pub link_is : p.station.link
-        ≡ operate_as_any (record { wire = wire; state = record { out = None; layouts = layouts } })
-    pub is_honest : IsHonestFor facts p.station.session.configuration.devices wire
-    pub is_clean : IsTrue (clean wire)
-    pub ready : is_ready p.station.session Left ≡ true
+      (q : PortOver W) : Type 0 where
+    pub state_is : q.parts.core.state ≡ resting_in layouts
+    pub is_honest : IsHonestFor facts q.parts.core.session.configuration.devices q.wire
+    pub is_clean : IsTrue (clean q.wire)
+    pub ready : is_ready q.parts.core.session Left ≡ true
     pub link : FarLink
     pub operating : IsOperating layouts link
-    pub level : IsLevelBefore (far wire).page (far wire).kind layouts.run.od (far wire).carried link
-        Quiet (far wire)
-    pub isdu : knows_isdu (far wire).page ≡ true
-    pub told : p.station.session.isdu ≡ Some true
-    pub quiet : IsQuiet (far wire).events
-    pub room : IsTrue (has_room (far wire))
-    pub next : next_taken p.book.state.standing ≡ Some (ticket, request)
+    pub level : IsLevelBefore (far q.wire).page (far q.wire).kind layouts.run.od
+        (far q.wire).carried link Quiet (far q.wire)
+    pub isdu : knows_isdu (far q.wire).page ≡ true
+    pub told : q.parts.core.session.isdu ≡ Some true
+    pub quiet : IsQuiet (far q.wire).events
+    pub room : IsTrue (has_room (far q.wire))
+    pub next : next_taken q.parts.book.state.standing ≡ Some (ticket, request)
 
   -- how the request stands after so many turns: it is taken, and nothing entered
   -- the record; its answer did, and it is not done; it is done with that answer,
   -- after as many turns as are needed; more turns were made
-  abbrev pub IsOnTime : Layouts → Ticket → Request → PortParts W → ℕ → PortParts W → Type 0
+  abbrev pub IsOnTime : Layouts → Ticket → Request → PortOver W → ℕ → PortOver W → Type 0
   IsOnTime layouts ticket request old n new =
       ((n ≤ segments layouts.run.od (request_text request)
       + busy_replies (kind_of_device facts old).hands_over)
       × (record_of facts new ≡ record_of facts old)
-      × (new.book.state ≡ book_after_take old.book.state (ticket, request)))
+      × (new.parts.book.state ≡ book_after_take old.parts.book.state (ticket, request)))
       ⊎ ((answer : Answer) × (record_of facts new ≡ grown_by (record_of facts old) request answer)
       × (n < turns_needed (kind_of_device facts old).hands_over layouts.run.od request answer)
-      × (new.book.state ≡ book_after_take old.book.state (ticket, request)))
+      × (new.parts.book.state ≡ book_after_take old.parts.book.state (ticket, request)))
       ⊎ ((answer : Answer) × (record_of facts new ≡ grown_by (record_of facts old) request answer)
       × (n ≡ turns_needed (kind_of_device facts old).hands_over layouts.run.od request answer)
-      × (new.book.state ≡ book_after_post (book_after_take old.book.state (ticket, request))
+      × (new.parts.book.state ≡ book_after_post
+      (book_after_take old.parts.book.state (ticket, request))
       (Done answer)))
       ⊎ ((answer : Answer) × (more : List Carried)
       × (record_of facts new ≡ grown_by (record_of facts old) request answer ++ more)
@@ -215,20 +213,20 @@ module _ {W : Type 0} (facts : WireFacts W) where
   -- this order before all others, and the device's record has room for the pairs of all of them.
   -- At a port for any device there is one turn more between two
   pub record MayServe (layouts : Layouts) (first : Ticket × Request)
-      (rest : List (Ticket × Request)) (p : PortParts W) : Type 0 where
-    pub starts : MayStart layouts first.0 first.1 p
+      (rest : List (Ticket × Request)) (q : PortOver W) : Type 0 where
+    pub starts : MayStart layouts first.0 first.1 q
     pub others : List (Ticket × Request)
-    pub in_order : p.book.state.standing.urgent ++ p.book.state.standing.waiting
+    pub in_order : q.parts.book.state.standing.urgent ++ q.parts.book.state.standing.waiting
         ≡ first ∷ (rest ++ others)
-    pub room : IsTrue (takes_all (far (link_wire p.station.link)).room (record_of facts p)
+    pub room : IsTrue (takes_all (far q.wire).room (record_of facts q)
         (suc (length rest)))
 
   -- how a request stands that is taken and not done after so many turns, the record having been
   -- `base` and the book this one: nothing entered the record yet, or its answer did
   abbrev pub IsOnItsWay :
-      HandsOver → Layouts → ℕ → Ticket × Request → List Carried → BookState → PortParts W → Type 0
+      HandsOver → Layouts → ℕ → Ticket × Request → List Carried → BookState → PortOver W → Type 0
   IsOnItsWay hands_over layouts n next base book new =
-      (new.book.state ≡ book_after_take book next)
+      (new.parts.book.state ≡ book_after_take book next)
       × (((n ≤ segments layouts.run.od (request_text next.1) + busy_replies hands_over)
       × (record_of facts new ≡ base))
       ⊎ ((answer : Answer) × (n < turns_needed hands_over layouts.run.od next.1 answer)
@@ -241,9 +239,9 @@ module _ {W : Type 0} (facts : WireFacts W) where
   -- said.
   abbrev pub AreServed :
       Devices → HandsOver → Layouts → ℕ → List (Ticket × Request) → List Carried → BookState
-      → PortParts W → Type 0
+      → PortOver W → Type 0
   AreServed devices hands_over layouts zero requests base book new =
-      (record_of facts new ≡ base) × (new.book.state ≡ book)
+      (record_of facts new ≡ base) × (new.parts.book.state ≡ book)
   AreServed devices hands_over layouts (suc n) [] base book new =
       (more : List Carried) × (record_of facts new ≡ base ++ more)
   AreServed devices hands_over layouts (suc n) (next ∷ rest) base book new =
@@ -257,37 +255,37 @@ module _ {W : Type 0} (facts : WireFacts W) where
 
   -- at some stage, so many turns on
   pub record IsAfter (kind : Kind) (layouts : Layouts) (ticket : Ticket) (request : Request)
-      (base : List Carried) (book : BookState) (turns : ℕ) (p : PortParts W) : Type 0 where
+      (base : List Carried) (book : BookState) (turns : ℕ) (q : PortOver W) : Type 0 where
     pub stage : RequestStage
-    pub is_at : IsAtStage kind layouts ticket request base book stage p
+    pub is_at : IsAtStage kind layouts ticket request base book stage q
     pub turns_are : turns_at kind.hands_over layouts.run.od request stage ≡ turns
 
   -- one turn: the next request begins, or goes one stage on; behind a request a port for any device
   -- sends IDLE 1, and no request begins; on an honest wire the record only grows, and may grow as
   -- far as before
-  pub record CleanTurn (p next : PortParts W) : Type 0 where
+  pub record CleanTurn (p next : PortOver W) : Type 0 where
     pub starts : (layouts : Layouts) (ticket : Ticket) (request : Request)
         → MayStart layouts ticket request p
         → IsAfter (kind_of_device facts p) layouts ticket request (record_of facts p)
-        p.book.state 1 next
+        p.parts.book.state 1 next
     pub goes_on : (kind : Kind) (layouts : Layouts) (ticket : Ticket) (request : Request)
         (base : List Carried) (book : BookState) (stage : RequestStage)
         → IsAtStage kind layouts ticket request base book stage p
         → ((answer : Answer) → stage ≡ Ended answer → ⊥)
         → IsAfter kind layouts ticket request base book
         (suc (turns_at kind.hands_over layouts.run.od request stage)) next
-    pub rests : p.station.session.configuration.devices ≡ Any
+    pub rests : p.parts.core.session.configuration.devices ≡ Any
         → (kind : Kind) (layouts : Layouts) (base : List Carried) (book : BookState)
         → IsBetween kind layouts base book false p → IsBetween kind layouts base book true next
-    pub honesty : honest (link_wire next.station.link) ≡ honest (link_wire p.station.link)
-    pub asks : next.station.session.configuration ≡ p.station.session.configuration
-    pub grows : IsTrue (honest (link_wire p.station.link))
+    pub honesty : honest next.wire ≡ honest p.wire
+    pub asks : next.parts.core.session.configuration ≡ p.parts.core.session.configuration
+    pub grows : IsTrue (honest p.wire)
         → (more : List Carried) × (record_of facts next ≡ record_of facts p ++ more)
-    pub room : IsTrue (honest (link_wire p.station.link))
-        → (far (link_wire next.station.link)).room ≡ (far (link_wire p.station.link)).room
+    pub room : IsTrue (honest p.wire)
+        → (far next.wire).room ≡ (far p.wire).room
 
   -- so many turns and no other call: a request stands as it is to then
-  abbrev pub CleanRuns : PortParts W → List Call → PortParts W → Type 0
+  abbrev pub CleanRuns : PortOver W → List Call → PortOver W → Type 0
   CleanRuns p calls next =
       (n : ℕ) → calls ≡ replicate (suc n) call.Turn
       → (layouts : Layouts) (ticket : Ticket) (request : Request)
@@ -296,10 +294,10 @@ module _ {W : Type 0} (facts : WireFacts W) where
 
   -- and requests that wait are served one behind the other
   -- REQ-13
-  abbrev pub CleanServes : PortParts W → List Call → PortParts W → Type 0
+  abbrev pub CleanServes : PortOver W → List Call → PortOver W → Type 0
   CleanServes p calls next =
       (n : ℕ) → calls ≡ replicate n call.Turn → (layouts : Layouts) (first : Ticket × Request)
       (rest : List (Ticket × Request)) → MayServe layouts first rest p
-      → AreServed p.station.session.configuration.devices (kind_of_device facts p).hands_over
+      → AreServed p.parts.core.session.configuration.devices (kind_of_device facts p).hands_over
       layouts n
-      (first ∷ rest) (record_of facts p) p.book.state next
+      (first ∷ rest) (record_of facts p) p.parts.book.state next

@@ -25,12 +25,11 @@ use Rattle.iol_app.specs.Abstract.Steps.{ImageOctets, resets, book_said, reports
 use Rattle.iol_app.specs.Abstract.OfMaster.{restart_steps}
 use Rattle.iol_app.specs.State as session
 use Rattle.iol_app.specs.Due.{is_ready}
-use Rattle.iol_app.specs.Asking.{station_with_request, IsCall}
+use Rattle.iol_app.specs.Asking.{core_with_request, IsCall}
 use Rattle.iol_app.specs.declared.brought.WireResult.{WireResult}
-use Rattle.iol_app.specs.Core.{CoreState}
+use Rattle.iol_app.specs.Core.{CoreState, wanting_core}
 use Rattle.iol_app.specs.Pieces.{SendsMessage, IsMade}
-use Rattle.iol_app.specs.Seen.{core_of}
-use Rattle.iol_app.specs.StationState.{StationState, link_wire, mode_of, why_down, page_in, is_operating}
+use Rattle.iol_app.specs.StationState.{mode_in, why_in, page_in, operates}
 use Rattle.iol_port.specs.declared.fault.PortFault.{PortFault}
 use Rattle.iol_port.specs.declared.fault.PortFault.TheVariants as fault
 use Rattle.iol_port.specs.declared.call.Call.{Call}
@@ -45,7 +44,7 @@ use Rattle.iol_port.specs.Sound.{request_taken}
 use Rattle.iol_port.specs.Counters.{call_counted, said_counted, restart_counted}
 use Rattle.iol_port.specs.LastLoss.{loss_after}
 use Rattle.iol_port.specs.Steps.{book_through, kept_through}
-use Rattle.iol_port.specs.View.{PortParts, status_of}
+use Rattle.iol_port.specs.View.{PortParts, PortOver, status_of}
 
 -- the first refusal that holds, or want of memory where a growth was needed
 abbrev pub RefusesSubmit : BookValue → PortFault → Type 0
@@ -53,7 +52,7 @@ RefusesSubmit b (fault.Book why) = RefusesFor (submit_refusal b.state) why b.roo
 RefusesSubmit b other = ⊥
 
 -- the book once the next request is taken, or denied where the device has no ISDU:
--- where the station is ready for one, and one waits
+-- where the session is ready for one, and one waits
 -- REQ-3
 abbrev pub book_after_taking : Bool → Bool → Option (Ticket × Request) → BookState → BookState
 book_after_taking ready lacks None b = b
@@ -64,256 +63,247 @@ book_after_taking ready lacks (Some next) b =
 abbrev pub HasNoIsdu : BookState → Ticket → Type 0
 HasNoIsdu b ticket = lookup (same_ticket ticket) b.standing.outcomes ≡ Some NoIsdu
 
-module _ {W : Type 0} where
-  -- Only the book changes: the station with its wire, and the events that are kept,
-  -- are what they were
-  abbrev pub IsBookCall : PortParts W → PortParts W → Type 0
-  IsBookCall old new = new ≡ record old { book = new.book }
+-- Only the book changes: the link, its session, and the events that are kept, are what they were
+abbrev pub IsBookCall : PortParts → PortParts → Type 0
+IsBookCall old new = new ≡ record old { book = new.book }
 
-  -- No memory is taken, and none is given back
-  -- BOOK-12
-  abbrev pub KeepsMemory : PortParts W → PortParts W → Type 0
-  KeepsMemory old new = new.book.memory ≡ old.book.memory
+-- No memory is taken, and none is given back
+-- BOOK-12
+abbrev pub KeepsMemory : PortParts → PortParts → Type 0
+KeepsMemory old new = new.book.memory ≡ old.book.memory
 
-  -- a request is entered, which leaves this book
-  pub record SubmitGives (old : PortParts W) (book : BookState) (result : Result Ticket PortFault)
-      (new : PortParts W) : Type 0 where
-    pub allowed : OnOk result (submit_refusal old.book.state ≡ None)
-    pub ticket : IfOk result (λ t. t ≡ next_ticket old.book.state)
-    pub entered : OnOk result (new.book.state ≡ book)
-    pub refused : IfErr result (λ why. RefusesSubmit old.book why)
-    pub unchanged : OnErr result (new.book.state ≡ old.book.state)
-    pub memory : MemoryGrows old.book.memory new.book.memory
-    pub rest : IsBookCall old new
+-- a request is entered, which leaves this book
+pub record SubmitGives (old : PortParts) (book : BookState) (result : Result Ticket PortFault)
+    (new : PortParts) : Type 0 where
+  pub allowed : OnOk result (submit_refusal old.book.state ≡ None)
+  pub ticket : IfOk result (λ t. t ≡ next_ticket old.book.state)
+  pub entered : OnOk result (new.book.state ≡ book)
+  pub refused : IfErr result (λ why. RefusesSubmit old.book why)
+  pub unchanged : OnErr result (new.book.state ≡ old.book.state)
+  pub memory : MemoryGrows old.book.memory new.book.memory
+  pub rest : IsBookCall old new
 
-  -- the outcome that was posted for the ticket, or why there is none
-  pub record CollectGives (old : PortParts W) (ticket : Ticket) (result : Result Outcome PortFault)
-      (new : PortParts W) : Type 0 where
-    pub answer : result ≡ by_book (collect_answer old.book.state.standing ticket)
-    pub book : new.book.state ≡ book_after_collect old.book.state ticket
-    pub memory : KeepsMemory old new
-    pub rest : IsBookCall old new
+-- the outcome that was posted for the ticket, or why there is none
+pub record CollectGives (old : PortParts) (ticket : Ticket) (result : Result Outcome PortFault)
+    (new : PortParts) : Type 0 where
+  pub answer : result ≡ by_book (collect_answer old.book.state.standing ticket)
+  pub book : new.book.state ≡ book_after_collect old.book.state ticket
+  pub memory : KeepsMemory old new
+  pub rest : IsBookCall old new
 
-  pub record WithdrawGives (old : PortParts W) (ticket : Ticket)
-      (result : Result (Unit {0}) PortFault)
-      (new : PortParts W) : Type 0 where
-    pub answer : result_err result
-        ≡ option_map (λ why. fault.Book why) (withdraw_refusal old.book.state.standing ticket)
-    pub book : new.book.state ≡ book_after_withdrawal old.book.state ticket
-    pub memory : KeepsMemory old new
-    pub rest : IsBookCall old new
+pub record WithdrawGives (old : PortParts) (ticket : Ticket)
+    (result : Result (Unit {0}) PortFault)
+    (new : PortParts) : Type 0 where
+  pub answer : result_err result
+      ≡ option_map (λ why. fault.Book why) (withdraw_refusal old.book.state.standing ticket)
+  pub book : new.book.state ≡ book_after_withdrawal old.book.state ticket
+  pub memory : KeepsMemory old new
+  pub rest : IsBookCall old new
 
-  -- refused as long as it isn't the request under way; else an abort waits, for
-  -- this cause unless one waits already
-  -- REQ-8
-  pub record CancelGives (old : PortParts W) (ticket : Ticket)
-      (result : Result (Unit {0}) PortFault)
-      (new : PortParts W) : Type 0 where
-    pub answer : result_err result
-        ≡ option_map (λ why. fault.Book why) (flight_refusal old.book.state.standing ticket)
-    pub waits : OnOk result
-        (new ≡ record old {
-          station =
-              record old.station { session = session.aborted_in Cancelled old.station.session };
-        })
-    pub unchanged : OnErr result (new ≡ old)
+-- refused as long as it isn't the request under way; else an abort waits, for
+-- this cause unless one waits already
+-- REQ-8
+pub record CancelGives (old : PortParts) (ticket : Ticket)
+    (result : Result (Unit {0}) PortFault)
+    (new : PortParts) : Type 0 where
+  pub answer : result_err result
+      ≡ option_map (λ why. fault.Book why) (flight_refusal old.book.state.standing ticket)
+  pub waits : OnOk result
+      (new ≡ record old {
+        core = record old.core { session = session.aborted_in Cancelled old.core.session };
+      })
+  pub unchanged : OnErr result (new ≡ old)
 
-  -- these entries are the journal as it was, and the new one is empty
-  pub record ArchiveGives (old : PortParts W) (result : Result (List Entry) PortFault)
-      (new : PortParts W) : Type 0 where
-    pub allowed : is_ok result ≡ may_archive old.book.state
-    pub journal : IfOk result (λ entries. entries ≡ old.book.state.journal)
-    pub refused : IfErr result (λ why. why ≡ fault.Book Outstanding)
-    pub book : new.book.state ≡ book_after_archive old.book.state
-    pub memory : new.book.memory ≡ memory_archived old.book
-    pub rest : IsBookCall old new
+-- these entries are the journal as it was, and the new one is empty
+pub record ArchiveGives (old : PortParts) (result : Result (List Entry) PortFault)
+    (new : PortParts) : Type 0 where
+  pub allowed : is_ok result ≡ may_archive old.book.state
+  pub journal : IfOk result (λ entries. entries ≡ old.book.state.journal)
+  pub refused : IfErr result (λ why. why ≡ fault.Book Outstanding)
+  pub book : new.book.state ≡ book_after_archive old.book.state
+  pub memory : new.book.memory ≡ memory_archived old.book
+  pub rest : IsBookCall old new
 
-  -- the event kept longest
-  -- PORT-5
-  pub record TakeEventGives (old : PortParts W) (result : Result Event PortFault)
-      (new : PortParts W) : Type 0 where
-    pub answer : result ≡ ok_or (slice_get old.kept 0) fault.NoEvent
-    pub rest : new ≡ record old { kept = drop 1 old.kept }
+-- the event kept longest
+-- PORT-5
+pub record TakeEventGives (old : PortParts) (result : Result Event PortFault)
+    (new : PortParts) : Type 0 where
+  pub answer : result ≡ ok_or (slice_get old.kept 0) fault.NoEvent
+  pub rest : new ≡ record old { kept = drop 1 old.kept }
 
-  -- refused by the layout that was told last; else it is wanted
-  pub record SetOutputGives (old : PortParts W) (image : ImageOctets)
-      (result : Result (Unit {0}) PortFault)
-      (new : PortParts W) : Type 0 where
-    pub answer : result_err result
-        ≡ option_map (λ why. fault.Output why)
-        (session.output_refusal image old.station.session.layout)
-    pub wanted : OnOk result
-        (new ≡ record old {
-          station =
-              record old.station {
-                session =
-                    session.session_wanting (Some image) old.station.session;
-              };
-        })
-    pub unchanged : OnErr result (new ≡ old)
+-- refused by the layout that was told last; else it is wanted
+pub record SetOutputGives (old : PortParts) (image : ImageOctets)
+    (result : Result (Unit {0}) PortFault)
+    (new : PortParts) : Type 0 where
+  pub answer : result_err result
+      ≡ option_map (λ why. fault.Output why)
+      (session.output_refusal image old.core.session.layout)
+  pub wanted : OnOk result
+      (new ≡ record old {
+        core = wanting_core (Some image) old.core;
+      })
+  pub unchanged : OnErr result (new ≡ old)
 
-  abbrev pub ClearOutputGives : PortParts W → PortParts W → Type 0
-  ClearOutputGives old new = new
+abbrev pub ClearOutputGives : PortParts → PortParts → Type 0
+ClearOutputGives old new = new
+    ≡ record old {
+      core = wanting_core None old.core;
+    }
+
+-- the page of the present session, once it was read whole and checked
+-- PORT-11
+abbrev pub page_shown : PortParts → Option (List ℕ)
+page_shown p = page_in p.core.state p.core.session
+
+-- another device is expected, or any, and nothing else changes
+-- PORT-10
+pub record ExpectGives (old : PortParts) (identity : Option Identity) (result : Counting)
+    (new : PortParts) : Type 0 where
+  pub counts : result ≡ counting_of (page_shown old)
+  pub expects : new
       ≡ record old {
-        station =
-            record old.station { session = session.session_wanting None old.station.session };
+        core = record old.core { session = session.session_expecting identity old.core.session };
       }
 
-  -- the page of the present session, once it was read whole and checked
-  -- PORT-11
-  abbrev pub page_shown : PortParts W → Option (List ℕ)
-  page_shown p = page_in p.station.link.state p.station.session
+-- start-ups are to write this cycle time, or the least one, and nothing else changes
+-- PORT-10
+pub record SetCycleGives (old : PortParts) (cycle : Option CycleTime) (result : Counting)
+    (new : PortParts) : Type 0 where
+  pub counts : result ≡ counting_of (page_shown old)
+  pub paces : new
+      ≡ record old {
+        core = record old.core { session = session.session_with_cycle cycle old.core.session };
+      }
 
-  -- another device is expected, or any, and nothing else changes
-  -- PORT-10
-  pub record ExpectGives (old : PortParts W) (identity : Option Identity) (result : Counting)
-      (new : PortParts W) : Type 0 where
-    pub counts : result ≡ counting_of (page_shown old)
-    pub expects : new
-        ≡ record old {
-          station =
-              record old.station {
-                session =
-                    session.session_expecting identity old.station.session;
-              };
-        }
+-- why the last session ended, behind a call from one to the other
+abbrev pub loss_left : PortParts → PortParts → Option Why
+loss_left old new = loss_after (mode_in old.core.state) (mode_in new.core.state)
+    (why_in new.core.state) old.last_loss
 
-  -- start-ups are to write this cycle time, or the least one, and nothing else changes
-  -- PORT-10
-  pub record SetCycleGives (old : PortParts W) (cycle : Option CycleTime) (result : Counting)
-      (new : PortParts W) : Type 0 where
-    pub counts : result ≡ counting_of (page_shown old)
-    pub paces : new
-        ≡ record old {
-          station =
-              record old.station { session = session.session_with_cycle cycle old.station.session };
-        }
+-- the link is down and has no fault; the request under way is cut
+-- off, and there is no image
+-- PORT-6
+pub record RestartGives (old new : PortParts) : Type 0 where
+  pub mode : mode_in new.core.state ≡ Down
+  pub why : why_in new.core.state ≡ None
+  pub session_is : new.core.session ≡ session.session_after_leaving old.core.session
+  pub book : new.book.state
+      ≡ book_through (restart_steps (request_taken old.book.state.standing.taken)) old.book.state
+  pub memory : KeepsMemory old new
+  pub kept : new.kept ≡ old.kept
+  pub sent : new.sent ≡ old.sent
+  pub counters : new.counters
+      ≡ restart_counted (request_taken old.book.state.standing.taken) old.counters
+  pub last_loss : new.last_loss ≡ loss_left old new
 
-  -- why the last session ended, behind a call from one to the other
-  abbrev pub loss_left : PortParts W → PortParts W → Option Why
-  loss_left old new = loss_after (mode_of old.station.link) (mode_of new.station.link)
-      (why_down new.station.link) old.last_loss
+-- whether the next turn would send IDLE 1, so that it takes or denies the next request
+-- REQ-2
+abbrev pub takes_next : PortParts → Bool
+takes_next p = operates p.core.state && is_ready p.core.session (event_room p.kept)
 
-  -- the wire stays, the link is down and has no fault; the request under way is cut
-  -- off, and there is no image
-  -- PORT-6
-  pub record RestartGives (old new : PortParts W) : Type 0 where
-    pub wire : link_wire new.station.link ≡ link_wire old.station.link
-    pub mode : mode_of new.station.link ≡ Down
-    pub why : why_down new.station.link ≡ None
-    pub session_is : new.station.session ≡ session.session_after_leaving old.station.session
-    pub book : new.book.state
-        ≡ book_through (restart_steps (request_taken old.book.state.standing.taken)) old.book.state
-    pub memory : KeepsMemory old new
-    pub kept : new.kept ≡ old.kept
-    pub sent : new.sent ≡ old.sent
-    pub counters : new.counters
-        ≡ restart_counted (request_taken old.book.state.standing.taken) old.counters
-    pub last_loss : new.last_loss ≡ loss_left old new
+-- the core and the book with which a turn begins: that request is taken and begun, or denied
+abbrev pub core_begun : PortParts → CoreState
+core_begun p = core_with_request (begun_next p) p.core (event_room p.kept)
 
-  -- whether the next turn would send IDLE 1, so that it takes or denies the next request
-  -- REQ-2
-  abbrev pub takes_next : PortParts W → Bool
-  takes_next p = is_operating p.station.link && is_ready p.station.session (event_room p.kept)
+abbrev pub book_begun : PortParts → BookState
+book_begun p =
+    book_after_taking (takes_next p) (lacks_isdu p.core.session.isdu)
+    (next_taken p.book.state.standing) p.book.state
 
-  -- the station and the book with which a turn begins: that request is taken and begun, or denied
-  abbrev pub station_begun : PortParts W → StationState W
-  station_begun p = station_with_request (begun_next p) p.station (event_room p.kept)
+-- The ticket's request waited, none was taken, and a start-up told that the device has no
+-- ISDU; all that the turn does in the book is to give it this outcome, without a taking
+pub record IsDenied (old new : PortParts) (ticket : Ticket) : Type 0 where
+  pub told : old.core.session.isdu ≡ Some false
+  pub waited : IsTrue (waits old.book.state.standing ticket)
+  pub free : old.book.state.standing.taken ≡ None
+  pub book : new.book.state ≡ book_after_denial old.book.state ticket
 
-  abbrev pub book_begun : PortParts W → BookState
-  book_begun p =
-      book_after_taking (takes_next p) (lacks_isdu p.station.session.isdu)
-      (next_taken p.book.state.standing) p.book.state
+-- One call but a turn, with the answer that a list of calls has for it
+-- PORT-3
+abbrev pub CoreCallGives : PortParts → Call → Answered → PortParts → Type 0
+CoreCallGives old (call.Submit request) reply new =
+    (result : Result Ticket PortFault) × (reply ≡ ticket_reply result)
+    × SubmitGives old (book_after_submit old.book.state request) result new
+CoreCallGives old (call.SubmitUrgent request) reply new =
+    (result : Result Ticket PortFault) × (reply ≡ ticket_reply result)
+    × SubmitGives old (book_after_urgent old.book.state request) result new
+CoreCallGives old (call.Collect ticket) reply new =
+    (result : Result Outcome PortFault) × (reply ≡ outcome_reply result)
+    × CollectGives old ticket result new
+CoreCallGives old (call.Withdraw ticket) reply new =
+    (result : Result (Unit {0}) PortFault) × (reply ≡ nothing_reply result)
+    × WithdrawGives old ticket result new
+CoreCallGives old (call.Cancel ticket) reply new =
+    (result : Result (Unit {0}) PortFault) × (reply ≡ nothing_reply result)
+    × CancelGives old ticket result new
+CoreCallGives old call.Restart reply new = (reply ≡ answered.Nothing) × RestartGives old new
+CoreCallGives old (call.SetOutput image) reply new =
+    (result : Result (Unit {0}) PortFault) × (reply ≡ nothing_reply result)
+    × SetOutputGives old image result new
+CoreCallGives old call.ClearOutput reply new = (reply ≡ answered.Nothing)
+    × ClearOutputGives old new
+CoreCallGives old call.Look reply new = (reply ≡ answered.Image old.core.session.image)
+    × (new ≡ old)
+CoreCallGives old (call.Expect identity) reply new =
+    (result : Counting) × (reply ≡ answered.Counts result)
+    × ExpectGives old identity result new
+CoreCallGives old (call.Cycle cycle) reply new =
+    (result : Counting) × (reply ≡ answered.Counts result)
+    × SetCycleGives old cycle result new
+CoreCallGives old call.Counters reply new = (reply ≡ answered.Counters old.counters)
+    × (new ≡ old)
+CoreCallGives old call.LastLoss reply new = (reply ≡ answered.LastLoss old.last_loss)
+    × (new ≡ old)
+CoreCallGives old call.Page reply new = (reply ≡ answered.Page (page_shown old)) × (new ≡ old)
+CoreCallGives old call.TakeEvent reply new =
+    (result : Result Event PortFault) × (reply ≡ event_reply result)
+    × TakeEventGives old result new
+CoreCallGives old call.Status reply new = (reply ≡ answered.Status (status_of old.core))
+    × (new ≡ old)
+CoreCallGives old call.Archive reply new =
+    (result : Result (List Entry) PortFault) × (reply ≡ archive_reply result)
+    × ArchiveGives old result new
+CoreCallGives old call.Turn reply new = ⊥
 
-  -- The ticket's request waited, none was taken, and a start-up told that the device has no
-  -- ISDU; all that the turn does in the book is to give it this outcome, without a taking
-  pub record IsDenied (old new : PortParts W) (ticket : Ticket) : Type 0 where
-    pub told : old.station.session.isdu ≡ Some false
-    pub waited : IsTrue (waits old.book.state.standing ticket)
-    pub free : old.book.state.standing.taken ≡ None
-    pub book : new.book.state ≡ book_after_denial old.book.state ticket
+module _ {W : Type 0} (facts : WireFacts W) where
+  -- A turn: the next request is begun or denied; a message is out, with room for events where at
+  -- most 58 are kept; what came back to it is taken up, and what that says goes to the book and
+  -- to the kept events; a reset of the device ends what a request that was cut off may still do
+  -- PORT-1
+  pub record PortTurnGives (old new : PortOver W) : Type 0 where
+    pub said : Said
+    pub brought : WireResult
+    -- what goes out
+    pub mid : CoreState
+    pub sent : SendsMessage (event_room old.parts.kept) (core_begun old.parts) mid
+    -- its one call of the wire is the one that the port asks for, and brought this
+    pub made : IsMade facts old.wire new.wire (asks_of old.parts) mid said brought new.parts.core
+    pub book : new.parts.book.state
+        ≡ book_through
+        (resets (is_reset old.parts.core.state) (is_reset new.parts.core.state)
+        ++ book_said said)
+        (book_begun old.parts)
+    pub memory : KeepsMemory old.parts new.parts
+    pub kept : new.parts.kept ≡ kept_through (reports_said said) old.parts.kept
+    pub counters : new.parts.counters ≡ said_counted said (call_counted brought old.parts.counters)
+    pub last_loss : new.parts.last_loss ≡ loss_left old.parts new.parts
+    -- each new outcome NoIsdu is that of a request which this turn denied
+    pub denies : (ticket : Ticket) → HasNoIsdu new.parts.book.state ticket
+        → HasNoIsdu old.parts.book.state ticket ⊎ IsDenied old.parts new.parts ticket
 
-  module _ (facts : WireFacts W) where
-    -- A turn: the next request is begun or denied; a message is out, with room for events where at
-    -- most 58 are kept; what came back to it is taken up, and what that says goes to the book and
-    -- to the kept events; a reset of the device ends what a request that was cut off may still do
-    -- PORT-1
-    pub record PortTurnGives (old new : PortParts W) : Type 0 where
-      pub said : Said
-      pub brought : WireResult
-      -- what goes out
-      pub mid : CoreState
-      pub sent : SendsMessage (event_room old.kept) (core_of (station_begun old)) mid
-      -- its one call of the wire is the one that the port asks for, and brought this
-      pub made : IsMade facts (link_wire old.station.link) (link_wire new.station.link)
-          (asks_of old) mid said brought (core_of new.station)
-      pub book : new.book.state
-          ≡ book_through
-          (resets (is_reset old.station.link.state) (is_reset new.station.link.state)
-          ++ book_said said)
-          (book_begun old)
-      pub memory : KeepsMemory old new
-      pub kept : new.kept ≡ kept_through (reports_said said) old.kept
-      pub counters : new.counters ≡ said_counted said (call_counted brought old.counters)
-      pub last_loss : new.last_loss ≡ loss_left old new
-      -- each new outcome NoIsdu is that of a request which this turn denied
-      pub denies : (ticket : Ticket) → HasNoIsdu new.book.state ticket
-          → HasNoIsdu old.book.state ticket ⊎ IsDenied old new ticket
+  -- One call: a turn makes the one call of the wire that the port asks for, and no other touches it
+  -- PORT-7
+  abbrev pub PortCallGives : PortOver W → Call → Answered → PortOver W → Type 0
+  PortCallGives old call.Turn reply new = (reply ≡ answered.Nothing) × PortTurnGives old new
+      × IsCall facts (asks_of old.parts) old.wire new.wire
+  PortCallGives old c reply new = CoreCallGives old.parts c reply new.parts
+      × (new.wire ≡ old.wire)
 
-    -- One call, with the answer that a list of calls has for it
-    -- PORT-3, PORT-7
-    abbrev pub PortCallGives : PortParts W → Call → Answered → PortParts W → Type 0
-    PortCallGives old (call.Submit request) reply new =
-        (result : Result Ticket PortFault) × (reply ≡ ticket_reply result)
-        × SubmitGives old (book_after_submit old.book.state request) result new
-    PortCallGives old (call.SubmitUrgent request) reply new =
-        (result : Result Ticket PortFault) × (reply ≡ ticket_reply result)
-        × SubmitGives old (book_after_urgent old.book.state request) result new
-    PortCallGives old (call.Collect ticket) reply new =
-        (result : Result Outcome PortFault) × (reply ≡ outcome_reply result)
-        × CollectGives old ticket result new
-    PortCallGives old (call.Withdraw ticket) reply new =
-        (result : Result (Unit {0}) PortFault) × (reply ≡ nothing_reply result)
-        × WithdrawGives old ticket result new
-    PortCallGives old (call.Cancel ticket) reply new =
-        (result : Result (Unit {0}) PortFault) × (reply ≡ nothing_reply result)
-        × CancelGives old ticket result new
-    PortCallGives old call.Restart reply new = (reply ≡ answered.Nothing) × RestartGives old new
-    PortCallGives old (call.SetOutput image) reply new =
-        (result : Result (Unit {0}) PortFault) × (reply ≡ nothing_reply result)
-        × SetOutputGives old image result new
-    PortCallGives old call.ClearOutput reply new = (reply ≡ answered.Nothing)
-        × ClearOutputGives old new
-    PortCallGives old call.Look reply new = (reply ≡ answered.Image old.station.session.image)
-        × (new ≡ old)
-    PortCallGives old (call.Expect identity) reply new =
-        (result : Counting) × (reply ≡ answered.Counts result)
-        × ExpectGives old identity result new
-    PortCallGives old (call.Cycle cycle) reply new =
-        (result : Counting) × (reply ≡ answered.Counts result)
-        × SetCycleGives old cycle result new
-    PortCallGives old call.Counters reply new = (reply ≡ answered.Counters old.counters)
-        × (new ≡ old)
-    PortCallGives old call.LastLoss reply new = (reply ≡ answered.LastLoss old.last_loss)
-        × (new ≡ old)
-    PortCallGives old call.Page reply new = (reply ≡ answered.Page (page_shown old)) × (new ≡ old)
-    PortCallGives old call.TakeEvent reply new =
-        (result : Result Event PortFault) × (reply ≡ event_reply result)
-        × TakeEventGives old result new
-    PortCallGives old call.Status reply new = (reply ≡ answered.Status (status_of old.station))
-        × (new ≡ old)
-    PortCallGives old call.Archive reply new =
-        (result : Result (List Entry) PortFault) × (reply ≡ archive_reply result)
-        × ArchiveGives old result new
-    PortCallGives old call.Turn reply new =
-        (reply ≡ answered.Nothing) × PortTurnGives old new
-        × IsCall facts (asks_of old) (link_wire old.station.link) (link_wire new.station.link)
-
-    -- a run: each call in order, once, with its answer
-    -- PORT-3
-    abbrev pub RunGives : PortParts W → List Call → List Answered → PortParts W → Type 0
-    RunGives old [] [] new = new ≡ old
-    RunGives old (call ∷ calls) (reply ∷ replies) new = (mid : PortParts W)
-        × PortCallGives old call reply mid × RunGives mid calls replies new
-    RunGives old [] (reply ∷ replies) new = ⊥
-    RunGives old (call ∷ calls) [] new = ⊥
+  -- a run: each call in order, once, with its answer
+  -- PORT-3
+  abbrev pub RunGives : PortOver W → List Call → List Answered → PortOver W → Type 0
+  RunGives old [] [] new = new ≡ old
+  RunGives old (call ∷ calls) (reply ∷ replies) new = (mid : PortOver W)
+      × PortCallGives old call reply mid × RunGives mid calls replies new
+  RunGives old [] (reply ∷ replies) new = ⊥
+  RunGives old (call ∷ calls) [] new = ⊥

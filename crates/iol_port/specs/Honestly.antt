@@ -1,6 +1,5 @@
 -- A port without a wire, and where the line stands: one that loses and never lies.
 use Rattle.std.specs.Prelude.{◌≡◌, ℕ, List, Option}
-use Rattle.iol_link.specs.WireFacts.{WireFacts}
 use Rattle.iol_link.specs.Honest.{HonestExchange}
 use Rattle.iol_mode.specs.Exchanges.{text_out}
 use Rattle.iol_mode.specs.declared.configuration.Devices.{Devices}
@@ -8,14 +7,13 @@ use Rattle.iol_book.specs.declared.limits.Limits.{Limits}
 use Rattle.iol_port.specs.declared.call.Call.{Call}
 use Rattle.iol_port.specs.declared.call.Answered.{Answered}
 use Rattle.iol_port.specs.Run.{PortState, Piece, Pieces, port_at_opening}
-use Rattle.iol_port.specs.View.{PortParts, OpensWell, StandsFor, KeepsRecord}
+use Rattle.iol_port.specs.View.{PortParts, IsUnused, StandsFor, KeepsRecord}
 use Rattle.iol_port.specs.Clean.{IsLevelBetween}
-use Rattle.iol_port.specs.CorePort.{at_end, opened_at}
 use Rattle.iol_port.specs.Called.{CoreCalled}
 use Rattle.iol_port.specs.Standing.{LinePosition}
 
 pub record HonestParts : Type 0 where
-  pub parts : PortParts (Unit {0})
+  pub parts : PortParts
   -- where the line stands
   pub at : LinePosition
   -- with what it was opened: for which devices, its limits, and where the line stood then
@@ -23,14 +21,10 @@ pub record HonestParts : Type 0 where
   pub limits : Limits
   pub from : LinePosition
 
--- the line, as one that is honest
-abbrev pub line_at : LinePosition → WireFacts (Unit {0})
-line_at at = at_end at.far at.silence
-
 -- the device is one of those that it was opened for, and had been handed no request then; at a port
 -- for our own it is also one that misses no pulse of a wake
 abbrev pub BeganWell : HonestParts → Type 0
-BeganWell p = OpensWell (opened_at p.devices p.limits p.from.far p.from.silence)
+BeganWell p = IsUnused p.devices p.from.far
 
 -- What every such port keeps: where it began well, it stands, with the device that the line
 -- stands at, for an abstract port that is a run, in pieces, of the one that was opened
@@ -38,15 +32,15 @@ unfoldable pub IsRunInPieces : HonestParts → Type 0
 IsRunInPieces p =
     BeganWell p → (pieces : List Piece) × (replies : List Answered) × (b : PortState)
     × Pieces (port_at_opening p.devices p.limits p.from.far p.from.silence) pieces replies b
-    × StandsFor (line_at p.at) p.parts b
+    × StandsFor p.at.far p.at.silence p.parts b
 
 -- for some choice both ends stand together, and the record fits the journal
 abbrev pub RecordFitsJournal : HonestParts → Type 0
-RecordFitsJournal p = KeepsRecord (line_at p.at) p.parts
+RecordFitsJournal p = KeepsRecord p.at.far p.at.silence p.parts
 
 -- between requests, with no message out in OPERATE, both ends are level and the device is awake
 abbrev pub BothEndsAreLevel : HonestParts → Type 0
-BothEndsAreLevel p = IsLevelBetween (line_at p.at) p.parts
+BothEndsAreLevel p = IsLevelBetween p.at.far p.parts
 
 -- the line stands there afterwards, and with what the port was opened stays
 abbrev pub Moves : HonestParts → LinePosition → HonestParts → Type 0
@@ -62,5 +56,5 @@ pub record Calls (p next : HonestParts) (c : Call) (reply : Answered) (given : T
 -- line stands there then
 abbrev pub Exchanges : HonestParts → Option (List ℕ) → LinePosition → Type 0
 Exchanges p came after =
-    HonestExchange p.at.far p.at.silence (text_out p.parts.station.link.state) came after.far
+    HonestExchange p.at.far p.at.silence (text_out p.parts.core.state) came after.far
     after.silence

@@ -2,7 +2,7 @@
 use Rattle.std.specs.Prelude.{◌≡◌, true, Option, Some, None, IsTrue}
 use Rattle.iol_page.specs.Identity.{is_expected}
 use Rattle.iol_mode.specs.declared.states.PageFacts.{PageFacts}
-use Rattle.iol_app.specs.StationState.{is_operating}
+use Rattle.iol_app.specs.StationState.{operates}
 use Rattle.iol_port.specs.View.{PortParts}
 
 -- a page was read whole, and is that of the device that was expected when it was checked
@@ -12,6 +12,5 @@ IsOfRightDevice (Some told) = is_expected told.expected told.page ≡ true
 
 -- in OPERATE, where alone a request is taken and an output goes out, this holds of the page of
 -- the present session
-abbrev pub IsForRightDevice : {W : Type 0} → PortParts W → Type 0
-IsForRightDevice p = IsTrue (is_operating p.station.link)
-    → IsOfRightDevice p.station.session.present
+abbrev pub IsForRightDevice : PortParts → Type 0
+IsForRightDevice p = IsTrue (operates p.core.state) → IsOfRightDevice p.core.session.present

@@ -11,7 +11,8 @@ ghost use Rattle.iol_port.specs.declared.fault.PortFault.TheVariants as fault;
 ghost use Rattle.iol_port.specs.declared.awaited.AwaitedAnswer.{AwaitedAnswer};
 ghost use Rattle.iol_port.specs.Asks.{asks_of};
 ghost use Rattle.iol_port.specs.RightDevice.{IsForRightDevice};
-ghost use Rattle.iol_port.specs.CorePort.{IsNew, IsNewFor, CoreOpens, CoreOpensFor, awaited_answer, PortSendGives, SendDoes};
+ghost use Rattle.iol_port.specs.View.{IsNew, IsNewFor};
+ghost use Rattle.iol_port.specs.CorePort.{CoreOpens, CoreOpensFor, awaited_answer, PortSendGives, SendDoes};
 ghost use Rattle.iol_port.specs.CorePort.{PortReceiveGives, ReceiveDoes, WakeGives, WakeDoes};
 ghost use Rattle.iol_port.specs.Called.{Submits, SubmitsUrgent, Collects, Withdraws, Cancels, Restarts, SetsOutput};
 ghost use Rattle.iol_port.specs.Called.{ClearsOutput, Expects, SetsCycle, TakesEvent, Archives};
@@ -269,7 +270,7 @@ impl<A: Allocator + Copy> HonestPort<A> {
 
     /// What goes out, as [`PortCore::send`] gives it.
     pub fn send(&mut self) -> Asked
-        ensures says { IsAskedOut result self.new.parts.station.link.state }
+        ensures says { IsAskedOut result self.new.parts.core.state }
         ensures asked { result ≡ asks_of self.old.parts }
         ensures again { IsTrue self.old.parts.sent → self.new ≡ self.old }
         ensures gives { PortSendGives self.old.parts self.new.parts }

@@ -22,8 +22,8 @@
 //! IEC 61131-9 leaves it to the master how requests are queued: that part is this project's
 //! profile.
 //!
-//! Definitions begin in `specs/Run`, the abstract port; then `Owners`, `Sound`, `View`, `EveryWire`,
-//! `CorePort` and `Honestly`.
+//! Definitions begin in `specs/Run`, the abstract port; then `Owners`, `Sound`, `View`,
+//! `EveryWire`, `CorePort` and `Honestly`.
 #![tactic(auto)]
 
 mod awaited;

@@ -10,17 +10,16 @@ ghost use Rattle.iol_port.specs.declared.fault.PortFault.TheVariants as fault;
 ghost use Rattle.iol_port.specs.declared.call.Call.TheVariants as call;
 ghost use Rattle.iol_port.specs.declared.call.Answered.TheVariants as answered;
 ghost use Rattle.iol_port.specs.Run.{port_at_opening};
-ghost use Rattle.iol_app.specs.StationState.{link_wire};
 ghost use Rattle.iol_port.specs.Asks.{asks_of, IsWireCall};
 ghost use Rattle.iol_port.specs.Called.{Submits, SubmitsUrgent, Collects, Withdraws, Cancels, Restarts, SetsOutput};
 ghost use Rattle.iol_port.specs.Called.{ClearsOutput, Expects, SetsCycle, TakesEvent, Archives, Turns, PublishesAfter};
-ghost use Rattle.iol_port.specs.Called.{ShowsPage, ShowsCounters, ShowsLastLoss, ShowsImage, ShowsStatus, MakesCall, PortOnlyLooks};
+ghost use Rattle.iol_port.specs.Called.{ShowsPage, ShowsCounters, ShowsLastLoss, ShowsImage, ShowsStatus, CoreCalled, MakesCall};
 ghost use Rattle.iol_port.specs.Claim.{Claim};
 ghost use Rattle.iol_port.specs.EveryWire.{PortCallGives, RunGives};
 ghost use Rattle.iol_port.specs.RightDevice.{IsForRightDevice};
 ghost use Rattle.iol_port.specs.WireCalls.{ComesFrom};
-ghost use Rattle.iol_port.specs.View.{Does, Runs, StandsFor, IsOpened, IsRun, KeepsLimits, OpensWell, opening_for, opening_of};
-ghost use Rattle.iol_port.specs.View.{KeepsRecord, writer_after_publish};
+ghost use Rattle.iol_port.specs.View.{Does, Runs, StandsOver, IsNew, IsNewFor, IsRun, KeepsLimits, OpensWell, opening_for, opening_of, over};
+ghost use Rattle.iol_port.specs.View.{KeepsRecordOver, writer_after_publish};
 ghost use Rattle.iol_port.specs.Clean.{CleanTurn, CleanRuns, CleanServes, IsLevelBetween};
 ghost use Rattle.iol_port.specs.Replies.{ticket_reply, nothing_reply};
 
@@ -62,23 +61,22 @@ pub struct Port<W: Wire, A: Handle = Global> {
 }
 
 impl<W: Wire, A: Handle> Model for Port<W, A> {
-    ghost use Rattle.iol_port.specs.View.{PortValue, IsPort, opening_for};
-    ghost use Rattle.iol_port.specs.CorePort.{parts_over};
+    ghost use Rattle.iol_port.specs.View.{PortValue, IsPort, opening_for, on_wire};
 
     ghost Value = { PortValue W };
 
     ghost view = { λ p. record {
-      parts = parts_over p.wire p.core;
+      parts = p.core;
+      wire = p.wire;
       opening = opening_for W.facts p.devices.value p.limits.value p.wire_then.value;
       writer = p.writer;
     } };
 
     ghost invariant = { λ p. IsPort W.facts
         (opening_for W.facts p.devices.value p.limits.value p.wire_then.value)
-        (parts_over p.wire p.core) };
+        (on_wire p.core p.wire) };
 }
 
-#[tactic(auto, using(crate::proofs::CorePorts::call_over, crate::proofs::OverWire::over_wire))]
 impl<W: Wire, A: Handle> Port<W, A> {
     /// A port for devices of our own kind over this wire, whose link is down and whose first
     /// ticket is `given` + 1.
@@ -86,8 +84,9 @@ impl<W: Wire, A: Handle> Port<W, A> {
     /// Refused by 24 where there is no memory for its book; the wire is handed back.
     pub fn open(alloc: A, wire: W, limits: &Limits) -> Result<Port<W, A>, (PortFault, W)>
         ensures opening { IfOk result (λ p. p.opening ≡ opening_of W.facts limits.now wire) }
-        ensures parts { IfOk result (λ p. IsOpened p.opening p.parts) }
-        ensures stands { IfOk result (λ p. OpensWell p.opening → StandsFor W.facts p.parts
+        ensures parts { IfOk result (λ p. IsNew limits.now p.parts) }
+        ensures wire { IfOk result (λ p. p.wire ≡ wire) }
+        ensures stands { IfOk result (λ p. OpensWell p.opening → StandsOver W.facts (over p)
             (port_at_opening Devices.Own limits.now (W.facts.far wire) (W.facts.silence wire))) }
         ensures writer { IfOk result (λ p. p.writer ≡ None) }
         ensures refused { IfErr result (λ e. e.0 ≡ fault.Book OutOfMemory) }
@@ -107,8 +106,9 @@ impl<W: Wire, A: Handle> Port<W, A> {
     ) -> Result<Port<W, A>, (PortFault, W)>
         ensures opening { IfOk result (λ p. p.opening
             ≡ opening_for W.facts devices limits.now wire) }
-        ensures parts { IfOk result (λ p. IsOpened p.opening p.parts) }
-        ensures stands { IfOk result (λ p. OpensWell p.opening → StandsFor W.facts p.parts
+        ensures parts { IfOk result (λ p. IsNewFor devices limits.now p.parts) }
+        ensures wire { IfOk result (λ p. p.wire ≡ wire) }
+        ensures stands { IfOk result (λ p. OpensWell p.opening → StandsOver W.facts (over p)
             (port_at_opening devices limits.now (W.facts.far wire) (W.facts.silence wire))) }
         ensures writer { IfOk result (λ p. p.writer ≡ None) }
         ensures refused { IfErr result (λ e. e.0 ≡ fault.Book OutOfMemory) }
@@ -130,7 +130,7 @@ impl<W: Wire, A: Handle> Port<W, A> {
 
     /// As [`PortCore::submit`].
     pub fn submit(&mut self, request: Request) -> Result<Ticket, PortFault>
-        ensures is { Submits (MakesCall W.facts self.old self.new) self.old.parts self.new.parts
+        ensures is { Submits (MakesCall self.old self.new) self.old.parts self.new.parts
             request result }
         ensures lacks { IfErr result (λ e. e ≡ fault.Book OutOfMemory → self.old.parts.book.room
             ≡ 0) }
@@ -140,7 +140,7 @@ impl<W: Wire, A: Handle> Port<W, A> {
 
     /// As [`PortCore::submit_urgent`].
     pub fn submit_urgent(&mut self, request: Request) -> Result<Ticket, PortFault>
-        ensures is { SubmitsUrgent (MakesCall W.facts self.old self.new) self.old.parts
+        ensures is { SubmitsUrgent (MakesCall self.old self.new) self.old.parts
             self.new.parts
             request result }
         ensures lacks { IfErr result (λ e. e ≡ fault.Book OutOfMemory → self.old.parts.book.room
@@ -151,7 +151,7 @@ impl<W: Wire, A: Handle> Port<W, A> {
 
     /// As [`PortCore::collect`].
     pub fn collect(&mut self, ticket: Ticket) -> Result<Outcome, PortFault>
-        ensures { Collects (MakesCall W.facts self.old self.new) self.old.parts self.new.parts
+        ensures { Collects (MakesCall self.old self.new) self.old.parts self.new.parts
             ticket result }
     {
         self.core.collect(ticket)
@@ -159,7 +159,7 @@ impl<W: Wire, A: Handle> Port<W, A> {
 
     /// As [`PortCore::collect_into`].
     pub fn collect_into(&mut self, ticket: Ticket, into: &mut Outcome) -> Result<(), PortFault>
-        ensures is { Collects (MakesCall W.facts self.old self.new) self.old.parts self.new.parts
+        ensures is { Collects (MakesCall self.old self.new) self.old.parts self.new.parts
             ticket (result_map_both (λ _. into.new) (λ why. why) result) }
         ensures kept { IfErr result (λ _. into.new ≡ into.old) }
     {
@@ -168,7 +168,7 @@ impl<W: Wire, A: Handle> Port<W, A> {
 
     /// As [`PortCore::withdraw`].
     pub fn withdraw(&mut self, ticket: Ticket) -> Result<(), PortFault>
-        ensures { Withdraws (MakesCall W.facts self.old self.new) self.old.parts self.new.parts
+        ensures { Withdraws (MakesCall self.old self.new) self.old.parts self.new.parts
             ticket result }
     {
         self.core.withdraw(ticket)
@@ -176,7 +176,7 @@ impl<W: Wire, A: Handle> Port<W, A> {
 
     /// As [`PortCore::cancel`].
     pub fn cancel(&mut self, ticket: Ticket) -> Result<(), PortFault>
-        ensures { Cancels (MakesCall W.facts self.old self.new) self.old.parts self.new.parts
+        ensures { Cancels (MakesCall self.old self.new) self.old.parts self.new.parts
             ticket result }
     {
         self.core.cancel(ticket)
@@ -184,14 +184,14 @@ impl<W: Wire, A: Handle> Port<W, A> {
 
     /// As [`PortCore::restart`]. Between two calls nothing is out.
     pub fn restart(&mut self)
-        ensures { Restarts (MakesCall W.facts self.old self.new) self.old.parts self.new.parts }
+        ensures { Restarts (MakesCall self.old self.new) self.old.parts self.new.parts }
     {
         self.core.restart();
     }
 
     /// As [`PortCore::set_output`].
     pub fn set_output(&mut self, image: &Image) -> Result<(), PortFault>
-        ensures { SetsOutput (MakesCall W.facts self.old self.new) self.old.parts self.new.parts
+        ensures { SetsOutput (MakesCall self.old self.new) self.old.parts self.new.parts
             image.now result }
     {
         self.core.set_output(image)
@@ -199,14 +199,14 @@ impl<W: Wire, A: Handle> Port<W, A> {
 
     /// As [`PortCore::clear_output`].
     pub fn clear_output(&mut self)
-        ensures { ClearsOutput (MakesCall W.facts self.old self.new) self.old.parts self.new.parts }
+        ensures { ClearsOutput (MakesCall self.old self.new) self.old.parts self.new.parts }
     {
         self.core.clear_output();
     }
 
     /// As [`PortCore::expect`].
     pub fn expect(&mut self, identity: Identity) -> Counting
-        ensures { Expects (MakesCall W.facts self.old self.new) self.old.parts self.new.parts
+        ensures { Expects (MakesCall self.old self.new) self.old.parts self.new.parts
             (Some identity) result }
     {
         self.core.expect(identity)
@@ -214,7 +214,7 @@ impl<W: Wire, A: Handle> Port<W, A> {
 
     /// As [`PortCore::expect_any`].
     pub fn expect_any(&mut self) -> Counting
-        ensures { Expects (MakesCall W.facts self.old self.new) self.old.parts self.new.parts
+        ensures { Expects (MakesCall self.old self.new) self.old.parts self.new.parts
             None result }
     {
         self.core.expect_any()
@@ -222,7 +222,7 @@ impl<W: Wire, A: Handle> Port<W, A> {
 
     /// As [`PortCore::set_cycle`].
     pub fn set_cycle(&mut self, cycle: Option<CycleTime>) -> Counting
-        ensures { SetsCycle (MakesCall W.facts self.old self.new) self.old.parts self.new.parts
+        ensures { SetsCycle (MakesCall self.old self.new) self.old.parts self.new.parts
             cycle result }
     {
         self.core.set_cycle(cycle)
@@ -230,28 +230,29 @@ impl<W: Wire, A: Handle> Port<W, A> {
 
     /// As [`PortCore::page`].
     pub fn page(&self) -> Option<Page>
-        ensures { ShowsPage (PortOnlyLooks W.facts self.now) self.now.parts result }
+        ensures { ShowsPage (CoreCalled self.now.parts self.now.parts) self.now.parts result }
     {
         self.core.page()
     }
 
     /// As [`PortCore::counters`].
     pub fn counters(&self) -> &Counters
-        ensures { ShowsCounters (PortOnlyLooks W.facts self.now) self.now.parts result.now }
+        ensures { ShowsCounters (CoreCalled self.now.parts self.now.parts) self.now.parts
+            result.now }
     {
         self.core.counters()
     }
 
     /// As [`PortCore::last_loss`].
     pub fn last_loss(&self) -> Option<Why>
-        ensures { ShowsLastLoss (PortOnlyLooks W.facts self.now) self.now.parts result }
+        ensures { ShowsLastLoss (CoreCalled self.now.parts self.now.parts) self.now.parts result }
     {
         self.core.last_loss()
     }
 
     /// As [`PortCore::image`].
     pub fn image(&self) -> Option<&Image>
-        ensures { ShowsImage (PortOnlyLooks W.facts self.now) self.now.parts
+        ensures { ShowsImage (CoreCalled self.now.parts self.now.parts) self.now.parts
             (option_copied result) }
     {
         self.core.image()
@@ -259,7 +260,7 @@ impl<W: Wire, A: Handle> Port<W, A> {
 
     /// As [`PortCore::take_event`].
     pub fn take_event(&mut self) -> Result<Event, PortFault>
-        ensures { TakesEvent (MakesCall W.facts self.old self.new) self.old.parts self.new.parts
+        ensures { TakesEvent (MakesCall self.old self.new) self.old.parts self.new.parts
             result }
     {
         self.core.take_event()
@@ -267,14 +268,14 @@ impl<W: Wire, A: Handle> Port<W, A> {
 
     /// As [`PortCore::status`].
     pub fn status(&self) -> Status
-        ensures { ShowsStatus (PortOnlyLooks W.facts self.now) self.now.parts result }
+        ensures { ShowsStatus (CoreCalled self.now.parts self.now.parts) self.now.parts result }
     {
         self.core.status()
     }
 
     /// As [`PortCore::archive`].
     pub fn archive(&mut self) -> Result<Vec<Entry, A>, PortFault>
-        ensures is { Archives (MakesCall W.facts self.old self.new) self.old.parts self.new.parts
+        ensures is { Archives (MakesCall self.old self.new) self.old.parts self.new.parts
             (λ entries. entries.items) result }
         ensures within { IfOk result (λ entries. length entries.items ≤ 1000000) }
     {
@@ -304,13 +305,15 @@ impl<W: Wire, A: Handle> Port<W, A> {
     /// call touches the wire.
     ///
     /// Rules PORT-2, PORT-3, PORT-4, PORT-7.
+    #[tactic(auto, using(crate::proofs::CorePorts::port_call_over))]
     pub fn call(&mut self, asked: &Call) -> Answered
-        ensures does { Does W.facts self.old.parts asked.now result self.new.parts }
-        ensures gives { PortCallGives W.facts self.old.parts asked.now result self.new.parts }
+        ensures does { Does W.facts (over self.old) asked.now result (over self.new) }
+        ensures gives { PortCallGives W.facts (over self.old) asked.now result (over self.new) }
         ensures wire { IsWireCall W.facts asked.now (asks_of self.old.parts)
-            (link_wire self.old.parts.station.link) (link_wire self.new.parts.station.link) }
-        ensures clean { asked.now ≡ call.Turn → CleanTurn W.facts self.old.parts self.new.parts }
-        ensures rest { self.new ≡ record self.old { parts = self.new.parts } }
+            self.old.wire self.new.wire }
+        ensures clean { asked.now ≡ call.Turn → CleanTurn W.facts (over self.old) (over self.new) }
+        ensures rest { self.new
+            ≡ record self.old { parts = self.new.parts; wire = self.new.wire } }
     {
         match asked {
             Call::Submit(request) => ticket_or(self.submit(copy_of_request(request))),
@@ -368,16 +371,17 @@ impl<W: Wire, A: Handle> Port<W, A> {
         calls: &[Call],
     ) -> Result<Vec<Answered, B>, PortFault>
         ensures run { IfOk result (λ replies. Runs W.facts
-            self.old.parts calls.now replies.items self.new.parts) }
+            (over self.old) calls.now replies.items (over self.new)) }
         ensures claim { OpensWell self.old.opening → IfOk result (λ replies. Claim W.facts
-            self.old.opening calls.now replies.items self.new.parts) }
+            self.old.opening calls.now replies.items (over self.new)) }
         ensures gives { IfOk result (λ replies. RunGives W.facts
-            self.old.parts calls.now replies.items self.new.parts) }
-        ensures clean { IfOk result (λ _. CleanRuns W.facts self.old.parts calls.now
-            self.new.parts) }
-        ensures served { IfOk result (λ _. CleanServes W.facts self.old.parts calls.now
-            self.new.parts) }
-        ensures rest { self.new ≡ record self.old { parts = self.new.parts } }
+            (over self.old) calls.now replies.items (over self.new)) }
+        ensures clean { IfOk result (λ _. CleanRuns W.facts (over self.old) calls.now
+            (over self.new)) }
+        ensures served { IfOk result (λ _. CleanServes W.facts (over self.old) calls.now
+            (over self.new)) }
+        ensures rest { self.new
+            ≡ record self.old { parts = self.new.parts; wire = self.new.wire } }
         ensures room { IfOk result (λ replies. vec_capacity replies ≡ length calls.now) }
         ensures refused { IfErr result (λ e. e ≡ fault.Book OutOfMemory) }
         ensures needs { OnErr result (1 ≤ length calls.now) }
@@ -415,7 +419,7 @@ impl<W: Wire, A: Handle> Port<W, A> {
     /// writer was given.
     pub fn restart_shown<R: Wait>(&mut self, rt: &R)
         ensures { PublishesAfter
-            (λ new. Restarts (MakesCall W.facts self.old new) self.old.parts new.parts)
+            (λ new. Restarts (MakesCall self.old new) self.old.parts new.parts)
             self.old self.new }
     {
         self.restart();
@@ -424,7 +428,7 @@ impl<W: Wire, A: Handle> Port<W, A> {
 
     fn show<R: Wait>(&mut self, rt: &R)
         ensures { self.new ≡ record self.old {
-          writer = writer_after_publish self.old.parts.station.session.image self.old.writer;
+          writer = writer_after_publish self.old.parts.core.session.image self.old.writer;
         } }
     {
         if let Some(writer) = &mut self.writer {
@@ -434,14 +438,14 @@ impl<W: Wire, A: Handle> Port<W, A> {
 
     /// The wire, as it is now.
     pub fn wire(&self) -> &W
-        ensures { result.now ≡ link_wire self.now.parts.station.link }
+        ensures { result.now ≡ self.now.wire }
     {
         &self.wire
     }
 
     /// Ends the port, and hands its wire back.
     pub fn into_wire(self) -> W
-        ensures { result ≡ link_wire self.parts.station.link }
+        ensures { result ≡ self.wire }
     {
         let Port {
             core: _,
@@ -461,15 +465,16 @@ impl<W: Wire, A: Handle> Port<W, A> {
     /// been handed no request; at a port for our own devices it has to see each pulse of a wake.
     pub fn keeps_record(&self)
         ensures replayed { IsReplayed self.now.parts.book.state }
-        ensures run { IsRun W.facts self.now.opening self.now.parts }
+        ensures run { IsRun W.facts self.now.opening (over self.now) }
         ensures wire { ComesFrom W.facts
-            self.now.opening.wire (link_wire self.now.parts.station.link) }
+            self.now.opening.wire self.now.wire }
         ensures limits { KeepsLimits (book.empty_book self.now.opening.limits)
             self.now.parts.book.state }
         ensures claim { OpensWell self.now.opening
-            → Claim W.facts self.now.opening [] [] self.now.parts }
-        ensures record_fits { OpensWell self.now.opening → KeepsRecord W.facts self.now.parts }
-        ensures level { OpensWell self.now.opening → IsLevelBetween W.facts self.now.parts }
+            → Claim W.facts self.now.opening [] [] (over self.now) }
+        ensures record_fits { OpensWell self.now.opening → KeepsRecordOver W.facts (over self.now) }
+        ensures level { OpensWell self.now.opening
+            → IsLevelBetween (W.facts.far self.now.wire) self.now.parts }
     {
         self.core.keeps_record();
     }

@@ -3,7 +3,7 @@ ghost use Rattle.std.specs.Prelude.{◌≡◌, ◌<◌, ◌≤◌, None, true, f
 ghost use Rattle.std.specs.Option.{option_copied};
 ghost use Rattle.std.specs.Result.{result_map_both};
 ghost use Rattle.iol_far.specs.Octets.{octets_in};
-ghost use Rattle.iol_app.specs.Seen.{LinkStands, core_of};
+ghost use Rattle.iol_app.specs.Seen.{LinkStands};
 ghost use Rattle.iol_book.specs.declared.fault.BookFault.TheVariants.{OutOfMemory};
 ghost use Rattle.iol_book.specs.BookModel.{IsReplayed};
 ghost use Rattle.iol_app.specs.Asking.{IsCall};
@@ -12,14 +12,14 @@ ghost use Rattle.iol_port.specs.declared.fault.PortFault.TheVariants as fault;
 ghost use Rattle.iol_port.specs.declared.call.Call.TheVariants as call;
 ghost use Rattle.iol_port.specs.declared.call.Answered.TheVariants as answered;
 ghost use Rattle.iol_port.specs.declared.awaited.AwaitedAnswer.{AwaitedAnswer};
-ghost use Rattle.iol_port.specs.View.{Does};
+ghost use Rattle.iol_port.specs.View.{Does, IsNew, IsNewFor, on_wire};
 ghost use Rattle.iol_port.specs.Asks.{asks_of, event_room};
 ghost use Rattle.iol_port.specs.EveryWire.{PortTurnGives};
 ghost use Rattle.iol_port.specs.EveryWire.{page_shown};
 ghost use Rattle.iol_port.specs.RightDevice.{IsForRightDevice};
 ghost use Rattle.iol_port.specs.Run.{counting_of};
 ghost use Rattle.iol_port.specs.Clean.{CleanTurn};
-ghost use Rattle.iol_port.specs.CorePort.{CoreOpens, CoreOpensFor, CoreKeeps, IsNew, IsNewFor, awaited_answer, parts_over, PortSendGives, SendDoes, PortReceiveGives, ReceiveDoes, WakeGives, WakeDoes};
+ghost use Rattle.iol_port.specs.CorePort.{CoreOpens, CoreOpensFor, CoreKeeps, awaited_answer, PortSendGives, SendDoes, PortReceiveGives, ReceiveDoes, WakeGives, WakeDoes};
 ghost use Rattle.iol_port.specs.Called.{Submits, SubmitsUrgent, Collects, Withdraws, Cancels, Restarts, SetsOutput};
 ghost use Rattle.iol_port.specs.Called.{ClearsOutput, Expects, SetsCycle, TakesEvent, Archives, CoreCalled};
 ghost use Rattle.iol_port.specs.Called.{ShowsPage, ShowsCounters, ShowsLastLoss, ShowsImage, ShowsStatus};
@@ -60,10 +60,10 @@ use std::marker::Model;
 ///                   +---+ send (the same again), submit, cancel, ..
 /// ```
 ///
-/// Clauses see the port's parts, over no wire. They say exactly what each call leaves, whatever
-/// comes. And they say, of each far end of the line and each abstract port that the port stands
-/// for with it, that the call is one piece of a run of the abstract port: of what comes back,
-/// where an honest exchange with that far end could bring it.
+/// Clauses see the port's parts. They say exactly what each call leaves, whatever comes. And they
+/// say, of each far end of the line and each abstract port that the port stands for with it, that
+/// the call is one piece of a run of the abstract port: of what comes back, where an honest
+/// exchange with that far end could bring it.
 #[derive(Drop)]
 pub struct PortCore<A: Allocator + Copy = Global> {
     core: Core,
@@ -78,12 +78,11 @@ pub struct PortCore<A: Allocator + Copy = Global> {
 
 impl<A: Allocator + Copy> Model for PortCore<A> {
     ghost use Rattle.iol_port.specs.View.{PortParts, IsTied};
-    ghost use Rattle.iol_port.specs.CorePort.{station_without_wire};
 
-    ghost Value = { PortParts (Unit {0}) };
+    ghost Value = { PortParts };
 
     ghost view = { λ p. record {
-      station = station_without_wire p.core;
+      core = p.core;
       book = p.book;
       kept = p.kept.items;
       sent = p.sent;
@@ -92,7 +91,7 @@ impl<A: Allocator + Copy> Model for PortCore<A> {
     } };
 
     ghost invariant = { λ p. IsTied (record {
-      station = station_without_wire p.core;
+      core = p.core;
       book = p.book;
       kept = p.kept.items;
       sent = p.sent;
@@ -183,8 +182,8 @@ impl<A: Allocator + Copy> PortCore<A> {
         by_book(self.book.collect(ticket))
     }
 
-    /// Hands out the outcome of a ticket as [`collect`](PortCore::collect) does, into a place of the
-    /// caller, which a refusal leaves as it was. Most asks come before the outcome, and cost
+    /// Hands out the outcome of a ticket as [`collect`](PortCore::collect) does, into a place of
+    /// the caller, which a refusal leaves as it was. Most asks come before the outcome, and cost
     /// little.
     pub fn collect_into(&mut self, ticket: Ticket, into: &mut Outcome) -> Result<(), PortFault>
         ensures is { Collects (CoreCalled self.old self.new) self.old self.new
@@ -427,7 +426,7 @@ impl<A: Allocator + Copy> PortCore<A> {
     ///
     /// Rule PORT-8.
     pub fn send(&mut self) -> Asked
-        ensures says { IsAskedOut result self.new.station.link.state }
+        ensures says { IsAskedOut result self.new.core.state }
         ensures asked { result ≡ asks_of self.old }
         ensures again { IsTrue self.old.sent → self.new ≡ self.old }
         ensures gives { PortSendGives self.old self.new }
@@ -489,16 +488,15 @@ impl<A: Allocator + Copy> PortCore<A> {
     /// Rule PORT-1.
     pub(crate) fn turn<W: Wire>(&mut self, wire: &mut W)
         requires free { self.old.sent ≡ false }
-        requires stands { LinkStands W.facts wire.old (core_of self.old.station) }
+        requires stands { LinkStands W.facts wire.old self.old.core }
         ensures free { self.new.sent ≡ false }
-        ensures stands { LinkStands W.facts wire.new (core_of self.new.station) }
-        ensures does { Does W.facts (parts_over wire.old self.old) call.Turn answered.Nothing
-            (parts_over wire.new self.new) }
+        ensures stands { LinkStands W.facts wire.new self.new.core }
+        ensures does { Does W.facts (on_wire self.old wire.old) call.Turn answered.Nothing
+            (on_wire self.new wire.new) }
         ensures asked { IsCall W.facts (asks_of self.old) wire.old wire.new }
-        ensures clean { CleanTurn W.facts (parts_over wire.old self.old)
-            (parts_over wire.new self.new) }
-        ensures gives { PortTurnGives W.facts (parts_over wire.old self.old)
-            (parts_over wire.new self.new) }
+        ensures clean { CleanTurn W.facts (on_wire self.old wire.old) (on_wire self.new wire.new) }
+        ensures gives { PortTurnGives W.facts (on_wire self.old wire.old)
+            (on_wire self.new wire.new) }
     {
         clean_laws();
         let room = self.event_room();

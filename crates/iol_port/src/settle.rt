@@ -3,10 +3,9 @@
 ghost use Rattle.std.specs.Prelude.{◌≡◌, ◌≢◌, ◌+◌, ◌≤◌, ◌&&◌, [], ◌∷◌, ◌++◌, cond, not, length, None, Some, false, IsSome, IfSome};
 ghost use Rattle.iol_isdu.specs.Texts.{IsRequest};
 ghost use Rattle.iol_book.specs.BookModel.{next_taken, book_after_take};
-ghost use Rattle.iol_app.specs.Asking.{station_with_request};
+ghost use Rattle.iol_app.specs.Asking.{core_with_request};
 ghost use Rattle.iol_app.specs.Due.{is_ready};
-ghost use Rattle.iol_app.specs.Seen.{BeginSteps, core_of};
-ghost use Rattle.iol_port.specs.CorePort.{station_without_wire};
+ghost use Rattle.iol_app.specs.Seen.{BeginSteps};
 ghost use Rattle.iol_app.specs.State.{session_after_begin};
 ghost use Rattle.iol_app.specs.StationState.{operates, mode_in};
 ghost use Rattle.iol_port.specs.Asks.{lacks_isdu, to_begin};
@@ -70,16 +69,14 @@ pub(crate) fn lacks_isdu(told: Option<bool>) -> bool
 ///
 /// Rules REQ-2, REQ-3.
 pub(crate) fn begin_next<A: Allocator + Copy>(core: &mut Core, book: &mut Book<A>, room: EventRoom)
-    ensures next { BeginsNext (station_without_wire core.old) book.old.state
-        (station_without_wire core.new) book.new.state }
-    ensures exact { core.new ≡ core_of (station_with_request
+    ensures next { BeginsNext core.old book.old.state core.new book.new.state }
+    ensures exact { core.new ≡ core_with_request
         (to_begin (lacks_isdu core.old.session.isdu) (next_taken book.old.state.standing))
-        (station_without_wire core.old) room) }
+        core.old room }
     ensures taken { book.new.state ≡ book_after_taking
         (operates core.old.state && is_ready core.old.session room)
         (lacks_isdu core.old.session.isdu) (next_taken book.old.state.standing) book.old.state }
-    ensures takes { TakesNext room (station_without_wire core.old) book.old.state
-        (station_without_wire core.new) book.new.state }
+    ensures takes { TakesNext room core.old book.old.state core.new book.new.state }
     ensures memory { book.new.memory ≡ book.old.memory }
 {
     // Most turns find no request that waits.

@@ -1,7 +1,6 @@
 //! Whose answers the record of a port's device has: those of the parameters with
 //! which that device was opened.
 ghost use Rattle.std.specs.Prelude.{IfOk};
-ghost use Rattle.iol_app.specs.StationState.{link_wire};
 ghost use Rattle.iol_sim.specs.Params.{AnsweredBy};
 
 use crate::device::{PLACE, ROOM};
@@ -20,8 +19,8 @@ use std::test::Fail;
 /// parameters, as each request left them, answered all that its record has.
 fn played(alloc: Global, params: Params, calls: &[Call]) -> Result<Port<Sim<Params>>, Fail>
     ensures { IfOk result (λ port. AnsweredBy params
-        (link_wire port.parts.station.link).device.far.carried
-        (link_wire port.parts.station.link).device.app) }
+        port.wire.device.far.carried
+        port.wire.device.app) }
 {
     let page = Page::from_octets(&PLAIN);
     if page.layouts().is_err() {

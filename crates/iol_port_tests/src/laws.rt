@@ -1,6 +1,5 @@
 //! What holds of every port over a simulated wire, beside what its own contracts say.
 ghost use Rattle.std.specs.Prelude.{◌≡◌, None, IfSome};
-ghost use Rattle.iol_app.specs.StationState.{link_wire};
 ghost use Rattle.iol_device.specs.App.{Follows};
 ghost use Rattle.iol_sim.specs.Params.{AnsweredBy};
 ghost use Rattle.iol_sim.specs.Script.{AreThose};
@@ -22,8 +21,8 @@ use std::alloc::Allocator;
 pub fn first_app_follows_record<P: App, B: Allocator + Copy, A: Handle>(port: &Port<Sim<P, B>, A>)
     ensures { port.now.opening.wire.away ≡ None
         → Follows P.carry_out_gives port.now.opening.wire.device.first
-        (link_wire port.now.parts.station.link).device.far.carried
-        (link_wire port.now.parts.station.link).device.app }
+        port.now.wire.device.far.carried
+        port.now.wire.device.app }
 {
     port.keeps_record();
     port.wire().app_follows_record();
@@ -33,10 +32,10 @@ pub fn first_app_follows_record<P: App, B: Allocator + Copy, A: Handle>(port: &P
 /// with which it was opened, and what its application is follows from its own record.
 pub fn each_app_follows_record<P: App, B: Allocator + Copy, A: Handle>(port: &Port<Sim<P, B>, A>)
     ensures those { AreThose (sim_devices port.now.opening.wire)
-        (sim_devices (link_wire port.now.parts.station.link)) }
-    ensures device { let device = (link_wire port.now.parts.station.link).device in
+        (sim_devices port.now.wire) }
+    ensures device { let device = port.now.wire.device in
         Follows P.carry_out_gives device.first device.far.carried device.app }
-    ensures away { IfSome (link_wire port.now.parts.station.link).away (λ away.
+    ensures away { IfSome port.now.wire.away (λ away.
         Follows P.carry_out_gives away.first away.far.carried away.app) }
 {
     port.keeps_record();
@@ -52,8 +51,8 @@ pub fn record_is_answered_by_the_first_params<B: Allocator + Copy, A: Handle>(
 )
     ensures { port.now.opening.wire.away ≡ None
         → AnsweredBy port.now.opening.wire.device.first
-        (link_wire port.now.parts.station.link).device.far.carried
-        (link_wire port.now.parts.station.link).device.app }
+        port.now.wire.device.far.carried
+        port.now.wire.device.app }
 {
     port.keeps_record();
     port.wire().record_is_answered_by_params();

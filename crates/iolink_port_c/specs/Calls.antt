@@ -11,7 +11,7 @@ use Rattle.iol_port.specs.CorePort.{CoreDoes}
 use Rattle.iolink_port_c.specs.declared.held.IolPort.{IolPort}
 
 -- the parts of the port that a handle holds
-abbrev pub held_parts : IolPort → PortParts (Unit {0})
+abbrev pub held_parts : IolPort → PortParts
 held_parts handle = handle.held.value.port
 
 -- a call of a closed handle: refused, with nothing changed

@@ -31,7 +31,7 @@ pub record HandleSends (old : IolPort) (number : ℕ) (out : IolMessage) (new : 
   where
     pub number_is : number ≡ 0
     pub shown : IsMessage (asks_of (held_parts old)) out
-    pub says : IsAskedOut (asks_of (held_parts old)) (held_parts new).station.link.state
+    pub says : IsAskedOut (asks_of (held_parts old)) (held_parts new).core.state
     pub again : IsTrue (held_parts old).sent → held_parts new ≡ held_parts old
     pub gives : PortSendGives (held_parts old) (held_parts new)
     pub does : SendDoes (held_parts old) (held_parts new)

@@ -4,7 +4,8 @@ use Rattle.iol_book.specs.declared.limits.Limits.{Limits}
 use Rattle.iol_book.specs.Limits.{IsBusyLimit, IsJournalLimit, IsQueueLimit}
 use Rattle.iol_mode.specs.declared.configuration.Devices.{Devices}
 use Rattle.iol_mode.specs.declared.configuration.Devices.TheVariants.{Own, Any}
-use Rattle.iol_port.specs.CorePort.{IsNewFor, CoreOpensFor}
+use Rattle.iol_port.specs.CorePort.{CoreOpensFor}
+use Rattle.iol_port.specs.View.{IsNewFor}
 use Rattle.iolink_port_c.specs.declared.held.IolPort.{IolPort}
 use Rattle.iolink_port_c.specs.Calls.{held_parts}
 use Rattle.iolink_port_c.specs.JournalCalls.{KeepsNone}

@@ -84,10 +84,10 @@ pub extern "C" fn iol_port_image(alloc: Global, handle: &mut IolPort, out: &mut 
     ensures stays { handle.new.is_open ≡ handle.old.is_open }
     ensures same { handle.new.held.value ≡ handle.old.held.value }
     ensures image { IsTrue handle.old.is_open → (result ≡ 0)
-        × AreShown (unwrap_or (held_parts handle.old).station.session.image [])
+        × AreShown (unwrap_or (held_parts handle.old).core.session.image [])
         out.new.length out.new.octets }
     ensures does { IsTrue handle.old.is_open → CallDoes handle.old
-        call.Look (answered.Image (held_parts handle.old).station.session.image) handle.new }
+        call.Look (answered.Image (held_parts handle.old).core.session.image) handle.new }
 {
     let image = handle.with(alloc, |master| match master.port.image() {
         Some(image) => Some(image.clone().unwrap()),
@@ -145,9 +145,9 @@ pub extern "C" fn iol_port_status(alloc: Global, handle: &mut IolPort, out: &mut
     ensures stays { handle.new.is_open ≡ handle.old.is_open }
     ensures same { handle.new.held.value ≡ handle.old.held.value }
     ensures status { IsTrue handle.old.is_open →
-        (result ≡ 0) × StatusIsShown (status_of (held_parts handle.old).station) out.new }
+        (result ≡ 0) × StatusIsShown (status_of (held_parts handle.old).core) out.new }
     ensures does { IsTrue handle.old.is_open → CallDoes handle.old
-        call.Status (answered.Status (status_of (held_parts handle.old).station)) handle.new }
+        call.Status (answered.Status (status_of (held_parts handle.old).core)) handle.new }
 {
     match handle.with(alloc, |master| master.port.status()) {
         Some(status) => show_status(&status, out),

@@ -1,6 +1,5 @@
 -- What may happen at one port: an alphabet of steps, and a turn as they are judged in it.
 use Rattle.std.specs.Prelude.{ℕ, ◌+◌, min, Bool, true, false, not, ◌&&◌, cond, List, [], ◌∷◌, Option, Some, None, Result, Ok, Err, ⊤}
-use Rattle.std.specs.List.{list_all}
 use Rattle.iol_page.specs.Identity.{is_expected}
 use Rattle.iol_page.specs.Page.{layouts_of}
 use Rattle.iol_page.specs.declared.identity.Identity.{Identity}

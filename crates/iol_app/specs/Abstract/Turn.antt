@@ -1,6 +1,6 @@
 -- What a turn gives: one call of the wire and one list of steps, allowed and with
 -- their effects in each part of the abstract port.
-use Rattle.std.specs.Prelude.{◌≡◌, ◌≢◌, ◌⊎◌, ◌≤◌, Bool, not, None}
+use Rattle.std.specs.Prelude.{◌≡◌, ◌≢◌, ◌⊎◌, ◌≤◌, None}
 use Rattle.iol_app.specs.declared.mode.Mode.{Mode}
 use Rattle.iol_app.specs.declared.mode.Mode.TheVariants.{Operate}
 use Rattle.iol_app.specs.Abstract.Steps.{silence_by, Moment}

@@ -14,7 +14,7 @@ loop-client-preserved g c =
           accepted_at c.args.port client.desk) _ _ before.tickets collect.tickets;
       few = omega (arith, before.few, collect.tickets, collect.few);
       counted = mapped _ _ _ _ is c.loop-client-test.true _ _ _
-          (NotesClientTickets g.W.Wire.facts c.args.port)
+          (NotesClientTickets c.args.port)
           (λ client. client_state client.desk client.tickets.items) before.counted
           (rw c.deref_mut.ensures.value at collect.collected);
     }
@@ -25,5 +25,5 @@ returns-clause-counted g c = (
   c.loop-client.held.value,
   rw (whole _ _ c.loop-client.auto.client-index-end c.loop-client-test.false)
       at c.loop-client.invariant.counted,
-  rw c.deref.ensures at c.counters.ensures.value,
+  rw c.deref.ensures at c.counters.ensures.gives,
 )

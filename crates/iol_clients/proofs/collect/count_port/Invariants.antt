@@ -10,7 +10,7 @@ invariant-loop-client g l = record {
   tickets : l.requests.tickets
       ≡ sum_by (λ client. accepted_at l.port client.desk) (take l.client-index l.clients);
   few : l.requests.tickets ≤ 64 * l.client-index;
-  counted : FoldsTo (NotesClientTickets g.W.Wire.facts l.port) (l.initial.held.value, no_tickets)
+  counted : FoldsTo (NotesClientTickets l.port) (l.initial.held.value, no_tickets)
       (map (λ client. client_state client.desk client.tickets.items)
       (take l.client-index l.clients))
       (l.held.value, l.requests);

@@ -16,6 +16,6 @@ loop-port-preserved g c =
       items = rw (push.items, length-append) (omega (arith, before.items));
       up = rw push.items (All-push (λ port. AddsUp port.requests) _ _ before.up counted.up);
       counted = rw push.items
-          (one_more g.W.Wire.facts _ _ 1 _ before.counted
+          (one_more _ _ 1 _ before.counted
           (rw next counted.counted));
     }

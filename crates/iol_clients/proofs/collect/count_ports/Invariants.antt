@@ -7,6 +7,6 @@ invariant-loop-port g l = record {
   count : vec_len l.counts ≡ l.port;
   items : length l.counts.items ≡ l.port;
   up : All (λ port. AddsUp port.requests) l.counts.items;
-  counted : AreCounted g.W.Wire.facts 1
+  counted : AreCounted g.row.W.Denot 1
       (map (λ client. client_state client.desk client.tickets.items) l.clients) l.counts.items;
 }

@@ -1,4 +1,5 @@
 use Rattle.std.proofs.Common.{◌≡◌, [], ◌++◌, refl, sym, append-nil, append_assoc, rules}
+use Rattle.iol_port.specs.View.{over}
 use Rattle.iol_script.specs.Script.{line_calls}
 use Rattle.iol_script.specs.Text.{numbered_lines, lines_left}
 use Rattle.iol_commands.proofs.PrintedLemmas.{behind}
@@ -9,7 +10,7 @@ pub loop-line-init : goal.loop-line-init
 loop-line-init g c =
     let same : numbered_lines c.args.input.now ≡ lines_left c.into_iter-line-iterator.result =
     search rules in
-    ([], [], rw same refl, sym (append-nil _), plays_none g.W.Wire.facts c.args.port.now.parts)
+    ([], [], rw same refl, sym (append-nil _), plays_none g.W.Wire.facts (over c.args.port.now))
 
 pub loop-line-preserved-in-Call-1 : goal.loop-line-preserved-in-Call-1
 loop-line-preserved-in-Call-1 g c =

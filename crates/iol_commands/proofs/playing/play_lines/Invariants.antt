@@ -1,5 +1,6 @@
 use Rattle.std.proofs.Common.{◌≡◌, ◌++◌, ℕ, List}
 use Rattle.std.specs.String.{string_bytes}
+use Rattle.iol_port.specs.View.{over}
 use Rattle.iol_port.specs.declared.call.Call.{Call}
 use Rattle.iol_script.specs.Script.{calls_in}
 use Rattle.iol_script.specs.Text.{numbered_lines, lines_left}
@@ -11,4 +12,4 @@ invariant-loop-line g l =
     (done : List Call) × (text : List ℕ)
     × (calls_in (numbered_lines l.input) ≡ done ++ calls_in (lines_left l.line-iterator))
     × (string_bytes l.output ≡ string_bytes l.fn.output ++ text)
-    × PortPlays g.W.Wire.facts l.fn.port.parts done l.port.parts text
+    × PortPlays g.W.Wire.facts (over l.fn.port) done (over l.port) text

@@ -1,5 +1,6 @@
 use Rattle.std.proofs.Common.{[], ◌++◌, sym, append-nil, arith}
 use Rattle.std.proofs.lemmas.List.{take-replicate, replicate-append-replicate}
+use Rattle.iol_port.specs.View.{over}
 use Rattle.iol_port.specs.declared.call.Call.TheVariants.{Turn}
 use Rattle.iol_commands.specs.declared.playing.TheConstants.{PIECE}
 use Rattle.iol_commands.proofs.PrintedLemmas.{behind}
@@ -9,7 +10,7 @@ use Rattle.iol_commands.proofs.playing.play_turns.Goals as goal
 pub loop-made-init : goal.loop-made-init
 loop-made-init g c = record {
   within = omega arith;
-  played = ([], sym (append-nil _), plays_none g.W.Wire.facts c.args.port.now.parts);
+  played = ([], sym (append-nil _), plays_none g.W.Wire.facts (over c.args.port.now));
 }
 
 pub loop-made-preserved : goal.loop-made-preserved

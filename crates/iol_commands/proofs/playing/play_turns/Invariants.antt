@@ -1,5 +1,6 @@
 use Rattle.std.proofs.Common.{◌-◌, ◌≤◌, replicate}
 use Rattle.std.specs.String.{string_bytes}
+use Rattle.iol_port.specs.View.{over}
 use Rattle.iol_port.specs.declared.call.Call.TheVariants.{Turn}
 use Rattle.iol_commands.specs.Printed.{Adds}
 use Rattle.iol_commands.specs.RunPlayed.{PortPlays}
@@ -9,7 +10,7 @@ abbrev pub invariant-loop-made : goal.invariant-loop-made
 invariant-loop-made g l = record {
   within : l.made ≤ l.count;
   played : Adds (string_bytes l.fn.output) (string_bytes l.output)
-      (PortPlays g.W.Wire.facts l.fn.port.parts (replicate l.made Turn) l.port.parts);
+      (PortPlays g.W.Wire.facts (over l.fn.port) (replicate l.made Turn) (over l.port));
 }
 
 abbrev pub decreases-loop-made : goal.decreases-loop-made

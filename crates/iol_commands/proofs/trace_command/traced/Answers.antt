@@ -1,6 +1,6 @@
 use Rattle.std.proofs.Common.{◌≡◌, ◌++◌, refl, ◌∙◌}
 use Rattle.std.proofs.lemmas.Result.{on_ok_weaker}
-use Rattle.iol_app.specs.StationState.{link_wire}
+use Rattle.iol_port.specs.View.{over}
 use Rattle.iol_script.specs.Script.{calls_in, value_of}
 use Rattle.iol_script.specs.Text.{numbered_lines}
 use Rattle.iol_sim.specs.Params.{Stores}
@@ -17,7 +17,7 @@ returns-clause-printed g c =
     let script = value_of c.args.script in
     let calls = calls_in (numbered_lines c.args.input.now) in
     let port = c.in-Ok.ensures in
-    let last = c.follow.new.port.parts in
+    let last = over c.follow.new.port in
     let is : c.new-wire.result ≡ first_tap script = rw c.in_ok-wire_of.ensures.whole
     at c.new-wire.ensures in
     let followed = c.in_ok-follow.ensures.traced in
@@ -25,13 +25,14 @@ returns-clause-printed g c =
     let shown = ending_text calls c.wire-2.result.now in
     let out : TracesOut script calls (followed.text ++ shown) = record {
       answers = traced.answers;
-      first = c.in-Ok.port.parts;
-      opens = rw (port.opening, is) at port.parts;
+      first = over c.in-Ok.port;
+      opens = port.parts;
+      over_tap = port.wire ∙ is;
       last = trace_stage c.follow.new.self.number last;
       calls_text = followed.text;
       traces = rw c.new-tracer.ensures.number at traced.traces;
       alike = runs_alike (tap_facts (sim_facts Stores)) script (first_tap script) _ _ _ last calls
-          traced.answers (link_wire last.station.link).wire is port.opening (λ has. rw has.one refl)
+          traced.answers last.wire.wire is port.opening (λ has. rw has.one refl)
           refl refl port.stands traced.runs refl;
       text_is = rw (c.wire-2.ensures, c.wire.ensures) refl;
     } in

@@ -1,7 +1,6 @@
 -- A turn: what goes out, one call of the wire, and what is made of what came.
 use Rattle.std.proofs.Common.{true, false, refl}
 use Rattle.iol_app.specs.declared.said.Said.TheVariants.{Idle}
-use Rattle.iol_mode.specs.States.{StateFits}
 use Rattle.iol_app.specs.Asking.{asked_in}
 use Rattle.iol_app.specs.Pieces.{IsOutAsAsked, IsWoken}
 use Rattle.iol_app.proofs.Stepping.{woken_turn, wake_stands, exchange_turn, exchange_stands}

@@ -30,7 +30,7 @@ loop-ticket-preserved g c =
     record {
       up = c.note.ensures.up;
       tickets = omega (arith, before.tickets, one);
-      noted = one_more (Notes g.W.Wire.facts) _ (c.loop-ticket.held, c.loop-ticket.counted) _ _ _ _
+      noted = one_more Notes _ (c.loop-ticket.held, c.loop-ticket.counted) _ _ _ _
           c.deref-ticket-items.ensures.value _ c.loop-ticket-test.true before.noted (
             c.collect.result,
             record { does = collect.does; gives = collect.gives; rest = collect.rest },

@@ -7,6 +7,6 @@ abbrev pub invariant-loop-ticket : goal.invariant-loop-ticket
 invariant-loop-ticket g l = record {
   up : AddsUp l.counted;
   tickets : l.counted.tickets ≡ l.fn.counted.tickets + l.ticket-index;
-  noted : FoldsTo (Notes g.W.Wire.facts) (l.fn.held, l.fn.counted)
+  noted : FoldsTo Notes (l.fn.held, l.fn.counted)
       (take l.ticket-index l.self.tickets.items) (l.held, l.counted);
 }

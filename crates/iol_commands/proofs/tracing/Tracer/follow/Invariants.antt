@@ -1,5 +1,6 @@
 use Rattle.std.proofs.Common.{◌≡◌, ◌≤◌, ◌+◌, ◌++◌, List, length}
 use Rattle.std.specs.String.{string_bytes}
+use Rattle.iol_port.specs.View.{over}
 use Rattle.iol_port.specs.declared.call.Call.{Call}
 use Rattle.iol_script.specs.Script.{calls_in}
 use Rattle.iol_script.specs.Text.{numbered_lines, lines_left}
@@ -12,5 +13,5 @@ invariant-loop-line g l =
     ++ calls_in (lines_left l.line-iterator)) × (l.self.number ≤ l.fn.self.number + length done)
     × TracesFrom g.W.Wire.facts
     (place l.fn.self.number (string_bytes l.fn.self.output) (g.O.Write.contents l.fn.writer)
-    l.fn.port.parts) done
-    (place l.self.number (string_bytes l.self.output) (g.O.Write.contents l.writer) l.port.parts)
+    (over l.fn.port)) done
+    (place l.self.number (string_bytes l.self.output) (g.O.Write.contents l.writer) (over l.port))

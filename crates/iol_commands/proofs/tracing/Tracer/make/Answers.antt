@@ -17,8 +17,8 @@ returns-clause-traced g c =
           made.does.follows made.gives made.wire (sym c.if-lacks_memory.ensures)
           (rw (
             c.layout_now-layout.ensures,
-            c.status.ensures.value,
-            c.page.ensures.value,
+            c.status.ensures.gives,
+            c.page.ensures.gives,
             c.wire.ensures,
           ) at printed),
     )) c.print_answer.ensures

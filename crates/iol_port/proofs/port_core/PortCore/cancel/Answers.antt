@@ -1,17 +1,16 @@
 use Rattle.std.proofs.Common.{refl, sym, ap, ◌∙◌, rules}
 use Rattle.std.specs.Result.{result_err}
 use Rattle.iol_port.proofs.CallLemmas.{cancel_does, cancel_refused}
-use Rattle.iol_port.specs.CorePort.{at_end, station_without_wire}
 use Rattle.iol_port.proofs.port_core.PortCore.cancel.Goals as goal
 
 pub returns-in-Ok : goal.returns-in-Ok
 returns-in-Ok g c =
     rw (← c.self.view_is)
     (record {
-      does = λ far n. record {
-        follows = cancel_does (at_end far n) _ c.args.ticket (station_without_wire c.abort.new.self)
+      does = record {
+        follows = cancel_does _ c.args.ticket c.abort.new.self
             (sym c.in_flight.ensures.answer ∙ ap (λ r. result_err r) c.in-Ok.is)
-            (ap station_without_wire c.abort.ensures.core) c.abort.ensures.cancel;
+            c.abort.ensures.core c.abort.ensures.cancel;
         book = refl;
       };
       gives = search rules;
@@ -21,8 +20,8 @@ pub returns-in-Err : goal.returns-in-Err
 returns-in-Err g c =
     rw (← c.self.view_is)
     (record {
-      does = λ far n. record {
-        follows = cancel_refused (at_end far n) _
+      does = record {
+        follows = cancel_refused _
             c.args.ticket c.in-Err.fault (sym c.in_flight.ensures.answer
             ∙ ap (λ r. result_err r) c.in-Err.is);
         book = refl;

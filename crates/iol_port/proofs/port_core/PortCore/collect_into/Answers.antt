@@ -1,7 +1,6 @@
 use Rattle.std.proofs.Common.{rules}
 use Rattle.std.specs.Result.{result_map_both}
 use Rattle.iol_port.proofs.CallLemmas.{collect_does, by_book_put}
-use Rattle.iol_port.specs.CorePort.{at_end}
 use Rattle.iol_port.proofs.port_core.PortCore.collect_into.Goals as goal
 
 pub returns-clause-is : goal.returns-clause-is
@@ -13,8 +12,8 @@ returns-clause-is g c =
           c.collect_into.new.into,
     )
     (record {
-      does = λ far n. record {
-        follows = collect_does (at_end far n) _ c.args.ticket
+      does = record {
+        follows = collect_does _ c.args.ticket
             (result_map_both (λ _. c.collect_into.new.into) (λ why. why) c.collect_into.result)
             c.collect_into.new.self c.collect_into.ensures.answer c.collect_into.ensures.state;
         book = c.collect_into.ensures.state;

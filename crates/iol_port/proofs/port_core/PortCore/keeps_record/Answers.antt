@@ -1,9 +1,7 @@
-use Rattle.iol_port.specs.CorePort.{at_end}
 use Rattle.iol_port.proofs.RunLemmas.{sound_keeps}
 use Rattle.iol_port.proofs.CleanLevel.{level_kept}
 use Rattle.iol_port.proofs.port_core.PortCore.keeps_record.Goals as goal
 
 pub returns-clause-record_fits : goal.returns-clause-record_fits
 returns-clause-record_fits g c far n a stands sound =
-    let keeps = sound_keeps (at_end far n) _ a stands sound in
-    (keeps, level_kept (at_end far n) _ keeps)
+    let keeps = sound_keeps far n _ a stands sound in (keeps, level_kept far n _ keeps)

@@ -2,16 +2,15 @@
 use Rattle.std.proofs.Common.{false, sym, subst, arith, None}
 use Rattle.std.proofs.lemmas.Grind.{common_steps}
 use Rattle.iol_app.specs.Core.{CoreState, IsAttempted}
-use Rattle.iol_port.specs.CorePort.{at_end, station_without_wire}
 use Rattle.iol_port.proofs.RunLemmas.{opened_stands}
 use Rattle.iol_port.proofs.port_core.PortCore.open_for.Goals as goal
 
 pub returns-in-Ok-clause-opens : goal.returns-in-Ok-clause-opens
-returns-in-Ok-clause-opens g c far n well =
+returns-in-Ok-clause-opens g c =
     let core = c.new.ensures.core in
-    opened_stands (at_end far n) c.args.devices c.args.limits.now tt
+    opened_stands c.args.devices c.args.limits.now
     (record {
-      station = station_without_wire c.new.result;
+      core = c.new.result;
       book = c.in-Ok.book;
       kept = c.new-in-Ok.result.items;
       sent = false;
@@ -19,4 +18,4 @@ returns-in-Ok-clause-opens g c far n well =
       last_loss = None;
     })
     (grind (arith, common_steps, core, c.in-Ok.ensures, c.new-in-Ok.ensures, c.zero.ensures))
-    (subst (λ (k : CoreState). IsAttempted k.state) (sym core) tt) c.new.ensures.steps well
+    (subst (λ (k : CoreState). IsAttempted k.state) (sym core) tt) c.new.ensures.steps

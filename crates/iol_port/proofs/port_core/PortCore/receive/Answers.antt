@@ -6,7 +6,7 @@ use Rattle.iol_mode.specs.States.{is_reset}
 use Rattle.iol_app.specs.Abstract.Steps.{resets, book_said}
 use Rattle.iol_port.specs.Steps.{book_through}
 use Rattle.iol_port.specs.View.{PortParts}
-use Rattle.iol_port.specs.CorePort.{awaited_answer, station_without_wire}
+use Rattle.iol_port.specs.CorePort.{awaited_answer}
 use Rattle.iol_port.proofs.CorePorts.{parts_in, reply_out, receive_does, heard_reset}
 use Rattle.iol_port.proofs.TieLemmas.{ends_ask, turn_tied, settled_limit}
 use Rattle.iol_port.proofs.port_core.PortCore.receive.Given as given
@@ -18,8 +18,8 @@ settle-requires-clause-asked g c =
 
 pub invariant_of-self : goal.invariant_of-self
 invariant_of-self g c =
-    let p : PortParts (Unit {0}) = parts_in c.self.inside in
-    turn_tied p (station_without_wire c.receive-brought.new.self) c.settle.new.kept.items
+    let p : PortParts = parts_in c.self.inside in
+    turn_tied p c.receive-brought.new.self c.settle.new.kept.items
     c.settle.new.book c.resets-reset.result c.receive-brought.new.said c.self.invariant
     (ap (λ (k : CoreState). k.session.limit) c.receive-brought.ensures.taken.is
     ∙ settled_limit (came_of c.self.inside.core (octets_in c.args.came.now))
@@ -55,7 +55,7 @@ returns-clause-gives g c =
 
 pub returns-clause-does : goal.returns-clause-does
 returns-clause-does g c =
-    let p : PortParts (Unit {0}) = parts_in c.self.inside in
+    let p : PortParts = parts_in c.self.inside in
     let out = reply_out p c.self.invariant (ap awaited_answer c.self.view_is ∙ c.requires) in
     rw (← c.self.view_is) (receive_does p _ (octets_in c.args.came.now)
     c.receive-brought.new.said out.0 c.receive-brought.ensures.steps refl

@@ -7,7 +7,7 @@ use Rattle.iol_app.specs.declared.said.Said.TheVariants.{Idle}
 use Rattle.iol_app.specs.Core.{CoreState}
 use Rattle.iol_port.specs.Steps.{book_through}
 use Rattle.iol_port.specs.View.{PortParts}
-use Rattle.iol_port.specs.CorePort.{awaited_answer, station_without_wire}
+use Rattle.iol_port.specs.CorePort.{awaited_answer}
 use Rattle.iol_port.proofs.CorePorts.{parts_in, wake_out, wake_does, heard_reset}
 use Rattle.iol_port.proofs.TieLemmas.{turn_tied, woken_limit}
 use Rattle.iol_port.proofs.port_core.PortCore.receive_wake.Given as given
@@ -15,8 +15,8 @@ use Rattle.iol_port.proofs.port_core.PortCore.receive_wake.Goals as goal
 
 pub invariant_of-self : goal.invariant_of-self
 invariant_of-self g c =
-    let p : PortParts (Unit {0}) = parts_in c.self.inside in
-    turn_tied p (station_without_wire c.receive_wake.new.self) c.settle.new.kept.items
+    let p : PortParts = parts_in c.self.inside in
+    turn_tied p c.receive_wake.new.self c.settle.new.kept.items
     c.settle.new.book c.resets-reset.result Idle c.self.invariant
     (ap (λ (k : CoreState). k.session.limit) c.receive_wake.ensures.core
     ∙ woken_limit (is_some c.args.rate) c.self.inside.core.session)
@@ -50,7 +50,7 @@ returns-clause-gives g c =
 
 pub returns-clause-does : goal.returns-clause-does
 returns-clause-does g c =
-    let p : PortParts (Unit {0}) = parts_in c.self.inside in
+    let p : PortParts = parts_in c.self.inside in
     let out = wake_out p (ap awaited_answer c.self.view_is ∙ c.requires) in
     rw (← c.self.view_is) (wake_does p _ (is_some c.args.rate) out.0
     c.receive_wake.ensures.steps refl

@@ -1,7 +1,6 @@
 use Rattle.std.proofs.Common.{sym, ap, ◌∙◌, rules}
 use Rattle.iol_port.proofs.CallLemmas.{restart_does, restart_book, restart_cuts, restart_quiet, some_request}
 use Rattle.iol_port.proofs.CorePorts.{nothing_out}
-use Rattle.iol_port.specs.CorePort.{at_end, station_without_wire}
 use Rattle.iol_port.proofs.port_core.PortCore.restart.Goals as goal
 
 pub returns-then-cut : goal.returns-then-cut
@@ -10,11 +9,11 @@ returns-then-cut g c =
     (some_request _ ∙ sym c.restart-cut.ensures.cut ∙ c.if-cut.true) c.post.ensures.state in
     rw (← c.self.view_is)
     (record {
-      does = λ far n. record {
-        follows = restart_does (at_end far n) _ (station_without_wire c.restart-cut.new.self)
+      does = record {
+        follows = restart_does _ c.restart-cut.new.self
             c.post.new.self _ _
             (ap (λ p. p.sent) c.self.view_is ∙ nothing_out c.args.self.now c.requires) book
-            (ap station_without_wire c.restart-cut.ensures.core)
+            c.restart-cut.ensures.core
             (rw c.restart-cut.ensures.core at c.restart-cut.ensures.steps);
         book = restart_book _ _ _ _ c.self.invariant.same book;
       };
@@ -27,11 +26,11 @@ returns-else-cut g c =
     (some_request _ ∙ sym c.restart-cut.ensures.cut ∙ c.if-cut.false) in
     rw (← c.self.view_is)
     (record {
-      does = λ far n. record {
-        follows = restart_does (at_end far n) _ (station_without_wire c.restart-cut.new.self)
+      does = record {
+        follows = restart_does _ c.restart-cut.new.self
             c.self.inside.book _ _
             (ap (λ p. p.sent) c.self.view_is ∙ nothing_out c.args.self.now c.requires) book
-            (ap station_without_wire c.restart-cut.ensures.core)
+            c.restart-cut.ensures.core
             (rw c.restart-cut.ensures.core at c.restart-cut.ensures.steps);
         book = restart_book _ _ _ _ c.self.invariant.same book;
       };

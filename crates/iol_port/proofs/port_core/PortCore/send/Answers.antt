@@ -2,12 +2,11 @@
 use Rattle.std.proofs.Common.{◌≡◌, ◌∙◌, true, false, refl, sym, ap, inl, arith}
 use Rattle.std.proofs.lemmas.Grind.{common_steps}
 use Rattle.iol_app.specs.Pieces.{SendsMessage}
-use Rattle.iol_app.specs.Seen.{core_of}
 use Rattle.iol_port.specs.Asks.{event_room}
-use Rattle.iol_port.specs.EveryWire.{station_begun}
+use Rattle.iol_port.specs.EveryWire.{core_begun}
 use Rattle.iol_port.specs.View.{PortParts, BeginsNext}
 use Rattle.iol_port.proofs.TieLemmas.{send_tied}
-use Rattle.iol_port.specs.CorePort.{station_without_wire, PortSendGives, SendDoes}
+use Rattle.iol_port.specs.CorePort.{PortSendGives, SendDoes}
 use Rattle.iol_port.proofs.CorePorts.{parts_in, send_does, again_does, sent_same}
 use Rattle.iol_port.proofs.port_core.PortCore.send.Goals.{then-not-self, else-not-self}
 use Rattle.iol_port.proofs.port_core.PortCore.send.Given as given
@@ -16,14 +15,14 @@ use Rattle.iol_port.proofs.port_core.PortCore.send.Goals as goal
 room : (g : given.Over) (c : goal.After-send g)
     → c.event_room-room.result ≡ event_room (parts_in c.self.inside).kept
 room g c = c.event_room-room.ensures
-    ∙ ap (λ (q : PortParts (Unit {0})). event_room q.kept) (sym c.self.view_is)
+    ∙ ap (λ (q : PortParts). event_room q.kept) (sym c.self.view_is)
 
 pub invariant_of-self : goal.invariant_of-self
 invariant_of-self g c =
-    let p : PortParts (Unit {0}) = parts_in c.self.inside in
+    let p : PortParts = parts_in c.self.inside in
     let now = c.if-not-self.self-inside in
-    let begun = elim c.if-not-self.branch as (λ _. BeginsNext p.station p.book.state
-    (station_without_wire now.core) now.book.state × (now.kept.items ≡ p.kept)) [
+    let begun = elim c.if-not-self.branch as (λ _. BeginsNext p.core p.book.state
+    now.core now.book.state × (now.kept.items ≡ p.kept)) [
       | then-not-self w ↦ rw w.self-inside-is (w.begin_next.ensures.next, refl)
       | else-not-self w ↦ rw w.self-inside-is (inl (refl, refl), refl)
     ] in
@@ -32,21 +31,20 @@ invariant_of-self g c =
     c.send.ensures.puts.reads (λ _. grind (arith, common_steps, c.send.ensures.says))
 
 -- the parts after the sending
-abbrev after : (g : given.Over) (c : goal.After-send g) → PortParts (Unit {0})
-after g c = record (parts_in c.if-not-self.self-inside)
-    { station = station_without_wire c.send.new.self }
+abbrev after : (g : given.Over) (c : goal.After-send g) → PortParts
+after g c = record (parts_in c.if-not-self.self-inside) { core = c.send.new.self }
 
 both : (g : given.Over) (c : goal.After-send g)
     → PortSendGives c.args.self.now (after g c) × SendDoes c.args.self.now (after g c)
 both g c =
-    let p : PortParts (Unit {0}) = parts_in c.self.inside in
+    let p : PortParts = parts_in c.self.inside in
     rw (← c.self.view_is)
     (elim c.if-not-self.branch [
       | then-not-self w ↦
           let begun = w.begin_next in
-          let exact : begun.new.core ≡ core_of (station_begun p) =
+          let exact : begun.new.core ≡ core_begun p =
           begun.ensures.exact ∙ (rw (room g c) refl) in
-          let sent : SendsMessage (event_room p.kept) (core_of (station_begun p)) c.send.new.self =
+          let sent : SendsMessage (event_room p.kept) (core_begun p) c.send.new.self =
           rw (w.self-inside-is, exact, room g c) at c.send.ensures.puts.sent in
           rw w.self-inside-is (
             record {
@@ -58,7 +56,7 @@ both g c =
               counters = refl;
               last_loss = refl;
             },
-            send_does p _ (station_without_wire begun.new.core) begun.new.book.state (cc)
+            send_does p _ begun.new.core begun.new.book.state (cc)
                 begun.ensures.next
                 (rw w.self-inside-is at c.send.ensures.puts.steps) refl refl refl,
           )

@@ -1,13 +1,12 @@
 use Rattle.std.proofs.Common.{rules}
 use Rattle.iol_port.proofs.CallLemmas.{submit_does}
-use Rattle.iol_port.specs.CorePort.{at_end}
 use Rattle.iol_port.proofs.port_core.PortCore.submit.Goals as goal
 
 pub returns-clause-is : goal.returns-clause-is
 returns-clause-is g c =
     rw (← c.self.view_is, c.by_book.ensures)
     (record {
-      does = λ far n. submit_does (at_end far n) _ c.args.request c.submit.result c.submit.new.self
+      does = submit_does _ c.args.request c.submit.result c.submit.new.self
           c.submit.ensures.allowed c.submit.ensures.ticket c.submit.ensures.state
           c.submit.ensures.unchanged c.submit.ensures.refused;
       gives = search rules;

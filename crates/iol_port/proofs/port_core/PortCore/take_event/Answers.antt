@@ -1,14 +1,13 @@
 use Rattle.std.proofs.Common.{refl, rules}
 use Rattle.iol_port.proofs.CallLemmas.{take_event_does, part_kept}
-use Rattle.iol_port.specs.CorePort.{at_end}
 use Rattle.iol_port.proofs.port_core.PortCore.take_event.Goals as goal
 
 pub returns : goal.returns
 returns g c =
     rw (← c.self.view_is, c.ok_or.ensures.value)
     (record {
-      does = λ far n. record {
-        follows = take_event_does (at_end far n) _ c.pop_at.result c.pop_at.new.self.items
+      does = record {
+        follows = take_event_does _ c.pop_at.result c.pop_at.new.self.items
             c.pop_at.ensures.value c.pop_at.ensures.items
             (part_kept (λ kept. kept.items) c.pop_at.result _ _
             c.pop_at.ensures.absent);

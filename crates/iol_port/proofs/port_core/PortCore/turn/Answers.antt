@@ -3,17 +3,15 @@ use Rattle.std.proofs.Common.{◌≡◌, ◌&&◌, Option, true, false, refl, ap
 use Rattle.std.proofs.lemmas.Grind.{common_steps}
 use Rattle.iol_app.specs.Abstract.Steps.{Reset, book_said}
 use Rattle.iol_app.specs.Due.{is_ready}
-use Rattle.iol_app.specs.StationState.{StationState, is_operating}
-use Rattle.iol_app.specs.Asking.{station_with_request}
-use Rattle.iol_app.specs.Seen.{station_of, core_of}
+use Rattle.iol_app.specs.StationState.{operates}
+use Rattle.iol_app.specs.Core.{CoreState}
 use Rattle.iol_isdu.specs.declared.values.Request.{Request}
 use Rattle.iol_book.specs.BookModel.{next_taken}
 use Rattle.iol_port.specs.Asks.{event_room, lacks_isdu, to_begin}
-use Rattle.iol_port.specs.EveryWire.{station_begun}
-use Rattle.iol_port.specs.View.{PortParts, BeginsNext, IsTied}
-use Rattle.iol_port.specs.CorePort.{station_without_wire, parts_over}
+use Rattle.iol_port.specs.EveryWire.{core_begun}
+use Rattle.iol_port.specs.View.{PortParts, PortOver, IsTied, on_wire}
 use Rattle.iol_port.proofs.AskLemmas.{book_told, turned_at}
-use Rattle.iol_port.proofs.CorePorts.{parts_in, begins_over, takes_over, turn_does}
+use Rattle.iol_port.proofs.CorePorts.{parts_in, turn_does}
 use Rattle.iol_port.proofs.Denying.{turn_denies}
 use Rattle.iol_port.proofs.TieLemmas.{ends_ask, sent_tied, turn_tied, made_limit}
 use Rattle.iol_port.proofs.TurnLemmas.{turn_gives_none}
@@ -26,7 +24,7 @@ settle-requires-clause-asked g c =
     let t = c.turn-brought.ensures.turn in
     ends_ask _ _ _ (sent_tied (parts_in c.self.inside) c.begin_next.new.core t.mid
     c.begin_next.new.book _ c.self.invariant c.begin_next.ensures.next
-    (c.event_room-room.ensures ∙ ap (λ (q : PortParts (Unit {0})). event_room q.kept)
+    (c.event_room-room.ensures ∙ ap (λ (q : PortParts). event_room q.kept)
     (sym c.self.view_is)) t.puts.sent t.puts.reads).same t.told.ends
 
 pub settle-requires-clause-room : goal.settle-requires-clause-room
@@ -34,20 +32,20 @@ settle-requires-clause-room g c =
     let t = c.turn-brought.ensures.turn in
     let tied = sent_tied (parts_in c.self.inside) c.begin_next.new.core t.mid
     c.begin_next.new.book _ c.self.invariant c.begin_next.ensures.next
-    (c.event_room-room.ensures ∙ ap (λ (q : PortParts (Unit {0})). event_room q.kept)
+    (c.event_room-room.ensures ∙ ap (λ (q : PortParts). event_room q.kept)
     (sym c.self.view_is)) t.puts.sent t.puts.reads in
     grind (arith, common_steps, tied.room, t.told.reading)
 
 free : (g : given.Over) (c : goal.After-settle g) → c.self.inside.sent ≡ false
-free g c = ap (λ (q : PortParts (Unit {0})). q.sent) c.self.view_is ∙ c.requires.free
+free g c = ap (λ (q : PortParts). q.sent) c.self.view_is ∙ c.requires.free
 
 room : (g : given.Over) (c : goal.After-settle g)
     → c.event_room-room.result ≡ event_room (parts_in c.self.inside).kept
 room g c = c.event_room-room.ensures
-    ∙ ap (λ (q : PortParts (Unit {0})). event_room q.kept) (sym c.self.view_is)
+    ∙ ap (λ (q : PortParts). event_room q.kept) (sym c.self.view_is)
 
 mid_tied : (g : given.Over) (c : goal.After-settle g) → IsTied (record (parts_in c.self.inside) {
-  station = station_without_wire c.turn-brought.ensures.turn.mid;
+  core = c.turn-brought.ensures.turn.mid;
   book = c.begin_next.new.book;
   sent = false;
 })
@@ -59,18 +57,18 @@ pub invariant_of-self : goal.invariant_of-self
 invariant_of-self g c =
     let t = c.turn-brought.ensures.turn in
     rw (free g c)
-    (turn_tied _ (station_without_wire c.turn-brought.new.self) c.settle.new.kept.items
+    (turn_tied _ c.turn-brought.new.self c.settle.new.kept.items
     c.settle.new.book c.resets-reset.result c.turn-brought.new.said (mid_tied g c)
     (made_limit g.W.Wire.facts c.args.wire.now c.turn-brought.new.wire _ _ _ _ _ t) t.told
     c.settle.ensures.book c.settle.ensures.kept)
 
 -- and what was begun, over the wire
-abbrev before : (g : given.Over) (c : goal.After-settle g) → PortParts g.row.W.Denot
-before g c = parts_over c.args.wire.now (parts_in c.self.inside)
+abbrev before : (g : given.Over) (c : goal.After-settle g) → PortOver g.row.W.Denot
+before g c = on_wire (parts_in c.self.inside) c.args.wire.now
 
-abbrev bare_after : (g : given.Over) (c : goal.After-settle g) → PortParts (Unit {0})
-bare_after g c = record {
-  station = station_without_wire c.turn-brought.new.self;
+abbrev parts_after : (g : given.Over) (c : goal.After-settle g) → PortParts
+parts_after g c = record {
+  core = c.turn-brought.new.self;
   book = c.settle.new.book;
   kept = c.settle.new.kept.items;
   sent = c.self.inside.sent;
@@ -78,21 +76,13 @@ bare_after g c = record {
   last_loss = c.loss_after-self-inside.result;
 }
 
-abbrev after : (g : given.Over) (c : goal.After-settle g) → PortParts g.row.W.Denot
-after g c = parts_over c.turn-brought.new.wire (bare_after g c)
-
-abbrev mid : (g : given.Over) (c : goal.After-settle g) → StationState g.row.W.Denot
-mid g c = station_of c.args.wire.now c.begin_next.new.core
-
-begins : (g : given.Over) (c : goal.After-settle g)
-    → BeginsNext (before g c).station (before g c).book.state (mid g c) c.begin_next.new.book.state
-begins g c = begins_over c.args.wire.now c.self.inside.core c.begin_next.new.core
-    c.self.inside.book.state c.begin_next.new.book.state c.begin_next.ensures.next
+abbrev after : (g : given.Over) (c : goal.After-settle g) → PortOver g.row.W.Denot
+after g c = on_wire (parts_after g c) c.turn-brought.new.wire
 
 -- in a turn that begins in OPERATE the device isn't reset
-unreset : (g : given.Over) (c : goal.After-settle g) → is_operating (mid g c).link ≡ true
-    → c.resets-reset.result ≡ false
-unreset g c = none_reset g.W.Wire.facts (mid g c).link _ _ c.resets-reset.result
+unreset : (g : given.Over) (c : goal.After-settle g)
+    → operates c.begin_next.new.core.state ≡ true → c.resets-reset.result ≡ false
+unreset g c = none_reset g.W.Wire.facts c.begin_next.new.core.state _ _ c.resets-reset.result
     c.is_reset-began.ensures c.resets-reset.ensures
 
 pub returns-clause-does : goal.returns-clause-does
@@ -100,40 +90,35 @@ returns-clause-does g c =
     rw (← c.self.view_is)
     (record {
       follows = turn_does g.W.Wire.facts c.args.wire.now c.turn-brought.new.wire
-          (parts_in c.self.inside) (bare_after g c) c.event_room-room.result
+          (parts_in c.self.inside) (parts_after g c) c.event_room-room.result
           c.turn-brought.new.said c.turn-brought.result
-          (station_without_wire c.begin_next.new.core) c.begin_next.new.book.state (free g c)
+          c.begin_next.new.core c.begin_next.new.book.state (free g c)
           (free g c) c.begin_next.ensures.next
           c.turn-brought.ensures.turn c.turn-brought.ensures.honest
           (record { posts = cc; keeps = c.settle.ensures.kept });
       book = turn_gives_none _ _ _ _ _
           (cond c.resets-reset.result (Reset ∷ []) [] ++ book_said c.turn-brought.new.said)
-          (begins g c) c.settle.ensures.book;
+          c.begin_next.ensures.next c.settle.ensures.book;
     })
 
 pub returns-clause-clean : goal.returns-clause-clean
 returns-clause-clean g c =
     rw (← c.self.view_is)
     (clean_turn g.W.Wire.facts c.clean_laws.ensures g.met.W.Wire.clean_exchanges (before g c)
-    (after g c)
-    (mid g c) c.begin_next.new.book.state _ c.resets-reset.result c.turn-brought.new.said
-    (begins g c)
-    (takes_over c.args.wire.now c.event_room-room.result c.self.inside.core c.begin_next.new.core
-    c.self.inside.book.state c.begin_next.new.book.state c.begin_next.ensures.takes)
+    (after g c) c.begin_next.new.core c.begin_next.new.book.state _ c.resets-reset.result
+    c.turn-brought.new.said c.begin_next.ensures.next c.begin_next.ensures.takes
     c.turn-brought.result c.turn-brought.ensures.turn
     (rw (← c.self.view_is) at c.requires.stands) c.self.invariant.busy (unreset g c)
     c.settle.ensures.book)
 
 pub returns-clause-gives : goal.returns-clause-gives
 returns-clause-gives g c =
-    let p : PortParts g.row.W.Denot = before g c in
+    let p : PortParts = parts_in c.self.inside in
     let said = c.turn-brought.new.said in
-    let next : Option Request = to_begin (lacks_isdu p.station.session.isdu)
+    let next : Option Request = to_begin (lacks_isdu p.core.session.isdu)
     (next_taken p.book.state.standing) in
-    let exact : mid g c ≡ station_with_request next p.station c.event_room-room.result =
-    rw c.begin_next.ensures.exact refl in
-    let turned = turned_at g.W.Wire.facts {has = event_room p.kept}
-    {begun = core_of (station_begun p)} c.turn-brought.ensures.turn (room g c)
+    let turned = turned_at g.W.Wire.facts {has = event_room p.kept} {begun = core_begun p}
+    c.turn-brought.ensures.turn (room g c)
     (c.begin_next.ensures.exact ∙ (rw (room g c) refl)) in
     rw (← c.self.view_is)
     (record {
@@ -143,9 +128,9 @@ returns-clause-gives g c =
       sent = turned.0;
       made = turned.1;
       book = c.settle.ensures.book
-          ∙ book_told p.station (mid g c) (after g c).station next c.event_room-room.result _ _
-          _ said
-          c.begin_next.new.book.state exact c.is_reset-began.ensures c.is_reset.ensures
+          ∙ book_told p.core c.begin_next.new.core (parts_after g c).core next
+          c.event_room-room.result _ _ _ said c.begin_next.new.book.state
+          c.begin_next.ensures.exact c.is_reset-began.ensures c.is_reset.ensures
           c.resets-reset.ensures ∙ (rw (c.begin_next.ensures.taken, room g c) refl);
       memory = c.settle.ensures.memory ∙ c.begin_next.ensures.memory;
       kept = c.settle.ensures.kept;
@@ -155,12 +140,12 @@ returns-clause-gives g c =
         c.status.ensures.mode,
         c.status.ensures.why,
       ) refl);
-      denies = λ ticket has. turn_denies p (after g c) c.begin_next.new.book.state
+      denies = λ ticket has. turn_denies p (parts_after g c) c.begin_next.new.book.state
           c.resets-reset.result said
           (ends_ask _ _ _ (mid_tied g c).same c.turn-brought.ensures.turn.told.ends)
           c.settle.ensures.book ticket has
-          (is_operating p.station.link && is_ready p.station.session c.event_room-room.result)
+          (operates p.core.state && is_ready p.core.session c.event_room-room.result)
           c.begin_next.ensures.taken
-          (λ ready. unreset g c (ap (λ (s : StationState g.row.W.Denot). is_operating s.link) exact
-          ∙ (grind (arith, common_steps))));
+          (λ ready. unreset g c (ap (λ (k : CoreState). operates k.state)
+          c.begin_next.ensures.exact ∙ (grind (arith, common_steps))));
     })
