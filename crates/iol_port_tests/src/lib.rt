@@ -31,14 +31,14 @@ mod device;
 #[cfg(test)]
 mod honest;
 #[cfg(test)]
-#[cfg(test)]
 mod links;
-#[cfg(test)]
 #[cfg(test)]
 mod ports;
 #[cfg(test)]
 mod sim;
 #[cfg(test)]
 mod small;
+#[cfg(test)]
+mod stations;
 #[cfg(test)]
 mod tap;
