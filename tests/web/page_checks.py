@@ -110,7 +110,7 @@ def broken_texts(text):
         return "\n".join([*lines[: number - 1], *line, *lines[number:]]) + "\n"
 
     yield "no such line", with_line(20, ["what is this"]), 20
-    yield "lower case", with_line(3, [lines[2].lower().replace("a2", "a2")]), 3
+    yield "no digit", with_line(3, [lines[2].replace("A2 00", "A2 0G")]), 3
     yield "half an octet", with_line(4, [lines[3].replace("17 1B", "17 1")]), 4
     yield "no text, and no wake-up before", "\n".join(lines[2:3]).split(":")[0] + "\n", 1
     yield "a lost reply line", with_line(6, []), 6
@@ -140,6 +140,9 @@ def check_without_texts(room):
         found = room.window.run(READ)
         other = next((pair for pair in zip(found, wanted) if pair[0] != pair[1]), None)
         yield f"{name} without texts", "" if found == wanted else f"{other}"
+        room.open_text(re.sub(r"^(\d+ [<>] )([0-9A-F ]+)(?=:)", lambda it: it[1] + it[2].lower(), text, flags=re.M))
+        yield f"{name} in lower case: fault", room.fault()
+        yield f"{name} in lower case", "" if room.window.run(READ) == wanted else "it is read otherwise"
 
 
 def check_broken(room):
@@ -148,7 +151,7 @@ def check_broken(room):
     text = room.examples()["cable_pulled"]
     for name, broken, number in broken_texts(text):
         room.open_text(broken)
-        yield f"broken, {name}", missing(f"Line {number} can’t be read", room.fault())
+        yield f"broken, {name}", missing(f"line {number}: ", room.fault())
         before = "\n".join(broken.splitlines()[: number - 1])
         yield f"broken, {name}: before it", unlike(room.counts(), counted(before))
     for cut in (len(text) - 30, text.index("18 <"), text.index("18 >"), 0):

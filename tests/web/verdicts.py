@@ -195,14 +195,14 @@ def check_broken_verdicts(room):
     room.open_page()
     for name, lines, number in broken_verdicts():
         room.open_text(text_of(*lines))
-        yield f"verdict, {name}", missing(f"Line {number} can’t be read", room.fault())
+        yield f"verdict, {name}", missing(f"line {number}: ", room.fault())
         before = {it.split(" ")[0] for it in lines[: number - 1]}
         are_read = bool(before & {"honest", "not", "can't"}) + ("master" in before) + ("kind" in before)
         shown = room.window.run("document.querySelectorAll('#story .verdict').length")
         yield f"verdict, {name}: not shown", unlike(shown, are_read)
     # A line of the trace that can't be read, and a verdict in front that names an exchange behind it.
     room.open_text(text_of("unjudged 4", OPEN, *PLAIN[:3], "what is this", *PLAIN[3:]))
-    yield "verdict on what isn't read: fault", missing("Line 6 can’t be read", room.fault())
+    yield "verdict on what isn't read: fault", missing("line 6: ", room.fault())
     links = room.window.run("[...document.querySelectorAll('#story .verdict a')].map((it) => it.innerText)")
     yield "verdict on what isn't read: no link", unlike(links, [])
 

@@ -37,14 +37,25 @@ const UNWATCHED = "can't be judged: no wake-up request was made";
 const KIND = '(?:first|last) (?:keeps|forgets)';
 const KINDS = new RegExp(`^${KIND}(?: or ${KIND}){0,2}$`);
 
-/** Why a line can't be read. */
-class BadLine extends Error {}
+/** How much of the line that is read stands before what doesn't match, in bytes. */
+const columnOf = (line, rest) => bytesOf(line).length - bytesOf(rest).length + 1;
+
+/** What doesn't match the form of what is wanted in its place. */
+class NoMatch extends Error {
+  constructor(rest, wanted) {
+    super(`wanted: ${wanted}`);
+    this.rest = rest;
+  }
+}
 
 function matched(pattern, rest, wanted) {
   const found = pattern.exec(rest);
-  if (!found) throw new BadLine(`wanted: ${wanted}`);
+  if (!found) throw new NoMatch(rest, wanted);
   return found;
 }
+
+/** Up to this number the page tells calls apart. */
+const MOST_COUNTED = 9e15;
 
 /** A call of the line, as read. The fields below `came` are what follows from the lines before. */
 class Exchange {
@@ -98,14 +109,21 @@ class Reader {
   decoder = new Decoder();
 
   begin(number) {
-    const before = this.exchanges.at(-1);
-    if (this.awaits()) {
-      throw new BadLine(`wanted: ${before.number} < .., the reply to line ${before.line}`);
+    this.refuseWithoutReply();
+    const next = this.exchanges.length ? this.exchanges.at(-1).number + 1 : number;
+    if (number !== next) {
+      const why = `not the number of the next call; wanted: ${next}`;
+      throw new BadLine(why, 1, 'wrong number');
     }
-    if (before && number !== before.number + 1) {
-      throw new BadLine(`wanted: number ${before.number + 1}, lines are missing before it`);
-    }
+    if (number > MOST_COUNTED) throw new BadLine(`wanted: a number up to ${MOST_COUNTED}`);
     if (this.record !== null) throw new BadLine('wanted: carried .., behind the record');
+  }
+
+  /** Another line than the reply to the last message, where that waits for it. */
+  refuseWithoutReply() {
+    if (!this.awaits()) return;
+    const why = `the message before has no reply line; wanted: ${this.exchanges.at(-1).number} < ..`;
+    throw new BadLine(why, 1, 'no reply line');
   }
 
   /** Whether the last message has no line for its reply yet. */
@@ -115,7 +133,7 @@ class Reader {
   }
 
   call(kind, more) {
-    if (this.awaits()) this.begin(0);
+    this.refuseWithoutReply();
     if (this.record !== null) throw new BadLine('wanted: carried .., behind the record');
     this.calls.push({ kind, line: this.line, at: this.exchanges.length, ...more });
   }
@@ -130,7 +148,7 @@ class Reader {
   }
 
   judge(kind, more) {
-    if (this.awaits()) this.begin(0);
+    this.refuseWithoutReply();
     if (this.verdict) throw new BadLine('wanted: one verdict of `judge`');
     this.verdict = { kind, line: this.line, unjudged: this.unjudged, ...more };
   }
@@ -148,12 +166,16 @@ function once(known, rest, make) {
   return value;
 }
 
+/** The most octets of a message or a reply, as a text. */
+const MOST_OCTETS = 128 * 3 - 1;
+
 const numbers = (octets) => (octets ? octets.split(' ').map((it) => parseInt(it, 16)) : []);
 
 function messageOf(rest) {
   const form = 'OCTETS: read|write CHANNEL ADDRESS[ out OCTETS][ od OCTETS]';
   const [, octets = '', way, channel, address, out, od, refused] = matched(MESSAGE, rest, form);
-  if (way === 'write' ? od === undefined : od !== undefined) throw new BadLine(`wanted: ${form}`);
+  const isWhole = (way === 'write') === (od !== undefined);
+  if (!isWhole || octets.length > MOST_OCTETS) throw new NoMatch(rest, form);
   return {
     octets, text: rest.slice(rest.indexOf(': ') + 2), refused, channel, out, od,
     data: numbers(od), write: way === 'write', address: address ? parseInt(address, 16) : null,
@@ -163,6 +185,7 @@ function messageOf(rest) {
 function replyOf(rest) {
   const form = 'OCTETS: od OCTETS|ack[ in OCTETS] event 0|1 pd valid|invalid, or none';
   const [, octets = '', od, input, event, pd, refused] = matched(REPLY, rest, form);
+  if (octets.length > MOST_OCTETS) throw new NoMatch(rest, form);
   const text = rest.slice(rest.indexOf(': ') + 2);
   const [flag, valid] = [event === '1', pd === 'valid'];
   return { octets, text, refused, od, data: numbers(od), input, event: flag, valid };
@@ -170,11 +193,19 @@ function replyOf(rest) {
 
 const BARE = new RegExp(`^${OCTETS}$`);
 
-/** What stands behind the number and the sign, with its text: a driver writes the octets alone. */
-function withText(reader, rest, textOf) {
+/** What stands behind the number and the sign, its octets in upper case. */
+function inUpperCase(rest) {
+  const octets = beforeColon(rest);
+  if (!/^[0-9A-Fa-f ]+$/.test(octets)) return rest;
+  return octets.toUpperCase() + rest.slice(octets.length);
+}
+
+/** The same with its text: a driver writes the octets alone. */
+function withText(reader, given, textOf) {
+  const rest = inUpperCase(given);
   if (!BARE.test(rest)) return rest;
   if (!reader.decoder.layout) {
-    throw new BadLine('wanted: the text of the octets, or a wake-up that was answered before them');
+    throw new NoMatch(given, 'the text of the octets, or a wake-up that was answered before them');
   }
   return `${rest}: ${textOf(numbers(rest))}`;
 }
@@ -197,8 +228,13 @@ function readSent(reader, rest, number) {
 
 function readCame(reader, rest, number) {
   const last = reader.exchanges.at(-1);
-  if (!reader.awaits() || last.number !== number) {
-    throw new BadLine(`wanted: message ${number} before its reply`);
+  if (!reader.awaits()) {
+    const why = 'a reply, and no message before it waits for one; wanted: N > ..';
+    throw new BadLine(why, 1, 'no message line');
+  }
+  if (last.number !== number) {
+    const why = `not the number of the message before; wanted: ${last.number}`;
+    throw new BadLine(why, 1, 'wrong number');
   }
   const whole = withText(reader, rest, (octets) => reader.decoder.reply(octets));
   last.came = rest === 'none' ? null : once(reader.replies, whole, replyOf);
@@ -229,6 +265,13 @@ function readRecord(reader, rest) {
   const [count] = matched(/^\d+$/, rest, 'record N');
   reader.call('record', { text: rest });
   reader.record = Number(count);
+}
+
+/** A page has ten octets, in upper or lower case. */
+function readPage(reader, rest) {
+  const [text] = matched(/^(?:[0-9A-Fa-f]{2}(?: [0-9A-Fa-f]{2}){9}|none)$/, beforeColon(rest),
+    'page OCTETS or page none');
+  reader.call('page', { text: text === 'none' ? text : text.toUpperCase() });
 }
 
 /** The record of a second device, behind that of the first. */
@@ -339,7 +382,7 @@ const OF_THE_LINE = new Map([['wake', readWake], ['>', readSent], ['<', readCame
 const CALLS = new Map([
   ['ticket', readTicket],
   ['ok', shown('ok', /^(?:later)?$/, 'ok or ok later')],
-  ['page', shown('page', new RegExp(`^(?:${OCTETS}|none)$`), 'page OCTETS or page none')],
+  ['page', readPage],
   ['image', shown('image', new RegExp(`^(?:${OCTETS}|none)$`), 'image OCTETS or image none')],
   ['event', readEvent],
   ['status', readStatus],
@@ -362,6 +405,11 @@ const JUDGED_CALLS = new Map([['odd', readOdd]]);
 
 const isDigit = (code) => code >= 48 && code <= 57;
 
+function callNumber(word) {
+  if (/^[1-9]\d*$/.test(word)) return Number(word);
+  throw new BadLine(`${quoted(bytesOf(word))} is no number of a call`);
+}
+
 /** A text's first word, and what stands behind it. A colon ends a word too, and stays. */
 function split(text) {
   let end = 0;
@@ -369,14 +417,18 @@ function split(text) {
   return [text.slice(0, end), text.slice(text[end] === ' ' ? end + 1 : end)];
 }
 
+/** What judges the words of a line: those of `judge` have forms of their own. */
+const isOfJudge = (line) => JUDGED_CALLS.has(split(split(line)[1])[0]);
+
 function readLine(reader, line) {
-  if (line === '') return;
+  if (line.length > LONGEST) throw blankFault(line);
+  if (line === '' || line[0] === '#') return;
   const [word, behind] = split(line);
-  const number = isDigit(line.charCodeAt(0)) ? Number(word) : null;
+  const number = isDigit(line.charCodeAt(0)) ? callNumber(word) : null;
   const [key, rest] = number === null ? [word, behind] : split(behind);
   const ofJudge = (number === null ? OF_JUDGE : JUDGED_CALLS).get(key);
   const form = ofJudge ?? (number === null ? CALLS : OF_THE_LINE).get(key);
-  if (!form || Number.isNaN(number)) throw new BadLine('no line of `trace` or `judge` begins so');
+  if (!form) throw beginsNone(line, word, [...CALLS.keys(), ...OF_JUDGE.keys()]);
   reader.part(ofJudge ? 'judge' : 'trace');
   form(reader, rest, number);
 }
@@ -389,14 +441,20 @@ page.placeOf = function placeOf(exchanges, number) {
 
 /** A line of `judge` that isn't of this trace, or null. It may stand in front of the trace. */
 function strayLine({ verdict, master, odd, unjudged, exchanges, starts }, text) {
-  const fault = (at, why) => (
-    { line: at, text: text.slice(starts[at - 1], starts[at]).trimEnd(), why, isStray: true });
-  const named = [...odd, master, verdict].filter((it) => it?.number !== undefined);
-  const stray = named.find((it) => page.placeOf(exchanges, it.number) === null);
-  if (stray) return fault(stray.line, `wanted: a number of the trace, it has no ${stray.number}`);
+  const fault = (at, number, why) => {
+    const line = text.slice(starts[at - 1], starts[at]).trimEnd();
+    const column = line.search(new RegExp(`\\b${number}\\b`)) + 1;
+    return { line: at, text: line, what: BAD, column, why, isStray: true };
+  };
+  const numbered = [...odd, master, verdict].filter((it) => it?.number !== undefined);
+  const stray = numbered.find((it) => page.placeOf(exchanges, it.number) === null);
+  if (stray) {
+    return fault(stray.line, stray.number,
+      `wanted: a number of the trace, it has no ${stray.number}`);
+  }
   const most = exchanges.filter((it) => it.sent).length;
   if (!verdict || unjudged.count <= most) return null;
-  return fault(unjudged.line, `wanted: at most the ${most} exchanges of the trace`);
+  return fault(unjudged.line, unjudged.count, `wanted: at most the ${most} exchanges of the trace`);
 }
 
 /** Reads a text up to the first line that it can't read, which it names as `fault`. */
@@ -427,7 +485,18 @@ function tryLine(reader, line) {
     readLine(reader, line);
     return null;
   } catch (error) {
-    if (!(error instanceof BadLine)) throw error;
-    return { line: reader.line, text: line, why: error.message };
+    const { what, column, message } = faultOf(line, error);
+    return { line: reader.line, text: line, what, column, why: message };
   }
+}
+
+/** What is wrong with a line: what `judge` refuses it for, if it does, before all else. */
+function faultOf(line, error) {
+  if (!(error instanceof BadLine || error instanceof NoMatch)) throw error;
+  const isOfForm = error instanceof NoMatch || error.what === BAD;
+  const judged = isOfJudge(line) ? null : judgedFault(line);
+  if (judged || !isOfForm) return judged ?? error;
+  const blanks = blankFault(bytesOf(line));
+  if (blanks || error instanceof BadLine) return blanks ?? error;
+  return new BadLine(error.message, columnOf(line, error.rest));
 }

@@ -3,6 +3,8 @@ const page = globalThis.page;
 const byId = (id) => document.getElementById(id);
 const safe = (text) => String(text).replace(/[&<>"]/g, (it) => `&#${it.charCodeAt(0)};`);
 
+const isAscii = (text) => /^[\0-\x7f]*$/.test(text);
+
 const WIDEST = 240;
 const FIRST_SCALE = 58;
 const WHOLE_HEIGHT = 42;

@@ -5,10 +5,25 @@ function showFault() {
   const place = byId('fault');
   place.hidden = !fault;
   if (!fault) return;
-  place.innerHTML = `<strong>Line ${fault.line} can’t be read</strong> (${safe(fault.why)}):
-    <code>${safe(fault.text.slice(0, 300))}</code><br>
+  place.innerHTML = `<pre>${safe(page.faultSaid(fault))}</pre>${badLine(fault)}
     ${fault.isStray ? 'All else' : 'What stands before it'} is drawn.
     <a href="#line=${fault.line}">See it in the text</a>.`;
+}
+
+/** What is wrong with a line, as `iolink judge --why` says it. */
+page.faultSaid = ({ line, what, column, why }) => `line ${line}: ${what}\n  column ${column}: ${why}`;
+
+const MOST_BEFORE = 60;
+const MOST_BEHIND = 200;
+
+/** The bad line, with a mark from the column on. */
+function badLine({ text, column }) {
+  const at = isAscii(text) ? column - 1 : 0;
+  const from = Math.max(0, at - MOST_BEFORE);
+  const [, bad, rest] = /^(\S*)(.*)$/s.exec(text.slice(at, at + MOST_BEHIND));
+  const dots = (is) => (is ? '…' : '');
+  return `<code>${dots(from > 0)}${safe(text.slice(from, at))}<mark>${safe(bad) || ' '}</mark>${
+    safe(rest)}${dots(text.length > at + MOST_BEHIND)}</code><br>`;
 }
 
 const COUNTS = [

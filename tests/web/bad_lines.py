@@ -1,0 +1,135 @@
+"""Bad lines: the page says of a line that it refuses what `iolink judge --why` says of it, and web/line.html what
+`iolink trace --why` says of a script.
+
+The traces are the bad ones among the rows of tests/rows, single lines that tests/why/run makes bad, and whole traces in
+which a line is made bad, goes, or changes its place. The page takes some of what `judge` refuses: a trace that is cut off behind a message, and a
+carriage return at the end of a line, without which `judge` is asked. It refuses more: lines that `judge` passes over.
+A line of `judge` itself, `N odd: ..`, is none of a trace, and isn't compared.
+"""
+import importlib.machinery
+import importlib.util
+import json
+import random
+import re
+import subprocess
+
+from trace_page import ROOT, unlike
+
+TRIED = 150
+LEAST_SAME = 60
+SAID = "document.getElementById('fault').hidden ? '' : document.querySelector('#fault pre').textContent"
+OF_JUDGE = re.compile(r"\d+ odd\b")
+
+
+def why():
+    """The test tests/why/run, which has the bad rows, and makes lines bad."""
+    loader = importlib.machinery.SourceFileLoader("why", f"{ROOT}/tests/why/run")
+    made = importlib.util.module_from_spec(importlib.util.spec_from_loader("why", loader))
+    loader.exec_module(made)
+    return made
+
+
+def refusal(room, command, text):
+    """What the program says of a text that it refuses, without its name; or ''."""
+    words = [room.program, command, "--why"]
+    ran = subprocess.run(words, input=text.encode(), stdout=subprocess.DEVNULL, stderr=subprocess.PIPE, check=False)
+    said = ran.stderr.decode()
+    return said.removeprefix("iolink: ").rstrip("\n") if re.match(r"iolink: line \d+: ", said) else ""
+
+
+def said_by_page(room, text):
+    """What the page says of a text that it refuses, or ''."""
+    return room.window.run(f"(page.show({json.dumps(text)}, 'given'), {SAID})")
+
+
+def number_in(said):
+    """The number of the line that is refused; behind all where none is."""
+    found = re.match(r"line (\d+): ", said)
+    return int(found[1]) if found else 10**9
+
+
+def is_cut_off(text, said):
+    """Whether the trace ends where the line of a reply is missing."""
+    number = number_in(said)
+    return said.startswith(f"line {number}: no reply line") and not any(text.split("\n")[number - 1 :])
+
+
+def other_words(text, program, page):
+    """What is wrong with the page's words for a text, where the program says these; '' if they may be so."""
+    if program == page:
+        return ""
+    number, here = number_in(program), number_in(page)
+    if number == here:
+        return f"the program says {program!r}, and the page {page!r}"
+    if number < here:
+        wrong = f"the program says {program!r}, and the page takes it"
+        return "" if is_cut_off(text, program) else wrong
+    # The page alone refuses the line. It has the same form.
+    return "" if re.fullmatch(r"line \d+: [a-z ]+\n  column \d+: .+", page) else f"it says {page!r}"
+
+
+def traces_of_rows(tests):
+    """The inputs of the rows of `judge` that it refuses, and that are text."""
+    for row, words in tests.rows():
+        if words[0] == b"judge" and b"--octets" not in words:
+            for at, text in enumerate(tests.texts_of(row)):
+                try:
+                    yield f"{row.relative_to(tests.ROWS)}, {at}", text.decode()
+                except UnicodeDecodeError:
+                    continue
+
+
+def lines_made_bad(tests):
+    """Single lines that were good, each with a change."""
+    for command, line in tests.good_lines():
+        if command == "judge":
+            for changed, _ in tests.changes(line):
+                yield f"{changed!r}", changed.decode()
+
+
+def changed_word(maker, line):
+    """A line with another word, without its end, or with blanks."""
+    words = line.split(" ")
+    at = maker.randrange(len(words))
+    new = maker.choice(["%%", "", "0G", "00 00", "none", "9", "wake", "\t", "é", "0" + words[at], words[at].lower()])
+    return maker.choice([" ".join([*words[:at], new, *words[at + 1 :]]), " ".join(words[:at]), f"{line} {new}"])
+
+
+def traces_made_bad(room):
+    """Good traces, each with a line that is changed, is missing, comes twice, or stands elsewhere."""
+    texts = [it for _, it in sorted(room.row_traces().items())]
+    for seed in range(TRIED):
+        maker = random.Random(seed)
+        lines = maker.choice(texts).splitlines()
+        at = maker.randrange(len(lines))
+        other = maker.randrange(len(lines))
+        kind = maker.choice(["word", "word", "word", "gone", "twice", "moved", "number"])
+        if kind == "word":
+            lines[at] = changed_word(maker, lines[at])
+        elif kind == "number":
+            lines[at] = re.sub(r"^\d+", lambda it: str(int(it[0]) + maker.choice([-1, 1, 9])), lines[at])
+        elif kind == "moved":
+            lines.insert(other, lines.pop(at))
+        else:
+            lines[at : at + 1] = [] if kind == "gone" else [lines[at]] * 2
+        yield f"trace {seed}, {kind} at line {at + 1}", "\n".join(lines) + "\n"
+
+
+def check_same_words(room):
+    """The page says what `judge --why` says, for each kind of bad line."""
+    tests = why()
+    room.open_page()
+    same, kinds = 0, set()
+    for name, text in [*traces_of_rows(tests), *lines_made_bad(tests), *traces_made_bad(room)]:
+        without_returns = re.sub(r"\r$", "", text, flags=re.M)
+        program, page = refusal(room, "judge", without_returns), said_by_page(room, text)
+        if OF_JUDGE.match(text) or (not program and not page):
+            continue
+        yield f"bad line, {name}", other_words(text, program, page)
+        same += program == page
+        kinds.add(re.sub(r"\d+|\".*?\"|wanted: .*", "", program) if program == page else "")
+    yield "bad lines", "" if same > LEAST_SAME else f"only {same} are refused by both"
+    yield "kinds of bad lines", "" if len(kinds) > 12 else f"only {sorted(kinds)}"
+
+
+CHECKS = [check_same_words]
