@@ -1,10 +1,10 @@
-"""Bad lines: the page says of a line that it refuses what `iolink judge --why` says of it, and web/line.html what
-`iolink trace --why` says of a script.
+"""Bad lines: the page says of a line that it refuses what `iolink judge --why` says of it, and web/line.html of a script
+what `iolink trace --why` says.
 
 The traces are the bad ones among the rows of tests/rows, single lines that tests/why/run makes bad, and whole traces in
-which a line is made bad, goes, or changes its place. The page takes some of what `judge` refuses: a trace that is cut off behind a message, and a
-carriage return at the end of a line, without which `judge` is asked. It refuses more: lines that `judge` passes over.
-A line of `judge` itself, `N odd: ..`, is none of a trace, and isn't compared.
+which a line is made bad, goes, comes twice, or changes its place. The page takes some of what `judge` refuses: a trace
+that is cut off behind a message, and a carriage return at the end of a line, without which `judge` is asked. It refuses
+more: lines that `judge` passes over. A line of `judge` itself, `N odd: ..`, is none of a trace, and isn't compared.
 """
 import importlib.machinery
 import importlib.util
@@ -13,7 +13,9 @@ import random
 import re
 import subprocess
 
-from trace_page import ROOT, unlike
+from trace_page import ROOT, missing, unlike
+
+LIVE = f"file://{ROOT}/web/line.html"
 
 TRIED = 150
 LEAST_SAME = 60
@@ -132,4 +134,46 @@ def check_same_words(room):
     yield "kinds of bad lines", "" if len(kinds) > 12 else f"only {sorted(kinds)}"
 
 
+SCRIPTS = 120
+LONGEST_SCRIPT = 20_000
+FOLLOW = """((text) => new Promise((done) => {
+  addEventListener('hashchange', () => done(document.getElementById('refusal').textContent), {once: true});
+  location.hash = `#script=${encodeURIComponent(text)}`;
+}))(%s)"""
+
+
+def bad_scripts(tests):
+    """The inputs of the rows of `run` and `trace`, and lines of scripts that are made bad: what can come by a link."""
+    for row, words in tests.rows():
+        if tests.COMMANDS[words[0]] == "run":
+            yield from tests.texts_of(row)
+    lines = [line for command, line in tests.good_lines() if command == "run"]
+    made = [changed for line in lines for changed, _ in tests.changes(line)]
+    yield from random.Random(1).sample(made, SCRIPTS)
+
+
+def check_scripts(room):
+    """A script that comes by a link is refused in the program's own words; the session before it stays."""
+    room.window.go(LIVE)
+    before = room.window.run("page.bench.lines")
+    tried = set()
+    for octets in bad_scripts(why()):
+        text = octets.decode(errors="replace").strip("\n")
+        program = refusal(room, "trace", text) if len(text) < LONGEST_SCRIPT else ""
+        if not program or "\0" in text or text in tried:
+            continue
+        tried.add(text)
+        said = room.window.run(FOLLOW % json.dumps(text))
+        yield f"script {text[:60]!r}", missing(f"iolink: {program}\n", f"{said}\n")
+    yield "bad scripts", "" if len(tried) > SCRIPTS / 2 else f"only {len(tried)} are refused"
+    yield "bad scripts: the session stays", unlike(room.window.run("page.bench.lines"), before)
+    room.window.go(f"{LIVE}#script=read%2016%20x%0Aturn%203")
+    said = room.window.run("document.getElementById('refusal').textContent")
+    wanted = 'iolink: line 1: bad line\n  column 9: "x" is no subindex (a number from 0 to 255)\nread 16 x'
+    yield "bad script at first", missing(wanted, said)
+    told = room.window.run("document.getElementById('told').innerText")
+    yield "bad script at first: a story instead", missing("ticket 1 done written", told)
+
+
 CHECKS = [check_same_words]
+OF_LIVE = [check_scripts]

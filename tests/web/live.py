@@ -8,6 +8,7 @@ import os
 import random
 import subprocess
 
+from bad_lines import OF_LIVE as BAD_SCRIPTS
 from counting import more_than_asked
 from trace_page import ROOT, missing, unlike
 
@@ -221,7 +222,9 @@ def check_rows(room):
     yield "rows of the module", "" if count > 200 else f"only {count} rows are found"
 
 
-CHECKS = [check_opening, check_stories, check_sessions, check_script, check_old_browser, check_rows]
+CHECKS = [
+    check_opening, check_stories, check_sessions, check_script, *BAD_SCRIPTS, check_old_browser, check_rows,
+]
 
 
 def is_built():

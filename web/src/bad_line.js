@@ -1,5 +1,5 @@
-// What is wrong with a line, in the words of `iolink judge --why`: what was met in which column, and
-// what is wanted there. Its forms of the lines of a trace are here again, for this alone. Columns
+// What is wrong with a line, in the words of `iolink judge --why`: what was met in which column,
+// and what is wanted there. The forms of a trace's lines are here again for this alone. Columns
 // count bytes, from 1.
 
 /** The most bytes of a line, and of a word that is shown. */
@@ -132,7 +132,9 @@ function blankFault(line) {
     return bad(line.length - 1,
       "a carriage return ends the line: drop them all, as by tr -d '\\r'");
   }
-  if (/^ +$/.test(line)) return bad(0, 'blanks without a word: drop them, an empty line is skipped');
+  if (/^ +$/.test(line)) {
+    return bad(0, 'blanks without a word: drop them, an empty line is skipped');
+  }
   const at = /\t|^ | {2}/.exec(line);
   if (at?.[0] === '\t') return bad(at.index, 'a tab: one blank parts two words');
   if (at?.[0] === ' ') return bad(0, 'a blank in front of the first word: drop it');

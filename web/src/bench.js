@@ -27,7 +27,7 @@ function turnCable(lines, made) {
 /** Exchanges the device for the second one, which the script has from its beginning. */
 function swap(lines, made) {
   const has = lines.some((it) => it.startsWith('other '));
-  const first = lines.findIndex((it) => !SETTING.test(it));
+  const first = lines.findIndex((it) => it !== '' && it[0] !== '#' && !SETTING.test(it));
   const at = first < 0 ? lines.length : first;
   const both = has ? lines : [...lines.slice(0, at), OTHER, ...lines.slice(at)];
   return withWire(both, made, 'swap');
@@ -59,6 +59,14 @@ const ACTS = {
   work: wire('work'),
 };
 
+/** What the program says of a script that it refuses, with the line that it means. */
+function refusalOf(lines, said) {
+  const line = lines[Number(/line (\d+): /.exec(said)?.[1]) - 1];
+  return `The program refuses it:\n${said}${line ? `\n${line.slice(0, MOST_SHOWN)}` : ''}`;
+}
+
+const MOST_SHOWN = 200;
+
 /** Runs other lines, and shows them; what the program refuses leaves the session as it was. */
 function become(lines) {
   const began = performance.now();
@@ -67,7 +75,7 @@ function become(lines) {
   } catch (refusal) {
     if (!(refusal instanceof Refusal)) throw refusal;
     run(false);
-    showRefusal(`The program refuses it: ${refusal.message}.`);
+    showRefusal(refusalOf(lines, refusal.message));
     return false;
   }
   bench.lines = bench.ran.lines;
@@ -212,7 +220,8 @@ function showBench() {
 
 // Sending a session to somebody.
 
-const linesOf = (text) => text.split('\n').map((it) => it.trimEnd()).filter(Boolean);
+/** The lines of a script as they are, so that the program says what is wrong with them. */
+const linesOf = (text) => text.replace(/\n+$/, '').split('\n');
 
 const linkOf = (lines) => {
   const address = location.href.split('#')[0];
@@ -265,6 +274,14 @@ function listenToBench() {
   addEventListener('hashchange', followToScript);
 }
 
+/** Begins with a script; without one, or if it is refused, with the first story. */
+function beginWith(given) {
+  if (given !== null && become(linesOf(given))) return;
+  const refused = byId('refusal').textContent;
+  tell(0);
+  showRefusal(refused);
+}
+
 /** Follows the address to a script, or to an exchange. */
 function followToScript() {
   const given = new URLSearchParams(location.hash.slice(1)).get('script');
@@ -284,8 +301,7 @@ async function beginPage() {
   }
   page.module = await compiled();
   listenToBench();
-  const given = scriptGiven();
-  if (given === null || !become(linesOf(given))) tell(0);
+  beginWith(scriptGiven());
   showSettings();
   page.show = open;
 }

@@ -76,7 +76,7 @@ page.execute = function execute(words, input) {
 };
 
 /** The same, with texts. */
-function execute(word, text) {
-  const { status, output, errors } = page.execute([word], new TextEncoder().encode(text));
+function execute(words, text) {
+  const { status, output, errors } = page.execute(words, new TextEncoder().encode(text));
   return { status, printed: textOf(output), wrong: textOf(errors) };
 }

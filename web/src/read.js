@@ -122,7 +122,8 @@ class Reader {
   /** Another line than the reply to the last message, where that waits for it. */
   refuseWithoutReply() {
     if (!this.awaits()) return;
-    const why = `the message before has no reply line; wanted: ${this.exchanges.at(-1).number} < ..`;
+    const { number } = this.exchanges.at(-1);
+    const why = `the message before has no reply line; wanted: ${number} < ..`;
     throw new BadLine(why, 1, 'no reply line');
   }
 

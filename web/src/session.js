@@ -90,9 +90,13 @@ function partsOf(printed) {
 
 class Refusal extends Error {}
 
-function traced(lines) {
-  const { status, printed, wrong } = execute('trace', textOfLines(lines));
-  if (status !== 0) throw new Refusal(wrong.trim());
+const ran = (lines) => execute(['trace', '--why'], textOfLines(lines));
+
+/** What `trace` prints for lines and what is asked behind them; of refused ones, what it says. */
+function traced(lines, asked) {
+  const { status, printed, wrong } = ran([...lines, ...asked]);
+  // What is wrong is said of the lines alone, if they are refused without what is asked.
+  if (status !== 0) throw new Refusal((ran(lines).wrong || wrong).trimEnd());
   return partsOf(printed.trimEnd().split('\n'));
 }
 
@@ -115,7 +119,7 @@ const STANDS_NOW = ['status', 'image'];
 function perform(lines) {
   const tickets = lines.filter((it) => SUBMIT.test(it)).map((_, at) => `collect ${at + 1}`);
   const asked = [...tickets, ...Array(EVENTS).fill('event')];
-  const { said, behind, ...records } = traced([...lines, ...asked, ...STANDS_NOW]);
+  const { said, behind, ...records } = traced(lines, [...asked, ...STANDS_NOW]);
   const [status, image] = said.slice(-STANDS_NOW.length);
   const end = said.length - STANDS_NOW.length - asked.length;
   const isKept = (_, at) => !said[end + at].startsWith('refused ');
@@ -124,7 +128,7 @@ function perform(lines) {
   const trace = [...told, ...behind];
   return {
     lines: whole, trace, status, image, made: callsIn(told), ...records,
-    answers: answersIn(whole, told), judged: execute('judge', textOfLines(trace)).printed,
+    answers: answersIn(whole, told), judged: execute(['judge'], textOfLines(trace)).printed,
   };
 }
 

@@ -11,7 +11,8 @@ function showFault() {
 }
 
 /** What is wrong with a line, as `iolink judge --why` says it. */
-page.faultSaid = ({ line, what, column, why }) => `line ${line}: ${what}\n  column ${column}: ${why}`;
+page.faultSaid = ({ line, what, column, why }) => (
+  `line ${line}: ${what}\n  column ${column}: ${why}`);
 
 const MOST_BEFORE = 60;
 const MOST_BEHIND = 200;
