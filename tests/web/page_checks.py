@@ -10,6 +10,7 @@ from bad_lines import CHECKS as BAD_LINES
 from counting import counted, cut_off_and_carried, more_than_asked
 from large import check_large
 from records import CHECKS as RECORDS
+from times import CHECKS as TIMES
 from trace_page import ROOT, missing, read, script_of, unlike
 from verdicts import CHECKS as VERDICTS
 
@@ -535,5 +536,5 @@ CHECKS = [
     check_made, check_examples, check_traces, *RECORDS, check_without_texts, check_broken, *BAD_LINES, check_odd_lines,
     check_story, check_details,
     check_keys, check_pointer, check_touch, check_find, check_faults, check_layout, check_wanted, check_paste_and_drop,
-    check_reload, check_picture_file, check_table, check_rules, check_contrast, check_pictures, *VERDICTS, check_large,
+    check_reload, check_picture_file, check_table, check_rules, check_contrast, check_pictures, *VERDICTS, check_large, *TIMES,
 ]

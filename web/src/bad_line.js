@@ -176,12 +176,6 @@ function judgedFault(text) {
   return blankFault(read) ?? formFault(TRACE_FORMS, read);
 }
 
-/** What is wrong with a line of times, where it fits no form. */
-function timesFault(text) {
-  const line = bytesOf(text);
-  return blankFault(line) ?? formFault(TIME_FORMS, line);
-}
-
 /** What is wrong with a line that begins with none of these words. */
 function beginsNone(line, word, names) {
   const near = names.find((it) => isNear(word, it));

@@ -210,7 +210,7 @@ function showBench() {
   const { scale } = state.view;
   open(textOfLines(ran.trace) + (hasTwoDevices(ran.lines) ? '' : ran.judged), 'a live line');
   choose(count() - 1, { quiet: true });
-  look(count(), Math.min(SCALES[1], Math.max(SCALES[0], scale)));
+  look(extent(), Math.min(SCALES[1], Math.max(SCALES[0], scale)));
   byId('script').textContent = textOfLines(bench.lines);
   byId('took').textContent = `${ran.made} calls of the line, run and judged in ${
     bench.took.toFixed(0)} ms`;

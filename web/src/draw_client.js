@@ -66,7 +66,7 @@ function drawTicket(scene, ink, { a, b, it, many, rank }, top) {
   ink.line('mark', a, y + 8, a, y + 26);
   if (request) {
     const x = scene.x(request.first);
-    ink.box('under', x, y + 22, scene.x(request.last + 1) - x, 4);
+    ink.box('under', x, y + 22, scene.endOf(request.last) - x, 4);
   }
   const [left, right] = [Math.max(a, scene.left) + 5, Math.min(b, scene.width - 4)];
   const pill = pillOf(it, Math.min(right - left - 4, MOST_PILL));
@@ -97,7 +97,7 @@ function drawCalls(scene, top) {
   const isSeen = ({ at }) => scene.x(at) >= scene.left - 1 && scene.x(at) < scene.width;
   const shown = [];
   for (const it of otherCalls.filter(isSeen)) {
-    if (shown.length === 0 || (it.at - shown.at(-1).at) * scene.scale >= 2) shown.push(it);
+    if (shown.length === 0 || scene.x(it.at) - scene.x(shown.at(-1).at) >= 2) shown.push(it);
   }
   return shown.map((it, place) => {
     const end = place + 1 < shown.length ? scene.x(shown[place + 1].at) : scene.width;
@@ -129,6 +129,7 @@ const STEPS = {
 const SPAN_OF_REQUEST = {
   from: (it) => it.first,
   to: (it) => it.last + 1,
+  ends: 'behind',
   rank: rankOf,
 };
 const STANDS = {

@@ -169,7 +169,7 @@ function drawRecord(scene, lane) {
   if (why) return words('none', scene.left + 8, lane.top + 22, why);
   const told = scene.trace.toldOfDevice;
   const spans = scene.spans(told, {
-    from: (it) => it.handed ?? it.first, to: (it) => it.last + 1, rank: rankOf,
+    from: (it) => it.handed ?? it.first, to: (it) => it.last + 1, ends: 'behind', rank: rankOf,
   });
   const ink = new Ink();
   spans.forEach((it, place) => {

@@ -1,5 +1,4 @@
 // Draws what is seen of a trace, as SVG. It knows nothing of texts, clicks or keys.
-const page = globalThis.page;
 
 /** From this width of an exchange on, words fit; from that on, a sign. Below, they are joined. */
 const WORDS = 50;
@@ -81,25 +80,39 @@ class Ink {
 class Scene {
   constructor(trace, view, width, left) {
     Object.assign(this, { trace, width, left, from: view.from, scale: view.scale });
-    this.count = trace.exchanges.length;
-    this.first = Math.max(0, Math.floor(this.from) - 1);
-    this.end = Math.min(this.count, Math.ceil(this.from + (width - left) / this.scale) + 1);
+    const { axis } = trace;
+    this.count = axis.count;
+    this.first = Math.max(0, axis.at(this.from) - 1);
+    this.end = Math.min(this.count, axis.endAt(this.from + (width - left) / this.scale));
     this.detail = this.scale >= WORDS ? 'words' : this.scale >= SIGNS ? 'signs' : 'joined';
   }
 
-  x(at) { return this.left + (at - this.from) * this.scale; }
+  xOfPlace(place) { return this.left + (place - this.from) * this.scale; }
+
+  /** Where an exchange begins, its middle, and its end: the next one may begin later. */
+  x(at) { return this.xOfPlace(this.trace.axis.place(at)); }
 
   middle(at) { return this.x(at + 0.5); }
+
+  endOf(at) { return this.x(at) + this.scale; }
 
   /** The exchanges that are seen. */
   seen() { return this.trace.exchanges.slice(this.first, this.end); }
 
-  /** The spans that are seen; those too narrow to draw are joined, with the highest rank. */
-  spans(list, { from = (it) => it.from, to = (it) => it.to, rank = () => 0 } = {}) {
+  /** Where the exchange before ends, and what it brought begins. */
+  behind(at) { return at > 0 ? this.endOf(at - 1) : this.x(at); }
+
+  /**
+   * The spans that are seen; those too narrow to draw are joined, with the highest rank. They start
+   * and end where an exchange begins (`x`), or where the one before it ends (`behind`).
+   */
+  spans(list, asked = {}) {
+    const { from = (it) => it.from, to = (it) => it.to, rank = () => 0 } = asked;
+    const { starts = 'x', ends = 'x' } = asked;
     const drawn = [];
     let crowd = null;
     for (const it of list) {
-      const [a, b] = [this.x(from(it)), this.x(to(it))];
+      const [a, b] = [this[starts](from(it)), this[ends](to(it))];
       if (b < this.left || a > this.width) continue;
       if (b - a >= NARROW) crowd = null;
       if (crowd && a - crowd.b < NARROW) {

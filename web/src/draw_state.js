@@ -1,5 +1,7 @@
 // The mode of the link.
 
+/** A mode begins with the end of the exchange that led to it. */
+const MODE_EDGES = { starts: 'behind', ends: 'behind' };
 const MODE_RANKS = { down: 3, startup: 1, preoperate: 1, operate: 0, untold: 0 };
 
 function drawMode(scene, { a, b, it, many }, top) {
@@ -16,7 +18,7 @@ function drawMode(scene, { a, b, it, many }, top) {
 function drawModes(scene, { top }) {
   const { modes, mode } = scene.trace;
   const last = { from: scene.count, to: scene.count + 1e6, value: mode ?? 'untold' };
-  const spans = scene.spans([...modes, last], { rank: (it) => MODE_RANKS[it.value] });
+  const spans = scene.spans([...modes, last], { ...MODE_EDGES, rank: (it) => MODE_RANKS[it.value] });
   return spans.map((it) => drawMode(scene, it, top)).join('');
 }
 
@@ -53,7 +55,7 @@ function drawReading(scene, { a, b, it, many }, top) {
 function drawEvents(scene, { top }) {
   const { readings } = scene.trace;
   if (readings.length === 0) return words('none', scene.left + 8, top + 17, 'no Event flag');
-  const spans = scene.spans(readings);
+  const spans = scene.spans(readings, { ends: 'behind' });
   const bars = spans.map((it) => drawReading(scene, it, top)).join('');
   if (scene.detail === 'joined') return bars;
   const cells = spans.filter((it) => it.many === 1).flatMap(({ it }) => readingCells(scene, it));

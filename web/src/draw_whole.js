@@ -19,6 +19,7 @@ page.prepare = function prepare(trace) {
   const isTold = status && status.at === count && status.mode === trace.mode;
   const made = {
     ...trace,
+    axis: page.axisOf(trace.exchanges),
     otherCalls: otherCallsOf(trace.calls),
     surprises: trace.requests.filter((it) => it.isSurprise),
     toldOfDevice: trace.requests.filter((it) => (
@@ -38,7 +39,8 @@ page.lanesOf = function lanesOf(trace) {
   const hasProcess = trace.outputs.length + trace.inputs.length > 0;
   const record = trace.requests.some((it) => it.isTwice) ? 56 : 38;
   const list = [
-    ['', '', 24, drawRuler],
+    trace.axis.isTimed ? ['Time', 'numbers above', TIMED_RULER, drawTimedRuler]
+      : ['', '', 24, drawRuler],
     ['Client', 'asks, and is told', trace.rows * ROW + calls + 4, drawClient],
     ['Request', 'under way on the line', 50, drawRequests],
     ['Master', 'sends', 72, drawMessages],
@@ -110,6 +112,8 @@ const DEFINED = `<defs>
  patternTransform="rotate(45)"><path class="hatch" d="M0 0V5"/></pattern>
 <pattern id="dense" width="3" height="3" patternUnits="userSpaceOnUse"
  patternTransform="rotate(-45)"><path class="hatch" d="M0 0V3"/></pattern>
+<pattern id="pause" width="6" height="6" patternUnits="userSpaceOnUse"
+ patternTransform="rotate(45)"><path class="pause-stripe" d="M0 0V6"/></pattern>
 <pattern id="dots" width="7" height="7" patternUnits="userSpaceOnUse"><circle class="dot"
  cx="2" cy="2" r="1"/></pattern>
 </defs>`;
@@ -118,10 +122,11 @@ const DEFINED = `<defs>
 function drawLost(scene, lanes) {
   if (scene.detail === 'joined') return '';
   const [messages, replies, mode] = [lanes[3], lanes[4], lanes[6]];
-  const at = (place, top, foot) => line('break', scene.x(place), top, scene.x(place), foot);
-  return scene.seen().filter((it) => it.losesLink).map((it) => (
-    at(it.at + 1, messages.top + 6, replies.top + replies.height - 4)
-    + at(it.at + 1, mode.top + 1, mode.top + mode.height - 1))).join('');
+  return scene.seen().filter((it) => it.losesLink).map((it) => {
+    const x = scene.endOf(it.at);
+    return line('break', x, messages.top + 6, x, replies.top + replies.height - 4)
+      + line('break', x, mode.top + 1, x, mode.top + mode.height - 1);
+  }).join('');
 }
 
 /** Signs at what `judge` says of the master, and at what is odd. */
@@ -143,10 +148,10 @@ page.draw = function draw(trace, { view, width, left, chosen, pointed, found, la
   const clip = `<clipPath id="plot">${box('', left, 0, width - left, height)}</clipPath>`;
   return DEFINED + clip + box('paper', 0, 0, width, height)
     + tag('g', { 'clip-path': 'url(#plot)' }, [
-      drawVeil(scene, height),
+      drawPauses(scene, height), drawVeil(scene, height),
       drawColumn(scene, 'pointed', pointed, height), drawColumn(scene, 'chosen', chosen, height),
       ...surprises.map((it) => drawSurprise(scene, it, lanes)),
-      drawLost(scene, lanes),
+      drawLost(scene, lanes), drawMaybes(scene, lanes),
       drawLanes(scene, lanes, height), drawNamed(scene, lanes),
       ...found.filter((at) => at >= scene.first && at < scene.end).slice(0, 2000)
         .map((at) => path('found', `M${round(scene.middle(at) - 4)} 24 h8 l-4 -6z`)),
@@ -165,9 +170,9 @@ function drawWholeVerdict(scene, height) {
 
 /** The whole trace in a narrow strip: modes, what was missed, and where a story hides. */
 page.drawWhole = function drawWhole(trace, width, height) {
-  const count = Math.max(1, trace.exchanges.length);
-  const scene = new Scene(trace, { from: 0, scale: width / count }, width, 0);
-  const modes = scene.spans(trace.modes).map(({ a, b, it, many }) => (
+  const extent = Math.max(1, trace.axis.extent);
+  const scene = new Scene(trace, { from: 0, scale: width / extent }, width, 0);
+  const modes = scene.spans(trace.modes, MODE_EDGES).map(({ a, b, it, many }) => (
     box(`mode ${many > 1 ? 'mixed' : it.value}`, a, height - 8, b - a, 8)));
   const bad = scene.runs((it) => (missed(it) ? 1 : 0)).filter((it) => it.kind);
   const asked = scene.spans(trace.requests, SPAN_OF_REQUEST);

@@ -83,8 +83,8 @@ function onUp(event) {
 function onStrip(event) {
   if (event.buttons === 0 || !state.trace) return;
   const { left, width } = byId('whole').getBoundingClientRect();
-  const at = ((event.clientX - left) / width) * count();
-  look(at - plot() / state.view.scale / 2, state.view.scale);
+  const place = ((event.clientX - left) / width) * extent();
+  look(place - plot() / state.view.scale / 2, state.view.scale);
 }
 
 function listenToPicture() {

@@ -84,7 +84,7 @@ class Pages {
     const part = list.slice(this.first, this.first + Pages.SIZE);
     const end = this.first + part.length;
     const range = part.length ? `${this.first + 1} to ${end} of ${list.length}` : 'none';
-    const heads = this.columns.map((it) => `<th scope="col">${it}</th>`).join('');
+    const heads = this.columns().map((it) => `<th scope="col">${it}</th>`).join('');
     const pager = `<p class="pager"><button type="button" data-turn="-1">Before</button>
       <button type="button" data-turn="1">Next</button></p>`;
     this.panel.innerHTML = `${list.length > Pages.SIZE ? pager : ''}<table>
@@ -132,6 +132,21 @@ function otherNotes({ at }) {
   return (isNamed ? [page.masterShort(master), ...notes] : notes).map(safe);
 }
 
+/** Whether some exchange has a time. */
+const hasTimes = () => state.trace.exchanges.some((it) => it.time !== null);
+
+/** When an exchange began, and how long after the one before. */
+function timeCell(exchange) {
+  if (!hasTimes()) return '';
+  const times = page.timesOf(exchange, state.trace.axis);
+  if (!times) return '<td></td>';
+  const since = times.since === null ? '' : ` <small>+${times.since}</small>`;
+  return `<td class="number time">${times.begun}${since}</td>`;
+}
+
+const maybeNote = ({ at }) => (
+  state.trace.maybes.some((it) => it.at === at) ? 'maybe a wake-up before' : '');
+
 function exchangeRow(exchange) {
   const { sent, came, rate, repeats, fate, losesLink } = exchange;
   const message = sent ? sent.text : 'wake-up';
@@ -139,19 +154,23 @@ function exchangeRow(exchange) {
   const again = repeats >= 0 ? `repeats ${exchangeLink(repeats)}` : '';
   const ticket = exchange.request?.ticket ? `ticket ${exchange.request.ticket.number}` : '';
   const lost = losesLink ? 'link lost' : '';
-  const notes = [noteOfFinding(exchange), ...otherNotes(exchange), again, ticket, lost];
+  const notes = [
+    noteOfFinding(exchange), ...otherNotes(exchange), again, ticket, lost, maybeNote(exchange),
+  ];
   return `<tr data-at="${exchange.at}" class="${exchange.at === state.chosen ? 'is-chosen' : ''}">
-    <td class="number">${exchangeLink(exchange.at)}</td><td>${page.modeName(exchange.mode)}</td>
+    <td class="number">${exchangeLink(exchange.at)}</td>${timeCell(exchange)}
+    <td>${page.modeName(exchange.mode)}</td>
     <td class="mono">${message}</td><td class="mono">${reply}</td>
     <td>${notes.filter(Boolean).join(', ')}</td></tr>`;
 }
 
 const tables = {
   requests: new Pages('requests-panel', 'Requests',
-    ['Ticket', 'Request', 'On the line', 'Told the client', 'Device’s record'],
+    () => ['Ticket', 'Request', 'On the line', 'Told the client', 'Device’s record'],
     () => state.trace.tickets, ticketRow),
   exchanges: new Pages('exchanges-panel', 'Exchanges and wake-ups',
-    ['Number', 'Mode', 'Message', 'Reply', 'Note'], () => state.listed, exchangeRow),
+    () => ['Number', ...(hasTimes() ? ['Time'] : []), 'Mode', 'Message', 'Reply', 'Note'],
+    () => state.listed, exchangeRow),
 };
 
 /** Which exchanges are listed, by what is chosen for it. */
@@ -200,7 +219,7 @@ function exchangeOfLine(number) {
   let [low, high] = [0, exchanges.length];
   while (low < high) {
     const middle = (low + high) >> 1;
-    if (exchanges[middle].line <= number) low = middle + 1;
+    if (exchanges[middle].begins <= number) low = middle + 1;
     else high = middle;
   }
   return exchanges[Math.max(0, low - 1)];
@@ -216,7 +235,7 @@ function showText() {
   let out = '';
   for (let number = first + 1; number <= end; number += 1) {
     const exchange = exchangeOfLine(number);
-    const isChosen = chosen && exchange === chosen && number >= chosen.line;
+    const isChosen = chosen && exchange === chosen && number >= chosen.begins;
     const kind = number === fault?.line ? 'is-bad' : isChosen ? 'is-chosen' : '';
     out += `<div class="${kind}"><a href="#exchange=${exchange?.number}" aria-label="line ${number
     }, draw it">${number}</a><span>${safe(lineText(number).slice(0, 400))}</span></div>`;

@@ -68,6 +68,9 @@ class Exchange {
   attempt = 1;
   losesLink = false;
   isInDoubt = false;
+  /** When it began, in nanoseconds, and its first line: that of its time, if it has one. */
+  time = null;
+  begins = 0;
   step = null;
   request = null;
   reading = null;
@@ -76,6 +79,7 @@ class Exchange {
   constructor(number, line, rate, sent) {
     this.number = number;
     this.line = line;
+    this.begins = line;
     this.rate = rate;
     this.sent = sent;
   }
@@ -99,6 +103,10 @@ class Reader {
   kinds = null;
   odd = [];
   oddities = null;
+  /** The time of the next call, with its line; the latest time; wake-ups that may have been. */
+  time = null;
+  latest = 0;
+  maybes = [];
   /** Whose lines were read, in turn. */
   parts = [];
   starts = [];
@@ -125,6 +133,14 @@ class Reader {
     const { number } = this.exchanges.at(-1);
     const why = `the message before has no reply line; wanted: ${number} < ..`;
     throw new BadLine(why, 1, 'no reply line');
+  }
+
+  /** A call of the line, with the time that stands before it. */
+  add(exchange) {
+    exchange.time = this.time?.time ?? null;
+    exchange.begins = this.time?.line ?? exchange.line;
+    this.time = null;
+    this.exchanges.push(exchange);
   }
 
   /** Whether the last message has no line for its reply yet. */
@@ -215,7 +231,7 @@ function readWake(reader, rest, number) {
   const [rate] = matched(/^(?:COM[123]|none)$/, rest, 'COM1, COM2, COM3 or none');
   reader.begin(number);
   reader.decoder.wake(rate !== 'none');
-  reader.exchanges.push(new Exchange(number, reader.line, rate, null));
+  reader.add(new Exchange(number, reader.line, rate, null));
 }
 
 function readSent(reader, rest, number) {
@@ -224,7 +240,7 @@ function readSent(reader, rest, number) {
   const sent = once(reader.messages, whole, messageOf);
   const exchange = new Exchange(number, reader.line, null, sent);
   exchange.came = undefined;
-  reader.exchanges.push(exchange);
+  reader.add(exchange);
 }
 
 function readCame(reader, rest, number) {
@@ -239,6 +255,32 @@ function readCame(reader, rest, number) {
   }
   const whole = withText(reader, rest, (octets) => reader.decoder.reply(octets));
   last.came = rest === 'none' ? null : once(reader.replies, whole, replyOf);
+}
+
+const NANOSECONDS = 9;
+
+/** When the next call of the line began: a time doesn't go back. */
+function readTime(reader, rest) {
+  const [, seconds, parts = ''] = matched(/^(\d{1,9})(?:\.(\d{1,9}))?$/, rest, 'time SECONDS');
+  reader.refuseWithoutReply();
+  if (reader.time) throw new BadLine('wanted: N wake .., N > .. or maybe wake, behind a time');
+  const time = Number(seconds + parts.padEnd(NANOSECONDS, '0'));
+  if (time < reader.latest) {
+    throw new BadLine('a time before that of the line above; wanted: a later one', BEHIND_TIME);
+  }
+  reader.latest = time;
+  reader.time = { time, line: reader.line };
+}
+
+const BEHIND_TIME = 'time '.length + 1;
+
+/** A wake-up that isn't shown may have been here: it has no number. */
+function readMaybe(reader, rest) {
+  matched(/^wake$/, rest, 'maybe wake');
+  reader.refuseWithoutReply();
+  const { exchanges, line, time } = reader;
+  reader.maybes.push({ at: exchanges.length, line, time: time?.time ?? null });
+  reader.time = null;
 }
 
 function readTicket(reader, rest) {
@@ -393,6 +435,8 @@ const CALLS = new Map([
   ['refused', shown('refused', /^\d+ \w+$/, 'refused N NAME')],
   ['record', readRecord],
   ['carried', readCarried],
+  ['time', readTime],
+  ['maybe', readMaybe],
   ['away', readAway],
   ['events', readEvents],
 ]);
@@ -470,13 +514,13 @@ page.read = function read(text) {
     if (!fault) fault = tryLine(reader, text.slice(start, text[end - 1] === '\r' ? end - 1 : end));
     start = end + 1;
   }
-  const { exchanges, calls, carried, record, away, carriedAway, starts } = reader;
+  const { exchanges, calls, carried, record, away, carriedAway, starts, maybes } = reader;
   const stray = fault ? null : strayLine(reader, text);
   const { verdict, master, kinds, odd, oddities } = stray ? new Reader() : reader;
   fault ??= stray;
   return {
-    text, exchanges, calls, carried, record, away, carriedAway, starts, verdict, master, kinds,
-    odd, oddities, fault,
+    text, exchanges, calls, carried, record, away, carriedAway, starts, maybes, verdict, master,
+    kinds, odd, oddities, fault,
   };
 };
 
@@ -499,5 +543,6 @@ function faultOf(line, error) {
   if (judged || !isOfForm) return judged ?? error;
   const blanks = blankFault(bytesOf(line));
   if (blanks || error instanceof BadLine) return blanks ?? error;
-  return new BadLine(error.message, columnOf(line, error.rest));
+  const ofTimes = /^(?:time|maybe)(?: |$)/.test(line) ? formFault(TIME_FORMS, bytesOf(line)) : null;
+  return ofTimes ?? new BadLine(error.message, columnOf(line, error.rest));
 }

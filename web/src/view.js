@@ -28,6 +28,7 @@ function open(text, name) {
   byId('found').value = '';
   measure();
   firstView();
+  byId('sign-pause').hidden = !state.trace.axis.isCutBehind?.includes(true);
   showFault();
   showCounts();
   showStory();
@@ -76,7 +77,9 @@ function kept(name) {
 
 const plot = () => state.width - state.left;
 const count = () => state.trace.exchanges.length;
-const leastScale = () => Math.min(130, Math.max(plot() - RIGHT, 60) / Math.max(count(), 1));
+/** How many units the picture is wide: without times, one for each exchange. */
+const extent = () => state.trace.axis.extent;
+const leastScale = () => Math.min(130, Math.max(plot() - RIGHT, 60) / Math.max(extent(), 1));
 
 function measure() {
   state.width = Math.max(320, byId('picture').clientWidth);
@@ -92,7 +95,7 @@ function firstView() {
 function look(from, scale) {
   const least = leastScale();
   const good = Math.min(WIDEST, Math.max(scale, least));
-  const most = Math.max(0, count() - (plot() - RIGHT) / good);
+  const most = Math.max(0, extent() - (plot() - RIGHT) / good);
   state.view = { from: Math.min(most, Math.max(0, from)), scale: good };
   redraw();
 }
@@ -108,7 +111,7 @@ page.look = look;
 
 const move = (pixels) => look(state.view.from + pixels / state.view.scale, state.view.scale);
 const placeAt = (x) => {
-  const at = Math.floor(state.view.from + (x - state.left) / state.view.scale);
+  const at = state.trace.axis.at(state.view.from + (x - state.left) / state.view.scale);
   return x >= state.left && at >= 0 && at < count() ? at : null;
 };
 
@@ -116,8 +119,9 @@ const placeAt = (x) => {
 function reveal(at) {
   const { from, scale } = state.view;
   const seen = plot() / scale;
-  if (at >= from + 0.2 && at + 1 <= from + seen - 0.2) return;
-  look(at + 0.5 - seen / 2, scale);
+  const place = state.trace.axis.place(at);
+  if (place >= from + 0.2 && place + 1 <= from + seen - 0.2) return;
+  look(place + 0.5 - seen / 2, scale);
 }
 
 function redraw() {
@@ -145,10 +149,10 @@ function drawNow() {
 function showWindow() {
   const { view } = state;
   const seen = plot() / view.scale;
-  byId('whole').hidden = seen >= count();
+  byId('whole').hidden = seen >= extent();
   const strip = byId('window');
-  strip.style.left = `${(view.from / Math.max(count(), 1)) * 100}%`;
-  strip.style.width = `${Math.max(0.3, Math.min(1, seen / count()) * 100)}%`;
+  strip.style.left = `${(view.from / Math.max(extent(), 1)) * 100}%`;
+  strip.style.width = `${Math.max(0.3, Math.min(1, seen / extent()) * 100)}%`;
 }
 
 function drawWhole() {

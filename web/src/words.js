@@ -203,8 +203,8 @@ const lineText = (number) => {
 /** The lines of an exchange, and of what was said up to the next one. */
 function printedLines(exchange) {
   const { exchanges, starts } = state.trace;
-  const from = exchange.at === 0 ? 1 : exchange.line;
-  const end = exchanges[exchange.at + 1]?.line ?? starts.length + 1;
+  const from = exchange.at === 0 ? 1 : exchange.begins;
+  const end = exchanges[exchange.at + 1]?.begins ?? starts.length + 1;
   const shown = Math.min(end, from + 14);
   const list = [];
   for (let at = from; at < shown; at += 1) {
@@ -258,6 +258,20 @@ function findingOf({ at, finding }) {
     ${reasonInWords(verdict)} <a href="#line=${verdict.line}">Its line</a></p>`;
 }
 
+/** When an exchange began, and the cycle time that is seen: since the one before it. */
+function timeInWords(exchange) {
+  const times = page.timesOf(exchange, state.trace.axis);
+  if (!times) return '';
+  const since = times.since === null ? '' : `, ${times.since} after the one before`;
+  return `<p class="time">It began at <strong>${times.begun}</strong>${since}.</p>`;
+}
+
+function maybeInWords({ at }) {
+  return state.trace.maybes.filter((it) => it.at === at).map(({ time }) => (
+    `<li>Before it, a wake-up that isn’t shown may have been made${
+      time === null ? '' : `, at ${page.timeText(time)}`}.</li>`)).join('');
+}
+
 function showDetail() {
   const at = state.pointed ?? state.chosen;
   const place = byId('detail');
@@ -271,8 +285,9 @@ function showDetail() {
   const notes = about.notes.map(([text, ids]) => `<li>${safe(text)} ${rules(ids)}</li>`);
   place.innerHTML = `<h2><a href="${linkTo(exchange)}">${kind} ${exchange.number}</a>
     <small>${page.modeName(exchange.mode)}</small></h2>${findingOf(exchange)}${alsoFound(exchange)}
-    ${printedLines(exchange)}
-    ${meaningTable(about)}<ul class="notes">${notes.join('')}${aboutRequest(exchange)}</ul>`;
+    ${timeInWords(exchange)}${printedLines(exchange)}
+    ${meaningTable(about)}<ul class="notes">${notes.join('')}${maybeInWords(exchange)}${
+      aboutRequest(exchange)}</ul>`;
 }
 
 const say = (text) => { byId('said').textContent = text; };
@@ -284,5 +299,8 @@ function sayExchange(exchange) {
   const back = rate === null ? `, reply: ${page.replyName(exchange)}` : ` ${rate}`;
   const again = repeats >= 0 ? ', repeated' : '';
   const found = FINDINGS[finding] ? `, ${FINDINGS[finding]}` : '';
-  say(`${number}, ${page.modeName(mode)}: ${page.messageName(exchange)}${again}${back}${found}`);
+  const times = page.timesOf(exchange, state.trace.axis);
+  const when = times ? `, at ${times.begun}` : '';
+  say(`${number}, ${page.modeName(mode)}${when}: ${page.messageName(exchange)}${again}${back}${
+    found}`);
 }
