@@ -1,5 +1,5 @@
-"""Bad lines: the page says of a line that it refuses what `iolink judge --why` says of it, and web/line.html of a script
-what `iolink trace --why` says.
+"""Bad lines: the page says of a line that it refuses what `iolink judge --why` says of it, and web/line.html of a
+script what `iolink trace --why` says.
 
 The traces are the bad ones among the rows of tests/rows, single lines that tests/why/run makes bad, and whole traces in
 which a line is made bad, goes, comes twice, or changes its place. The page takes some of what `judge` refuses: a trace

@@ -534,7 +534,7 @@ def check_silence(room):
 
 CHECKS = [
     check_made, check_examples, check_traces, *RECORDS, check_without_texts, check_broken, *BAD_LINES, check_odd_lines,
-    check_story, check_details,
-    check_keys, check_pointer, check_touch, check_find, check_faults, check_layout, check_wanted, check_paste_and_drop,
-    check_reload, check_picture_file, check_table, check_rules, check_contrast, check_pictures, *VERDICTS, check_large, *TIMES,
+    check_story, check_details, check_keys, check_pointer, check_touch, check_find, check_faults, check_layout,
+    check_wanted, check_paste_and_drop, check_reload, check_picture_file, check_table, check_rules, check_contrast,
+    check_pictures, *VERDICTS, *TIMES, check_large,
 ]

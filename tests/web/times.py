@@ -150,7 +150,9 @@ def check_scale(room):
     yield "pause: keys", unlike(room.chosen(), 1)
 
 
-PLACES = "(({axis}) => [[...axis.places], [...axis.times].map((_, at) => axis.at(axis.place(at) + 0.5))])(page.state.trace)"
+PLACES = """(({axis}) => [
+  [...axis.places], axis.times.map((_, at) => axis.at(axis.place(at) + 0.5)),
+])(page.state.trace)"""
 
 
 def check_places(room):

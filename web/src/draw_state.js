@@ -18,7 +18,8 @@ function drawMode(scene, { a, b, it, many }, top) {
 function drawModes(scene, { top }) {
   const { modes, mode } = scene.trace;
   const last = { from: scene.count, to: scene.count + 1e6, value: mode ?? 'untold' };
-  const spans = scene.spans([...modes, last], { ...MODE_EDGES, rank: (it) => MODE_RANKS[it.value] });
+  const rank = (it) => MODE_RANKS[it.value];
+  const spans = scene.spans([...modes, last], { ...MODE_EDGES, rank });
   return spans.map((it) => drawMode(scene, it, top)).join('');
 }
 
