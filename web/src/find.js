@@ -2,7 +2,7 @@
 
 const FIND_FORMS = {
   octets: 'D4 41', ticket: '1', index: '16/0 or 0x10', exchange: '18', event: '8CA0',
-  command: 'Operate', text: '', verdict: '',
+  command: 'Operate', time: '3.8 ms', text: '', verdict: '',
 };
 
 /** Octets as the program prints them, or null if a text is none. */
@@ -59,7 +59,18 @@ function findText(text) {
   return [...new Set(lines.map((it) => exchangeOfLine(it)?.at).filter((it) => it !== undefined))];
 }
 
+const NANOSECONDS_IN = { s: 1e9, ms: 1e6, µs: 1e3, us: 1e3, ns: 1 };
+
+/** The exchange that was the last to begin by a time. */
+function findTime(text) {
+  const [, number, unit = 's'] = /^(\d+(?:\.\d+)?) ?(s|ms|µs|us|ns)?$/.exec(text) ?? [];
+  const wanted = Math.round(Number(number) * NANOSECONDS_IN[unit]);
+  const last = state.trace.exchanges.findLast((it) => it.time !== null && it.time <= wanted);
+  return last ? [last.at] : [];
+}
+
 const FINDERS = {
+  time: findTime,
   octets: findOctets,
   text: findText,
   verdict: () => [...new Set(namedPlaces().map((it) => it.at))],

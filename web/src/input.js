@@ -18,13 +18,18 @@ const KEYS = {
   },
 };
 
-/** What takes keys itself: the picture doesn't get them from there. */
-const TAKES_KEYS = (
-  'input, select, textarea, button, a, summary, dialog, #detail, [role="tabpanel"]');
+/** What takes all keys itself, and what takes some: the picture doesn't get them from there. */
+const TAKES_ALL = 'input, select, textarea, dialog, [role="tab"]';
+const TAKES_SOME = [
+  ['button, a, summary', ['Enter', ' ']],
+  ['#detail, [role="tabpanel"]', ['Home', 'End', 'PageUp', 'PageDown']],
+];
+const isTaken = ({ target, key }) => Boolean(target.closest?.(TAKES_ALL))
+  || TAKES_SOME.some(([query, keys]) => keys.includes(key) && target.closest?.(query));
 
 function onKey(event) {
   if (event.ctrlKey || event.metaKey || event.altKey) return;
-  if (!state.trace || event.target.closest?.(TAKES_KEYS)) return;
+  if (!state.trace || isTaken(event)) return;
   const act = KEYS[event.key] ?? KEYS[event.key.toLowerCase()];
   if (!act) return;
   event.preventDefault();

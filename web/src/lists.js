@@ -132,6 +132,9 @@ function otherNotes({ at }) {
   return (isNamed ? [page.masterShort(master), ...notes] : notes).map(safe);
 }
 
+/** A reply without what most replies have. */
+const withoutUsual = (reply) => reply.replace(' event 0', '').replace(' pd valid', '');
+
 /** Whether some exchange has a time. */
 const hasTimes = () => state.trace.exchanges.some((it) => it.time !== null);
 
@@ -151,6 +154,7 @@ function exchangeRow(exchange) {
   const { sent, came, rate, repeats, fate, losesLink } = exchange;
   const message = sent ? sent.text : 'wake-up';
   const reply = rate ?? (came ? came.text : fate === 'open' ? 'no line' : 'none');
+  const cell = (text, full) => `<td class="mono" title="${full}">${text}</td>`;
   const again = repeats >= 0 ? `repeats ${exchangeLink(repeats)}` : '';
   const ticket = exchange.request?.ticket ? `ticket ${exchange.request.ticket.number}` : '';
   const lost = losesLink ? 'link lost' : '';
@@ -160,7 +164,7 @@ function exchangeRow(exchange) {
   return `<tr data-at="${exchange.at}" class="${exchange.at === state.chosen ? 'is-chosen' : ''}">
     <td class="number">${exchangeLink(exchange.at)}</td>${timeCell(exchange)}
     <td>${page.modeName(exchange.mode)}</td>
-    <td class="mono">${message}</td><td class="mono">${reply}</td>
+    ${cell(message, message)}${cell(withoutUsual(reply), reply)}
     <td>${notes.filter(Boolean).join(', ')}</td></tr>`;
 }
 

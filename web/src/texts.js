@@ -7,16 +7,42 @@ function openText(text, name) {
   byId('example').value = name.startsWith('example ') ? name.slice(8) : '';
 }
 
+/** A longer text is packed before it is kept: a browser keeps some millions of characters. */
+const LONGEST_PLAIN = 500_000;
+
+const through = (octets, way) => (
+  new Response(new Blob([octets]).stream().pipeThrough(way)).arrayBuffer());
+
+async function packed(text) {
+  const octets = new Uint8Array(await through(text, new CompressionStream('gzip')));
+  const parts = [];
+  for (let at = 0; at < octets.length; at += 8192) {
+    parts.push(String.fromCharCode(...octets.subarray(at, at + 8192)));
+  }
+  return btoa(parts.join(''));
+}
+
+async function unpacked(text) {
+  const octets = Uint8Array.from(atob(text), (it) => it.charCodeAt(0));
+  return new TextDecoder().decode(await through(octets, new DecompressionStream('gzip')));
+}
+
+async function keepGiven(text, name) {
+  const isLong = text.length > LONGEST_PLAIN;
+  keep('given', JSON.stringify(isLong ? { packed: await packed(text), name } : { text, name }));
+}
+
 /** Opens a text that is no example, and keeps it for when the page is loaded again. */
 function openGiven(text, name) {
-  keep('given', JSON.stringify({ text, name }));
+  keepGiven(text, name);
   openText(text, name);
   history.replaceState(null, '', location.pathname);
 }
 
-function openKept() {
-  const { text, name } = JSON.parse(kept('given') ?? '{}');
+async function openKept() {
+  const { text, packed: rest, name } = JSON.parse(kept('given') ?? '{}');
   if (text !== undefined) openText(text, name);
+  else if (rest) openText(await unpacked(rest), name);
 }
 
 function openExample(id) {
@@ -25,8 +51,14 @@ function openExample(id) {
   return Boolean(script);
 }
 
+/** UTF-16 is told by its first two octets: some shells write it. All else is UTF-8. */
+const ENCODINGS = { 'ff,fe': 'utf-16le', 'fe,ff': 'utf-16be' };
+
 async function openFile(file) {
-  if (file) openGiven(await file.text(), file.name);
+  if (!file) return;
+  const octets = new Uint8Array(await file.arrayBuffer());
+  const mark = [...octets.subarray(0, 2)].map((it) => it.toString(16)).join();
+  openGiven(new TextDecoder(ENCODINGS[mark] ?? 'utf-8').decode(octets), file.name);
 }
 
 /** Follows the address to an example as well. */
@@ -74,16 +106,16 @@ function listenToPasteAndDrop() {
   });
 }
 
-function begin() {
+async function begin() {
   const names = examples.map((it) => it.dataset.example);
   byId('example').append(...names.map((it) => new Option(it, it)));
   listen();
   listenToTexts();
   listenToPasteAndDrop();
-  if (!location.hash.includes('example=')) openKept();
+  if (!location.hash.includes('example=')) await openKept();
   followToText();
   if (!state.trace) openExample(examples[0].dataset.example);
+  page.show = openText;
 }
 
-page.show = openText;
 begin();

@@ -5,9 +5,21 @@ function showFault() {
   const place = byId('fault');
   place.hidden = !fault;
   if (!fault) return;
-  place.innerHTML = `<pre>${safe(page.faultSaid(fault))}</pre>${badLine(fault)}
+  place.innerHTML = `<pre>${safe(page.faultSaid(fault))}</pre>${badLine(fault)}${hintAt(fault)}
     ${fault.isStray ? 'All else' : 'What stands before it'} is drawn.
     <a href="#line=${fault.line}">See it in the text</a>.`;
+}
+
+/** What else a text may be that has such a line, and what is wanted in its place. */
+const OTHERS = [
+  [/^\d+\.\d+ (?:wake|(?:0x)?[0-9A-Fa-f]{2})$/, 'judge --octets RATE --trace'],
+  [/^(?:urgent|wire|param|kind|other|devices|limits|output) |^(?:read|write|turn|collect) \d/,
+    'trace'],
+];
+
+function hintAt({ text }) {
+  const [, command] = OTHERS.find(([form]) => form.test(text)) ?? [];
+  return command ? `Open what <code>iolink ${command}</code> prints of this text.<br>` : '';
 }
 
 /** What is wrong with a line, as `iolink judge --why` says it. */
