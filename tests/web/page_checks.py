@@ -1,5 +1,6 @@
 """The checks of the page. Each gives pairs: what was checked, and what is wrong with it, or ''."""
 import glob
+import json
 import os
 import re
 import subprocess
@@ -11,7 +12,7 @@ from counting import counted, cut_off_and_carried, more_than_asked
 from large import EXCHANGES, check_large, repeated
 from layout import CHECKS as LAYOUT
 from records import CHECKS as RECORDS
-from times import CHECKS as TIMES
+from times import CHECKS as TIMES, OCTETS
 from trace_page import ROOT, missing, read, script_of, unlike
 from verdicts import CHECKS as VERDICTS
 
@@ -613,6 +614,21 @@ def check_odd_lines(room):
     room.open_text("")
     yield "no text", room.fault() or unlike(room.counts(), counted(""))
     yield "no text: choice", unlike(room.chosen(), None)
+
+
+def check_shown(room):
+    """In another browser: each trace of the examples and the rows is read, counted and drawn."""
+    room.open_page()
+    texts = {name: trace for name, trace in room.examples().items() if trace} | room.row_traces() | {"times": OCTETS}
+    for name, text in texts.items():
+        room.window.run(f"(page.show({json.dumps(text)}, 'given'), 0)")
+        room.window.rest_drawn()
+        yield f"{name}: fault", room.fault()
+        yield f"{name}: counts", unlike(room.counts(), counted(text))
+        drawn = room.window.run("document.querySelector('#picture svg .sent') !== null")
+        yield f"{name}: drawn", unlike(drawn, re.search(r"^\d", text, re.M) is not None)
+    marks = room.window.run("document.querySelectorAll('#picture .tick.time').length")
+    yield "times: marks", "" if marks > 3 else f"only {marks}"
 
 
 def check_silence(room):
