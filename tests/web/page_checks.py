@@ -23,7 +23,7 @@ PAIRS = [
     ("ink", "isdu"), ("ink", "diagnosis"), ("ink", "process"), ("ink", "came"), ("ink", "chosen"),
     ("doubt", "doubt-fill"), ("did", "did-fill"), ("good", "good-fill"), ("ink", "panel"),
 ]
-PICTURES = ["trace_cable_pulled.png", "trace_one_read.png"]
+PICTURES = ["live_line.png", "trace_cable_pulled.png", "trace_one_read.png"]
 MOST_OCTETS = 150_000
 MOST_LINES, WIDTH = 800, 100
 
