@@ -135,6 +135,22 @@ def check_same_words(room):
     yield "kinds of bad lines", "" if len(kinds) > 12 else f"only {sorted(kinds)}"
 
 
+BYTES = [b"1 wake COM\xe4\n", b"1 wake COM2\n2 > A2 \xff\xfe\n", b"# Ger\xe4t\n1 wake COM2\n2 > A2 0\xc3\n"]
+
+
+def check_bytes(room):
+    """A file that is no UTF-8: its bytes are told as the program tells them."""
+    room.open_page()
+    for at, octets in enumerate(BYTES):
+        with open(f"{room.folder}/bytes{at}", "wb") as it:
+            it.write(octets)
+        room.window.choose_file("#file", f"{room.folder}/bytes{at}")
+        room.window.until(f"page.state.name === 'bytes{at}'")
+        words = [room.program, "judge", "--why"]
+        ran = subprocess.run(words, input=octets, stdout=subprocess.DEVNULL, stderr=subprocess.PIPE, check=False)
+        yield f"bytes {octets}", unlike(f"iolink: {room.window.run(SAID)}\n", ran.stderr.decode())
+
+
 SCRIPTS = 60
 # Of quicker changes of the address the browser leaves some out.
 PAUSE = 0.06
@@ -171,6 +187,16 @@ def check_scripts(room):
         yield f"script {text[:60]!r}", missing(f"iolink: {program}\n", f"{said}\n")
     yield "bad scripts", "" if len(tried) > SCRIPTS / 2 else f"only {len(tried)} are refused"
     yield "bad scripts: the session stays", unlike(room.window.run("page.bench.lines"), before)
+    fields = {"index": "1 x", "subindex": "256", "octets": "4"}
+    for field, value in fields.items():
+        room.window.go(LIVE)
+        room.window.run(
+            f"(document.getElementById('{field}').value = '{value}', document.querySelector('[data-act=write]').click())"
+        )
+        places = {"index": "16", "subindex": "0", "octets": "4344", field: value}
+        lines = [*room.window.run("page.bench.lines"), "write {index} {subindex} {octets}".format(**places)]
+        said = room.window.run("document.getElementById('refusal').textContent")
+        yield f"typed {field}", missing(f"iolink: {refusal(room, 'trace', chr(10).join(lines))}\n{lines[-1]}", said)
     room.window.go(f"{LIVE}#script=read%2016%20x%0Aturn%203")
     said = room.window.run("document.getElementById('refusal').textContent")
     wanted = 'iolink: line 1: bad line\n  column 9: "x" is no subindex (a number from 0 to 255)\nread 16 x'
@@ -179,5 +205,5 @@ def check_scripts(room):
     yield "bad script at first: a story instead", missing("ticket 1 done written", told)
 
 
-CHECKS = [check_same_words]
+CHECKS = [check_same_words, check_bytes]
 OF_LIVE = [check_scripts]

@@ -20,9 +20,14 @@ class BadLine extends Error {
   }
 }
 
-/** The bytes of a text, each as one character. */
-const bytesOf = (text) => (/^[\0-\x7f]*$/.test(text) ? text
-  : Array.from(new TextEncoder().encode(text), (it) => String.fromCharCode(it)).join(''));
+/** The bytes of a text, each as one character: a file that is no UTF-8 has surrogates for some. */
+function bytesOf(text) {
+  if (/^[\0-\x7f]*$/.test(text)) return text;
+  if (/^[\0-\x7f\udc80-\udcff]*$/.test(text)) {
+    return Array.from(text, (it) => String.fromCharCode(it.charCodeAt(0) & 0xff)).join('');
+  }
+  return Array.from(new TextEncoder().encode(text), (it) => String.fromCharCode(it)).join('');
+}
 
 const isPrintable = (byte) => byte >= ' ' && byte <= '~';
 const shownByte = (byte) => (isPrintable(byte) ? byte

@@ -54,11 +54,22 @@ function openExample(id) {
 /** UTF-16 is told by its first two octets: some shells write it. All else is UTF-8. */
 const ENCODINGS = { 'ff,fe': 'utf-16le', 'fe,ff': 'utf-16be' };
 
-async function openFile(file) {
-  if (!file) return;
-  const octets = new Uint8Array(await file.arrayBuffer());
+/** A text of octets that are no UTF-8: each one above 0x7F is a surrogate, which tells it. */
+const textOfBytes = (octets) => Array.from(octets, (it) => (
+  String.fromCharCode(it > 0x7f ? FIRST_BYTE + it : it))).join('');
+const FIRST_BYTE = 0xdc00;
+
+function textOfFile(octets) {
   const mark = [...octets.subarray(0, 2)].map((it) => it.toString(16)).join();
-  openGiven(new TextDecoder(ENCODINGS[mark] ?? 'utf-8').decode(octets), file.name);
+  try {
+    return new TextDecoder(ENCODINGS[mark] ?? 'utf-8', { fatal: true }).decode(octets);
+  } catch {
+    return textOfBytes(octets);
+  }
+}
+
+async function openFile(file) {
+  if (file) openGiven(textOfFile(new Uint8Array(await file.arrayBuffer())), file.name);
 }
 
 /** Follows the address to an example as well. */
