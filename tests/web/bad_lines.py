@@ -190,9 +190,8 @@ def check_scripts(room):
     fields = {"index": "1 x", "subindex": "256", "octets": "4"}
     for field, value in fields.items():
         room.window.go(LIVE)
-        room.window.run(
-            f"(document.getElementById('{field}').value = '{value}', document.querySelector('[data-act=write]').click())"
-        )
+        room.window.run(f"document.getElementById('{field}').value = '{value}'")
+        room.window.run("document.querySelector('[data-act=write]').click()")
         places = {"index": "16", "subindex": "0", "octets": "4344", field: value}
         lines = [*room.window.run("page.bench.lines"), "write {index} {subindex} {octets}".format(**places)]
         said = room.window.run("document.getElementById('refusal').textContent")

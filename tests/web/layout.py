@@ -1,9 +1,9 @@
 """Where things stand: the picture near the top, rows of the list, and on a phone nothing over something else."""
 import json
 
-from trace_page import ROOT, missing, unlike
+from times import with_times
+from trace_page import ROOT, unlike
 
-LIVE = f"file://{ROOT}/web/line.html"
 # Above the picture, in pixels.
 MOST_ABOVE = 200
 LEAST_ROWS = 8
@@ -80,10 +80,17 @@ def judged(trace):
     ]) + "\n"
 
 
+def timed(trace):
+    """A trace with times, and with a pause of ten hours before its last exchanges."""
+    begun = [at * 2_300_000 + (36_000 * 10**9 if at > 17 else 0) for at in range(20)]
+    return with_times(trace, iter(begun))
+
+
 def texts_of(room):
     """Texts of each kind, by name."""
     examples = {name: trace for name, trace in room.examples().items() if trace}
     yield from examples.items()
+    yield "timed", timed(examples["cable_pulled"])
     yield "judged", judged(examples["cable_pulled"])
     yield "a bad line", f"{examples['cable_pulled']}what is this, in a line that is so long that it needs two of them\n"
     yield "a bad line, judged", judged(examples["cable_pulled"]) + "odd 1\n"
@@ -141,4 +148,20 @@ def check_phone(room):
     window.resize(*window.size)
 
 
-CHECKS = [check_top, check_phone]
+def check_scales(room):
+    """With times, the labels of the scale keep apart, however near or far the picture is."""
+    window = room.window
+    room.open_page()
+    text = timed(room.examples()["cable_pulled"])
+    for wide in (390, 1280):
+        window.resize(wide, 900)
+        show(window, text)
+        for scale in (0, 14, 20, 40, 60, 120, 240):
+            for place in (0, 15.5):
+                window.run(f"page.look({place}, {scale})")
+                window.rest_drawn()
+                yield f"scale of times at {wide} pixels, {scale}, {place}", "; ".join(window.run(OVERLAPS)[:6])
+    window.resize(*window.size)
+
+
+CHECKS = [check_top, check_phone, check_scales]

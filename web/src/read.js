@@ -38,7 +38,8 @@ const KIND = '(?:first|last) (?:keeps|forgets)';
 const KINDS = new RegExp(`^${KIND}(?: or ${KIND}){0,2}$`);
 
 /** How much of the line that is read stands before what doesn't match, in bytes. */
-const columnOf = (line, rest) => bytesOf(line).length - bytesOf(rest).length + 1;
+const columnOf = (line, rest) => (
+  Math.max(0, bytesOf(line).length - bytesOf(rest).length) + 1);
 
 /** What doesn't match the form of what is wanted in its place. */
 class NoMatch extends Error {
