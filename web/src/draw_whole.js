@@ -20,6 +20,7 @@ page.prepare = function prepare(trace) {
   const made = {
     ...trace,
     axis: page.axisOf(trace.exchanges),
+    hasTimes: trace.exchanges.some((it) => it.time !== null),
     otherCalls: otherCallsOf(trace.calls),
     surprises: trace.requests.filter((it) => it.isSurprise),
     toldOfDevice: trace.requests.filter((it) => (

@@ -135,12 +135,9 @@ function otherNotes({ at }) {
 /** A reply without what most replies have. */
 const withoutUsual = (reply) => reply.replace(' event 0', '').replace(' pd valid', '');
 
-/** Whether some exchange has a time. */
-const hasTimes = () => state.trace.exchanges.some((it) => it.time !== null);
-
 /** When an exchange began, and how long after the one before. */
 function timeCell(exchange) {
-  if (!hasTimes()) return '';
+  if (!state.trace.hasTimes) return '';
   const times = page.timesOf(exchange, state.trace.axis);
   if (!times) return '<td></td>';
   const since = times.since === null ? '' : ` <small>+${times.since}</small>`;
@@ -173,7 +170,7 @@ const tables = {
     () => ['Ticket', 'Request', 'On the line', 'Told the client', 'Device’s record'],
     () => state.trace.tickets, ticketRow),
   exchanges: new Pages('exchanges-panel', 'Exchanges and wake-ups',
-    () => ['Number', ...(hasTimes() ? ['Time'] : []), 'Mode', 'Message', 'Reply', 'Note'],
+    () => ['Number', ...(state.trace.hasTimes ? ['Time'] : []), 'Mode', 'Message', 'Reply', 'Note'],
     () => state.listed, exchangeRow),
 };
 
