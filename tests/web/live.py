@@ -158,6 +158,20 @@ def check_sessions(room):
     yield "sessions: what they bring", "" if carried > SESSIONS / 2 and unknown > SESSIONS / 20 else few
 
 
+def check_anew(room):
+    """A line of which no call was made yet: its script is shown, and what was before can be had again."""
+    window = room.window
+    window.go(ADDRESS)
+    before = seen_of(window)
+    window.run("document.getElementById('anew').click()")
+    begun = seen_of(window)
+    yield "live: anew, without a call", unlike(begun["trace"], ["record 0"])
+    shown = window.run("document.getElementById('script').textContent")
+    yield "live: anew, its script", unlike(shown.splitlines(), begun["lines"])
+    window.run("document.getElementById('undo').click()")
+    yield "live: anew, and back", unlike(seen_of(window), before)
+
+
 def check_script(room):
     """Going back, the link that has the script, and a line that the program refuses."""
     window = room.window
@@ -231,7 +245,7 @@ def check_rows(room):
 
 
 CHECKS = [
-    check_opening, check_stories, check_sessions, check_script, *BAD_SCRIPTS, check_old_browser, check_rows,
+    check_opening, check_stories, check_sessions, check_anew, check_script, *BAD_SCRIPTS, check_old_browser, check_rows,
 ]
 
 

@@ -209,7 +209,7 @@ function showBench() {
   showJudged();
   const { scale } = state.view;
   open(textOfLines(ran.trace) + (hasTwoDevices(ran.lines) ? '' : ran.judged), 'a live line');
-  choose(count() - 1, { quiet: true });
+  choose(count() > 0 ? count() - 1 : null, { quiet: true });
   look(extent(), Math.min(SCALES[1], Math.max(SCALES[0], scale)));
   byId('script').textContent = textOfLines(bench.lines);
   byId('took').textContent = `${ran.made} calls of the line, run and judged in ${
