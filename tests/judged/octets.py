@@ -1,8 +1,10 @@
-"""Calls as the UART decoder of a logic analyser shows them: an octet a line, with its time."""
-from itertools import takewhile
+"""Calls as the UART decoder of a logic analyser shows them: an octet a line, with its time.
 
+A call of the wire that is a wake-up request has a test read behind it, of which a trace says only
+whether it was answered. On the line its reply has octets, which have to be those of the device.
+"""
 from rules import EVENT_FLAG, is_readable, with_checksum
-from search import Wake
+from search import Exchange, Wake
 
 # In nanoseconds, at COM3; an octet has 11 bits
 BIT = 10**9 // 230400
@@ -24,9 +26,11 @@ def min_cycle(calls):
 
 
 def event_flag(calls):
-    """That of the first good reply before a wake-up request, 0 where there is none."""
-    for call in takewhile(lambda call: not isinstance(call, Wake), calls):
-        if is_readable(call.sent, call.came):
+    """That of the first good reply of these, 0 where there is none. Up to it no event is confirmed,
+    so a device that shows events there may show them from the wake-up request on: it has to, where
+    it showed them before. Wake-up requests between leave them as they are."""
+    for call in calls:
+        if not isinstance(call, Wake) and is_readable(call.sent, call.came):
             return call.came[-1] & EVENT_FLAG
     return 0
 
@@ -36,12 +40,21 @@ def test_reply(calls, place):
     return with_checksum(bytes([min_cycle(calls), event_flag(calls[place + 1 :])]), 1)
 
 
-def octets_of(calls, place):
-    """A call's message, or its test read, and what came back."""
+def exchange_of(calls, place):
+    """A call, or the test read behind it where it is a wake-up request."""
     call = calls[place]
     if isinstance(call, Wake):
-        return TEST_READ, test_reply(calls, place) if call.is_answered else b""
-    return call.sent, call.came or b""
+        came = test_reply(calls, place) if call.is_answered else None
+        return Exchange(call.number, TEST_READ, came)
+    return call
+
+
+def on_the_line(calls):
+    """The calls with the test reads behind wake-up requests, as the line has them."""
+    for place, call in enumerate(calls):
+        if isinstance(call, Wake):
+            yield call
+        yield exchange_of(calls, place)
 
 
 def exported(calls, shows_wakes):
@@ -58,9 +71,9 @@ def exported(calls, shows_wakes):
         if shows_wakes and isinstance(call, Wake):
             lines.append(f"{time // 10**9}.{time % 10**9:09} wake\n")
             time += PAUSE
-        sent, came = octets_of(calls, place)
-        show(sent, 0)
+        exchange = exchange_of(calls, place)
+        show(exchange.sent, 0)
         time += RESPONSE
-        show(came, GAP)
+        show(exchange.came or b"", GAP)
         time += PAUSE
     return "".join(lines).encode()

@@ -26,6 +26,23 @@ def writer_of_scripts():
 Writer = writer_of_scripts()
 
 
+# By its seed a script that is chosen, not drawn. In that of seed 0 a device shows two events, and a
+# session ends before its first good reply: only its test read tells of the events.
+CHOSEN = {
+    0: b"""\
+page 17 01 11 00 00 12 34 00 01 07
+wire raise 16 B41F
+wire clean 20
+wire raise 12 D597
+wire raise 5B BD8C
+wire outlost 3
+wire clean 1
+wire outlost 3
+turn 60
+"""
+}
+
+
 def script(seed):
     """A script of a port for our own devices, or by every second seed for any."""
     return f"devices {DEVICES[seed % 2]}\n".encode() + Writer(seed).script()
