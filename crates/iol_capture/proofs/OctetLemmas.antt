@@ -1,6 +1,6 @@
 -- A judge that is told the octets of a device by the rules, for `honest_octets_are_never_blamed`.
 -- Begin at the end, with `octet_texts`.
-use Rattle.std.proofs.Common.{◌≡◌, ℕ, Option, Some, None, Result, Ok, List, [], ◌∷◌, sym, ap, ◌∙◌, arith}
+use Rattle.std.proofs.Common.{◌≡◌, ℕ, Option, Some, None, Result, Ok, Err, List, [], ◌∷◌, sym, ap, ◌∙◌, subst, arith}
 use Rattle.std.specs.Prelude.{IfOk, map, option_and_then}
 use Rattle.std.specs.List.{cons_option}
 use Rattle.std.specs.Option.{option_map_or}
@@ -12,7 +12,7 @@ use Rattle.iol_splitter.specs.declared.fault.SplitFault.{SplitFault}
 use Rattle.iol_splitter.specs.declared.octet_line.OctetLine.{OctetLine}
 use Rattle.iol_splitter.specs.declared.octet_line.OctetLine.TheVariants as line
 use Rattle.iol_splitter.specs.declared.passed.SplitItem.{SplitItem}
-use Rattle.iol_splitter.specs.Fair.{OctetsNeverBlamed, judge_after_item, passing_of}
+use Rattle.iol_splitter.specs.Fair.{OctetsNeverBlamed, SaysNothing, judge_after_item, passing_of}
 use Rattle.iol_splitter.specs.Splitting.{octet_split, wake_split}
 use Rattle.iol_splitter.specs.State.{Splitting, new_splitter}
 use Rattle.iol_splitter.specs.Steps.{SplitStep}
@@ -20,7 +20,7 @@ use Rattle.iol_splitter.specs.Written.{all_split, stream_of, with_told}
 use Rattle.iol_capture.specs.declared.telling.Telling.TheVariants.{Octets}
 use Rattle.iol_capture.specs.Judging.{Judging, or_bad_form}
 use Rattle.iol_capture.specs.Octets.{Hearing, new_hearing, octet_line_form, passed_by_octet, passed_by_request, hearing_after_line, step_heard}
-use Rattle.iol_capture.specs.HonestCapture.{IsUnblamed, OctetTextsNeverBlamed, stream_item_of, shown_stream}
+use Rattle.iol_capture.specs.HonestCapture.{OctetTextsNeverBlamed, stream_item_of, shown_stream}
 use Rattle.iol_capture.proofs.ReadLemmas.{judged_from, stays_bad}
 
 -- the judge is told what was split
@@ -79,14 +79,17 @@ module _ (judging : Judging) where
 
 -- The law
 
-unblamed : (old end : JudgeState) (result : Result (List SplitItem) SplitFault)
-    → IfOk result (λ what. IsUnblamed (told_all old (map passing_of what)))
-    → split_told old result ≡ Ok end → IsUnblamed end
-unblamed old end result never is exchange reason blamed = grind arith
+says_nothing : (old end : JudgeState) (result : Result (List SplitItem) SplitFault)
+    → IfOk result (λ what. SaysNothing (told_all old (map passing_of what)))
+    → split_told old result ≡ Ok end → SaysNothing end
+says_nothing old end (Ok what) never is =
+    let same : told_all old (map passing_of what) ≡ end = cc in
+    subst SaysNothing same never
+says_nothing old end (Err fault) never is = absurd (cc)
 
 pub octet_texts : OctetsNeverBlamed → OctetTextsNeverBlamed
 octet_texts law odd rate text judging h =
-    unblamed (new_judge odd) judging.judged (all_split (new_splitter rate) (stream_of h.items))
+    says_nothing (new_judge odd) judging.judged (all_split (new_splitter rate) (stream_of h.items))
     (law odd rate h.items h.written h.far h.silence h.honest)
     (ap (λ stream. split_told (new_judge odd) (all_split (new_splitter rate) stream)) (sym h.shown)
     ∙ lines_split judging (lines_of text) 0 (new_hearing rate odd) h.judged)

@@ -1,5 +1,5 @@
 -- Captures of devices by the rules, and the laws: none of them is called not honest.
-use Rattle.std.specs.Prelude.{◌≡◌, ◌≢◌, ℕ, Option, Some, None, IfSome, option_and_then, Ok, List, [], ◌∷◌, map}
+use Rattle.std.specs.Prelude.{◌≡◌, ◌≢◌, ℕ, Option, Some, None, IfSome, option_and_then, Ok, List, [], ◌∷◌}
 use Rattle.std.specs.List.{filter_map}
 use Rattle.iol_far.specs.Far.{Far}
 use Rattle.iol_far.specs.Octets.{octets_in}
@@ -13,9 +13,9 @@ use Rattle.iol_judge.specs.Judged.{JudgeState}
 use Rattle.iol_script.specs.Text.{lines_of}
 use Rattle.iol_splitter.specs.declared.octet_line.OctetLine.{OctetLine}
 use Rattle.iol_splitter.specs.declared.octet_line.OctetLine.TheVariants as line
-use Rattle.iol_splitter.specs.Fair.{passing_of}
+use Rattle.iol_splitter.specs.Fair.{SaysNothing, items_passed}
 use Rattle.iol_splitter.specs.State.{new_splitter}
-use Rattle.iol_splitter.specs.Written.{AreWritten, Item, Octet, Request, StreamItem, items_told, stream_of}
+use Rattle.iol_splitter.specs.Written.{AreWritten, Item, Octet, Request, StreamItem, stream_of}
 use Rattle.iol_capture.specs.declared.trace_line.TraceLine.{TraceLine}
 use Rattle.iol_capture.specs.declared.trace_line.TraceLine.TheVariants.{Other, Page, Wake, Sent, Came}
 use Rattle.iol_capture.specs.declared.telling.CaptureForm.TheVariants as form
@@ -82,9 +82,9 @@ pub record AreFromHonest (odd : Odd) (rate : Rate) (text : List ℕ)
   pub shown : shown_stream (lines_of text) ≡ stream_of items
   pub far : Far
   pub silence : ℕ
-  pub honest : IsHonestRun far silence (map passing_of (items_told items))
+  pub honest : IsHonestRun far silence (items_passed items)
 
--- the law: such a text is never called not honest
+-- the law: such a text is never called not honest, and nothing in it is called odd
 abbrev pub OctetTextsNeverBlamed : Type 0
 OctetTextsNeverBlamed = (odd : Odd) (rate : Rate) (text : List ℕ) (judging : Judging)
-    → AreFromHonest odd rate text judging → IsUnblamed judging.judged
+    → AreFromHonest odd rate text judging → SaysNothing judging.judged

@@ -16,8 +16,9 @@ pub fn honest_captures_are_never_blamed()
 }
 
 /// Whatever device by the rules brings octets over a line that loses messages and replies, or
-/// damages them so that it shows, what is printed of their export isn't that it is not honest,
-/// where they are written by the rules.
+/// damages them so that it shows, what is printed of their export isn't that it is not honest, nor
+/// that something in it is odd, where they are written by the rules. Wake-up requests need not be
+/// shown.
 pub fn honest_octets_are_never_blamed()
     ensures { OctetTextsNeverBlamed }
 {

@@ -1,6 +1,6 @@
 -- The law of the judge.
 use Rattle.std.proofs.lemmas.Grind.{common_steps}
-use Rattle.std.proofs.Common.{arith, ◌≡◌, ℕ, ◌+◌, ◌-◌, min, Bool, true, false, List, length, refl, sym, ◌∙◌, ap, subst, leb-true, ◌⊎◌, inl, inr, [], ◌∷◌}
+use Rattle.std.proofs.Common.{arith, ◌≡◌, ℕ, zero, suc, ◌+◌, ◌-◌, min, Bool, true, false, List, length, refl, sym, ◌∙◌, ap, subst, leb-true, ◌⊎◌, inl, inr, [], ◌∷◌}
 use Rattle.std.specs.Prelude.{Option, Some, None, is_some, Result, Ok, Err, ◌&&◌, ◌||◌, nat_le, slice_index, if◌then◌else◌, IsTrue, option_map}
 use Rattle.iol_mseq.specs.Shape.{Shape, IsLayout, is_size, shape, operate_shape}
 use Rattle.iol_mseq.specs.Master.{master_in}
@@ -28,18 +28,21 @@ use Rattle.iol_judge.specs.declared.taken.TakenMessage.{TakenMessage}
 use Rattle.iol_judge.specs.declared.verdict.Verdict.{Verdict}
 use Rattle.iol_judge.specs.declared.verdict.Verdict.TheVariants.{Honest, NotHonest}
 use Rattle.iol_judge.specs.declared.verdict.Wake.{Wake}
-use Rattle.iol_judge.specs.declared.verdict.Wake.TheVariants.{Unanswered}
+use Rattle.iol_judge.specs.declared.verdict.Wake.TheVariants.{Answered, Unanswered}
 use Rattle.iol_far.specs.declared.kind.Kind.{Kind}
 use Rattle.iol_judge.specs.declared.kinds.Kinds.{Kinds}
 use Rattle.iol_judge.specs.Family.{both_kinds, admits_kind}
 use Rattle.iol_judge.specs.Numbers.{later}
 use Rattle.iol_judge.specs.Seen.{nothing_seen, whole_page, layouts_seen}
-use Rattle.iol_judge.specs.State.{KnownState, parts}
+use Rattle.iol_judge.specs.State.{KnownState, parts, powered_state, startup_state, woken_state}
+use Rattle.iol_judge.specs.Events.{shown_after}
+use Rattle.iol_judge.specs.declared.events.ShownEvents.{ShownEvents}
+use Rattle.iol_judge.specs.declared.events.ShownEvents.TheVariants.{Held, Any, Fresh, Filled}
 use Rattle.iol_judge.specs.Taking.{taken_by_state}
 use Rattle.iol_judge.specs.Judged.{JudgeState, states_with, added_taken, each_in_turn, lost_into, lost_part, explained_into, replied_part, replied_into, concluded_lost, concluded_replied, odd_for_all, judge_without_reply, judge_after_answer, one_more, judge_after_exchange, woken_states, woken_into, judge_after_wake, kinds_left, kinds_with}
 use Rattle.iol_judge.specs.Judged as judging
 use Rattle.iol_judge.specs.Octets.{Agrees}
-use Rattle.iol_judge.specs.Admitted.{Admits, IsPossible, IsFair, Passing, Wakes, Passes, judge_after_passing, told_all, is_answered, IsHonest, IsHonestRun, IsWake, NeverBlamed}
+use Rattle.iol_judge.specs.Admitted.{Admits, AreUnanswered, IsPossible, IsFair, Passing, Wakes, Passes, judge_after_passing, told_all, is_answered, IsHonest, IsHonestRun, IsWake, NeverBlamed, One}
 use Rattle.iol_judge.proofs.Known.{nothing_known}
 use Rattle.iol_judge.proofs.Sets.{Gains, Keeps, bound, each_gains, each_keeps, Left, added_keeps, added_admits, both_has, other_has, released_free, Alike, locals_alike, one_alike, woken_admits}
 use Rattle.iol_judge.proofs.Hearing.{IsPart, all_have, parts_admit, Knows, knows, Accepting, accepting, Fits, state_fits}
@@ -367,6 +370,111 @@ wake_fair texts judged far wake new h fair =
       one_alike,
     )
 
+-- Wake-up requests that the judge isn't told
+
+-- a state stands for the device, or it did before some of them
+abbrev MayWake : Far → KnownState → Type 0
+MayWake far state = Left far (woken_states Unanswered state)
+
+shown_again : (shown : ShownEvents)
+    → shown_after (shown_after shown false) false ≡ shown_after shown false
+shown_again Held = refl
+shown_again Any = refl
+shown_again Fresh = refl
+shown_again (Filled places) = refl
+
+woken_again : (state : KnownState) → woken_state (woken_state state) ≡ woken_state state
+woken_again state = ap (startup_state state.kinds state.cycle) (shown_again state.events)
+
+-- one more request leaves them the same
+still_woken : (far : Far) (state : KnownState) → MayWake far state
+    → Left (far_after_wake far) (woken_state state ∷ powered_state state ∷ [])
+still_woken far state (inl here) = woken_admits state far here
+still_woken far state (inr (inl woken)) =
+    rw woken_again at (woken_admits (woken_state state) far woken)
+still_woken far state (inr (inr (inl powered))) = inr (elim (woken_admits _ far powered) [
+  | inl here ↦ inl here
+  | inr there ↦ there
+])
+still_woken far state (inr (inr (inr none))) = absurd none
+
+-- whether the judge is told it or not
+one_woken : (wake : Wake) (far new : Far) (state : KnownState)
+    → (new ≡ far_after_wake far) ⊎ ((wake ≡ Unanswered) × (new ≡ far)) → MayWake far state
+    → Left new (woken_states wake state)
+one_woken Answered far new state (inl is) may = rw is (still_woken far state may)
+one_woken Unanswered far new state (inl is) may = inr (rw is (still_woken far state may))
+one_woken wake far new state (inr (unanswered, same)) may = rw unanswered (rw same may)
+
+module _ (wake : Wake) (far new : Far) (h : IsWake far (is_answered wake) new) where
+  effect : (new ≡ far_after_wake (locals far h.steps))
+      ⊎ ((wake ≡ Unanswered) × (new ≡ locals far h.steps))
+  effect = took_effect wake (locals far h.steps) new h.wakes h.far_is h.answered_is
+
+  same_page : new.page ≡ far.page
+  same_page = woken_same (λ (g : Far). g.page) (locals far h.steps) new h.wakes refl h.far_is
+      ∙ (locals_alike far h.steps).page
+
+  woken_of : (state : KnownState) → MayWake far state → Left new (woken_states wake state)
+  woken_of state may = one_woken wake (locals far h.steps) new state effect
+      (one_alike (woken_states Unanswered state) far (locals far h.steps)
+      (locals_alike far h.steps) may)
+
+  all_woken_of : AllTexts → (states out : List KnownState)
+      → each_in_turn (woken_into wake) [] states ≡ Ok out
+      → One (MayWake far) states → Left new out
+  all_woken_of texts states out e may = each_gains
+      (λ next state more is a. each_keeps (added_keeps texts new) (woken_states wake state)
+      next more is a)
+      (λ next state more is a. each_gains (added_keeps texts new) (added_admits texts new)
+      _ next more is (woken_of state a)) states [] out e may
+
+may_at_first : (states : List KnownState) (far : Far) → Left far states
+    → One (MayWake far) states
+may_at_first [] far h = absurd h
+may_at_first (state ∷ states) far (inl here) = inl (inl here)
+may_at_first (state ∷ states) far (inr there) = inr (may_at_first states far there)
+
+may_still : (states : List KnownState) (far new : Far) → IsWake far false new
+    → One (MayWake far) states → One (MayWake new) states
+may_still [] far new h may = absurd may
+may_still (state ∷ states) far new h (inl here) = inl (woken_of Unanswered far new h state here)
+may_still (state ∷ states) far new h (inr there) = inr (may_still states far new h there)
+
+-- a row of them, of which the judge isn't told
+unseen_may : (states : List KnownState) (count : ℕ) (far new : Far) → AreUnanswered far count new
+    → One (MayWake far) states → One (MayWake new) states
+unseen_may states zero far new same may = rw same may
+unseen_may states (suc count) far new (between, h, rest) may =
+    unseen_may states count between new rest (may_still states far between h may)
+
+unseen_page : (count : ℕ) (far new : Far) → AreUnanswered far count new → new.page ≡ far.page
+unseen_page zero far new same = ap (λ (g : Far). g.page) same
+unseen_page (suc count) far new (between, h, rest) =
+    unseen_page count between new rest ∙ same_page Unanswered far between h
+
+unseen_fair : AllTexts → (judged : JudgeState) (far : Far) (count : ℕ) (between : Far)
+    (wake : Wake) (new : Far) → AreUnanswered far count between
+    → IsWake between (is_answered wake) new → IsFair judged far
+    → IsFair (judge_after_wake judged wake) new
+unseen_fair texts judged far count between wake new unseen h fair =
+    split judged.verdict fair.state
+  where
+    agrees : Agrees judged.seen between.page
+    agrees = rw (unseen_page count far between unseen) fair.page
+
+    split : (verdict : Verdict) → IsPossible verdict judged.states far
+        → IsFair (judge_after_wake (record judged { verdict = verdict }) wake) new
+    split Honest state = concluded_fair (record judged { verdict = Honest }) new
+        (each_in_turn (woken_into wake) [] judged.states) refl fair.odd
+        (rw (same_page wake between new h) agrees)
+        (λ out e. all_woken_of wake between new h texts judged.states out e
+        (unseen_may judged.states count far between unseen
+        (may_at_first judged.states far state)))
+    split (NotHonest exchange reason) state = absurd state
+    split verdict state = wake_fair texts (record judged { verdict = verdict }) between wake new h
+        (record { page = agrees; state = tt; odd = fair.odd })
+
 -- The page
 
 none_seen : (far : Far) → Agrees nothing_seen far.page
@@ -512,6 +620,7 @@ module _ (law : Laws) (stays : RegularStays) (much : MuchStays) (reads : Replies
     pages = λ judged far fair.
         record { page = whole_agrees far.page; state = fair.state; odd = fair.odd };
     wakes_any = wake_fair law.texts;
+    unseen = unseen_fair law.texts;
     wakes = λ judged far wake new h. wake_fair law.texts judged far wake new (record {
       steps = h.steps;
       wakes = h.wakes;

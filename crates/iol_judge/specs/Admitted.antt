@@ -1,5 +1,5 @@
 -- Which devices a kept state stands for, and the law of the judge.
-use Rattle.std.specs.Prelude.{◌≡◌, ◌≢◌, ◌⊎◌, ◌≤◌, ℕ, suc, Bool, true, false, if◌then◌else◌, List, [], ◌∷◌, length, slice_index_or, Option, None, IfSome}
+use Rattle.std.specs.Prelude.{◌≡◌, ◌≢◌, ◌⊎◌, ◌≤◌, ℕ, zero, suc, Bool, true, false, if◌then◌else◌, List, [], ◌∷◌, length, slice_index_or, Option, None, IfSome}
 use Rattle.iol_event.specs.declared.event.Event.{Event}
 use Rattle.iol_event.specs.Memory.{Events, event_octet}
 use Rattle.iol_far.specs.Far.{Far}
@@ -98,6 +98,12 @@ pub record IsWake (far : Far) (answered : Bool) (far_new : Far) : Type 0 where
   pub far_is : far_new ≡ (if wakes then far_after_wake (locals far steps) else locals far steps)
   pub answered_is : answered ≡ true → wakes ≡ true
 
+-- so many wakes in a row, of which none was answered
+abbrev pub AreUnanswered : Far → ℕ → Far → Type 0
+AreUnanswered far zero far_new = far_new ≡ far
+AreUnanswered far (suc count) far_new =
+    (between : Far) × IsWake far false between × AreUnanswered between count far_new
+
 -- a device brings this over a lossy line
 abbrev pub IsHonest : Far → ℕ → Passing → Far → ℕ → Type 0
 IsHonest far silence (Wakes wake) far_new silence_new =
@@ -121,6 +127,11 @@ pub record NeverBlamed : Type 0 where
       → IsFair (record judged { seen = whole_page far.page }) far
   pub wakes_any : (judged : JudgeState) (far : Far) (wake : Wake) (far_new : Far)
       → IsWake far (is_answered wake) far_new → IsFair judged far
+      → IsFair (judge_after_wake judged wake) far_new
+  -- the last of a row, where the judge wasn't told those before it
+  pub unseen : (judged : JudgeState) (far : Far) (count : ℕ) (between : Far) (wake : Wake)
+      (far_new : Far) → AreUnanswered far count between
+      → IsWake between (is_answered wake) far_new → IsFair judged far
       → IsFair (judge_after_wake judged wake) far_new
   -- one of our own kind
   pub wakes : (judged : JudgeState) (far : Far) (wake : Wake) (far_new : Far)

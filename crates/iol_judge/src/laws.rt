@@ -12,7 +12,8 @@ use iol_segment::{cut_is_whole, texts_join};
 /// damages them so that it shows, it is never called not honest, and nothing in it is odd,
 /// whatever is done with odd replies: be it of whatever kind the standard lets be, in all of its
 /// states, whatever it does by itself between the exchanges, and at each wake-up request and power
-/// cycle. Its kind is among those that are left.
+/// cycle. Of wake-up requests in a row the last alone may be told. Its kind is among those that are
+/// left.
 pub fn honest_lines_are_never_blamed()
     ensures { NeverBlamed }
 {

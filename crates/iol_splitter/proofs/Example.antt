@@ -1,12 +1,13 @@
--- The example is written by the rules: `some_are_written`, for the law `what_is_written_is_split`.
-use Rattle.std.proofs.Common.{◌≡◌, ℕ, ◌<◌, List, [], ◌∷◌, ◌++◌, length, arith, refl, ap, subst, length-append}
+-- The examples are written by the rules: `some_are_written`, for the law `what_is_written_is_split`.
+use Rattle.std.proofs.Common.{◌≡◌, ℕ, ◌<◌, List, [], ◌∷◌, ◌++◌, length, arith, refl, ap, subst, inl, inr, length-append}
 use Rattle.iol_octets.specs.Checksum.{checksum_of, six_bits_of, has_checksum}
 use Rattle.iol_octets.specs.Control.{control_of}
 use Rattle.iol_mseq.specs.Shape.{startup_shape}
 use Rattle.iol_splitter.specs.declared.message.Meaning.TheVariants.{Part}
-use Rattle.iol_splitter.specs.State.{Splitting}
-use Rattle.iol_splitter.specs.Written.{Means}
-use Rattle.iol_splitter.specs.Example.{SomeAreWritten}
+use Rattle.iol_splitter.specs.State.{Splitting, new_splitter}
+use Rattle.iol_link.specs.declared.wire.Rate.TheVariants.{Com3}
+use Rattle.iol_splitter.specs.Written.{AreWritten, Means}
+use Rattle.iol_splitter.specs.Example.{SomeAreWritten, some_capture, unshown_capture}
 
 -- of a message of two octets no beginning has two
 parts_of_two : (state : Splitting) (a b : ℕ) (begun rest : List ℕ)
@@ -24,12 +25,19 @@ parts_of_three state a b c part (x ∷ y ∷ []) rest is some more =
 parts_of_three state a b c part begun rest is some more =
     absurd (omega (arith, ap length is, length-append begun rest))
 
-pub some_are_written : SomeAreWritten
+some_is_written : AreWritten (new_splitter Com3) some_capture
 unfolding control_of has_checksum checksum_of six_bits_of
-some_are_written = (
+some_is_written = (
   omega arith,
-  omega arith,
-  search arith,
+  record {
+    before = (
+      inr (omega arith, refl),
+      record { check = search arith; answer = tt; bad = tt },
+      tt,
+    );
+    begins = inl (omega arith);
+    tested = search arith;
+  },
   (
     startup_shape,
     search (arith, parts_of_two),
@@ -53,3 +61,22 @@ some_are_written = (
     ),
   ),
 )
+
+unshown_is_written : AreWritten (new_splitter Com3) unshown_capture
+unfolding control_of has_checksum checksum_of six_bits_of
+unshown_is_written = (
+  tt,
+  record {
+    before = (
+      inr (omega arith, refl),
+      record { check = search arith; answer = search arith; bad = refl },
+      tt,
+    );
+    begins = inl (omega arith);
+    tested = search arith;
+  },
+  tt,
+)
+
+pub some_are_written : SomeAreWritten
+some_are_written = (some_is_written, unshown_is_written)

@@ -1,3 +1,4 @@
+mod FairItems
 pub mod Digits
 pub mod Splits
 pub mod Example

@@ -1,6 +1,6 @@
 -- Exchanges that are written by the rules are split into these: `written_is_split`, for the law
 -- `what_is_written_is_split`. Begin at the end, with `all_are_split`.
-use Rattle.std.proofs.Common.{◌≡◌, ℕ, ◌+◌, ◌<◌, ◌≤◌, false, List, [], ◌∷◌, ◌++◌, length, arith, refl, sym, ◌∙◌, ap, subst, append_assoc, append-nil, length-append}
+use Rattle.std.proofs.Common.{◌≡◌, ◌⊎◌, inl, inr, ℕ, ◌+◌, ◌<◌, ◌≤◌, true, false, List, [], ◌∷◌, ◌++◌, length, arith, refl, sym, ◌∙◌, ap, subst, append_assoc, append-nil, length-append}
 use Rattle.std.specs.Prelude.{Option, Some, None, Result, Ok}
 use Rattle.std.proofs.lemmas.Bool.Decides.{nat_tests}
 use Rattle.iol_link.specs.Honest.{test_read}
@@ -15,8 +15,8 @@ use Rattle.iol_splitter.specs.Lengths.{meaning_in, reply_length}
 use Rattle.iol_splitter.specs.State.{Splitting, new_splitter}
 use Rattle.iol_splitter.specs.Steps.{SplitStep, good_step}
 use Rattle.iol_splitter.specs.Splitting.{answered_with, untold_at_end, exchange_of, is_in_message, layout_begun, looked_as, octet_split, line_after_request, wake_split}
-use Rattle.iol_splitter.specs.Waking.{line_in_startup}
-use Rattle.iol_splitter.specs.Written.{AreWritten, Fails, Follow, IsAnswerBehind, IsBehind, IsBehindPause, IsSentBehind, IsSpeaking, IsTested, IsUnshown, IsWholeMessage, IsWellWritten, Item, Means, Octet, Passes, Reads, StreamItem, TimedTestRead, Tests, TimedOctet, Wakes, TimedExchange, WrittenIsSplit, all_split, exchange_written, line_after_exchange, exchanged_with, items_told, last_of, octets_of_timed, shown_before, stream_of, test_before, line_after_test, with_told}
+use Rattle.iol_splitter.specs.Waking.{is_test_reply, line_in_startup}
+use Rattle.iol_splitter.specs.Written.{AreAnswered, AreTried, AreWritten, Fails, Follow, IsAnswerBehind, TestMayBegin, IsBehind, IsBehindPause, IsNoTestReply, IsSentBehind, IsSpeaking, IsTested, IsVainTest, IsWholeMessage, IsWellWritten, Item, Lapses, Means, NoneWaits, Octet, Passes, Reads, StreamItem, TimedTestRead, TimedTry, Tests, TimedOctet, Wakes, TimedExchange, WrittenIsSplit, all_split, answer_behind, exchange_written, line_after_exchange, exchanged_with, items_told, last_of, line_after_tries, line_after_try, line_awaiting_answer, octets_of_timed, phase_in_test, sent_behind, shown_before, stream_of, test_before, line_after_test, tries_before, try_before, with_told}
 use Rattle.iol_splitter.specs.declared.passed.SplitItem.TheVariants as passed
 use Rattle.iol_judge.specs.declared.verdict.Wake.TheVariants.{Answered, Unanswered}
 
@@ -223,71 +223,206 @@ IsSeeking Asleep = Unit {0}
 IsSeeking Waking = Unit {0}
 IsSeeking phase = ⊥
 
-module _ (state : Splitting) (seeks : IsSeeking state.phase) (t : TimedTestRead)
-    (h : IsTested state.rate t) where
+in_test : (phase : Phase) → IsSeeking (phase_in_test phase)
+in_test Asleep = tt
+in_test phase = tt
+
+-- what the first octet of one tells
+abbrev told_at_test : Splitting → Option SplitItem
+told_at_test state = elim state.phase [ Waking ↦ None | phase ↦ untold_at_end state ]
+
+module _ (base : Splitting) (phase : Phase) (seeks : IsSeeking phase) where
   abbrev seeking : List ℕ → List ℕ → ℕ → Splitting
-  seeking sent answer last = record state { sent = sent; answer = answer; last = last }
+  seeking sent answer last =
+      record base { phase = phase; sent = sent; answer = answer; last = last }
 
-  control_heard : state.sent ≡ [] → state.answer ≡ [] → state.last ≤ t.control
-      → octet_split state t.control 0xA2 ≡ good_step (seeking (0xA2 ∷ []) [] t.control) None
-  control_heard no_sent no_answer before = grind (arith, nat_tests)
+  control_behind : (sent answer : List ℕ) (last time : ℕ)
+      → IsBehindPause (seeking sent answer last) time
+      → octet_split (seeking sent answer last) time 0xA2
+      ≡ good_step (seeking (0xA2 ∷ []) [] time) None
+  control_behind sent answer last time pause = grind (arith, nat_tests)
 
-  check_heard : octet_split (seeking (0xA2 ∷ []) [] t.control) t.check 0
-      ≡ good_step (seeking test_read [] t.check) None
-  check_heard = grind (arith, nat_tests)
+  control_first : (answer : List ℕ) (last time : ℕ) → last ≤ time
+      → octet_split (seeking [] answer last) time 0xA2
+      ≡ good_step (seeking (0xA2 ∷ []) [] time) None
+  control_first answer last time before = grind (arith, nat_tests)
 
-  value_heard : octet_split (seeking test_read [] t.check) t.value.time t.value.octet
-      ≡ good_step (seeking test_read (t.value.octet ∷ []) t.value.time) None
-  value_heard = grind (arith, nat_tests)
+  check_heard : (control check : ℕ) → IsBehind base.rate 0 1 control check
+      → octet_split (seeking (0xA2 ∷ []) [] control) check 0
+      ≡ good_step (seeking test_read [] check) None
+  check_heard control check h = grind (arith, nat_tests)
 
-  status_heard : octet_split (seeking test_read (t.value.octet ∷ []) t.value.time)
-      t.status.time
-      t.status.octet ≡ good_step (line_in_startup (record state { last = t.status.time }))
-      (Some (passed.Wake Answered))
-  status_heard = grind (arith, nat_tests)
+  value_heard : (check : ℕ) (t : TimedOctet) → IsBehind base.rate 1 10 check t.time
+      → octet_split (seeking test_read [] check) t.time t.octet
+      ≡ good_step (seeking test_read (t.octet ∷ []) t.time) None
+  value_heard check t h = grind (arith, nat_tests)
 
-  -- a whole test read is answered
-  module _ (items : List Item) (later : Splits (line_after_test state t) items) where
-    abbrev reply : List StreamItem
-    reply = Octet t.value ∷ Octet t.status ∷ stream_of items
+  status_heard : (value : ℕ) (last : ℕ) (t : TimedOctet) → IsBehind base.rate 0 3 last t.time
+      → is_test_reply value t.octet ≡ true
+      → octet_split (seeking test_read (value ∷ []) last) t.time t.octet
+      ≡ good_step (line_in_startup (record base { last = t.time })) (Some (passed.Wake Answered))
+  status_heard value last t h good = grind (arith, nat_tests)
 
-    read_answered : all_split (seeking test_read [] t.check) reply
-        ≡ told_of (passed.Wake Answered) items
-    read_answered =
-        let value = value_heard in
-        let status = status_heard in
-        grind arith
+  -- which is no good reply
+  status_bad : (value : ℕ) (last : ℕ) (t : TimedOctet) → IsBehind base.rate 0 3 last t.time
+      → is_test_reply value t.octet ≡ false
+      → octet_split (seeking test_read (value ∷ []) last) t.time t.octet
+      ≡ good_step (seeking (sent_behind (value ∷ t.octet ∷ [])) [] t.time) None
+  status_bad value last t h bad = grind (arith, nat_tests)
 
-    test_answered : state.sent ≡ [] → state.answer ≡ [] → state.last ≤ t.control
-        → all_split state (test_before t (stream_of items)) ≡ told_of (passed.Wake Answered) items
-    test_answered no_sent no_answer before =
-        let control = control_heard no_sent no_answer before in
-        let check = check_heard in
-        let reply = read_answered in
-        grind arith
+  control_heard : (sent answer : List ℕ) (last time : ℕ)
+      → IsBehindPause (seeking sent answer last) time ⊎ ((last ≤ time) × (sent ≡ []))
+      → octet_split (seeking sent answer last) time 0xA2
+      ≡ good_step (seeking (0xA2 ∷ []) [] time) None
+  control_heard sent answer last time (inl pause) = control_behind sent answer last time pause
+  control_heard sent answer last time (inr (before, none)) =
+      subst (λ (sent : List ℕ). octet_split (seeking sent answer last) time 0xA2
+      ≡ good_step (seeking (0xA2 ∷ []) [] time) None) (sym none)
+      (control_first answer last time before)
 
--- one that isn't shown, by what is awaited
-unshown_split : (phase : Phase) (state : Splitting) (t : TimedTestRead) (items : List Item)
-    → state.phase ≡ phase → IsUnshown phase state t.control → IsTested state.rate t
-    → Splits (line_after_test state t) items
-    → all_split state (test_before t (stream_of items))
-    ≡ with_told (Ok (untold_at_end state)) (told_of (passed.Wake Answered) items)
-unshown_split Asleep state t items is unshown h later =
-    test_answered state (subst IsSeeking (sym is) tt) t h items later unshown.1 unshown.2 unshown.0
-    ∙ ap (λ phase. with_told (Ok (untold_at_end (record state { phase = phase })))
-    (told_of (passed.Wake Answered) items))
-    (sym is)
-unshown_split phase state t items is unshown h later =
-    let other = unshown.2 in
-    ap (λ step. behind step (Octet (record { time = t.check; octet = 0 }) ∷ Octet t.value
-    ∷ Octet t.status ∷ stream_of items))
-    (begins state (record { time = t.control; octet = 0xA2 }) (subst IsSpeaking (sym is) unshown.0)
-    unshown.1)
+  -- a whole test read, where one is awaited
+  test_heard : (sent answer : List ℕ) (last control check : ℕ) (later : List StreamItem)
+      → IsBehindPause (seeking sent answer last) control ⊎ ((last ≤ control) × (sent ≡ []))
+      → IsBehind base.rate 0 1 control check
+      → all_split (seeking sent answer last)
+      (Octet (record { time = control; octet = 0xA2 }) ∷ Octet (record { time = check; octet = 0 })
+      ∷ later) ≡ all_split (seeking test_read [] check) later
+  test_heard sent answer last control check later asked h =
+      ap (λ step. behind step (Octet (record { time = check; octet = 0 }) ∷ later))
+      (control_heard sent answer last control asked)
+      ∙ ap (λ step. behind step later) (check_heard control check h)
+
+  -- its good reply
+  read_answered : (t : TimedTestRead) (items : List Item) → IsTested base.rate t
+      → Splits (line_after_test base t) items
+      → all_split (seeking test_read [] t.check) (Octet t.value ∷ Octet t.status ∷ stream_of items)
+      ≡ told_of (passed.Wake Answered) items
+  read_answered t items h later =
+      ap (λ step. behind step (Octet t.status ∷ stream_of items))
+      (value_heard t.check t.value h.value)
+      ∙ ap (λ step. behind step (stream_of items))
+      (status_heard t.value.octet t.value.time t.status h.status h.reply)
+      ∙ ap (with_told (Ok (Some (passed.Wake Answered)))) later
+
+  -- what is none
+  read_unanswered : (check : ℕ) (answer : List TimedOctet) (later : List StreamItem)
+      → IsAnswerBehind base.rate check answer → IsNoTestReply (octets_of_timed answer)
+      → all_split (seeking test_read [] check) (shown_before answer later)
+      ≡ all_split (seeking (sent_behind (octets_of_timed answer))
+      (answer_behind (octets_of_timed answer)) (last_of check answer)) later
+  read_unanswered check [] later h bad = refl
+  read_unanswered check (t ∷ []) later h bad =
+      ap (λ step. behind step later) (value_heard check t h.0)
+  read_unanswered check (t ∷ u ∷ []) later h bad =
+      ap (λ step. behind step (Octet u ∷ later)) (value_heard check t h.0)
+      ∙ ap (λ step. behind step later) (status_bad t.octet t.time u h.1.0 bad)
+  read_unanswered check (t ∷ u ∷ v ∷ answer) later h bad = absurd bad
+
+-- a whole test read, by what is awaited
+asks_in : (phase : Phase) (base : Splitting) (control check : ℕ) (later : List StreamItem)
+    → TestMayBegin phase (record base { phase = phase }) control
+    → IsBehind base.rate 0 1 control check
+    → all_split (record base { phase = phase })
+    (Octet (record { time = control; octet = 0xA2 }) ∷ Octet (record { time = check; octet = 0 })
+    ∷ later)
+    ≡ with_told (Ok (told_at_test (record base { phase = phase })))
+    (all_split (line_awaiting_answer (record base { phase = phase }) check) later)
+asks_in Asleep base control check later asked h =
+    test_heard base Asleep tt base.sent base.answer base.last control check later asked h
+asks_in Waking base control check later asked h =
+    test_heard base Waking tt base.sent base.answer base.last control check later asked h
+asks_in phase base control check later asked h =
+    let state : Splitting = record base { phase = phase } in
+    let spoken = asked.2 in
+    ap (λ step. behind step (Octet (record { time = check; octet = 0 }) ∷ later))
+    (begins state (record { time = control; octet = 0xA2 }) asked.0 asked.1)
     ∙ ap (with_told (Ok (untold_at_end state)))
-    (ap (λ step. behind step (Octet t.value ∷ Octet t.status ∷ stream_of items))
-    (sent_on state (0xA2 ∷ []) t.control t.check 0 other.layout TestRead (omega arith) h.check
-    other.spoken other.meant)
-    ∙ read_answered (record state { phase = Waking }) tt t h items later)
+    (ap (λ step. behind step later)
+    (sent_on state (0xA2 ∷ []) control check 0 spoken.layout TestRead (omega arith) h
+    spoken.spoken spoken.meant))
+
+asks : (state : Splitting) (control check : ℕ) (later : List StreamItem)
+    → TestMayBegin state.phase state control → IsBehind state.rate 0 1 control check
+    → all_split state
+    (Octet (record { time = control; octet = 0xA2 }) ∷ Octet (record { time = check; octet = 0 })
+    ∷ later)
+    ≡ with_told (Ok (told_at_test state)) (all_split (line_awaiting_answer state check) later)
+asks state = asks_in state.phase state
+
+-- behind a test read the next one tells nothing
+none_told : (phase : Phase) (base : Splitting)
+    → told_at_test (record base { phase = phase_in_test phase }) ≡ None
+none_told Asleep base = refl
+none_told phase base = refl
+
+-- one without a good reply
+try_split : (state : Splitting) (t : TimedTry) (later : List StreamItem)
+    → TestMayBegin state.phase state t.control → IsVainTest state.rate t
+    → all_split state (try_before t later)
+    ≡ with_told (Ok (told_at_test state)) (all_split (line_after_try state t) later)
+try_split state t later asked h =
+    asks state t.control t.check (shown_before t.answer later) asked h.check
+    ∙ ap (with_told (Ok (told_at_test state)))
+    (read_unanswered state (phase_in_test state.phase) (in_test state.phase) t.check t.answer later
+    h.answer h.bad)
+
+tries_split : (tries : List TimedTry) (state : Splitting) (later : List StreamItem)
+    → told_at_test state ≡ None → AreTried state tries
+    → all_split state (tries_before tries later) ≡ all_split (line_after_tries state tries) later
+tries_split [] state later none h = refl
+tries_split (t ∷ tries) state later none (asked, now, rest) =
+    try_split state t (tries_before tries later) asked now
+    ∙ ap (λ told. with_told (Ok told)
+    (all_split (line_after_try state t) (tries_before tries later))) none
+    ∙ tries_split tries (line_after_try state t) later
+    (none_told state.phase (line_after_try state t)) rest
+
+-- in a row of them the last is answered
+row_answered : (tries : List TimedTry) (state : Splitting) (t : TimedTestRead) (items : List Item)
+    → AreAnswered state tries t → Splits (line_after_test (line_after_tries state tries) t) items
+    → all_split state (tries_before tries (test_before t (stream_of items)))
+    ≡ with_told (Ok (told_at_test state)) (told_of (passed.Wake Answered) items)
+row_answered [] state t items h later =
+    asks state t.control t.check (Octet t.value ∷ Octet t.status ∷ stream_of items) h.begins
+    h.tested.check
+    ∙ ap (with_told (Ok (told_at_test state)))
+    (read_answered state (phase_in_test state.phase) (in_test state.phase) t items h.tested later)
+row_answered (u ∷ tries) state t items h later =
+    try_split state u (tries_before tries (test_before t (stream_of items))) h.before.0 h.before.1
+    ∙ ap (with_told (Ok (told_at_test state)))
+    (row_answered tries (line_after_try state u) t items
+    (record { before = h.before.2; begins = h.begins; tested = h.tested }) later
+    ∙ ap (λ told. with_told (Ok told) (told_of (passed.Wake Answered) items))
+    (none_told state.phase (line_after_try state u)))
+
+-- none is
+stays_waking : (tries : List TimedTry) (state : Splitting) → state.phase ≡ Waking
+    → (line_after_tries state tries).phase ≡ Waking
+stays_waking [] state is = is
+stays_waking (t ∷ tries) state is =
+    stays_waking tries (line_after_try state t) (ap phase_in_test is)
+
+row_lapsed : (state : Splitting) (items : List Item) → AllSplit items → state.phase ≡ Waking
+    → AreWritten state items
+    → all_split state (stream_of items) ≡ told_of (passed.Wake Unanswered) items
+row_lapsed state items all is written =
+    all state (ap is_in_message is) written
+    ∙ ap (λ phase. with_told (Ok (untold_at_end (record state { phase = phase })))
+    (Ok (items_told items))) is
+
+-- where no request waits, it tells what isn't told yet
+untold_at_test : (phase : Phase) (base : Splitting) → NoneWaits phase
+    → told_at_test (record base { phase = phase }) ≡ untold_at_end (record base { phase = phase })
+untold_at_test Waking base free = absurd free
+untold_at_test phase base free = refl
+
+speaks_free : (phase : Phase) → IsSpeaking phase → NoneWaits phase
+speaks_free Waking speaks = absurd speaks
+speaks_free phase speaks = tt
+
+speaks_first : (phase : Phase) → IsSpeaking phase → phase_in_test phase ≡ Waking
+speaks_first Asleep speaks = absurd speaks
+speaks_first phase speaks = refl
 
 -- All
 
@@ -297,20 +432,33 @@ all_are_split (Passes w ∷ items) state free (layout, now, later) =
     exchange_told state layout w Whole items tt now (all_are_split items) later
 all_are_split (Reads w ∷ items) state free (layout, now, later) =
     exchange_told state layout w ReadOrTest items tt now (all_are_split items) later
-all_are_split (Wakes time t ∷ items) state free (before, behind_request, now, later) =
-    ap (λ step. behind step (test_before t (stream_of items)))
+all_are_split (Wakes time tries t ∷ items) state free (before, now, later) =
+    ap (λ step. behind step (tries_before tries (test_before t (stream_of items))))
     (request_told state time free before)
     ∙ ap (with_told (Ok (untold_at_end state)))
-    (test_answered (line_after_request state time) tt t now items
-    (all_are_split items (line_after_test (line_after_request state time) t) refl later) refl
-    refl behind_request)
-all_are_split (Fails time ∷ items) state free (now, later) =
-    ap (λ step. behind step (stream_of items)) (request_told state time free now)
+    (row_answered tries (line_after_request state time) t items now
+    (all_are_split items _ refl later))
+all_are_split (Fails time tries ∷ items) state free (before, now, later) =
+    ap (λ step. behind step (tries_before tries (stream_of items)))
+    (request_told state time free before)
     ∙ ap (with_told (Ok (untold_at_end state)))
-    (all_are_split items (line_after_request state time) refl later)
-all_are_split (Tests t ∷ items) state free (unshown, now, later) =
-    unshown_split state.phase state t items refl unshown now
-    (all_are_split items (line_after_test state t) refl later)
+    (tries_split tries (line_after_request state time) (stream_of items) refl now
+    ∙ row_lapsed _ items (all_are_split items)
+    (stays_waking tries (line_after_request state time) refl) later)
+all_are_split (Tests tries t ∷ items) state free (untold, now, later) =
+    row_answered tries state t items now (all_are_split items _ refl later)
+    ∙ ap (λ told. with_told (Ok told) (told_of (passed.Wake Answered) items))
+    (untold_at_test state.phase state untold)
+all_are_split (Lapses t tries ∷ items) state free (speaks, now, later) =
+    try_split state t (tries_before tries (stream_of items)) now.0 now.1
+    ∙ ap (λ told. with_told (Ok told)
+    (all_split (line_after_try state t) (tries_before tries (stream_of items))))
+    (untold_at_test state.phase state (speaks_free state.phase speaks))
+    ∙ ap (with_told (Ok (untold_at_end state)))
+    (tries_split tries (line_after_try state t) (stream_of items)
+    (none_told state.phase (line_after_try state t)) now.2
+    ∙ row_lapsed _ items (all_are_split items)
+    (stays_waking tries (line_after_try state t) (speaks_first state.phase speaks)) later)
 
 pub written_is_split : WrittenIsSplit
 written_is_split rate items written = all_are_split items (new_splitter rate) refl written

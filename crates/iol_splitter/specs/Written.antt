@@ -1,5 +1,5 @@
 -- Exchanges as they are written on a line, and the law: they are split again (IEC 61131-9, A.3).
-use Rattle.std.specs.Prelude.{◌≡◌, ℕ, ◌+◌, ◌*◌, ◌<◌, ◌≤◌, ◌==◌, true, if◌then◌else◌, List, [], ◌∷◌, ◌++◌, length, map, Option, Some, None, Result, Ok, Err}
+use Rattle.std.specs.Prelude.{◌≡◌, ◌⊎◌, ℕ, ◌+◌, ◌*◌, ◌<◌, ◌≤◌, ◌==◌, true, false, if◌then◌else◌, List, [], ◌∷◌, ◌++◌, length, map, Option, Some, None, Result, Ok, Err}
 use Rattle.iol_link.specs.Honest.{test_read}
 use Rattle.iol_mseq.specs.Shape.{Shape}
 use Rattle.iol_link.specs.declared.wire.Rate.{Rate}
@@ -10,7 +10,7 @@ use Rattle.iol_splitter.specs.declared.message.Meaning.TheVariants.{Part, Whole,
 use Rattle.iol_splitter.specs.declared.passed.SplitItem.{SplitItem}
 use Rattle.iol_splitter.specs.declared.passed.SplitItem.TheVariants as passed
 use Rattle.iol_splitter.specs.declared.splitter.Phase.{Phase}
-use Rattle.iol_splitter.specs.declared.splitter.Phase.TheVariants.{Asleep, Reply, Rest}
+use Rattle.iol_splitter.specs.declared.splitter.Phase.TheVariants.{Asleep, Reply, Rest, Waking}
 use Rattle.iol_splitter.specs.Times.{bit_time}
 use Rattle.iol_splitter.specs.Lengths.{meaning_in, reply_length}
 use Rattle.iol_splitter.specs.State.{Splitting, new_splitter}
@@ -131,6 +131,11 @@ IsSpeaking Rest = Unit {0}
 IsSpeaking Reply = Unit {0}
 IsSpeaking phase = ⊥
 
+-- no wake-up request waits to be told
+abbrev pub NoneWaits : Phase → Type 0
+NoneWaits Waking = ⊥
+NoneWaits phase = Unit {0}
+
 -- once a message went over the line, and this came back
 abbrev pub exchanged_with : Splitting → Splitting
 exchanged_with state =
@@ -157,7 +162,7 @@ pub record IsWellWritten (state : Splitting) (layout : Shape) (w : TimedExchange
   pub most : reply_length layout (octets_of_timed w.sent) ≤ 66
   pub answer : IsAnswerBehind state.rate (last_of state.last w.sent) w.answer
 
--- Wake-up requests
+-- Test reads
 
 -- a test read and the reply to it: the times of its octets, and the two octets of the reply
 pub record TimedTestRead : Type 0 where
@@ -176,13 +181,81 @@ pub record IsTested (rate : Rate) (t : TimedTestRead) : Type 0 where
 abbrev pub line_after_test : Splitting → TimedTestRead → Splitting
 line_after_test state t = line_in_startup (record state { last = t.status.time })
 
--- A test read at this time behind a request that the decoder doesn't show: nothing was told before,
--- or its octets are no message of the layout
-abbrev pub IsUnshown : Phase → Splitting → ℕ → Type 0
-IsUnshown Asleep state time =
-    (state.last ≤ time) × (state.sent ≡ []) × (state.answer ≡ [])
-IsUnshown phase state time =
+-- one without a good reply, and what came back
+pub record TimedTry : Type 0 where
+  pub control : ℕ
+  pub check : ℕ
+  pub answer : List TimedOctet
+
+-- no good reply: nothing, one octet, or two that are none
+abbrev pub IsNoTestReply : List ℕ → Type 0
+IsNoTestReply (value ∷ status ∷ []) = is_test_reply value status ≡ false
+IsNoTestReply (value ∷ status ∷ octet ∷ octets) = ⊥
+IsNoTestReply octets = Unit {0}
+
+pub record IsVainTest (rate : Rate) (t : TimedTry) : Type 0 where
+  pub check : IsBehind rate 0 1 t.control t.check
+  pub answer : IsAnswerBehind rate t.check t.answer
+  pub bad : IsNoTestReply (octets_of_timed t.answer)
+
+-- A test read may begin at this time where a request is shown or nothing was told before, if none
+-- is under way or there was a pause; or behind a request that isn't shown, where its octets are no
+-- message of the layout
+abbrev pub TestMayBegin : Phase → Splitting → ℕ → Type 0
+TestMayBegin Asleep state time =
+    IsBehindPause state time ⊎ ((state.last ≤ time) × (state.sent ≡ []))
+TestMayBegin Waking state time =
+    IsBehindPause state time ⊎ ((state.last ≤ time) × (state.sent ≡ []))
+TestMayBegin phase state time =
     IsSpeaking phase × IsBehindPause state time × Means state test_read TestRead
+
+abbrev pub phase_in_test : Phase → Phase
+phase_in_test Asleep = Asleep
+phase_in_test phase = Waking
+
+-- the reply to it is awaited
+abbrev pub line_awaiting_answer : Splitting → ℕ → Splitting
+line_awaiting_answer state time = record state {
+  phase = phase_in_test state.phase;
+  sent = test_read;
+  answer = [];
+  last = time;
+}
+
+-- what is kept of it behind these octets, which are no good reply
+abbrev pub sent_behind : List ℕ → List ℕ
+sent_behind (value ∷ status ∷ octets) = if status == 0xA2 then status ∷ [] else []
+sent_behind octets = test_read
+
+abbrev pub answer_behind : List ℕ → List ℕ
+answer_behind (value ∷ status ∷ octets) = []
+answer_behind octets = octets
+
+abbrev pub line_after_try : Splitting → TimedTry → Splitting
+line_after_try state t = record state {
+  phase = phase_in_test state.phase;
+  sent = sent_behind (octets_of_timed t.answer);
+  answer = answer_behind (octets_of_timed t.answer);
+  last = last_of t.check t.answer;
+}
+
+abbrev pub line_after_tries : Splitting → List TimedTry → Splitting
+line_after_tries state [] = state
+line_after_tries state (t ∷ tries) = line_after_tries (line_after_try state t) tries
+
+-- each in turn is written by the rules
+abbrev pub AreTried : Splitting → List TimedTry → Type 0
+AreTried state [] = Unit {0}
+AreTried state (t ∷ tries) = TestMayBegin state.phase state t.control × IsVainTest state.rate t
+    × AreTried (line_after_try state t) tries
+
+-- a good reply came to the last of test reads
+pub record AreAnswered (state : Splitting) (tries : List TimedTry)
+    (t : TimedTestRead) : Type 0 where
+  pub before : AreTried state tries
+  pub begins : TestMayBegin (line_after_tries state tries).phase (line_after_tries state tries)
+      t.control
+  pub tested : IsTested state.rate t
 
 -- Captures
 
@@ -191,12 +264,14 @@ pub data Item : Type 0 where
   Passes : TimedExchange → Item
   -- a read of page address 0x02 that may be a test read, where the decoder shows no requests
   Reads : TimedExchange → Item
-  -- a wake-up request that is shown, and answered
-  Wakes : ℕ → TimedTestRead → Item
+  -- a wake-up request that is shown, and answered, the last of its test reads
+  Wakes : ℕ → List TimedTry → TimedTestRead → Item
   -- one that isn't answered
-  Fails : ℕ → Item
-  -- one that isn't shown, and answered
-  Tests : TimedTestRead → Item
+  Fails : ℕ → List TimedTry → Item
+  -- requests that aren't shown, each by its test read, of which the last is answered
+  Tests : List TimedTry → TimedTestRead → Item
+  -- none is
+  Lapses : TimedTry → List TimedTry → Item
 
 -- each in turn is written by the rules
 abbrev pub AreWritten : Splitting → List Item → Type 0
@@ -206,33 +281,50 @@ AreWritten state (Passes w ∷ items) = (layout : Shape)
 AreWritten state (Reads w ∷ items) = (layout : Shape)
     × IsWellWritten state layout w ReadOrTest
     × AreWritten (line_after_exchange state layout w) items
-AreWritten state (Wakes time t ∷ items) = (state.last ≤ time) × (time ≤ t.control)
-    × IsTested state.rate t × AreWritten (line_after_test (line_after_request state time) t) items
-AreWritten state (Fails time ∷ items) =
-    (state.last ≤ time) × AreWritten (line_after_request state time) items
-AreWritten state (Tests t ∷ items) = IsUnshown state.phase state t.control
-    × IsTested state.rate t × AreWritten (line_after_test state t) items
+AreWritten state (Wakes time tries t ∷ items) = (state.last ≤ time)
+    × AreAnswered (line_after_request state time) tries t
+    × AreWritten (line_after_test (line_after_tries (line_after_request state time) tries) t) items
+AreWritten state (Fails time tries ∷ items) = (state.last ≤ time)
+    × AreTried (line_after_request state time) tries
+    × AreWritten (line_after_tries (line_after_request state time) tries) items
+AreWritten state (Tests tries t ∷ items) = NoneWaits state.phase × AreAnswered state tries t
+    × AreWritten (line_after_test (line_after_tries state tries) t) items
+AreWritten state (Lapses t tries ∷ items) = IsSpeaking state.phase × AreTried state (t ∷ tries)
+    × AreWritten (line_after_tries state (t ∷ tries)) items
+
+-- A stream
 
 abbrev pub test_before : TimedTestRead → List StreamItem → List StreamItem
 test_before t stream = Octet (record { time = t.control; octet = 0xA2 })
     ∷ Octet (record { time = t.check; octet = 0 }) ∷ Octet t.value ∷ Octet t.status ∷ stream
 
+abbrev pub try_before : TimedTry → List StreamItem → List StreamItem
+try_before t stream = Octet (record { time = t.control; octet = 0xA2 })
+    ∷ Octet (record { time = t.check; octet = 0 }) ∷ shown_before t.answer stream
+
+abbrev pub tries_before : List TimedTry → List StreamItem → List StreamItem
+tries_before [] stream = stream
+tries_before (t ∷ tries) stream = try_before t (tries_before tries stream)
+
 abbrev pub stream_of : List Item → List StreamItem
 stream_of [] = []
 stream_of (Passes w ∷ items) = shown_before w.sent (shown_before w.answer (stream_of items))
 stream_of (Reads w ∷ items) = shown_before w.sent (shown_before w.answer (stream_of items))
-stream_of (Wakes time t ∷ items) = Request time ∷ test_before t (stream_of items)
-stream_of (Fails time ∷ items) = Request time ∷ stream_of items
-stream_of (Tests t ∷ items) = test_before t (stream_of items)
+stream_of (Wakes time tries t ∷ items) =
+    Request time ∷ tries_before tries (test_before t (stream_of items))
+stream_of (Fails time tries ∷ items) = Request time ∷ tries_before tries (stream_of items)
+stream_of (Tests tries t ∷ items) = tries_before tries (test_before t (stream_of items))
+stream_of (Lapses t tries ∷ items) = tries_before (t ∷ tries) (stream_of items)
 
--- what is to be told of them
+-- what is to be told of them: of requests that aren't shown, the last of a row
 abbrev pub items_told : List Item → List SplitItem
 items_told [] = []
 items_told (Passes w ∷ items) = exchange_written w ∷ items_told items
 items_told (Reads w ∷ items) = passed.Wake Unanswered ∷ exchange_written w ∷ items_told items
-items_told (Wakes time t ∷ items) = passed.Wake Answered ∷ items_told items
-items_told (Fails time ∷ items) = passed.Wake Unanswered ∷ items_told items
-items_told (Tests t ∷ items) = passed.Wake Answered ∷ items_told items
+items_told (Wakes time tries t ∷ items) = passed.Wake Answered ∷ items_told items
+items_told (Fails time tries ∷ items) = passed.Wake Unanswered ∷ items_told items
+items_told (Tests tries t ∷ items) = passed.Wake Answered ∷ items_told items
+items_told (Lapses t tries ∷ items) = passed.Wake Unanswered ∷ items_told items
 
 -- the law: what is written by the rules is split into exactly this
 abbrev pub WrittenIsSplit : Type 0
