@@ -40,12 +40,18 @@ def test_reply(calls, place):
     return with_checksum(bytes([min_cycle(calls), event_flag(calls[place + 1 :])]), 1)
 
 
+def no_test_reply(calls, place):
+    """What comes back to one that isn't answered: nothing, an octet, or a reply with a bit flipped."""
+    first, check = test_reply(calls, place)
+    return [None, bytes([first]), bytes([first, check ^ 1])][calls[place].number % 3]
+
+
 def exchange_of(calls, place):
     """A call, or the test read behind it where it is a wake-up request."""
     call = calls[place]
     if isinstance(call, Wake):
-        came = test_reply(calls, place) if call.is_answered else None
-        return Exchange(call.number, TEST_READ, came)
+        reply = test_reply if call.is_answered else no_test_reply
+        return Exchange(call.number, TEST_READ, reply(calls, place))
     return call
 
 
