@@ -1,6 +1,6 @@
 -- A judge that is told what octets are split into blames no device by the rules, for the law
 -- `octets_are_never_blamed`. Begin at the end, with `items_unblamed`.
-use Rattle.std.proofs.Common.{◌≡◌, ℕ, zero, suc, List, [], ◌∷◌, length, refl}
+use Rattle.std.proofs.Common.{ℕ, zero, suc, List, [], ◌∷◌, length, refl}
 use Rattle.std.specs.Prelude.{map}
 use Rattle.iol_far.specs.Far.{Far}
 use Rattle.iol_judge.specs.declared.verdict.Wake.{Wake}

@@ -1,5 +1,5 @@
 -- What the octets of a message are, by the layout.
-use Rattle.std.specs.Prelude.{ℕ, ◌+◌, Bool, not, ◌&&◌, ◌==◌, nat_lt, nat_le, if◌then◌else◌, List, [], length, slice_index, bytes_eq}
+use Rattle.std.specs.Prelude.{ℕ, ◌+◌, Bool, not, ◌&&◌, ◌==◌, nat_lt, nat_le, if◌then◌else◌, List, length, slice_index, bytes_eq}
 use Rattle.iol_link.specs.Honest.{test_read}
 use Rattle.iol_octets.specs.CheckOctets.{type_bits}
 use Rattle.iol_mseq.specs.Shape.{Shape}
