@@ -1,5 +1,5 @@
 -- What is kept of a line.
-use Rattle.std.specs.Prelude.{ℕ, List, [], Option}
+use Rattle.std.specs.Prelude.{ℕ, Bool, ◌==◌, List, [], length, Option}
 use Rattle.iol_mseq.specs.Shape.{Shape, startup_shape}
 use Rattle.iol_far.specs.Level.{FarLink}
 use Rattle.iol_link.specs.declared.wire.Rate.{Rate}
@@ -38,3 +38,7 @@ new_splitter rate = record {
   answer = [];
   last = 0;
 }
+
+-- the octet told last begins a message, or a test read
+abbrev pub begins_call : Splitting → Bool
+begins_call state = length state.sent == 1

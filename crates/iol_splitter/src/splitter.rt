@@ -3,7 +3,7 @@ ghost use Rattle.std.specs.Prelude.{◌≡◌};
 ghost use Rattle.iol_judge.specs.Seen.{whole_page};
 ghost use Rattle.iol_splitter.specs.Splitting.{untold_at_end, octet_split, wake_split};
 ghost use Rattle.iol_splitter.specs.Steps.{split_step, good_step};
-ghost use Rattle.iol_splitter.specs.State.{new_splitter};
+ghost use Rattle.iol_splitter.specs.State.{begins_call, new_splitter};
 
 use crate::fault::SplitFault;
 use crate::link::Spoken;
@@ -131,6 +131,20 @@ impl Splitter {
         self.requests = Requests::Shown;
         self.phase = Phase::Waking;
         Ok(passed)
+    }
+
+    /// Whether the octet told last begins a message, or a test read behind a wake-up request.
+    pub fn begins(&self) -> bool
+        ensures { result ≡ begins_call self.now }
+    {
+        self.sent.len() == 1
+    }
+
+    /// The layout in which the last whole message was split, and in which its reply is.
+    pub fn layout(&self) -> Layout
+        ensures { result ≡ self.now.layout }
+    {
+        self.layout
     }
 
     /// The stream has ended: what isn't told yet. A message without its last octets is none.
