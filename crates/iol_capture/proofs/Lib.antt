@@ -1,3 +1,4 @@
 pub mod FairLemmas
 pub mod ReadLemmas
+pub mod CallLemmas
 pub mod OctetLemmas

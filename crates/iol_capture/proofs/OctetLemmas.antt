@@ -19,7 +19,8 @@ use Rattle.iol_splitter.specs.Steps.{SplitStep}
 use Rattle.iol_splitter.specs.Written.{all_split, stream_of, with_told}
 use Rattle.iol_capture.specs.declared.telling.Telling.TheVariants.{Octets}
 use Rattle.iol_capture.specs.Judging.{Judging, or_bad_form}
-use Rattle.iol_capture.specs.Octets.{Hearing, new_hearing, octet_line_form, passed_by_octet, passed_by_request, hearing_after_line, step_heard}
+use Rattle.iol_capture.specs.declared.timed_call.Beginnings.{Beginnings}
+use Rattle.iol_capture.specs.Octets.{Hearing, begun_by_octet, begun_by_request, new_hearing, octet_line_form, passed_by_octet, passed_by_request, hearing_after_line, step_heard}
 use Rattle.iol_capture.specs.HonestCapture.{OctetTextsNeverBlamed, stream_item_of, shown_stream}
 use Rattle.iol_capture.proofs.ReadLemmas.{judged_from, stays_bad}
 
@@ -44,14 +45,15 @@ module _ (judging : Judging) where
 
   -- the judge is told so all that a step tells
   step_splits : (old : Judging) (new : Option SplitItem → Judging)
+      (begun : Option SplitItem → Beginnings)
       → ((passed : Option SplitItem) → told_of old.judged passed ≡ (new passed).judged)
       → (state : Splitting) (result : Result (Option SplitItem) SplitFault) (number : ℕ)
       (lines : List (List ℕ)) → Later lines
-      → judged_from Octets (step_heard new (record { state = state; told = result })) number lines
-      ≡ Ok judging
+      → judged_from Octets (step_heard new begun (record { state = state; told = result })) number
+      lines ≡ Ok judging
       → split_told old.judged (with_told result (all_split state (shown_stream lines)))
       ≡ Ok judging.judged
-  step_splits old new told state result number lines later e =
+  step_splits old new begun told state result number lines later e =
       grind (arith, stays_bad)
 
   form_splits : (form : Option OctetLine) (old : Hearing) (number : ℕ) (lines : List (List ℕ))
@@ -65,11 +67,13 @@ module _ (judging : Judging) where
   form_splits (Some line.Other) old number lines later e = later number old e
   form_splits (Some (line.Octet time octet)) old number lines later e =
       let step : SplitStep = octet_split old.splitting time octet in
-      step_splits old.judging (passed_by_octet old.judging) (λ passed. grind arith)
+      step_splits old.judging (passed_by_octet old.judging)
+      (begun_by_octet old.begun step.state time) (λ passed. grind arith)
       step.state step.told number lines later e
   form_splits (Some (line.Wake time)) old number lines later e =
       let step : SplitStep = wake_split old.splitting time in
-      step_splits old.judging (passed_by_request old.judging) (λ passed. grind arith)
+      step_splits old.judging (passed_by_request old.judging) (begun_by_request old.begun time)
+      (λ passed. grind arith)
       step.state step.told number lines later e
 
   lines_split : (lines : List (List ℕ)) → Later lines

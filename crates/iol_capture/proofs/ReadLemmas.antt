@@ -23,29 +23,29 @@ use Rattle.iol_capture.specs.Capture.{IsOpenLine, ReaderState, capture_judged, j
 -- The line that is open, and the lines of the text behind it
 
 -- a line feed ends it
-lines_ended : (line rest : List ℕ) → IsOpenLine line
+pub lines_ended : (line rest : List ℕ) → IsOpenLine line
     → lines_of (line ++ 10 ∷ rest) ≡ line ∷ lines_of rest
 lines_ended [] rest h = refl
 lines_ended (c ∷ line) rest h = grind (arith, lines_ended line rest)
 
 -- so does the end of the text
-lines_last : (line : List ℕ) → IsOpenLine line → 0 < length line → lines_of line ≡ line ∷ []
+pub lines_last : (line : List ℕ) → IsOpenLine line → 0 < length line → lines_of line ≡ line ∷ []
 lines_last [] h some = absurd (omega arith)
 lines_last (c ∷ []) h some = grind arith
 lines_last (c ∷ d ∷ line) h some = grind (arith, lines_last (d ∷ line))
 
 -- the first line of a text, and the others
-record BeginsWith (lines : List (List ℕ)) (front : List ℕ) : Type 0 where
-  more : List ℕ
-  others : List (List ℕ)
-  is : lines ≡ (front ++ more) ∷ others
+pub record BeginsWith (lines : List (List ℕ)) (front : List ℕ) : Type 0 where
+  pub more : List ℕ
+  pub others : List (List ℕ)
+  pub is : lines ≡ (front ++ more) ∷ others
 
 onto_begins : (c : ℕ) (lines : List (List ℕ)) → BeginsWith (onto_first c lines) (c ∷ [])
 onto_begins c [] = record { more = []; others = []; is = refl }
 onto_begins c (first ∷ others) = record { more = first; others = others; is = refl }
 
 -- it goes on in the first line of what follows
-lines_longer : (line : List ℕ) (c : ℕ) (rest : List ℕ) → IsOpenLine line → (c == 10) ≡ false
+pub lines_longer : (line : List ℕ) (c : ℕ) (rest : List ℕ) → IsOpenLine line → (c == 10) ≡ false
     → BeginsWith (lines_of (line ++ c ∷ rest)) (line ++ c ∷ [])
 lines_longer [] c rest h e =
     let begins = onto_begins c (lines_of rest) in

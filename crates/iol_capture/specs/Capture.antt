@@ -1,6 +1,6 @@
 -- A whole text, told to a judge line by line.
-use Rattle.std.specs.Prelude.{◌≡◌, ℕ, false, ◌==◌, is_some, Result, Ok, Err, List, [], ◌++◌, fold, if◌then◌else◌}
-use Rattle.std.specs.List.{list_any}
+use Rattle.std.specs.Prelude.{◌≡◌, ℕ, false, ◌==◌, Option, None, is_some, option_and_then, Result, Ok, Err, List, [], ◌∷◌, ◌++◌, fold, if◌then◌else◌}
+use Rattle.std.specs.List.{cons_option, list_any}
 use Rattle.std.specs.Result.{result_map_both}
 use Rattle.iol_judge.specs.Judged.{one_more}
 use Rattle.iol_judge.specs.declared.verdict.Odd.{Odd}
@@ -15,7 +15,8 @@ use Rattle.iol_capture.specs.declared.telling.Telling.{Telling}
 use Rattle.iol_capture.specs.declared.telling.Telling.TheVariants.{Trace, Octets}
 use Rattle.iol_capture.specs.TraceLines.{trace_form}
 use Rattle.iol_capture.specs.Judging.{Judging, new_judging, or_bad_form, judging_after_line}
-use Rattle.iol_capture.specs.Octets.{heard_whole, new_hearing, octet_line_form, hearing_after_line}
+use Rattle.iol_capture.specs.declared.timed_call.TimedCall.{TimedCall}
+use Rattle.iol_capture.specs.Octets.{call_at_end, call_of_line, heard_whole, new_hearing, octet_line_form, hearing_after_line}
 
 -- A judge, told lines in one form or the other
 
@@ -85,3 +86,36 @@ judging_after_rest opened rest =
 -- line
 abbrev pub capture_judged : CaptureForm → Odd → List ℕ → Result Judging CaptureFault
 capture_judged form odd text = judging_after_rest (new_opened form odd) text
+
+-- Calls of the wire, each with its time
+
+-- that which one more line tells
+abbrev pub line_call : Telling → List ℕ → Option TimedCall
+line_call (Trace judging) line = None
+line_call (Octets hearing) line = option_and_then (call_of_line hearing) (octet_line_form line)
+
+-- that which the end of the capture tells
+abbrev pub last_call : Telling → Option TimedCall
+last_call (Trace judging) = None
+last_call (Octets hearing) = call_at_end hearing
+
+-- those that lines tell, up to the first bad one, and at last the end
+abbrev pub calls_of_lines : Result ReadPart CaptureFault → List (List ℕ) → List TimedCall
+calls_of_lines (Err fault) lines = []
+calls_of_lines (Ok reading) [] = cons_option (last_call reading.telling) []
+calls_of_lines (Ok reading) (line ∷ lines) = cons_option (line_call reading.telling line)
+    (calls_of_lines (capture_after_line (Ok reading) line) lines)
+
+-- those of a capture of which this was read, once the rest is read too
+abbrev pub calls_of_rest : ReaderState → List ℕ → List TimedCall
+calls_of_rest opened rest = calls_of_lines (Ok opened.reading) (lines_of (opened.line ++ rest))
+
+-- those of a capture in this form
+abbrev pub calls_of_capture : CaptureForm → Odd → List ℕ → List TimedCall
+calls_of_capture form odd text = calls_of_rest (new_opened form odd) text
+
+-- what a call tells that reads on, in front of what is told later; behind a bad line nothing is
+abbrev pub told_before : {F : Type 0} → Result (Option TimedCall) F → List TimedCall
+    → List TimedCall
+told_before (Ok call) later = cons_option call later
+told_before (Err fault) later = []

@@ -1,7 +1,7 @@
 -- A judge, told what a decoder shows.
 use Rattle.std.specs.Prelude.{ℕ, nat_le, Option, Some, None, Result, Ok, List, length, if◌then◌else◌}
 use Rattle.std.specs.Option.{option_map_or}
-use Rattle.std.specs.Result.{result_map_both}
+use Rattle.std.specs.Result.{result_map_both, result_unwrap_or}
 use Rattle.iol_judge.specs.declared.verdict.Odd.{Odd}
 use Rattle.iol_judge.specs.declared.verdict.Wake.TheVariants.{Unanswered}
 use Rattle.iol_link.specs.declared.wire.Rate.{Rate}
@@ -10,20 +10,26 @@ use Rattle.iol_splitter.specs.declared.octet_line.OctetLine.TheVariants as line
 use Rattle.iol_splitter.specs.declared.passed.SplitItem.{SplitItem}
 use Rattle.iol_splitter.specs.declared.passed.SplitItem.TheVariants.{Wake}
 use Rattle.iol_splitter.specs.OctetLines.{line_form}
-use Rattle.iol_splitter.specs.State.{Splitting, new_splitter}
+use Rattle.iol_splitter.specs.State.{Splitting, begins_call, new_splitter}
 use Rattle.iol_splitter.specs.Splitting.{untold_at_end, octet_split, wake_split}
 use Rattle.iol_splitter.specs.Steps.{SplitStep}
 use Rattle.iol_capture.specs.declared.fault.LineFault.{LineFault}
 use Rattle.iol_capture.specs.declared.fault.LineFault.TheVariants.{Split}
+use Rattle.iol_capture.specs.declared.timed_call.Beginnings.{Beginnings}
+use Rattle.iol_capture.specs.declared.timed_call.TimedCall.{TimedCall}
 use Rattle.iol_capture.specs.Judging.{Judging, maybe_woken, new_judging, passed_next}
+use Rattle.iol_capture.specs.Timed.{begun_untold, call_told, number_of_next, none_begun, number_by_octet}
 
 -- the octets that are split, and what the judge makes of what they are split into
 pub record Hearing : Type 0 where
   pub splitting : Splitting
   pub judging : Judging
+  -- when what isn't told yet began
+  pub begun : Beginnings
 
 abbrev pub new_hearing : Rate → Odd → Hearing
-new_hearing rate odd = record { splitting = new_splitter rate; judging = new_judging odd }
+new_hearing rate odd =
+    record { splitting = new_splitter rate; judging = new_judging odd; begun = none_begun }
 
 -- what a line of at most 1,024 bytes shows, where it fits a form
 abbrev pub octet_line_form : List ℕ → Option OctetLine
@@ -39,19 +45,60 @@ abbrev pub passed_by_octet : Judging → Option SplitItem → Judging
 passed_by_octet judging (Some (Wake Unanswered)) = maybe_woken judging
 passed_by_octet judging passed = passed_by_request judging passed
 
--- the judge is told so what a step tells
-abbrev pub step_heard : (Option SplitItem → Judging) → SplitStep → Result Hearing LineFault
-step_heard judged step = result_map_both
-    (λ passed. record { splitting = step.state; judging = judged passed }) Split step.told
+-- When what isn't told yet began
+
+-- behind an octet at this time
+abbrev pub begun_by_octet : Beginnings → Splitting → ℕ → Option SplitItem → Beginnings
+begun_by_octet begun state time passed =
+    if begins_call state then record (begun_untold begun passed) { octet = time }
+    else begun_untold begun passed
+
+-- behind a wake-up request that is shown at this time
+abbrev pub begun_by_request : Beginnings → ℕ → Option SplitItem → Beginnings
+begun_by_request begun time passed = record (begun_untold begun passed) { request = Some time }
+
+-- the judge is told so what a step tells, and so what isn't told began
+abbrev pub step_heard : (Option SplitItem → Judging) → (Option SplitItem → Beginnings) → SplitStep
+    → Result Hearing LineFault
+step_heard judged begun step = result_map_both (λ passed. record {
+  splitting = step.state;
+  judging = judged passed;
+  begun = begun passed;
+}) Split step.told
 
 -- what a line shows
 abbrev pub hearing_after_line : Hearing → OctetLine → Result Hearing LineFault
 hearing_after_line hearing line.Other = Ok hearing
 hearing_after_line hearing (line.Octet time octet) =
-    step_heard (passed_by_octet hearing.judging) (octet_split hearing.splitting time octet)
+    let step = octet_split hearing.splitting time octet in
+    step_heard (passed_by_octet hearing.judging) (begun_by_octet hearing.begun step.state time) step
 hearing_after_line hearing (line.Wake time) =
-    step_heard (passed_by_request hearing.judging) (wake_split hearing.splitting time)
+    step_heard (passed_by_request hearing.judging) (begun_by_request hearing.begun time)
+    (wake_split hearing.splitting time)
 
 -- the stream has ended
 abbrev pub heard_whole : Hearing → Judging
 heard_whole hearing = passed_by_request hearing.judging (untold_at_end hearing.splitting)
+
+-- Calls, each with its time
+
+-- that which a step tells, by its number
+abbrev pub call_of_step : Beginnings → (Option SplitItem → Option ℕ) → SplitStep → Option TimedCall
+call_of_step begun number step =
+    let passed = result_unwrap_or step.told None in
+    call_told begun (number passed) step.state.layout passed
+
+-- that which a line tells
+abbrev pub call_of_line : Hearing → OctetLine → Option TimedCall
+call_of_line hearing line.Other = None
+call_of_line hearing (line.Octet time octet) =
+    call_of_step hearing.begun (number_by_octet hearing.judging)
+    (octet_split hearing.splitting time octet)
+call_of_line hearing (line.Wake time) =
+    call_of_step hearing.begun (number_of_next hearing.judging) (wake_split hearing.splitting time)
+
+-- that which the end tells
+abbrev pub call_at_end : Hearing → Option TimedCall
+call_at_end hearing =
+    let passed = untold_at_end hearing.splitting in
+    call_told hearing.begun (number_of_next hearing.judging passed) hearing.splitting.layout passed

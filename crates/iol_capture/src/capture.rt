@@ -1,6 +1,6 @@
 //! A capture, read from a reader to its end.
-ghost use Rattle.std.specs.Prelude.{◌≡◌, ◌≢◌, Err, Ok, IfOk, IfErr, IfSome};
-ghost use Rattle.iol_capture.specs.Capture.{capture_judged};
+ghost use Rattle.std.specs.Prelude.{◌≡◌, ◌≢◌, [], Err, Ok, IfOk, IfErr, IfSome};
+ghost use Rattle.iol_capture.specs.Capture.{capture_judged, judging_after_rest};
 ghost use Rattle.iol_capture.specs.declared.fault.CaptureFault.TheVariants.{ReadFailed};
 
 use crate::fault::CaptureFault;
@@ -35,9 +35,20 @@ pub fn judge_capture<R: Read>(
             return Err(CaptureFault::ReadFailed);
         };
         if count == 0 {
-            return opened.finish();
+            return finish(opened);
         }
         opened.take(&piece[..count])?;
     }
     Err(CaptureFault::ReadFailed)
+}
+
+/// What is judged of a capture whose text has ended.
+fn finish(mut opened: CaptureReader) -> Result<Judgement, CaptureFault>
+    ensures { result ≡ judging_after_rest opened [] }
+{
+    let _call = opened.end_text()?;
+    match opened.finish() {
+        Ok((judgement, _)) => Ok(judgement),
+        Err(fault) => Err(fault),
+    }
 }

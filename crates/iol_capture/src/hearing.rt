@@ -1,11 +1,13 @@
 //! A judge, told what a decoder shows.
-ghost use Rattle.std.specs.Prelude.{◌≡◌, Ok};
-ghost use Rattle.std.specs.Result.{result_and};
+ghost use Rattle.std.specs.Prelude.{◌≡◌, Ok, option_and_then};
+ghost use Rattle.std.specs.Result.{result_and, result_unwrap_or};
 ghost use Rattle.iol_capture.specs.Judging.{or_bad_form};
-ghost use Rattle.iol_capture.specs.Octets.{heard_whole, new_hearing, octet_line_form, passed_by_octet, passed_by_request, hearing_after_line};
+ghost use Rattle.iol_capture.specs.Octets.{call_at_end, call_of_line, hearing_after_line, heard_whole, new_hearing, octet_line_form, passed_by_octet, passed_by_request};
+ghost use Rattle.iol_capture.specs.Timed.{number_of_next, number_by_octet};
 
 use crate::fault::LineFault;
 use crate::judgement::Judgement;
+use crate::timed_call::{Beginnings, TimedCall};
 use crate::trace_line::LONGEST;
 use iol_judge::{Odd, Wake};
 use iol_link::Rate;
@@ -17,6 +19,7 @@ use std::marker::Model;
 pub(crate) struct OctetJudgement {
     splitter: Splitter,
     judgement: Judgement,
+    begun: Beginnings,
 }
 
 impl Model for OctetJudgement {
@@ -24,7 +27,7 @@ impl Model for OctetJudgement {
 
     ghost Value = { Hearing };
 
-    ghost view = { λ h. record { splitting = h.splitter; judging = h.judgement } };
+    ghost view = { λ h. record { splitting = h.splitter; judging = h.judgement; begun = h.begun } };
 }
 
 impl OctetJudgement {
@@ -35,13 +38,16 @@ impl OctetJudgement {
         OctetJudgement {
             splitter: Splitter::new(rate),
             judgement: Judgement::new(odd),
+            begun: Beginnings::none(),
         }
     }
 
-    /// One more line.
-    pub fn tell_line(&mut self, line: &[u8]) -> Result<(), LineFault>
-        ensures { result_and result (Ok self.new)
+    /// One more line, and the call of the wire that it tells.
+    pub fn tell_line(&mut self, line: &[u8]) -> Result<Option<TimedCall>, LineFault>
+        ensures heard { result_and result (Ok self.new)
             ≡ or_bad_form (hearing_after_line self.old) (octet_line_form line.now) }
+        ensures told { result_unwrap_or result None
+            ≡ option_and_then (call_of_line self.old) (octet_line_form line.now) }
     {
         match parse(line) {
             Some(line) => self.tell(line),
@@ -50,35 +56,68 @@ impl OctetJudgement {
     }
 
     /// What one more line shows.
-    fn tell(&mut self, line: OctetLine) -> Result<(), LineFault>
-        ensures { result_and result (Ok self.new) ≡ hearing_after_line self.old line }
+    fn tell(&mut self, line: OctetLine) -> Result<Option<TimedCall>, LineFault>
+        ensures heard { result_and result (Ok self.new) ≡ hearing_after_line self.old line }
+        ensures told { result_unwrap_or result None ≡ call_of_line self.old line }
     {
         match line {
-            OctetLine::Other => Ok(()),
-            OctetLine::Octet(time, octet) => match self.splitter.octet(time, octet) {
-                Ok(passed) => {
-                    pass_octet(&mut self.judgement, &passed);
-                    Ok(())
-                }
-                Err(fault) => Err(LineFault::Split(fault)),
-            },
-            OctetLine::Wake(time) => match self.splitter.wake(time) {
-                Ok(passed) => {
-                    pass_request(&mut self.judgement, &passed);
-                    Ok(())
-                }
-                Err(fault) => Err(LineFault::Split(fault)),
-            },
+            OctetLine::Other => Ok(None),
+            OctetLine::Octet(time, octet) => self.tell_octet(time, octet),
+            OctetLine::Wake(time) => self.tell_request(time),
         }
     }
 
-    /// The stream has ended.
-    pub fn finish(self) -> Judgement
-        ensures { result ≡ heard_whole self }
+    ghost use Rattle.iol_splitter.specs.declared.octet_line.OctetLine.TheVariants as line;
+
+    /// An octet that begins at this time.
+    fn tell_octet(&mut self, time: u64, octet: u8) -> Result<Option<TimedCall>, LineFault>
+        ensures heard { result_and result (Ok self.new)
+            ≡ hearing_after_line self.old (line.Octet time octet) }
+        ensures told { result_unwrap_or result None
+            ≡ call_of_line self.old (line.Octet time octet) }
+    {
+        match self.splitter.octet(time, octet) {
+            Ok(passed) => {
+                let number = pass_octet(&mut self.judgement, &passed);
+                let call = self.begun.tell(number, self.splitter.layout(), passed);
+                if self.splitter.begins() {
+                    self.begun.octet = time;
+                }
+                Ok(call)
+            }
+            Err(fault) => Err(LineFault::Split(fault)),
+        }
+    }
+
+    /// A wake-up request at this time.
+    fn tell_request(&mut self, time: u64) -> Result<Option<TimedCall>, LineFault>
+        ensures heard { result_and result (Ok self.new)
+            ≡ hearing_after_line self.old (line.Wake time) }
+        ensures told { result_unwrap_or result None ≡ call_of_line self.old (line.Wake time) }
+    {
+        match self.splitter.wake(time) {
+            Ok(passed) => {
+                let number = pass_request(&mut self.judgement, &passed);
+                let call = self.begun.tell(number, self.splitter.layout(), passed);
+                self.begun.request = Some(time);
+                Ok(call)
+            }
+            Err(fault) => Err(LineFault::Split(fault)),
+        }
+    }
+
+    /// The stream has ended, which may tell one more call.
+    pub fn finish(self) -> (Judgement, Option<TimedCall>)
+        ensures judged { result.0 ≡ heard_whole self }
+        ensures told { result.1 ≡ call_at_end self }
     {
         let mut judgement = self.judgement;
-        pass_request(&mut judgement, &self.splitter.end());
-        judgement
+        let mut begun = self.begun;
+        let layout = self.splitter.layout();
+        let passed = self.splitter.end();
+        let number = pass_request(&mut judgement, &passed);
+        let call = begun.tell(number, layout, passed);
+        (judgement, call)
     }
 }
 
@@ -92,23 +131,30 @@ fn parse(line: &[u8]) -> Option<OctetLine>
     OctetLine::parse(line)
 }
 
-/// What went over the line, told by an octet. An unanswered wake-up request that isn't shown may be
-/// none: the read that may be its test read is the next call, and it has no number of its own.
-fn pass_octet(judgement: &mut Judgement, passed: &Option<SplitItem>)
-    ensures { judgement.new ≡ passed_by_octet judgement.old passed.now }
+/// What went over the line, told by an octet, and the number of the call. An unanswered wake-up
+/// request that isn't shown may be none: the read that may be its test read is the next call, and
+/// it has no number of its own.
+fn pass_octet(judgement: &mut Judgement, passed: &Option<SplitItem>) -> Option<u64>
+    ensures judged { judgement.new ≡ passed_by_octet judgement.old passed.now }
+    ensures number { result ≡ number_by_octet judgement.old passed.now }
 {
     match passed {
-        None => {}
-        Some(SplitItem::Wake(Wake::Unanswered)) => judgement.maybe_wake(),
-        Some(passed) => judgement.pass_next(passed),
+        None => None,
+        Some(SplitItem::Wake(Wake::Unanswered)) => {
+            judgement.maybe_wake();
+            None
+        }
+        Some(item) => Some(judgement.pass_next(item)),
     }
 }
 
 /// What went over the line, told by a wake-up request that is shown, or by the end.
-fn pass_request(judgement: &mut Judgement, passed: &Option<SplitItem>)
-    ensures { judgement.new ≡ passed_by_request judgement.old passed.now }
+fn pass_request(judgement: &mut Judgement, passed: &Option<SplitItem>) -> Option<u64>
+    ensures judged { judgement.new ≡ passed_by_request judgement.old passed.now }
+    ensures number { result ≡ number_of_next judgement.old passed.now }
 {
-    if let Some(passed) = passed {
-        judgement.pass_next(passed);
+    match passed {
+        None => None,
+        Some(item) => Some(judgement.pass_next(item)),
     }
 }

@@ -244,12 +244,15 @@ impl Judgement {
         note_odd(&mut self.odd, self.call, self.judge.oddity());
     }
 
-    /// What went over the line next.
-    pub(crate) fn pass_next(&mut self, passed: &SplitItem)
-        ensures { self.new ≡ passed_next self.old passed.now }
+    /// What went over the line next, in the call of this number.
+    pub(crate) fn pass_next(&mut self, passed: &SplitItem) -> u64
+        ensures judged { self.new ≡ passed_next self.old passed.now }
+        ensures number { result ≡ one_more self.old.call }
     {
-        self.call(one_more(self.call));
+        let number = one_more(self.call);
+        self.call(number);
         self.pass(passed);
+        number
     }
 
     /// What went over the line, in the call that began last.

@@ -21,6 +21,7 @@ mod laws;
 mod opened;
 mod printing;
 mod telling;
+mod timed_call;
 mod trace_line;
 mod watching;
 
@@ -30,6 +31,8 @@ pub use judgement::Judgement;
 pub use laws::{
     honest_captures_are_never_blamed, honest_octets_are_never_blamed, unseen_wakes_are_fair,
 };
+pub use opened::CaptureReader;
 pub use printing::Finding;
 pub use telling::CaptureForm;
+pub use timed_call::TimedCall;
 pub use trace_line::TraceLine;

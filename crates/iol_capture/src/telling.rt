@@ -1,13 +1,14 @@
 //! A judge, told the lines of a capture in one form or the other.
-ghost use Rattle.std.specs.Prelude.{◌≡◌, Ok};
-ghost use Rattle.std.specs.Result.{result_and};
+ghost use Rattle.std.specs.Prelude.{◌≡◌, MatchResult, Ok};
+ghost use Rattle.std.specs.Result.{result_and, result_unwrap_or};
 ghost use Rattle.iol_capture.specs.Judging.{or_bad_form, judging_after_line};
 ghost use Rattle.iol_capture.specs.TraceLines.{trace_form};
-ghost use Rattle.iol_capture.specs.Capture.{line_told, new_telling, judging_if_whole};
+ghost use Rattle.iol_capture.specs.Capture.{judging_if_whole, last_call, line_call, line_told, new_telling};
 
 use crate::fault::LineFault;
 use crate::hearing::OctetJudgement;
 use crate::judgement::Judgement;
+use crate::timed_call::TimedCall;
 use crate::trace_line::TraceLine;
 use iol_judge::Odd;
 use iol_link::Rate;
@@ -39,23 +40,30 @@ impl Telling {
         }
     }
 
-    /// One more line.
-    pub fn tell_line(&mut self, line: &[u8]) -> Result<(), LineFault>
-        ensures { result_and result (Ok self.new) ≡ line_told self.old line.now }
+    /// One more line, and the call of the wire that it tells.
+    pub fn tell_line(&mut self, line: &[u8]) -> Result<Option<TimedCall>, LineFault>
+        ensures heard { result_and result (Ok self.new) ≡ line_told self.old line.now }
+        ensures told { result_unwrap_or result None ≡ line_call self.old line.now }
     {
         match self {
-            Telling::Trace(judgement) => tell_trace(judgement, line),
+            Telling::Trace(judgement) => {
+                tell_trace(judgement, line)?;
+                Ok(None)
+            }
             Telling::Octets(hearing) => hearing.tell_line(line),
         }
     }
 
-    /// The capture has ended.
-    pub fn finish(self) -> Result<Judgement, LineFault>
-        ensures { result ≡ judging_if_whole self }
+    /// The capture has ended, which may tell one more call.
+    pub fn finish(self) -> Result<(Judgement, Option<TimedCall>), LineFault>
+        ensures judged { MatchResult result (λ whole. judging_if_whole self ≡ Ok whole.0)
+            (λ fault. judging_if_whole self ≡ Err fault) }
+        ensures told { MatchResult result (λ whole. last_call self ≡ whole.1)
+            (λ fault. last_call self ≡ None) }
     {
         match self {
             Telling::Trace(judgement) if judgement.waits() => Err(LineFault::ReplyMissing),
-            Telling::Trace(judgement) => Ok(judgement),
+            Telling::Trace(judgement) => Ok((judgement, None)),
             Telling::Octets(hearing) => Ok(hearing.finish()),
         }
     }
