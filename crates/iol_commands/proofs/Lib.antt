@@ -5,5 +5,6 @@ pub mod RunLemmas
 pub mod Taken
 pub mod ManyLemmas
 pub mod TraceLemmas
+pub mod OctetsLemmas
 pub mod CountersLemmas
 pub mod EndingLemmas

@@ -31,6 +31,15 @@ flows_after a b x y z text is flows = record {
   rest = sym is ∙ sym (append-nil y) ∙ flows.rest;
 }
 
+-- more is printed
+pub flows_join : (a b c : Option (List ℕ)) (x y z text later : List ℕ) → Flows a b x y text
+    → Flows b c y z later → Flows a c x z (text ++ later)
+flows_join a b c x y z text later one two = record {
+  written = one.written ++ two.written;
+  appends = Appends-trans a b c one.written two.written one.appends two.appends;
+  rest = rw (← append_assoc, one.rest, append_assoc, two.rest) (simp append_assoc);
+}
+
 -- what waits at the end is written, with a last text behind it
 pub whole_written : (a b c : Option (List ℕ)) (waits shown text last : List ℕ)
     → Flows a b [] waits text → shown ≡ waits ++ last → Appends b c shown
@@ -119,15 +128,9 @@ module _ {W : Type 0} (facts : WireFacts W) where
   traces_more join p q r calls more one two =
       let first = one.traced in
       let second = two.traced in
-      let a = one.flows in
-      let b = two.flows in
       record {
         text = one.text ++ two.text;
-        flows = record {
-          written = a.written ++ b.written;
-          appends = Appends-trans _ _ _ a.written b.written a.appends b.appends;
-          rest = rw (← append_assoc, a.rest, append_assoc, b.rest) (simp append_assoc);
-        };
+        flows = flows_join _ _ _ _ _ _ one.text two.text one.flows two.flows;
         traced = record {
           answers = first.answers ++ second.answers;
           traces = traces_join _ _ _ calls more first.answers second.answers one.text two.text

@@ -9,3 +9,4 @@ pub mod ManyPrinted
 pub mod Passing
 pub mod TracePrinted
 pub mod JudgePrinted
+pub mod OctetsTraced

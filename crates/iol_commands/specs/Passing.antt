@@ -42,10 +42,15 @@ PrintsCame number layout read None text = text ≡ decimal number ++ codes " < n
 PrintsCame number layout read (Some octets) text = (said : List ℕ)
     × PrintsReply layout read octets said × (text ≡ line_front number (codes "<") octets ++ said)
 
--- the lines of a call, its octets being messages of this layout
+-- the lines of an exchange, its octets being messages of this layout
+abbrev pub PrintsExchange : ℕ → Shape → List ℕ → Option (List ℕ) → List ℕ → Type 0
+PrintsExchange number layout sent answer text =
+    (first : List ℕ) × (later : List ℕ) × (text ≡ first ++ later)
+    × PrintsSent number layout sent first
+    × PrintsCame number layout (asks_read sent) answer later
+
+-- the lines of a call
 abbrev pub PrintsPassed : ℕ → Shape → TapNote → List ℕ → Type 0
 PrintsPassed number layout (Wake rate) text = text ≡ wake_text number rate
 PrintsPassed number layout (Exchange sent answer) text =
-    (first : List ℕ) × (later : List ℕ) × (text ≡ first ++ later)
-    × PrintsSent number layout sent.items first
-    × PrintsCame number layout (asks_read sent.items) (octets_in answer) later
+    PrintsExchange number layout sent.items (octets_in answer) text

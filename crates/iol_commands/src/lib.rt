@@ -1,13 +1,13 @@
 //! The commands of the program `iolink`, each from a reader to a writer: [`check`],
-//! [`run`], [`trace`], [`many`] and [`judge`].
+//! [`run`], [`trace`], [`many`], and [`judge`] or [`judge_traced`].
 //!
-//! Each but the last reads its input whole, up to 1,048,576 bytes, judges its lines from first
+//! Each but the last two reads its input whole, up to 1,048,576 bytes, judges its lines from first
 //! to last (crate iol_script), and prints what it makes of them; the clauses of
-//! each say which input is refused, by which fault, and what text is printed. `judge` reads a
-//! capture of any length (crate iol_capture).
+//! each say which input is refused, by which fault, and what text is printed. The last two
+//! read a capture of any length (crate iol_capture).
 //!
-//! Definitions begin in `specs/Input`; then `Checked`, `RunPlayed`, `TracePrinted`, `ManyPrinted`
-//! and `JudgePrinted`.
+//! Definitions begin in `specs/Input`; then `Checked`, `RunPlayed`, `TracePrinted`, `ManyPrinted`,
+//! `JudgePrinted` and `OctetsTraced`.
 #![tactic(auto)]
 
 mod check_command;
@@ -17,6 +17,7 @@ mod fault;
 mod judge_command;
 mod many_command;
 mod many_printing;
+mod octet_tracing;
 mod passing;
 mod playing;
 mod printing;
@@ -28,7 +29,7 @@ mod tracing;
 
 pub use check_command::check;
 pub use fault::ProgramFault;
-pub use judge_command::{JudgeFault, judge};
+pub use judge_command::{JudgeFault, judge, judge_traced};
 pub use many_command::many;
 pub use run_command::run;
 pub use streams::LIMIT;

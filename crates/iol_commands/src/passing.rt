@@ -3,7 +3,7 @@ ghost use Rattle.std.specs.Prelude.{◌≡◌};
 ghost use Rattle.iol_far.specs.Octets.{octets_in};
 ghost use Rattle.iol_script.specs.Printing.{Prints};
 ghost use Rattle.iol_commands.specs.Printed.{PrintsSome};
-ghost use Rattle.iol_commands.specs.Passing.{rate_name, wake_text, line_front, asks_read, PrintsSent, PrintsCame, PrintsPassed};
+ghost use Rattle.iol_commands.specs.Passing.{rate_name, wake_text, line_front, asks_read, PrintsSent, PrintsCame, PrintsExchange, PrintsPassed};
 
 use crate::check_command::{answer_message, answer_reply};
 use crate::printing::print_octets;
@@ -27,11 +27,24 @@ pub(crate) fn print_passed<A: Allocator>(
     match passed {
         TapNote::Wake(rate) => print_wake(output, number, *rate),
         TapNote::Exchange(sent, answer) => {
-            print_sent(output, number, layout, sent.as_slice())?;
-            let read = asks_read(sent.as_slice());
-            print_came(output, number, layout, read, answer)
+            print_exchange(output, number, layout, sent.as_slice(), answer)
         }
     }
+}
+
+/// A message and what came back, as messages of this layout.
+pub(crate) fn print_exchange<A: Allocator>(
+    output: &mut String<A>,
+    number: u64,
+    layout: &Layout,
+    sent: &[u8],
+    answer: &Option<Message>,
+) -> Result<(), AllocError>
+    ensures { PrintsSome result output.old output.new
+        (PrintsExchange number layout.now sent.now (octets_in answer.now)) }
+{
+    print_sent(output, number, layout, sent)?;
+    print_came(output, number, layout, asks_read(sent), answer)
 }
 
 /// The name of a rate.
@@ -47,7 +60,7 @@ fn rate_name(rate: Option<Rate>) -> &'static str
 }
 
 /// A wake, and the rate that was answered.
-fn print_wake<A: Allocator>(
+pub(crate) fn print_wake<A: Allocator>(
     output: &mut String<A>,
     number: u64,
     rate: Option<Rate>,

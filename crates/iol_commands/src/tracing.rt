@@ -214,7 +214,7 @@ fn layout_in(mode: Mode, layouts: &Layouts) -> Layout
 }
 
 /// Writes what waits, where it is enough.
-fn pass_on<A: Allocator, W: Write>(
+pub(crate) fn pass_on<A: Allocator, W: Write>(
     output: &mut String<A>,
     writer: &mut W,
 ) -> Result<(), ProgramFault>

@@ -1,11 +1,7 @@
-use Rattle.std.proofs.Common.{◌≡◌, false, Result, Ok, Err, OnOk, sym, ◌∙◌}
-use Rattle.std.specs.Prelude.{is_err}
+use Rattle.std.proofs.Common.{sym, ◌∙◌}
 use Rattle.std.proofs.lemmas.Option.{IfSome_then}
+use Rattle.iol_commands.proofs.OctetsLemmas.{no_error}
 use Rattle.iol_commands.proofs.judge_command.judge.Goals as goal
-
-no_error : {T E P : Type 0} (r : Result T E) → OnOk r P → is_err r ≡ false → P
-no_error (Ok done) holds good = holds
-no_error (Err fault) holds good = absurd (cc)
 
 pub returns-clause-printed : goal.returns-clause-printed
 returns-clause-printed g c =
