@@ -24,6 +24,7 @@ use crate::laws::station_laws;
 use crate::message::blank;
 use crate::output::OutputFault;
 use crate::session::PortSession;
+use crate::{Mode, Said};
 use iol_far::page_and_room_stay;
 use iol_image::Image;
 use iol_isdu::{Cause, Request};
@@ -31,7 +32,6 @@ use iol_link::{AttemptView, Rate, Wire};
 use iol_mode::{Devices, Down, State, Why};
 use iol_mseq::{Layout, Message, encode_master};
 use iol_page::{CycleTime, Identity, Page};
-use crate::{Mode, Said};
 use std::marker::Model;
 
 /// How the master's end of a port is.

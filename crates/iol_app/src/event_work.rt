@@ -3,10 +3,10 @@ ghost use Rattle.std.specs.Prelude.{◌≡◌, ◌≤◌, is_some};
 ghost use Rattle.iol_event.specs.Reading.{next_address};
 ghost use Rattle.iol_app.specs.EventReading.{new_event_work, reader_of, event_work_after, list_read, told_list, reading_after_octet, list_after};
 
+use crate::Said;
 use crate::session::Purpose;
 use iol_event::EventReader;
 use iol_mseq::{ReplyView, first};
-use crate::Said;
 use std::mem::replace;
 
 /// Whether a port has room for the six events that one reading may bring: only then it begins one.

@@ -5,6 +5,7 @@ ghost use Rattle.iol_page.specs.Page.{layouts_of};
 
 use crate::check_word::CheckWord;
 use crate::fault::BenchFault;
+use iol_app::Mode;
 use iol_book::{JournalLimit, Limits};
 use iol_device::Device;
 use iol_image::Image;
@@ -13,7 +14,6 @@ use iol_link::Wire;
 use iol_page::Page;
 use iol_port::Port;
 use iol_sim::{Params, Sim, Step};
-use iol_app::Mode;
 use std::alloc::Global;
 
 /// The page of a device without process data, and with 8 octets of on-request data.

@@ -17,7 +17,7 @@ ghost use Rattle.iol_commands.specs.RunPlayed.{records_text};
 
 use crate::counters_printing::{cause_name, print_counters};
 use crate::printing::{print_hexadecimal, print_octets};
-use iol_app::{OutputFault, Status};
+use iol_app::{Mode, OutputFault, Status};
 use iol_book::{BookFault, Outcome, Ticket};
 use iol_device::Carried;
 use iol_event::Event;
@@ -27,7 +27,6 @@ use iol_mode::Why;
 use iol_page::Page;
 use iol_port::{Answered, Call, Counting, PortFault};
 use iol_sim::{Params, Sim};
-use iol_app::Mode;
 use std::alloc::{AllocError, Allocator};
 
 /// The octets, each behind a space, or a dash where there is none.

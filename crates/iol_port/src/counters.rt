@@ -4,10 +4,9 @@ ghost use Rattle.iol_port.specs.Counters.{next_counter, none_counted, call_count
 ghost use Rattle.iol_port.specs.Counters.{verdict_counted, repeat_counted, loss_counted};
 ghost use Rattle.iol_port.specs.Counters.{cause_counted};
 
-use iol_app::{ReplyVerdict, WireResult};
+use iol_app::{ReplyVerdict, Said, WireResult};
 use iol_isdu::Cause;
 use iol_link::MAX_RETRY;
-use iol_app::Said;
 
 /// What a port has counted since it was opened, for diagnosis. Each count stays at 2^64 - 1.
 ///

@@ -2,9 +2,8 @@
 ghost use Rattle.std.specs.Prelude.{◌≡◌};
 ghost use Rattle.iol_port.specs.LastLoss.{loss_after};
 
-use iol_app::Status;
+use iol_app::{Mode, Status};
 use iol_mode::Why;
-use iol_app::Mode;
 
 /// What is known of it behind a call that began in this mode and ends with this status.
 ///

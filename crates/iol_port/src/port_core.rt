@@ -32,7 +32,7 @@ use crate::laws::clean_laws;
 use crate::loss::loss_after;
 use crate::settle::{KEPT, ROOM, begin_next, by_book, by_output, lacks_isdu, resets, settle};
 use arrayvec::ArrayVec;
-use iol_app::{Asked, Core, EventRoom, Status, WireResult};
+use iol_app::{Asked, Core, EventRoom, Mode, Said, Status, WireResult};
 use iol_book::{Book, Entry, Limits, Outcome, Ticket};
 use iol_event::Event;
 use iol_image::Image;
@@ -41,7 +41,6 @@ use iol_link::{Rate, Wire};
 use iol_mode::{Devices, Why};
 use iol_mseq::Message;
 use iol_page::{CycleTime, Identity, Page};
-use iol_app::{Mode, Said};
 use std::alloc::{Allocator, Global};
 use std::marker::Model;
 

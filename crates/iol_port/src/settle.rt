@@ -18,10 +18,9 @@ ghost use Rattle.iol_port.specs.View.{BeginsNext, TakesNext, Asks, ReportHasRoom
 
 use crate::PortFault;
 use arrayvec::ArrayVec;
-use iol_app::{Core, EventRoom, OutputFault};
+use iol_app::{Core, EventRoom, OutputFault, Said};
 use iol_book::{Book, BookFault, Outcome};
 use iol_event::{Event, EventList};
-use iol_app::Said;
 use std::alloc::Allocator;
 
 /// How many events a port keeps.

@@ -12,11 +12,10 @@ use iol_app::{Asked, Mode};
 use iol_book::{Limits, Outcome, Ticket};
 use iol_device::{App, Device};
 use iol_isdu::{Answer, Request};
-use iol_port::HonestPort;
 use iol_link::Rate;
 use iol_mseq::Message;
 use iol_peers::PLAIN;
-use iol_port::PortFault;
+use iol_port::{HonestPort, PortFault};
 use std::alloc::Global;
 use std::test::Fail;
 
