@@ -63,23 +63,36 @@ def on_the_line(calls):
         yield exchange_of(calls, place)
 
 
-def exported(calls, shows_wakes):
-    """The text that a decoder exports of these calls."""
-    lines, time = [], PAUSE
+def seconds(time):
+    return f"{time // 10**9}.{time % 10**9:09}"
 
-    def show(octets, gap):
-        nonlocal time
-        for octet in octets:
-            lines.append(f"{time // 10**9}.{time % 10**9:09} {octet:02X}\n")
-            time += FRAME + gap
 
+def shown(calls, shows_wakes):
+    """What a decoder shows of these calls: for each call a list of times, each with an octet or
+    `wake`."""
+    time = PAUSE
     for place, call in enumerate(calls):
+        lines = []
         if shows_wakes and isinstance(call, Wake):
-            lines.append(f"{time // 10**9}.{time % 10**9:09} wake\n")
+            lines.append((time, "wake"))
             time += PAUSE
         exchange = exchange_of(calls, place)
-        show(exchange.sent, 0)
-        time += RESPONSE
-        show(exchange.came or b"", GAP)
-        time += PAUSE
-    return "".join(lines).encode()
+        came = exchange.came or b""
+        for octets, gap, behind in ((exchange.sent, 0, RESPONSE), (came, GAP, PAUSE)):
+            for octet in octets:
+                lines.append((time, f"{octet:02X}"))
+                time += FRAME + gap
+            time += behind
+        yield lines
+
+
+def exported(calls, shows_wakes):
+    """The text that a decoder exports of these calls."""
+    return "".join(
+        f"{seconds(time)} {what}\n" for lines in shown(calls, shows_wakes) for time, what in lines
+    ).encode()
+
+
+def times(calls):
+    """When each of these calls began, where wake-up requests are shown."""
+    return [seconds(lines[0][0]) for lines in shown(calls, True)]

@@ -9,6 +9,8 @@ use Rattle.iol_capture.specs.declared.telling.CaptureForm.{CaptureForm}
 use Rattle.iol_capture.specs.declared.telling.CaptureForm.TheVariants.{Trace as TraceForm, Octets}
 use Rattle.iolink.specs.declared.command.AskedCommand.{AskedCommand}
 use Rattle.iolink.specs.declared.command.AskedCommand.TheVariants as asked
+use Rattle.iolink.specs.declared.command.Shown.{Shown}
+use Rattle.iolink.specs.declared.command.Shown.TheVariants.{Calls}
 use Rattle.iolink.specs.declared.command.PrintingCommand.{PrintingCommand}
 use Rattle.iolink.specs.declared.command.PrintingCommand.TheVariants.{Check, Run, Trace, Many}
 
@@ -20,10 +22,16 @@ mode_named name =
     if bytes_eq name (codes "trace") then Some Trace else
     if bytes_eq name (codes "many") then Some Many else None
 
--- what a name asks for, with the form of a capture, and what is to be done with odd replies
-abbrev pub asked_named : List ℕ → CaptureForm → Odd → Option AskedCommand
-asked_named name form odd =
-    if bytes_eq name (codes "judge") then Some (asked.Judge form odd) else
+-- what `judge` asks for: a trace shows its calls itself
+abbrev pub asked_judging : CaptureForm → Odd → Shown → AskedCommand
+asked_judging (Octets rate) odd Calls = asked.JudgeTraced rate odd
+asked_judging form odd shown = asked.Judge form odd
+
+-- what a name asks for, with the form of a capture, what is to be done with odd replies, and what
+-- is to be shown
+abbrev pub asked_named : List ℕ → CaptureForm → Odd → Shown → Option AskedCommand
+asked_named name form odd shown =
+    if bytes_eq name (codes "judge") then Some (asked_judging form odd shown) else
     option_map asked.Mode (mode_named name)
 
 -- the rate by the digit of its name

@@ -47,19 +47,41 @@ pub(crate) enum AskedCommand {
     /// Says whether a device by the rules could have brought a capture in this form, and does this
     /// with odd replies.
     Judge(CaptureForm, Odd),
+    /// The same of the octets of a line with this rate, and prints the calls that they are split
+    /// into.
+    JudgeTraced(Rate, Odd),
+}
+
+/// What is shown of a capture that is judged.
+#[derive(Clone, Copy, Debug, PartialEq, Eq)]
+pub(crate) enum Shown {
+    /// What was found.
+    Finding,
+    /// That, and the calls that octets are split into.
+    Calls,
 }
 
 impl AskedCommand {
-    ghost use Rattle.iolink.specs.Command.{asked_named};
+    ghost use Rattle.iolink.specs.Command.{asked_judging, asked_named};
 
-    /// What this name asks for, with the form of a capture, and where that is to be done with odd
-    /// replies.
-    fn named(name: &str, form: CaptureForm, odd: Odd) -> Option<AskedCommand>
-        ensures { result ≡ asked_named name.now form odd }
+    /// What this name asks for, with the form of a capture, what is to be done with odd replies,
+    /// and what is to be shown.
+    fn named(name: &str, form: CaptureForm, odd: Odd, shown: Shown) -> Option<AskedCommand>
+        ensures { result ≡ asked_named name.now form odd shown }
     {
         match name.as_bytes() {
-            b"judge" => Some(AskedCommand::Judge(form, odd)),
+            b"judge" => Some(AskedCommand::judging(form, odd, shown)),
             _ => Some(AskedCommand::Mode(PrintingCommand::named(name)?)),
+        }
+    }
+
+    /// What `judge` asks for. A trace shows its calls itself.
+    fn judging(form: CaptureForm, odd: Odd, shown: Shown) -> AskedCommand
+        ensures { result ≡ asked_judging form odd shown }
+    {
+        match (form, shown) {
+            (CaptureForm::Octets(rate), Shown::Calls) => AskedCommand::JudgeTraced(rate, odd),
+            _ => AskedCommand::Judge(form, odd),
         }
     }
 }
@@ -87,7 +109,8 @@ pub(crate) fn asked_by<'a, S: AsStr>(
             BadLines::Numbered,
         ));
     };
-    let asked = AskedCommand::named(name, form_of(octets_rate(words)), odd_of(words)).unwrap_or(
+    let form = form_of(octets_rate(words));
+    let asked = AskedCommand::named(name, form, odd_of(words), shown_of(words)).unwrap_or(
         AskedCommand::Mode(PrintingCommand::Check),
     );
     Ok((asked, bad_lines_of(words)))
@@ -116,8 +139,11 @@ fn why_flag<'a>(alloc: Global) -> Arg<'a> {
 /// The option of `judge` that has octets read.
 const OCTETS: &str = "octets";
 
-/// The flag of `judge`.
+/// The flag of `judge` that has odd replies passed over.
 const ODD: &str = "odd";
+
+/// The flag of `judge` that has the calls shown.
+const TRACE: &str = "trace";
 
 /// The rate of the octets that are to be read, by the words behind the command.
 fn octets_rate(words: &ArgMatches<'_>) -> Option<Rate> {
@@ -185,6 +211,24 @@ fn odd_flag<'a>(alloc: Global) -> Arg<'a> {
         .help("Counts replies that are odd, but harmless, and passes them over")
 }
 
+/// What is to be shown, by the words behind the command.
+fn shown_of(words: &ArgMatches<'_>) -> Shown {
+    if words.get_flag(TRACE) {
+        Shown::Calls
+    } else {
+        Shown::Finding
+    }
+}
+
+/// The flag that has the calls shown which octets are split into.
+fn trace_flag<'a>(alloc: Global) -> Result<Arg<'a>, AllocError> {
+    Arg::new(alloc, TRACE)
+        .long(TRACE)
+        .action(ArgAction::SetTrue)
+        .help("Prints the calls that octets are split into, each with its time")
+        .requires_arg(OCTETS)
+}
+
 /// The command line of the program.
 fn command<'a>(alloc: Global, texts: &'a Help) -> Result<Command<'a>, AllocError> {
     let check = Command::new(alloc, "check")
@@ -213,6 +257,7 @@ fn command<'a>(alloc: Global, texts: &'a Help) -> Result<Command<'a>, AllocError
         )
         .after_help(texts.judge.as_str())
         .arg(octets_option(alloc))?
+        .arg(trace_flag(alloc)?)?
         .arg(odd_flag(alloc))?
         .arg(why_flag(alloc))?;
     Command::new(alloc, "iolink")

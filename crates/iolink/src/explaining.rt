@@ -1,7 +1,7 @@
 //! Why the line is bad at which a command has ended.
 use crate::command::{AskedCommand, BadLines, PrintingCommand};
 use crate::ending::Ending;
-use iol_capture::CaptureFault;
+use iol_capture::{CaptureFault, CaptureForm};
 use iol_commands::{JudgeFault, ProgramFault};
 use iol_why::{
     Keeping, KeptText, Mistake, explain_capture, explain_check, explain_plan, explain_script,
@@ -12,7 +12,9 @@ pub(crate) fn keeping_for(asked: AskedCommand, lines: BadLines) -> Keeping {
     match (lines, asked) {
         (BadLines::Numbered, _) => Keeping::Nothing,
         (BadLines::Explained, AskedCommand::Mode(_)) => Keeping::All,
-        (BadLines::Explained, AskedCommand::Judge(..)) => Keeping::LastLines,
+        (BadLines::Explained, AskedCommand::Judge(..) | AskedCommand::JudgeTraced(..)) => {
+            Keeping::LastLines
+        }
     }
 }
 
@@ -30,6 +32,10 @@ pub(crate) fn mistake_at<'a>(
             AskedCommand::Judge(form, _),
             Ending::NotJudged(JudgeFault::Capture(CaptureFault::Line(number, fault))),
         ) => explain_capture(form, text, *number, *fault),
+        (
+            AskedCommand::JudgeTraced(rate, _),
+            Ending::NotJudged(JudgeFault::Capture(CaptureFault::Line(number, fault))),
+        ) => explain_capture(CaptureForm::Octets(rate), text, *number, *fault),
         _ => None,
     }
 }

@@ -153,6 +153,14 @@ requests are shown, their test reads tell them. N counts wake-up requests and ex
 ends it, as a bad line does. In PREOPERATE and OPERATE such a read may be none; a fault of the master behind it is
   master can't be judged from N on: TEXT
 
+With --trace it prints what they are split into before all that, as it comes, and up to a bad line. A call has the lines
+of 'iolink trace', and before them 'time SECONDS', when its message or its wake-up request began:
+  time SECONDS            with nine digits behind the point
+  N wake RATE             a wake-up request, with its test read, and the rate that was given, or none
+  maybe wake              where no wake-up requests are shown, one that wasn't answered, or none
+  N > OCTET ..: TEXT      a message
+  N < OCTET ..: TEXT      what came back, or N < none
+
 Example:
   printf '1 wake COM2\\n2 > A2 00\\n2 < 17 1B\\n3 > A2 00\\n3 < 18 1B\\n' | iolink judge
 prints

@@ -20,7 +20,7 @@ use crate::command::{AskedCommand, asked_by};
 use crate::ending::{Ending, exit_of};
 use crate::explaining::{keeping_for, mistake_at};
 use crate::help::Help;
-use crate::performing::{perform, perform_judge};
+use crate::performing::{perform, perform_judge, perform_judge_traced};
 use iol_commands::ProgramFault;
 use iol_why::KeptInput;
 use std::alloc::Global;
@@ -56,6 +56,9 @@ fn work<R: Runtime<A = Global> + Threads + Wait + Sync>(
         }
         AskedCommand::Judge(form, odd) => {
             perform_judge(rt.alloc(), form, odd, &mut reader, &mut writer)
+        }
+        AskedCommand::JudgeTraced(rate, odd) => {
+            perform_judge_traced(rt.alloc(), rate, odd, &mut reader, &mut writer)
         }
     };
     if let Err(ending) = &outcome

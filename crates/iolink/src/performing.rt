@@ -9,8 +9,9 @@ ghost use Rattle.iol_commands.specs.Input.{AnswersInput, OfLines};
 use crate::command::PrintingCommand;
 use crate::ending::Ending;
 use iol_capture::{CaptureForm, Finding};
-use iol_commands::{ProgramFault, check, judge, many, run, trace};
+use iol_commands::{ProgramFault, check, judge, judge_traced, many, run, trace};
 use iol_judge::Odd;
+use iol_link::Rate;
 use std::alloc::Global;
 use std::io::{Read, Write};
 use std::sync::Wait;
@@ -41,16 +42,18 @@ pub(crate) fn perform<T: Threads + Wait + Sync, R: Read, W: Write>(
     }
 }
 
-ghost use Rattle.std.specs.Prelude.{List, IfSome};
+ghost use Rattle.std.specs.Prelude.{List, IfErr, IfSome};
 ghost use Rattle.std.specs.Io.KnownBytes.{Appends};
-ghost use Rattle.iol_capture.specs.Capture.{capture_judged};
+ghost use Rattle.iol_capture.specs.Capture.{calls_of_capture, capture_judged};
 ghost use Rattle.iol_capture.specs.declared.fault.CaptureFault.TheVariants as capture_fault;
 ghost use Rattle.iol_capture.specs.declared.fault.LineFault.{LineFault};
 ghost use Rattle.iol_capture.specs.declared.printing.Finding.{Finding};
 ghost use Rattle.iol_capture.specs.declared.printing.Finding.TheVariants.{Honest};
 ghost use Rattle.iolink.specs.declared.ending.Ending.TheVariants.{NotHonest, NotJudged};
 ghost use Rattle.iol_commands.specs.declared.judge_command.JudgeFault.TheVariants as judge_fault;
+ghost use Rattle.iol_capture.specs.declared.telling.CaptureForm.TheVariants.{Octets};
 ghost use Rattle.iol_commands.specs.JudgePrinted.{Judges};
+ghost use Rattle.iol_commands.specs.OctetsTraced.{JudgesTraced, PrintsCalls};
 
 /// Judges a capture in this form, and does this with odd replies. It ends well where nothing was
 /// found, but what is passed over.
@@ -79,7 +82,50 @@ pub(crate) fn perform_judge<R: Read, W: Write>(
         (result ≢ Err NotHonest → result ≢ Err (NotJudged judge_fault.WriteFailed)
         → Keeps (W.contents writer.old) (W.contents writer.new)) }
 {
-    match judge(alloc, form, odd, reader, writer)? {
+    ended_by(judge(alloc, form, odd, reader, writer)?)
+}
+
+/// Judges the octets of a line with this rate as [`perform_judge`] does, and prints the calls that
+/// they are split into.
+pub(crate) fn perform_judge_traced<R: Read, W: Write>(
+    alloc: Global,
+    rate: Rate,
+    odd: Odd,
+    reader: &mut R,
+    writer: &mut W,
+) -> Result<(), Ending>
+    // What is read.
+    ensures bad_line { (n : ℕ) → (why : LineFault)
+        → result ≡ Err (NotJudged (judge_fault.Capture (capture_fault.Line n why)))
+        → IfSome (R.remaining reader.old) (λ capture.
+        capture_judged (Octets rate) odd capture ≡ Err (capture_fault.Line n why)) }
+
+    // What is written.
+    ensures honest { OnOk result ((text : List ℕ)
+        × Appends (W.contents writer.old) (W.contents writer.new) text
+        × IfSome (R.remaining reader.old) (λ capture. JudgesTraced rate odd capture Honest text)) }
+    ensures not_honest { result ≡ Err NotHonest
+        → (finding : Finding) × (text : List ℕ) × (finding ≢ Honest)
+        × Appends (W.contents writer.old) (W.contents writer.new) text
+        × IfSome (R.remaining reader.old)
+        (λ capture. JudgesTraced rate odd capture finding text) }
+    ensures before { (n : ℕ) → (why : LineFault)
+        → result ≡ Err (NotJudged (judge_fault.Capture (capture_fault.Line n why)))
+        → (text : List ℕ) × Appends (W.contents writer.old) (W.contents writer.new) text
+        × IfSome (R.remaining reader.old)
+        (λ capture. PrintsCalls rate (calls_of_capture (Octets rate) odd capture) text) }
+    ensures appended { result ≢ Err (NotJudged judge_fault.WriteFailed)
+        → (text : List ℕ) × Appends (W.contents writer.old) (W.contents writer.new) text }
+{
+    ended_by(judge_traced(alloc, rate, odd, reader, writer)?)
+}
+
+/// How the program ends where this was found.
+fn ended_by(finding: Finding) -> Result<(), Ending>
+    ensures honest { OnOk result (finding ≡ Honest) }
+    ensures not_honest { IfErr result (λ ending. (ending ≡ NotHonest) × (finding ≢ Honest)) }
+{
+    match finding {
         Finding::Honest => Ok(()),
         Finding::NotHonest | Finding::CantSay => Err(Ending::NotHonest),
     }
