@@ -1,8 +1,9 @@
-//! A wire whose exchange waits until another thread lets it go.
+//! A wire, and a gate, that wait until another thread lets them go.
 use crate::opening::wired;
 use iol_event::Event;
 use iol_image::Image;
 use iol_link::{Rate, Wire};
+use iol_master::Gate;
 use iol_mseq::Message;
 use iol_peers::{AnyWire, PROCESS_DATA, Peer};
 use iol_sim::{Params, Sim, Step};
@@ -40,14 +41,43 @@ pub fn sending(alloc: Global) -> Result<Sim<Params>, Fail> {
 /// What two threads tell each other.
 #[derive(Drop)]
 pub struct Flags {
-    /// The next exchange is to wait.
+    /// The next call is to wait.
     pub armed: AtomicBool,
-    /// An exchange waits.
+    /// A call waits.
     pub waiting: AtomicBool,
     /// It may end.
     pub let_go: AtomicBool,
     /// It ended by that, and not of itself.
     pub was_let_go: AtomicBool,
+}
+
+impl Flags {
+    /// None is set.
+    pub fn new() -> Flags {
+        Flags {
+            armed: AtomicBool::new(false),
+            waiting: AtomicBool::new(false),
+            let_go: AtomicBool::new(false),
+            was_let_go: AtomicBool::new(false),
+        }
+    }
+
+    /// Waits until it is let go, where it is to.
+    fn wait(&self) {
+        if self.armed.load(Ordering::SeqCst) {
+            self.waiting.store(true, Ordering::SeqCst);
+            let ended = is_set(&self.let_go);
+            self.was_let_go.store(ended, Ordering::SeqCst);
+        }
+    }
+}
+
+/// A gate that is open, and waits.
+impl Gate for Flags {
+    fn pass(&self, _port: u32, _turn: u64) -> bool {
+        self.wait();
+        true
+    }
 }
 
 /// Looks at a flag until it is set, at most a thousand million times.
@@ -60,7 +90,7 @@ pub fn is_set(flag: &AtomicBool) -> bool {
     false
 }
 
-/// A wire whose reply comes when it is let go.
+/// A wire whose call ends when it is let go.
 #[derive(Drop)]
 pub struct Slow {
     wire: Sim<Params>,
@@ -69,15 +99,12 @@ pub struct Slow {
 
 impl Peer for Slow {
     fn wake(&mut self) -> Option<Rate> {
+        self.flags.wait();
         self.wire.wake()
     }
 
     fn exchange(&mut self, sent: &[u8]) -> Option<Message> {
-        if self.flags.armed.load(Ordering::SeqCst) {
-            self.flags.waiting.store(true, Ordering::SeqCst);
-            let ended = is_set(&self.flags.let_go);
-            self.flags.was_let_go.store(ended, Ordering::SeqCst);
-        }
+        self.flags.wait();
         self.wire.exchange(sent)
     }
 }
@@ -85,15 +112,7 @@ impl Peer for Slow {
 /// Such a wire, and its flags, of which none is set.
 pub fn slow_wire(alloc: Global) -> Result<(AnyWire<Slow>, Arc<Flags, Global>), Fail> {
     let wire = sending(alloc)?;
-    let flags = Arc::new(
-        alloc,
-        Flags {
-            armed: AtomicBool::new(false),
-            waiting: AtomicBool::new(false),
-            let_go: AtomicBool::new(false),
-            was_let_go: AtomicBool::new(false),
-        },
-    )?;
+    let flags = Arc::new(alloc, Flags::new())?;
     let theirs = Arc::try_clone(&flags)?;
     let peer = Slow {
         wire,

@@ -1,0 +1,9 @@
+use denote.Param.Send.{sendable}
+use Rattle.std.proofs.Crossing.{crosses}
+use Rattle.iol_sim.proofs.Crosses.{sim_send}
+use Rattle.iol_master_tests.proofs.lines.a_client_is_let_in_while_the_gate_is_asked.Goals as goal
+
+-- the worker's thread owns the device
+pub gate_lets_in-requires-send-W : goal.gate_lets_in-requires-send-W
+gate_lets_in-requires-send-W c κs within =
+    search (sim_send, crosses, sendable) depth 60 fits 20000
