@@ -16,6 +16,8 @@ mod desks;
 #[cfg(test)]
 mod lines;
 #[cfg(test)]
+mod locks;
+#[cfg(test)]
 mod masters;
 #[cfg(test)]
 mod opening;

@@ -53,6 +53,9 @@ const LOST: u64 = 3;
 /// Turns in which the silence ends, and all is done that waits.
 const TURNS: u64 = 90;
 
+/// All turns of a port: up to OPERATE, through the silence, and one behind it.
+const ALL_TURNS: u64 = START_UP + SILENCE + TURNS + 1;
+
 /// The form of the StatusCode that the master gets.
 #[derive(Clone, Copy)]
 enum Form {
@@ -60,22 +63,49 @@ enum Form {
     Odd,
 }
 
-/// A device, what becomes of its StatusCode, and the output that it has, 0 where it has none.
+/// Watches a device from outside of its wire.
+#[derive(Drop)]
+struct Watch {
+    /// How often the wire was called.
+    calls: AtomicU64,
+    /// The output that the device has, 0 where it has none.
+    output: AtomicU64,
+}
+
+impl Watch {
+    fn new() -> Watch {
+        Watch {
+            calls: AtomicU64::new(0),
+            output: AtomicU64::new(0),
+        }
+    }
+
+    /// Whether the wire was called so often, and the device has this output.
+    fn saw(&self, calls: u64, output: u8) -> bool {
+        self.calls.load(Ordering::SeqCst) == calls
+            && self.output.load(Ordering::SeqCst) == u64::from(output)
+    }
+}
+
+/// A device, what becomes of its StatusCode, and its watch.
 #[derive(Drop)]
 struct Watched {
     wire: Sim<Params>,
     form: Form,
-    output: Arc<AtomicU64, Global>,
+    watch: Arc<Watch, Global>,
 }
 
 impl Peer for Watched {
     fn wake(&mut self) -> Option<Rate> {
+        self.watch.calls.fetch_add(1, Ordering::SeqCst);
         self.wire.wake()
     }
 
     fn exchange(&mut self, sent: &[u8]) -> Option<Message> {
         let came = self.wire.exchange(sent);
-        self.output
+        self.watch.calls.fetch_add(1, Ordering::SeqCst);
+        self.watch
+            .output
             .store(u64::from(output_of(&self.wire)), Ordering::SeqCst);
         match (self.form, sent.first()) {
             (Form::Odd, Some(&READ_STATUS)) => Message::try_from(ODD_STATUS.as_slice()).ok(),
@@ -124,19 +154,20 @@ fn scripted(alloc: Global) -> Result<Sim<Params>, Fail> {
     wired(alloc, &PROCESS_DATA, &VALUE, script(alloc)?)
 }
 
-type Output = Arc<AtomicU64, Global>;
+/// A wire, and what watches its device.
+type WatchedLine = (AnyWire<Watched>, Arc<Watch, Global>);
 
-/// The line to such a device, and the output that it has.
-fn watched_line(alloc: Global, form: Form) -> Result<(AnyWire<Watched>, Output), Fail> {
+/// The line to such a device, and its watch.
+fn watched_line(alloc: Global, form: Form) -> Result<WatchedLine, Fail> {
     let wire = scripted(alloc)?;
-    let output = Arc::new(alloc, AtomicU64::new(0))?;
-    let theirs = Arc::try_clone(&output)?;
+    let watch = Arc::new(alloc, Watch::new())?;
+    let theirs = Arc::try_clone(&watch)?;
     let peer = Watched {
         wire,
         form,
-        output: theirs,
+        watch: theirs,
     };
-    Ok((AnyWire(peer), output))
+    Ok((AnyWire(peer), watch))
 }
 
 /// A parameter that the device hasn't got.
@@ -330,12 +361,12 @@ where
 }
 
 /// Refuses a worker that ends where the link is lost or a StatusCode is refused, that takes events,
-/// archives the journal, clears the output, or publishes no more.
+/// archives the journal, clears the output, publishes no more, or calls the wire twice in a turn.
 #[test]
 fn a_port_is_served_through_silence(rt: HostRuntime) -> Result<(), Fail> {
     let wanted = Wanted::new()?;
     for &form in &[Form::Known, Form::Odd] {
-        let (wire, output) = watched_line(rt.alloc(), form)?;
+        let (wire, watch) = watched_line(rt.alloc(), form)?;
         is_served::<_, Brand, Brand, HostRuntime>(
             &rt,
             rt.alloc(),
@@ -345,7 +376,7 @@ fn a_port_is_served_through_silence(rt: HostRuntime) -> Result<(), Fail> {
             Blank::new(1025),
             Blank::new(1),
         )?;
-        check(&rt, output.load(Ordering::SeqCst) == u64::from(OUTPUT[0]));
+        check(&rt, watch.saw(ALL_TURNS, OUTPUT[0]));
     }
     Ok(())
 }
@@ -444,7 +475,7 @@ fn is_turned<W: Wire + Drop, R: Wait>(rt: &R, alloc: Global, wire: W) -> Result<
 /// refused.
 #[test]
 fn a_turn_is_made_where_nothing_is_published(rt: HostRuntime) -> Result<(), Fail> {
-    let (wire, _output) = watched_line(rt.alloc(), Form::Odd)?;
+    let (wire, _watch) = watched_line(rt.alloc(), Form::Odd)?;
     check(&rt, is_turned(&rt, rt.alloc(), wire)?);
     Ok(())
 }
