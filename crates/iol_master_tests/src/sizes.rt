@@ -38,11 +38,11 @@ fn has_seats<R: Wait>(
     Ok(seats.len() == readers && all_read(rt, seats.as_mut_slice(), image))
 }
 
-/// Refuses a cell that has no memory, or no seat of its own, from a number of readers on.
+/// Refuses a cell that has no memory, or no seat of its own, for a number of readers.
 #[test]
 fn a_cell_has_a_seat_for_each_reader(rt: HostRuntime) -> Result<(), Fail> {
     let image = Image::new(&[0x5A; 32])?;
-    for &readers in &[1, 2, 8, 9, 16] {
+    for readers in 1..17 {
         check(&rt, has_seats(&rt, rt.alloc(), readers, &image) == Ok(true));
     }
     Ok(())
@@ -78,7 +78,7 @@ fn has_messages(alloc: Global, count: u16) -> Result<bool, Fail> {
 /// Refuses a wire that has no memory for many messages.
 #[test]
 fn a_raw_wire_has_each_message(rt: HostRuntime) -> Result<(), Fail> {
-    for &count in &[0, 1, 2, 255, 256, 257, 1_000] {
+    for &count in &[0, 1, 2, 255, 256, 257, 1_000, 1_001, 65_535] {
         check(&rt, has_messages(rt.alloc(), count)?);
     }
     Ok(())
