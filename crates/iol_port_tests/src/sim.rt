@@ -10,6 +10,7 @@ use iol_mseq::Message;
 use iol_peers::{ONE_OCTET, PLAIN};
 use iol_sim::{Fate, Raw, Sim, SimFault, Step};
 use refusing_alloc::{Refusal, RefusingAlloc};
+use std::alloc::AllocError;
 use std::test::Fail;
 
 /// The application of each device here.
@@ -166,6 +167,40 @@ fn a_wire_of_two_devices_asks_for_memory_twice(rt: HostRuntime) -> Result<(), Fa
     assert!(rt; !refusing.has_refused());
     assert!(rt; sim.wake() == Some(Rate::Com2));
     Ok(())
+}
+
+/// A script in which so many wakes are lost.
+fn lost_wakes<A: Handle>(alloc: A, count: usize) -> Result<Vec<Step, A>, AllocError> {
+    let mut steps = Vec::new(alloc);
+    for _ in 0..count {
+        steps.push(Step::Fate(Fate::NoWake))?;
+    }
+    Ok(steps)
+}
+
+/// Whether a wire of two devices answers no wake that such a script loses, and the next one.
+fn has_steps<A: Handle>(alloc: A, refusing: &RefusingAlloc, count: usize) -> bool {
+    let Ok(steps) = lost_wakes(alloc, count) else {
+        return false;
+    };
+    let Some(mut sim) = wire_of_two(alloc, refusing, &steps, Refusal::Never) else {
+        return false;
+    };
+    for _ in 0..count {
+        if sim.wake().is_some() {
+            return false;
+        }
+    }
+    sim.wake() == Some(Rate::Com2)
+}
+
+/// Refuses a wire of two devices that has no memory for a long script.
+#[test]
+fn a_wire_of_two_devices_has_each_step(rt: HostRuntime) {
+    let refusing = RefusingAlloc::new(rt.alloc());
+    for &count in &[0, 1, 2, 255, 256, 257, 1_000, 1_001, 65_537] {
+        assert!(rt; has_steps(&refusing, &refusing, count));
+    }
 }
 
 /// Whether a device of this page is plugged in, and one of that page is away.
