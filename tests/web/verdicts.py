@@ -17,6 +17,8 @@ IS_OF_TRACE = re.compile(r"\d+ |page ")
 STARTUP = "layout startup"
 COMMAND, PREOPERATE, OPERATE = "20", "9A", "99"
 READ = 0x80
+# The highest number of a call that the page can tell from its neighbours.
+MOST_COUNTED = 9 * 10**15
 # `check` takes at least one octet. This is what `trace` prints for none.
 NO_OCTETS = "refused 4 WrongLength"
 # A wake-up, exchanges 2 to 5, and no other line.
@@ -127,6 +129,11 @@ def judged_rows(room):
         yield os.path.basename(row), text if is_whole(text) else with_texts(room, text), read(f"{row}/stdout")
 
 
+def is_counted(text):
+    """Whether the page can count the calls of a trace."""
+    return all(int(it) <= MOST_COUNTED for it in re.findall(r"^\d+", text, re.MULTILINE))
+
+
 NOTES = (
     "Object.fromEntries([...document.querySelectorAll('#exchanges-panel tbody tr')].map((it) => "
     "[it.cells[0].innerText, it.cells[4].innerText]))"
@@ -151,6 +158,10 @@ def check_judged_rows(room):
     for name, trace, verdict in judged_rows(room):
         said = next(it for it in verdict.splitlines() if re.fullmatch(VERDICT, it))
         kinds.add(re.sub(r"\d+", "N", said).split(":")[0])
+        if not is_counted(trace):
+            room.open_text(trace)
+            yield f"{name}: refused", missing(f"wanted: a number up to {MOST_COUNTED}", room.fault())
+            continue
         ended = trace if trace.endswith("\n") or not trace else f"{trace}\n"
         for where, text in (("behind", ended + verdict), ("before", verdict + ended)):
             room.open_text(text)
