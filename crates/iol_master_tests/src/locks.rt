@@ -46,8 +46,8 @@ fn beside<W: Wire + Send, L: Ledger + Sync, K: Ledger + Sync, R: Threads + Wait 
 ) -> (bool, bool) {
     thread::join(
         rt,
-        move || visit(rt, master, flags),
         move || turns(rt, master, 1, 1),
+        move || visit(rt, master, flags),
     )
 }
 
