@@ -1,3 +1,7 @@
+mod FairItems
+pub mod Digits
+pub mod Splits
+pub mod ExampleSplits
 pub mod FairLemmas
 pub mod ReadLemmas
 pub mod CallLemmas

@@ -8,15 +8,15 @@ use Rattle.std.specs.Result.{result_map_both}
 use Rattle.iol_judge.specs.Judged.{JudgeState, new_judge, one_more}
 use Rattle.iol_judge.specs.Admitted.{told_all}
 use Rattle.iol_script.specs.Text.{lines_of}
-use Rattle.iol_splitter.specs.declared.fault.SplitFault.{SplitFault}
-use Rattle.iol_splitter.specs.declared.octet_line.OctetLine.{OctetLine}
-use Rattle.iol_splitter.specs.declared.octet_line.OctetLine.TheVariants as line
-use Rattle.iol_splitter.specs.declared.passed.SplitItem.{SplitItem}
-use Rattle.iol_splitter.specs.Fair.{OctetsNeverBlamed, SaysNothing, judge_after_item, passing_of}
-use Rattle.iol_splitter.specs.Splitting.{octet_split, wake_split}
-use Rattle.iol_splitter.specs.State.{Splitting, new_splitter}
-use Rattle.iol_splitter.specs.Steps.{SplitStep}
-use Rattle.iol_splitter.specs.Written.{all_split, stream_of, with_told}
+use Rattle.iol_capture.specs.declared.split_fault.SplitFault.{SplitFault}
+use Rattle.iol_capture.specs.declared.octet_line.OctetLine.{OctetLine}
+use Rattle.iol_capture.specs.declared.octet_line.OctetLine.TheVariants as line
+use Rattle.iol_capture.specs.declared.passed.SplitItem.{SplitItem}
+use Rattle.iol_capture.specs.FairSplits.{OctetsNeverBlamed, SaysNothing, judge_after_item, passing_of}
+use Rattle.iol_capture.specs.Splitting.{octet_split, wake_split}
+use Rattle.iol_capture.specs.SplitterState.{Splitting, new_splitter}
+use Rattle.iol_capture.specs.SplitSteps.{SplitStep}
+use Rattle.iol_capture.specs.Written.{all_split, stream_of, with_told}
 use Rattle.iol_capture.specs.declared.telling.Telling.TheVariants.{Octets}
 use Rattle.iol_capture.specs.Judging.{Judging, or_bad_form}
 use Rattle.iol_capture.specs.declared.timed_call.Beginnings.{Beginnings}

@@ -14,10 +14,10 @@ use Rattle.iol_capture.specs.declared.judgement.ExchangeCounts.{ExchangeCounts}
 use Rattle.iol_capture.specs.declared.judgement.OddExchange.{OddExchange}
 use Rattle.iol_capture.specs.declared.printing.Finding.{Finding}
 use Rattle.iol_capture.specs.declared.printing.Finding.TheVariants as found
-use Rattle.iol_watch.specs.declared.fault.Blame.{Blame}
-use Rattle.iol_watch.specs.declared.fault.Blame.TheVariants as fault
-use Rattle.iol_watch.specs.declared.verdict.MasterVerdict.TheVariants as master
-use Rattle.iol_watch.specs.Numbers.{blame_number}
+use Rattle.iol_judge.specs.declared.blame.Blame.{Blame}
+use Rattle.iol_judge.specs.declared.blame.Blame.TheVariants as fault
+use Rattle.iol_judge.specs.declared.master_verdict.MasterVerdict.TheVariants as master
+use Rattle.iol_judge.specs.BlameNumbers.{blame_number}
 use Rattle.iol_capture.specs.Judging.{Judging}
 use Rattle.iol_capture.specs.Watching.{Watching}
 

@@ -11,11 +11,11 @@ use Rattle.iol_judge.specs.declared.verdict.Odd.{Odd}
 use Rattle.iol_judge.specs.declared.verdict.Verdict.TheVariants.{NotHonest}
 use Rattle.iol_judge.specs.Judged.{JudgeState}
 use Rattle.iol_script.specs.Text.{lines_of}
-use Rattle.iol_splitter.specs.declared.octet_line.OctetLine.{OctetLine}
-use Rattle.iol_splitter.specs.declared.octet_line.OctetLine.TheVariants as line
-use Rattle.iol_splitter.specs.Fair.{SaysNothing, items_passed}
-use Rattle.iol_splitter.specs.State.{new_splitter}
-use Rattle.iol_splitter.specs.Written.{AreWritten, Item, Octet, Request, StreamItem, stream_of}
+use Rattle.iol_capture.specs.declared.octet_line.OctetLine.{OctetLine}
+use Rattle.iol_capture.specs.declared.octet_line.OctetLine.TheVariants as line
+use Rattle.iol_capture.specs.FairSplits.{SaysNothing, items_passed}
+use Rattle.iol_capture.specs.SplitterState.{new_splitter}
+use Rattle.iol_capture.specs.Written.{AreWritten, Item, Octet, Request, StreamItem, stream_of}
 use Rattle.iol_capture.specs.declared.trace_line.TraceLine.{TraceLine}
 use Rattle.iol_capture.specs.declared.trace_line.TraceLine.TheVariants.{Other, Page, Wake, Sent, Came}
 use Rattle.iol_capture.specs.declared.telling.CaptureForm.TheVariants as form

@@ -11,8 +11,8 @@ use Rattle.iol_judge.specs.declared.verdict.Wake.{Wake as WakeAnswer}
 use Rattle.iol_judge.specs.declared.verdict.Wake.TheVariants.{Unanswered}
 use Rattle.iol_judge.specs.Seen.{whole_page}
 use Rattle.iol_judge.specs.Judged.{JudgeState, new_judge, judge_after_exchange, judge_after_wake, one_more}
-use Rattle.iol_splitter.specs.declared.passed.SplitItem.{SplitItem}
-use Rattle.iol_splitter.specs.declared.passed.SplitItem.TheVariants as passed
+use Rattle.iol_capture.specs.declared.passed.SplitItem.{SplitItem}
+use Rattle.iol_capture.specs.declared.passed.SplitItem.TheVariants as passed
 use Rattle.iol_capture.specs.declared.fault.LineFault.{LineFault}
 use Rattle.iol_capture.specs.declared.fault.LineFault.TheVariants.{BadForm, WrongNumber, ReplyMissing, MessageMissing}
 use Rattle.iol_capture.specs.declared.judgement.ExchangeCounts.{ExchangeCounts}

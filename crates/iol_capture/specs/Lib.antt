@@ -1,3 +1,16 @@
+pub mod SplitNumbers
+pub mod Times
+pub mod Linking
+pub mod Lengths
+pub mod Exchanged
+pub mod SplitterState
+pub mod SplitSteps
+pub mod Waking
+pub mod Splitting
+pub mod Written
+pub mod OctetLines
+pub mod FairSplits
+pub mod SplitExample
 pub mod TraceLines
 pub mod Watching
 pub mod Judging

@@ -5,14 +5,14 @@ use Rattle.std.specs.Result.{result_map_both, result_unwrap_or}
 use Rattle.iol_judge.specs.declared.verdict.Odd.{Odd}
 use Rattle.iol_judge.specs.declared.verdict.Wake.TheVariants.{Unanswered}
 use Rattle.iol_link.specs.declared.wire.Rate.{Rate}
-use Rattle.iol_splitter.specs.declared.octet_line.OctetLine.{OctetLine}
-use Rattle.iol_splitter.specs.declared.octet_line.OctetLine.TheVariants as line
-use Rattle.iol_splitter.specs.declared.passed.SplitItem.{SplitItem}
-use Rattle.iol_splitter.specs.declared.passed.SplitItem.TheVariants.{Wake}
-use Rattle.iol_splitter.specs.OctetLines.{line_form}
-use Rattle.iol_splitter.specs.State.{Splitting, begins_call, new_splitter}
-use Rattle.iol_splitter.specs.Splitting.{untold_at_end, octet_split, wake_split}
-use Rattle.iol_splitter.specs.Steps.{SplitStep}
+use Rattle.iol_capture.specs.declared.octet_line.OctetLine.{OctetLine}
+use Rattle.iol_capture.specs.declared.octet_line.OctetLine.TheVariants as line
+use Rattle.iol_capture.specs.declared.passed.SplitItem.{SplitItem}
+use Rattle.iol_capture.specs.declared.passed.SplitItem.TheVariants.{Wake}
+use Rattle.iol_capture.specs.OctetLines.{line_form}
+use Rattle.iol_capture.specs.SplitterState.{Splitting, begins_call, new_splitter}
+use Rattle.iol_capture.specs.Splitting.{untold_at_end, octet_split, wake_split}
+use Rattle.iol_capture.specs.SplitSteps.{SplitStep}
 use Rattle.iol_capture.specs.declared.fault.LineFault.{LineFault}
 use Rattle.iol_capture.specs.declared.fault.LineFault.TheVariants.{Split}
 use Rattle.iol_capture.specs.declared.timed_call.Beginnings.{Beginnings}

@@ -3,8 +3,8 @@ use Rattle.std.specs.Prelude.{ℕ, Option, Some, None, option_map, unwrap_or}
 use Rattle.iol_mseq.specs.Shape.{Shape}
 use Rattle.iol_judge.specs.declared.verdict.Wake.TheVariants.{Unanswered}
 use Rattle.iol_judge.specs.Judged.{one_more}
-use Rattle.iol_splitter.specs.declared.passed.SplitItem.{SplitItem}
-use Rattle.iol_splitter.specs.declared.passed.SplitItem.TheVariants.{Exchange, Wake}
+use Rattle.iol_capture.specs.declared.passed.SplitItem.{SplitItem}
+use Rattle.iol_capture.specs.declared.passed.SplitItem.TheVariants.{Exchange, Wake}
 use Rattle.iol_capture.specs.declared.timed_call.Beginnings.{Beginnings}
 use Rattle.iol_capture.specs.declared.timed_call.TimedCall.{TimedCall}
 use Rattle.iol_capture.specs.Judging.{Judging}

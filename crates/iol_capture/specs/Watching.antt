@@ -4,9 +4,9 @@ use Rattle.iol_link.specs.Honest.{test_read}
 use Rattle.iol_judge.specs.declared.verdict.Wake.{Wake}
 use Rattle.iol_judge.specs.declared.verdict.Wake.TheVariants.{Answered}
 use Rattle.iol_judge.specs.Seen.{whole_page}
-use Rattle.iol_watch.specs.declared.verdict.MasterVerdict.{MasterVerdict}
-use Rattle.iol_watch.specs.declared.verdict.MasterVerdict.TheVariants.{NotByTheRules}
-use Rattle.iol_watch.specs.Watched.{WatchState, watch_after_exchange, new_watch, watch_with_page, watch_after_wake}
+use Rattle.iol_judge.specs.declared.master_verdict.MasterVerdict.{MasterVerdict}
+use Rattle.iol_judge.specs.declared.master_verdict.MasterVerdict.TheVariants.{NotByTheRules}
+use Rattle.iol_judge.specs.Watched.{WatchState, watch_after_exchange, new_watch, watch_with_page, watch_after_wake}
 
 pub record Watching : Type 0 where
   -- what the watch was told, up to the master's first fault

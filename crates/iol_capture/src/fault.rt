@@ -1,5 +1,5 @@
 //! Why a text is no capture.
-use iol_splitter::SplitFault;
+use crate::split_fault::SplitFault;
 use thiserror::Error;
 
 /// What is wrong with a line of a capture.

@@ -7,11 +7,13 @@ ghost use Rattle.iol_capture.specs.Timed.{number_of_next, number_by_octet};
 
 use crate::fault::LineFault;
 use crate::judgement::Judgement;
+use crate::octet_line::OctetLine;
+use crate::passed::SplitItem;
+use crate::splitter::Splitter;
 use crate::timed_call::{Beginnings, TimedCall};
 use crate::trace_line::LONGEST;
 use iol_judge::{Odd, Wake};
 use iol_link::Rate;
-use iol_splitter::{OctetLine, SplitItem, Splitter};
 use std::marker::Model;
 
 /// What a judge makes of the octets of a line.
@@ -67,7 +69,7 @@ impl OctetJudgement {
         }
     }
 
-    ghost use Rattle.iol_splitter.specs.declared.octet_line.OctetLine.TheVariants as line;
+    ghost use Rattle.iol_capture.specs.declared.octet_line.OctetLine.TheVariants as line;
 
     /// An octet that begins at this time.
     fn tell_octet(&mut self, time: u64, octet: u8) -> Result<Option<TimedCall>, LineFault>

@@ -6,12 +6,12 @@ ghost use Rattle.iol_judge.specs.Judged.{one_more};
 ghost use Rattle.iol_capture.specs.Judging.{judging_after_exchange, judging_at_next_call, judging_in_call, came_to, counts_after_exchange, is_call_number, is_verdict_open, maybe_woken, new_judging, no_counts, judging_with_page, passed_next, passed_on, judging_after_line, wake_told, with_odd};
 
 use crate::fault::LineFault;
+use crate::passed::SplitItem;
 use crate::trace_line::TraceLine;
 use crate::watching::CallWatch;
 use arrayvec::ArrayVec;
 use iol_judge::{Judge, Odd, Reason, Verdict, Wake};
 use iol_script::LineOctets;
-use iol_splitter::SplitItem;
 use std::marker::Model;
 
 /// How many exchanges there were. Each count stops at 2^64 - 1.

@@ -2,8 +2,8 @@
 ghost use Rattle.iol_capture.specs.HonestCapture.{CapturesNeverBlamed, OctetTextsNeverBlamed};
 ghost use Rattle.iol_capture.specs.Watching.{UnseenWakesAreFair};
 
+use crate::split_laws::octets_are_never_blamed;
 use iol_judge::honest_lines_are_never_blamed;
-use iol_splitter::octets_are_never_blamed;
 
 /// Whatever device by the rules brings a capture over a line that loses messages and replies, or
 /// damages them so that it shows, what is printed of it isn't that it is not honest, nor that

@@ -6,8 +6,7 @@ ghost use Rattle.iol_capture.specs.Findings.{are_told, because_text, blamed_text
 
 use crate::judgement::{ExchangeCounts, Judgement, OddExchange};
 use crate::watching::CallWatch;
-use iol_judge::{Kinds, Open, Reason, Verdict};
-use iol_watch::{Blame, MasterVerdict};
+use iol_judge::{Blame, Kinds, MasterVerdict, Open, Reason, Verdict};
 use std::alloc::{AllocError, Allocator};
 
 /// Why the master's mode isn't known.

@@ -2,8 +2,8 @@
 ghost use Rattle.std.specs.Prelude.{◌≡◌};
 ghost use Rattle.iol_capture.specs.Timed.{begun_untold, call_told, none_begun, time_of};
 
+use crate::passed::SplitItem;
 use iol_mseq::Layout;
-use iol_splitter::SplitItem;
 
 /// A call of the wire that was split out of a capture of octets.
 #[derive(Debug, Drop)]

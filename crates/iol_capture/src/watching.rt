@@ -2,8 +2,7 @@
 ghost use Rattle.std.specs.Prelude.{◌≡◌, true, option_copied};
 ghost use Rattle.iol_capture.specs.Watching.{asks_mode, exchange_watched, watching_after_exchange, is_blamed, new_watching, page_watched, read_or_woken, wake_watched};
 
-use iol_judge::Wake;
-use iol_watch::{MasterVerdict, Watch};
+use iol_judge::{MasterVerdict, Wake, Watch};
 use std::marker::Model;
 
 /// The control octet of a write to page address 0x00.

@@ -7,8 +7,8 @@ use Rattle.iol_link.specs.declared.wire.Rate.{Rate}
 use Rattle.iol_judge.specs.declared.verdict.Odd.{Odd}
 use Rattle.iol_judge.specs.declared.verdict.Wake.{Wake as WakeAnswer}
 use Rattle.iol_judge.specs.declared.verdict.Wake.TheVariants.{Answered, Unanswered}
-use Rattle.iol_splitter.specs.declared.passed.SplitItem.{SplitItem}
-use Rattle.iol_splitter.specs.declared.passed.SplitItem.TheVariants.{Exchange, Wake}
+use Rattle.iol_capture.specs.declared.passed.SplitItem.{SplitItem}
+use Rattle.iol_capture.specs.declared.passed.SplitItem.TheVariants.{Exchange, Wake}
 use Rattle.iol_capture.specs.declared.fault.CaptureFault.{CaptureFault}
 use Rattle.iol_capture.specs.declared.printing.Finding.{Finding}
 use Rattle.iol_capture.specs.declared.telling.CaptureForm.TheVariants.{Octets}

@@ -13,10 +13,9 @@ ghost use Rattle.iol_commands.specs.OctetsTraced.{FlowsCalls, PrintsItem, Prints
 use crate::judge_command::JudgeFault;
 use crate::passing::{print_exchange, print_wake};
 use crate::tracing::pass_on;
-use iol_capture::{CaptureFault, CaptureForm, CaptureReader, Judgement, TimedCall};
+use iol_capture::{CaptureFault, CaptureForm, CaptureReader, Judgement, SplitItem, TimedCall};
 use iol_judge::{Odd, Wake};
 use iol_link::Rate;
-use iol_splitter::SplitItem;
 use std::alloc::{AllocError, Allocator};
 use std::io::{Read, Write};
 

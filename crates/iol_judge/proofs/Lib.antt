@@ -5,3 +5,4 @@ mod Sets
 mod Hearing
 mod Answering
 pub mod Fairness
+mod WatchFair

@@ -11,3 +11,11 @@ pub mod Replies
 pub mod Judged
 pub mod UnderWay
 pub mod Admitted
+pub mod BlameNumbers
+pub mod BlameResults
+pub mod MasterPhases
+pub mod MasterOutputs
+pub mod MasterReadings
+pub mod MasterTransfers
+pub mod Watched
+pub mod WatchLaws

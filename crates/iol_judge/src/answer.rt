@@ -170,7 +170,7 @@ fn are_no_others(octets: &[Option<u8>]) -> bool
 }
 
 /// Some read, or write.
-pub fn request_of(read: bool) -> Request
+pub(crate) fn request_of(read: bool) -> Request
     ensures { is_read result ≡ read }
 {
     let place = Place { index: 0, sub: 0 };

@@ -346,7 +346,7 @@ fn perhaps_told(had: HadSegments, reply: &ReplyView<'_>) -> Transfer
 }
 
 /// The COUNT behind the last.
-pub fn next_count(last: Option<u8>) -> u8
+pub(crate) fn next_count(last: Option<u8>) -> u8
     ensures { result ≡ next_count last }
 {
     match last {

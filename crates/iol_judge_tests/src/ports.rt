@@ -5,14 +5,13 @@ use iol_app::{Asked, Outgoing};
 use iol_book::{Limits, Ticket};
 use iol_image::Image;
 use iol_isdu::{Place, Request};
-use iol_judge::Wake;
+use iol_judge::{MasterVerdict, Wake, Watch};
 use iol_link::Rate;
 use iol_mode::Devices;
 use iol_mseq::Message;
 use iol_octets::checksum6;
 use iol_peers::{ONE_OCTET, PLAIN, PROCESS_DATA};
 use iol_port::{AwaitedAnswer, PortCore, PortFault};
-use iol_watch::{MasterVerdict, Watch};
 use std::alloc::Allocator;
 use std::test::Fail;
 

@@ -1,8 +1,8 @@
 //! Cases of what a decoder shows.
 
+use iol_capture::{OctetLine, SplitFault, SplitItem, Splitter, bit_time};
 use iol_judge::{Judge, Odd, Open, Reason, Verdict, Wake};
 use iol_link::Rate;
-use iol_splitter::{OctetLine, SplitFault, SplitItem, Splitter, bit_time};
 use std::test::Fail;
 
 /// The message to which each octet of page addresses 0x03 to 0x06 is the reply, with the reply:

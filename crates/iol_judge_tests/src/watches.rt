@@ -1,7 +1,6 @@
 //! The watch on lists of calls: a run by the rules, and the shortest list for each fault.
 
-use iol_judge::Wake;
-use iol_watch::{Blame, MasterVerdict, Watch};
+use iol_judge::{Blame, MasterVerdict, Wake, Watch};
 use std::test::Fail;
 
 /// The octets that were sent, and those that came back, if any did.

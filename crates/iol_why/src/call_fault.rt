@@ -1,8 +1,7 @@
 //! Why a line of a capture that fits a form is refused in its place.
 use crate::kept::KeptText;
-use iol_capture::{LineFault, TraceLine};
+use iol_capture::{LineFault, SplitFault, TraceLine};
 use iol_script::TextLines;
-use iol_splitter::SplitFault;
 use std::fmt;
 
 /// Why a line of a capture is refused in its place. Numbers are those of calls of the wire; what is

@@ -14,9 +14,8 @@ use crate::plan_place::{PlanFault, form_in_place, plan_fault_of};
 use crate::script_place::place_fault_of;
 use crate::text_fault::{LONGEST, text_fault_of};
 use crate::word_fault::word_fault_of;
-use iol_capture::{CaptureForm, LineFault};
+use iol_capture::{CaptureForm, LineFault, SplitFault};
 use iol_script::{CheckLine, RunLine};
-use iol_splitter::SplitFault;
 use std::slice;
 
 /// The column of what is wrong with a line as a whole.

@@ -1,7 +1,7 @@
 //! What one word of a line says: an octet, a number, or several octets.
 use arrayvec::ArrayVec;
+use iol_capture::OctetLine;
 use iol_script::{decimal_number, hexadecimal_code, hexadecimal_octet, hexadecimal_octets};
-use iol_splitter::OctetLine;
 use std::fmt;
 
 /// The most octets of one word.

@@ -1,0 +1,177 @@
+//! The splitter.
+ghost use Rattle.std.specs.Prelude.{◌≡◌};
+ghost use Rattle.iol_judge.specs.Seen.{whole_page};
+ghost use Rattle.iol_capture.specs.Splitting.{untold_at_end, octet_split, wake_split};
+ghost use Rattle.iol_capture.specs.SplitSteps.{split_step, good_step};
+ghost use Rattle.iol_capture.specs.SplitterState.{begins_call, new_splitter};
+
+use crate::link::Spoken;
+use crate::passed::SplitItem;
+use crate::split_fault::SplitFault;
+use iol_judge::{SeenPage, Wake};
+use iol_link::Rate;
+use iol_mseq::{Layout, Message};
+use std::marker::Model;
+
+/// What a splitter waits for.
+#[derive(Clone, Copy, Debug, PartialEq, Eq)]
+pub(crate) enum Phase {
+    /// An answered test read. Nothing was told before.
+    Asleep,
+    /// An answered test read, behind a wake-up request.
+    Waking,
+    /// More of a message.
+    Message,
+    /// The reply to a whole message, or more of it.
+    Reply,
+    /// A message.
+    Rest,
+}
+
+/// Whether the decoder shows wake-up requests.
+#[derive(Clone, Copy, Debug, PartialEq, Eq)]
+pub(crate) enum Requests {
+    /// It showed none so far.
+    Unshown,
+    Shown,
+}
+
+/// What splits the octets of one line. It is told each octet in its order, and tells what went
+/// over the line as soon as that is known. What it keeps doesn't grow with the stream.
+///
+/// Times are nanoseconds from any begin. Before the first answered test read (a read of page
+/// address 0x02 in STARTUP, `A2 00`), and behind each wake-up request up to such a read, octets are
+/// of none of its exchanges: a master tries other rates there.
+///
+/// A clause sees what is known of the page, the mode, and the message and the reply under way.
+#[derive(Drop)]
+pub struct Splitter {
+    pub(crate) rate: Rate,
+    pub(crate) requests: Requests,
+    pub(crate) seen: SeenPage,
+    pub(crate) link: Spoken,
+    /// That of the message under way, once it is whole.
+    pub(crate) layout: Layout,
+    pub(crate) phase: Phase,
+    pub(crate) sent: Message,
+    pub(crate) answer: Message,
+    /// When the last octet, or the last wake-up request, began.
+    pub(crate) last: u64,
+}
+
+impl Model for Splitter {
+    ghost use Rattle.iol_capture.specs.SplitterState.{Splitting};
+
+    ghost Value = { Splitting };
+
+    ghost view = { λ s. record {
+      rate = s.rate;
+      requests = s.requests;
+      seen = s.seen;
+      link = s.link;
+      layout = s.layout;
+      phase = s.phase;
+      sent = s.sent.items;
+      answer = s.answer.items;
+      last = s.last;
+    } };
+}
+
+impl Splitter {
+    /// A splitter of a line with this rate, of which nothing is known.
+    pub fn new(rate: Rate) -> Splitter
+        ensures { result ≡ new_splitter rate }
+    {
+        Splitter {
+            rate,
+            requests: Requests::Unshown,
+            seen: SeenPage::nothing(),
+            link: Spoken::started(),
+            layout: Layout::startup(),
+            phase: Phase::Asleep,
+            sent: Message::new(),
+            answer: Message::new(),
+            last: 0,
+        }
+    }
+
+    /// The device has this page: the octets of 0x02 to 0x0B. A page that was read needn't be told.
+    pub fn page(&mut self, octets: &[u8; 10])
+        ensures { self.new ≡ record self.old { seen = whole_page octets.now } }
+    {
+        self.seen = SeenPage::whole(octets);
+    }
+
+    /// An octet began at this time. None: what went over the line isn't known yet. Refusals: each
+    /// of [`SplitFault`]. Behind one the rest can't be split.
+    pub fn octet(&mut self, time: u64, octet: u8) -> Result<Option<SplitItem>, SplitFault>
+        ensures { split_step self.new result ≡ octet_split self.old time octet }
+    {
+        if time < self.last {
+            return Err(SplitFault::TimeBack);
+        }
+        let elapsed = time - self.last;
+        self.last = time;
+        self.hear(elapsed, octet)
+    }
+
+    /// The decoder shows a wake-up request at this time. None: nothing is known that went over the
+    /// line before. Refusals, the first that holds: 1 TimeBack; 4 GapInMessage.
+    pub fn wake(&mut self, time: u64) -> Result<Option<SplitItem>, SplitFault>
+        ensures { split_step self.new result ≡ wake_split self.old time }
+    {
+        if time < self.last {
+            return Err(SplitFault::TimeBack);
+        }
+        if self.phase == Phase::Message {
+            return Err(SplitFault::GapInMessage);
+        }
+        let passed = self.finish();
+        self.last = time;
+        self.requests = Requests::Shown;
+        self.phase = Phase::Waking;
+        Ok(passed)
+    }
+
+    /// Whether the octet told last begins a message, or a test read behind a wake-up request.
+    pub fn begins(&self) -> bool
+        ensures { result ≡ begins_call self.now }
+    {
+        self.sent.len() == 1
+    }
+
+    /// The layout in which the last whole message was split, and in which its reply is.
+    pub fn layout(&self) -> Layout
+        ensures { result ≡ self.now.layout }
+    {
+        self.layout
+    }
+
+    /// The stream has ended: what isn't told yet. A message without its last octets is none.
+    pub fn end(mut self) -> Option<SplitItem>
+        ensures { result ≡ untold_at_end self }
+    {
+        self.finish()
+    }
+}
+
+impl Splitter {
+    ghost use Rattle.iol_capture.specs.Splitting.{cleared_line};
+
+    /// What isn't told yet. No octet is under way any more.
+    fn finish(&mut self) -> Option<SplitItem>
+        ensures { good_step self.new result
+            ≡ good_step (cleared_line self.old) (untold_at_end self.old) }
+    {
+        let passed = match self.phase {
+            Phase::Asleep => None,
+            Phase::Waking => Some(SplitItem::Wake(Wake::Unanswered)),
+            Phase::Message => None,
+            Phase::Reply => Some(self.exchange()),
+            Phase::Rest => None,
+        };
+        self.sent.clear();
+        self.answer.clear();
+        passed
+    }
+}

@@ -1,4 +1,0 @@
-mod FairItems
-pub mod Digits
-pub mod Splits
-pub mod Example
