@@ -13,7 +13,7 @@ from rules import (
     Channel,
     control_of,
     has_checksum,
-    is_readable,
+    is_good,
     layouts_of,
     with_checksum,
 )
@@ -33,7 +33,7 @@ class Trace:
         self.places = [
             place
             for place, call in enumerate(calls)
-            if place > first and isinstance(call, Exchange) and is_readable(call.sent, call.came)
+            if place > first and isinstance(call, Exchange) and is_good(call.sent, call.came)
         ]
 
     def came(self, place):
@@ -173,7 +173,7 @@ def busy_left_out(chance, trace):
 
 
 def is_lost(call, sent):
-    return isinstance(call, Exchange) and call.sent == sent and not is_readable(sent, call.came)
+    return isinstance(call, Exchange) and call.sent == sent and not is_good(sent, call.came)
 
 
 def answer_forgotten(chance, trace):
@@ -230,6 +230,17 @@ def bits_flipped(chance, trace):
     return {}
 
 
+def zero_lost(chance, trace):
+    """An octet 00 is lost on the line: the checksum stays right."""
+    places = [place for place in trace.places if 0 in trace.came(place)[:-1]]
+    if not places:
+        return {}
+    place = chance.choice(places)
+    came = trace.came(place)
+    at = chance.choice([at for at, octet in enumerate(came[:-1]) if octet == 0])
+    return {place: came[:at] + came[at + 1 :]}
+
+
 READ_AGAIN = "an answer read again"
 KINDS = {
     "an octet changed": octet_changed,
@@ -245,6 +256,7 @@ KINDS = {
     "a first segment lost": first_segment_lost,
     READ_AGAIN: read_again_otherwise,
     "bits flipped": bits_flipped,
+    "a zero lost": zero_lost,
 }
 
 

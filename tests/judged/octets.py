@@ -3,7 +3,7 @@
 A call of the wire that is a wake-up request has a test read behind it, of which a trace says only
 whether it was answered. On the line its reply has octets, which have to be those of the device.
 """
-from rules import EVENT_FLAG, is_readable, with_checksum
+from rules import EVENT_FLAG, is_good, with_checksum
 from search import Exchange, Wake
 
 # In nanoseconds, at COM3; an octet has 11 bits
@@ -20,7 +20,7 @@ def min_cycle(calls):
     """MinCycleTime, as a read of the trace had it."""
     for call in calls:
         if not isinstance(call, Wake) and call.sent == TEST_READ and call.came:
-            if is_readable(call.sent, call.came):
+            if is_good(call.sent, call.came):
                 return call.came[0]
     return ANY_CYCLE
 
@@ -30,7 +30,7 @@ def event_flag(calls):
     so a device that shows events there may show them from the wake-up request on: it has to, where
     it showed them before. Wake-up requests between leave them as they are."""
     for call in calls:
-        if not isinstance(call, Wake) and is_readable(call.sent, call.came):
+        if not isinstance(call, Wake) and is_good(call.sent, call.came):
             return call.came[-1] & EVENT_FLAG
     return 0
 

@@ -203,17 +203,28 @@ def reply_in(layout, is_read, octets):
 
 
 @lru_cache(None)
-def is_readable(sent, came):
-    """WIRE-2: some layout has what was sent as a message, and what came as a reply to it."""
+def is_good(sent, came):
+    """Whether some layout has what was sent as a message, and what came as a reply to it."""
     if came is None:
         return False
-    is_read = control_of(sent[0]).is_read
     for od in SIZES:
-        front, back = (0, od) if is_read else (od, 0)
+        front, back = (0, od) if control_of(sent[0]).is_read else (od, 0)
         layout = Layout(od, len(came) - 1 - back, len(sent) - 2 - front)
-        if layout.is_one() and message_in(layout, sent) and reply_in(layout, is_read, came):
+        if layout.is_one() and is_good_in(layout, sent, came):
             return True
     return False
+
+
+def is_good_in(layout, sent, came):
+    is_read = control_of(sent[0]).is_read
+    return bool(message_in(layout, sent) and reply_in(layout, is_read, came))
+
+
+def is_readable(layouts, sent, came):
+    """WIRE-2: the layout of some mode, as far as these are known, has what was sent as a message,
+    and what came as a reply to it."""
+    known = [layouts.of(mode) for mode in Mode] if layouts else [STARTUP]
+    return came is not None and any(is_good_in(layout, sent, came) for layout in known)
 
 
 # Kinds of device

@@ -258,7 +258,7 @@ class Search:
 
     def tell_exchange(self, call):
         """WIRE-1, WIRE-2."""
-        if not is_readable(call.sent, call.came):
+        if not is_readable(self.layouts(), call.sent, call.came):
             unseen = [heard.unseen(call) for heard in self.hearings(call.sent)]
             self.keep(self.lost(call) + unseen)
             return
@@ -268,10 +268,14 @@ class Search:
         if control.is_read and control.channel is Channel.PAGE and control.address in PAGE:
             self.page[control.address] = call.came[0]
 
+    def layouts(self):
+        """What the page asks for, None where that isn't known."""
+        octets = [self.page.get(address) for address in LAYOUT_OCTETS]
+        return None if None in octets else layouts_of(*octets)
+
     def hearings(self, sent):
         """What each device may make of a message that it hears, where it accepts it."""
-        octets = [self.page.get(address) for address in LAYOUT_OCTETS]
-        layouts = None if None in octets else layouts_of(*octets)
+        layouts = self.layouts()
         return [heard for node in self.nodes for heard in hearings(layouts, node, sent)]
 
 

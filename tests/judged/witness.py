@@ -42,7 +42,7 @@ def is_brought(device, turn):
         return device.hear(sent) == came
     if turn.fate is Fate.UNSEEN:
         device.hear(sent)
-    return not is_readable(sent, came)
+    return not is_readable(device.layouts, sent, came)
 
 
 def witness(page, node):

@@ -4,7 +4,6 @@ use Rattle.std.proofs.lemmas.Grind.{common_steps}
 use Rattle.std.specs.Prelude.{Option, Some, None, if◌then◌else◌, nat_lt, IsSome, IfSome}
 use Rattle.iol_mseq.specs.Shape.{Shape}
 use Rattle.iol_mseq.specs.Replies.{reply_in}
-use Rattle.iol_mseq.specs.Master.{master_in}
 use Rattle.iol_mseq.specs.declared.master.MasterMsg.{MasterMsg}
 use Rattle.iol_mseq.specs.declared.reply.Reply.{Reply}
 use Rattle.iol_page.specs.declared.master_command.MasterCommand.{MasterCommand}
@@ -30,7 +29,7 @@ use Rattle.iol_isdu.specs.declared.values.Request.{Request}
 use Rattle.iol_app.specs.Abstract.OfDevice.{Hidden, IsOpen, hidden_again}
 use Rattle.iol_app.proofs.OpenLevel.{replied_opens, open_again}
 use Rattle.iol_app.proofs.Moves.{begins_idle}
-use Rattle.iol_app.proofs.Given.{Laws, level_locals, sized_locals}
+use Rattle.iol_app.proofs.Given.{Laws, level_locals, page_locals, sized_locals}
 use Rattle.iol_app.proofs.Accepted.{accepted_as}
 use Rattle.iol_app.proofs.ImagesPart.{OutputsSent}
 use Rattle.iol_app.specs.Ends.{OutputTold}
@@ -63,11 +62,6 @@ waits_stay : (mode : device.DeviceMode) (waits : Option WaitingCommand) (octets 
     (asked : Option device.DeviceMode) → IfSome waits (λ c. is_mode mode c.into ≡ false)
     → IfSome (waits_after mode waits octets asked) (λ c. is_mode mode c.into ≡ false)
 waits_stay mode waits octets asked h = grind (arith, common_steps)
-
-spells_master : (l : Shape) (o : List ℕ) (m : MasterMsg) → message_in l o ≡ Some m
-    → master_in l o ≡ Some m
-unfolding message_in
-spells_master l o m e = e
 
 -- a message that goes out, whatever it is for
 pub record Goes : Type 0 where
@@ -131,7 +125,7 @@ module _ (laws : Laws) (going : Goes) (sending : IsGoing going) where
 
   module _ (from far : Far) (n silence : ℕ) (answer : Option (List ℕ))
       (h : HonestExchange from n o answer far silence)
-      (level : Level from) where
+      (level : Level from) (same : from.page ≡ page) where
     abbrev here : Far
     here = locals from h.steps
 
@@ -154,11 +148,16 @@ module _ (laws : Laws) (going : Goes) (sending : IsGoing going) where
         let octets : reply ≡ reply_octets (reply_to g run message) = cc in
         rw octets read
 
-    unread : (a : Option (List ℕ)) → IsUnread o a → good_reply run message a ≡ None
+    here_layout : layout_in here.page (far_mode mode) ≡ run
+    here_layout = ap (λ (p : List ℕ). layout_in p (far_mode mode))
+        (page_locals laws h.steps from ∙ same) ∙ sending.layout
+
+    unread : (a : Option (List ℕ)) → IsUnread here.page o a → good_reply run message a ≡ None
     unread None k = refl
-    unread (Some octets) k = k run message
-        (rw sending.layout at (laws.layouts page (far_mode mode)).0)
-        (spells_master run o message spells)
+    unread (Some octets) k =
+        subst (λ (l : Shape). reply_in l message.mc.read octets ≡ None) here_layout
+        (k (far_mode mode) message
+        (subst (λ (l : Shape). message_in l o ≡ Some message) (sym here_layout) spells))
 
     -- without a good reply there is silence
     pub silent : good_reply run message answer ≡ None → silence ≡ min 3 (n + 1)

@@ -4,13 +4,13 @@ use Rattle.std.proofs.Common.{◌≡◌, ◌≢◌, ℕ, ◌+◌, min, Bool, tru
 use Rattle.std.proofs.lemmas.Grind.{common_steps}
 use Rattle.std.proofs.lemmas.Bool.Decides.{nat_tests}
 use Rattle.std.specs.Prelude.{Option, Some, None, ◌==◌, if◌then◌else◌}
-use Rattle.iol_mseq.specs.Shape.{Shape, IsLayout, startup_shape}
+use Rattle.iol_mseq.specs.Shape.{Shape, startup_shape}
 use Rattle.iol_mseq.specs.Texts.{master_text}
 use Rattle.iol_mseq.specs.Replies.{reply_in}
 use Rattle.iol_mseq.specs.declared.master.MasterMsg.{MasterMsg}
 use Rattle.iol_mseq.specs.declared.reply.Reply.{Reply}
 use Rattle.iol_far.specs.declared.mode.DeviceMode.TheVariants.{Startup as FarStartup, Operate as FarOperate}
-use Rattle.iol_far.specs.Codec.{message_in, reply_octets}
+use Rattle.iol_far.specs.Codec.{layout_in, reply_octets}
 use Rattle.iol_far.specs.Far.{Far, layout_of, accepted_message, heard_as, far_after_message, reply_to, output_of}
 use Rattle.iol_far.specs.Local.{locals}
 use Rattle.iol_far.specs.Level.{FarLink}
@@ -48,9 +48,6 @@ use Rattle.arrayvec.specs.ArrayVec.{ArrayVec}
 use Rattle.iol_app.specs.Requests.{request_under_way}
 use Rattle.iol_app.specs.State.{SessionState}
 use Rattle.iol_app.specs.Core.{CoreState, Ghost, BothEndsStand, CallGives, settled_core}
-
-startup_valid : IsLayout startup_shape
-startup_valid = record { kind = refl; od = refl; pd_in = omega arith; pd_out = omega arith }
 
 below : ModeStartup ≢ ModeOperate
 below e = absurd (cc)
@@ -111,10 +108,11 @@ module _ (laws : Laws) (leaves : OrderlyLaws) (heard : TextsAreHeard) (s : Start
 
   -- Whether the silence went on
 
-  unread : (q : Option (List ℕ)) → IsUnread o q → good_reply startup_shape message q ≡ None
-  unfolding message_in
-  unread None h = refl
-  unread (Some answer) h = h startup_shape message startup_valid to_page.heard
+  unread : (page : List ℕ) (q : Option (List ℕ)) → IsUnread page o q
+      → good_reply startup_shape message q ≡ None
+  unfolding layout_in
+  unread page None h = refl
+  unread page (Some answer) h = h FarStartup message to_page.heard
 
   -- what the far end answers there is a good reply
   answers : (q : Option (Far × MasterMsg)) → accepted_message there o ≡ q → (reply : List ℕ)

@@ -440,13 +440,13 @@ module _ {start : Start} {session : SessionState} {g : Ghost} {far far' : Far} {
   -- What came back
 
   abbrev Good : Reply → Type 0
-  Good r = IsReplied laws going goes far far' n n' came x k.level r
+  Good r = IsReplied laws going goes far far' n n' came x k.level refl r
 
   missed : good_reply k.shape k.message came ≡ None → n' ≡ min 3 (n + 1)
-  missed = silent laws going goes far far' n n' came x k.level
+  missed = silent laws going goes far far' n n' came x k.level refl
 
   had : (r : Reply) → good_reply k.shape k.message came ≡ Some r → Good r
-  had = replied laws going goes far far' n n' came x k.level
+  had = replied laws going goes far far' n n' came x k.level refl
 
   -- it comes to OPERATE, with the Event flag of the reply: the hold has ended, and the flag is the
   -- memory's

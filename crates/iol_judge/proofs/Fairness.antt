@@ -2,19 +2,18 @@
 use Rattle.std.proofs.lemmas.Grind.{common_steps}
 use Rattle.std.proofs.Common.{arith, ◌≡◌, ℕ, zero, suc, ◌+◌, ◌-◌, min, Bool, true, false, List, length, refl, sym, ◌∙◌, ap, subst, leb-true, ◌⊎◌, inl, inr, [], ◌∷◌}
 use Rattle.std.specs.Prelude.{Option, Some, None, is_some, Result, Ok, Err, ◌&&◌, ◌||◌, nat_le, slice_index, if◌then◌else◌, IsTrue, option_map}
-use Rattle.iol_mseq.specs.Shape.{Shape, IsLayout, is_size, shape, operate_shape}
-use Rattle.iol_mseq.specs.Master.{master_in}
+use Rattle.iol_mseq.specs.Shape.{Shape}
 use Rattle.iol_mseq.specs.Replies.{reply_in}
-use Rattle.iol_mseq.specs.declared.fault.MseqFault.{MseqFault}
-use Rattle.iol_mseq.specs.declared.fault.MseqFault.TheVariants.{BadLength}
 use Rattle.iol_mseq.specs.declared.master.MasterMsg.{MasterMsg}
 use Rattle.iol_link.specs.Honest.{IsUnread, HonestExchange, Passage, OutLost, BackLost, Clean, IsAnswer, far_after}
-use Rattle.iol_judge.specs.Replies.{is_read_in, is_read_with, can_be_read, explanation_of, state_after_reply}
+use Rattle.iol_judge.specs.Replies.{is_read_in, can_be_read, explanation_of, state_after_reply}
 use Rattle.std.proofs.lemmas.Bool.{cond_both}
 use Rattle.iol_page.specs.Page.{PagesAskForLayouts}
 use Rattle.iol_page.specs.declared.page.Layouts.{Layouts}
 use Rattle.iol_event.specs.Memory.{IsEventMemory}
-use Rattle.iol_far.specs.Codec.{message_in, reply_octets}
+use Rattle.iol_far.specs.declared.mode.DeviceMode.{DeviceMode}
+use Rattle.iol_far.specs.declared.mode.DeviceMode.TheVariants.{Startup, Preoperate, Operate}
+use Rattle.iol_far.specs.Codec.{layout_in, message_in, reply_octets}
 use Rattle.iol_far.specs.Far.{Far, HearResult, layout_of, accepted_message, hear, with_reply, far_after_message, reply_to}
 use Rattle.iol_far.specs.Local.{LocalStep, local, locals, far_after_wake}
 use Rattle.iol_far.specs.Laws.{IsRegular, IsSized, MuchStays, RepliesAreRead}
@@ -38,7 +37,7 @@ use Rattle.iol_judge.specs.State.{KnownState, parts, powered_state, startup_stat
 use Rattle.iol_judge.specs.Events.{shown_after}
 use Rattle.iol_judge.specs.declared.events.ShownEvents.{ShownEvents}
 use Rattle.iol_judge.specs.declared.events.ShownEvents.TheVariants.{Held, Any, Fresh, Filled}
-use Rattle.iol_judge.specs.Taking.{taken_by_state}
+use Rattle.iol_judge.specs.Taking.{mode_layout, taken_by_state}
 use Rattle.iol_judge.specs.Judged.{JudgeState, states_with, added_taken, each_in_turn, lost_into, lost_part, explained_into, replied_part, replied_into, concluded_lost, concluded_replied, odd_for_all, judge_without_reply, judge_after_answer, one_more, judge_after_exchange, woken_states, woken_into, judge_after_wake, kinds_left, kinds_with}
 use Rattle.iol_judge.specs.Judged as judging
 use Rattle.iol_judge.specs.Octets.{Agrees}
@@ -51,50 +50,32 @@ use Rattle.iol_judge.proofs.Sending.{AllTexts}
 
 -- A reply that can be read wasn't damaged
 
-module _ (sent reply : List ℕ) (unread : IsUnread sent (Some reply)) where
-  not_as : (layout : Shape) → IsLayout layout → (message : Option MasterMsg)
-      → master_in layout sent ≡ message → (elim message [
+module _ (known : Result Layouts Open) (page sent reply : List ℕ) (knows : Knows known page)
+    (unread : IsUnread page sent (Some reply)) where
+  not_as : (mode : DeviceMode) (layout : Shape) → layout_in page mode ≡ layout
+      → (message : Option MasterMsg) → message_in layout sent ≡ message → (elim message [
         | None ↦ false
         | Some message ↦ is_some (reply_in layout message.mc.read reply)
       ]) ≡ true → ⊥
-  not_as layout is message e h = grind (arith, common_steps)
+  not_as mode layout is None e h = cc
+  not_as mode layout is (Some message) e h =
+      let none : reply_in layout message.mc.read reply ≡ None =
+      subst (λ (l : Shape). message_in l sent ≡ Some message
+      → reply_in l message.mc.read reply ≡ None) is (unread mode message) e in
+      let k : false ≡ true = rw none at h in cc
 
-  not_by : (found : Result Shape MseqFault) → ((layout : Shape) → found ≡ Ok layout
-      → IsLayout layout) → (elim found [
-        | Ok layout ↦ is_read_in layout sent reply
-        | Err fault ↦ false
-      ]) ≡ true → ⊥
-  not_by (Err fault) is h = cc
-  not_by (Ok layout) is h = not_as _ (is layout refl) _ refl h
-
-  shaped : (od i o : ℕ) → IsTrue (is_size od) → (layout : Shape)
-      → ◌≡◌ {A = Result Shape MseqFault} (if (nat_le i 32 && nat_le o 32) then Ok (shape od i o)
-      else Err BadLength) (Ok layout) → IsLayout layout
-  shaped od i o size layout h = grind (arith, common_steps, leb-true)
+  not_by : (mode : DeviceMode) (found : Result Shape Open) → mode_layout known mode ≡ found
+      → is_read_in found sent reply ≡ true → ⊥
+  not_by mode (Err why) is h = cc
+  not_by mode (Ok layout) is h = not_as mode layout (knows.layout mode layout is) _ refl h
 
   either : (a b : Bool) → (a ≡ true → ⊥) → (b ≡ true → ⊥) → (a || b) ≡ true → ⊥
   either true b f g h = f refl
   either false b f g h = g h
 
-  -- the numbers of octets of process data that the lengths give
-  abbrev pd_in_by : ℕ → ℕ
-  pd_in_by size = min (length reply - (1 + (if nat_le 128 (slice_index sent 0) then size else 0)))
-      255
-
-  abbrev pd_out_by : ℕ → ℕ
-  pd_out_by size = min (length sent - (2 + (if nat_le 128 (slice_index sent 0) then 0 else size)))
-      255
-
-  not_with : (code size : ℕ) → ((layout : Shape) → operate_shape code (pd_in_by size)
-      (pd_out_by size) ≡ Ok layout → IsLayout layout) → is_read_with code size sent reply ≡ true → ⊥
-  not_with code size is = not_by _ is
-
-  readable_is_unaltered : can_be_read sent reply ≡ true → ⊥
-  readable_is_unaltered = either _ _ (either _ _ (either _ _
-      (not_with 4 1 (shaped 1 (pd_in_by 1) (pd_out_by 1) refl))
-      (not_with 5 2 (shaped 2 (pd_in_by 2) (pd_out_by 2) refl)))
-      (not_with 6 8 (shaped 8 (pd_in_by 8) (pd_out_by 8) refl)))
-      (not_with 7 32 (shaped 32 (pd_in_by 32) (pd_out_by 32) refl))
+  readable_is_unaltered : can_be_read known sent reply ≡ true → ⊥
+  readable_is_unaltered = either _ _ (either _ _ (not_by Startup _ refl)
+      (not_by Preoperate _ refl)) (not_by Operate _ refl)
 
 -- what the crates below say
 pub record Laws : Type 0 where
@@ -531,12 +512,14 @@ module _ (law : Laws) (stays : RegularStays) (much : MuchStays) (reads : Replies
 
     -- whatever came, where the device answered nothing or the reply was lost
     lost_fair : (new : Far) → Follows far sent new → new.page ≡ far.page
-        → (answer : Option (List ℕ)) → IsUnread sent answer
+        → (answer : Option (List ℕ)) → IsUnread far.page sent answer
         → IsFair (judge_after_answer judged sent answer) new
     lost_fair new follows page None unread = quiet_fair new follows page
     lost_fair new follows page (Some reply) unread =
         cond_both _ _ _ (λ (j : JudgeState). IsFair j new)
-        (λ e. absurd (readable_is_unaltered sent reply unread e)) (λ e. quiet_fair new follows page)
+        (λ e. absurd (readable_is_unaltered (layouts_seen judged.seen) far.page sent reply
+        (knows law.pages judged.seen far.page agrees) unread e))
+        (λ e. quiet_fair new follows page)
 
     -- the unaltered reply of a device that worked the message
     clean_works : (work : Works far sent)
@@ -545,7 +528,7 @@ module _ (law : Laws) (stays : RegularStays) (much : MuchStays) (reads : Replies
     clean_works work =
         let reply = reply_octets (reply_to (worked_by work) (layout_of work.there) work.message) in
         let new : IsRegular (worked_by work) = rw work.heard_is at (stays.hears far sent regular) in
-        cond_both (can_be_read sent reply) (judging.judge_after_reply judged sent reply)
+        cond_both (can_be_read (layouts_seen judged.seen) sent reply) (judging.judge_after_reply judged sent reply)
         (judge_without_reply judged sent) (λ (j : JudgeState). IsFair j (worked_by work))
         (λ e. replied_fair law reads judged honest even far agrees admits sent work new.sized
         new.memory) (λ e. quiet_fair (worked_by work) (inr (work, refl)) work.accepting.by.page)

@@ -191,8 +191,8 @@ judge_after_reply judged sent reply = concluded_replied judged sent reply (each_
 abbrev pub judge_after_answer : JudgeState → List ℕ → Option (List ℕ) → JudgeState
 judge_after_answer judged sent None = judge_without_reply judged sent
 judge_after_answer judged sent (Some reply) =
-    if can_be_read sent reply then judge_after_reply judged sent reply else judge_without_reply
-    judged sent
+    if can_be_read (layouts_seen judged.seen) sent reply
+    then judge_after_reply judged sent reply else judge_without_reply judged sent
 
 -- the judge, told an exchange
 abbrev pub judge_after_exchange : JudgeState → List ℕ → Option (List ℕ) → JudgeState

@@ -1,15 +1,18 @@
 -- Which replies a device in a kept state may have sent.
-use Rattle.std.specs.Prelude.{ℕ, ◌+◌, ◌-◌, min, Bool, true, false, ◌&&◌, ◌||◌, ◌==◌, nat_le, if◌then◌else◌, List, length, drop, slice_index, Option, Some, None, is_some, Ok, Err}
+use Rattle.std.specs.Prelude.{ℕ, Bool, true, false, ◌&&◌, ◌||◌, ◌==◌, if◌then◌else◌, List, drop, slice_index, Option, Some, None, is_some, Result, Ok, Err}
 use Rattle.std.specs.Option.{option_or}
 use Rattle.iol_octets.specs.Zeros.{are_zeros}
 use Rattle.iol_octets.specs.declared.control.Channel.{Channel}
 use Rattle.iol_octets.specs.declared.control.Channel.TheVariants.{Process, Page, Diagnosis, Isdu}
 use Rattle.iol_octets.specs.declared.control.Mc.{Mc}
-use Rattle.iol_mseq.specs.Shape.{Shape, operate_shape}
-use Rattle.iol_mseq.specs.Master.{master_in}
+use Rattle.iol_mseq.specs.Shape.{Shape}
 use Rattle.iol_mseq.specs.Replies.{reply_in}
 use Rattle.iol_mseq.specs.declared.master.MasterMsg.{MasterMsg}
 use Rattle.iol_mseq.specs.declared.reply.Reply.{Reply}
+use Rattle.iol_page.specs.declared.page.Layouts.{Layouts}
+use Rattle.iol_far.specs.declared.mode.DeviceMode.TheVariants.{Startup, Preoperate, Operate}
+use Rattle.iol_far.specs.Codec.{message_in}
+use Rattle.iol_judge.specs.declared.open.Open.{Open}
 use Rattle.iol_judge.specs.declared.reason.Reason.{Reason}
 use Rattle.iol_judge.specs.declared.reason.Reason.TheVariants.{NotTaken, ReplyLength, StatusWithoutData, InvalidNotZero, PageChanged, PageZero, CycleTime, ProcessNotZero, RestNotZero}
 use Rattle.iol_judge.specs.declared.taken.TakenMessage.{TakenMessage}
@@ -24,32 +27,23 @@ use Rattle.iol_judge.specs.Transfers.{transfer_fault, transfer_told}
 use Rattle.iol_judge.specs.Events.{flag_fault, flag_told, events_fault, events_told}
 use Rattle.iol_judge.specs.Seen.{is_of_page, octet_seen}
 use Rattle.iol_judge.specs.State.{KnownState}
+use Rattle.iol_judge.specs.Taking.{mode_layout}
 
 -- Which can be read
 
--- what was sent is a message in this layout, and the reply a good one to it
-abbrev pub is_read_in : Shape → List ℕ → List ℕ → Bool
-is_read_in layout sent reply = elim (master_in layout sent) [
+-- what was sent is a message in this layout, where that is known, and the reply a good one to it
+abbrev pub is_read_in : Result Shape Open → List ℕ → List ℕ → Bool
+is_read_in (Err why) sent reply = false
+is_read_in (Ok layout) sent reply = elim (message_in layout sent) [
   | None ↦ false
   | Some message ↦ is_some (reply_in layout message.mc.read reply)
 ]
 
--- in the layout of OPERATE with this code, which has so many octets of on-request data: the
--- lengths of both say how many octets of process data there are
-abbrev pub is_read_with : ℕ → ℕ → List ℕ → List ℕ → Bool
-is_read_with code size sent reply =
-    let read = nat_le 128 (slice_index sent 0) in
-    let pd_in = min (length reply - (1 + (if read then size else 0))) 255 in
-    let pd_out = min (length sent - (2 + (if read then 0 else size))) 255 in
-    elim (operate_shape code pd_in pd_out) [
-      | Ok layout ↦ is_read_in layout sent reply
-      | Err fault ↦ false
-    ]
-
--- the codes 4 to 7 with all lengths have every layout
-abbrev pub can_be_read : List ℕ → List ℕ → Bool
-can_be_read sent reply = is_read_with 4 1 sent reply || is_read_with 5 2 sent reply
-    || is_read_with 6 8 sent reply || is_read_with 7 32 sent reply
+-- in the layout of some mode of the device
+abbrev pub can_be_read : Result Layouts Open → List ℕ → List ℕ → Bool
+can_be_read known sent reply = is_read_in (mode_layout known Startup) sent reply
+    || is_read_in (mode_layout known Preoperate) sent reply
+    || is_read_in (mode_layout known Operate) sent reply
 
 -- Why a device can't have sent a reply
 

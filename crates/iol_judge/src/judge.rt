@@ -96,8 +96,9 @@ impl Judge {
         if self.verdict != Verdict::Honest {
             return;
         }
+        let layouts = self.seen.layouts();
         match answer {
-            Some(octets) if is_readable(sent, octets) => self.hear_reply(sent, octets),
+            Some(octets) if is_readable(&layouts, sent, octets) => self.hear_reply(sent, octets),
             _ => self.hear_nothing(sent),
         }
     }

@@ -26,10 +26,13 @@ pub(crate) fn verdict_of(page: Option<&[u8; 10]>, exchanges: &[Exchange]) -> Ver
 /// A message of PREOPERATE's layout, while the device is in STARTUP.
 const NOT_TAKEN: [Exchange; 1] = [(&[0xF1, 0x64], &[0, 0, 0, 0, 0, 0, 0, 0, 0x2D])];
 
-/// Two octets of on-request data, where the page says eight.
+/// The page of a device with two octets of on-request data in PREOPERATE, and eight in OPERATE.
+const TWO_THEN_EIGHT: [u8; 10] = [0x17, 0x1D, 0x11, 0, 0, 0x12, 0x34, 0, 0x01, 0x07];
+
+/// The reply of OPERATE, while the device is in PREOPERATE.
 const REPLY_LENGTH: [Exchange; 2] = [
     (&[0x20, 0x36, 0x9A], &[0x2D]),
-    (&[0xF1, 0x64], &[0x00, 0x00, 0x2D]),
+    (&[0xF1, 0x64], &[0, 0, 0, 0, 0, 0, 0, 0, 0x2D]),
 ];
 
 /// PD status 1 in STARTUP.
@@ -113,9 +116,10 @@ const REST: [Exchange; 3] = [
 /// Each lie is found at its exchange, for its reason.
 #[test]
 fn lies_are_found(rt: HostRuntime) -> Result<(), Fail> {
-    assert!(rt; verdict_of(None, &NOT_TAKEN) == Verdict::NotHonest(1, Reason::NotTaken));
+    assert!(rt; verdict_of(Some(&PLAIN), &NOT_TAKEN) == Verdict::NotHonest(1, Reason::NotTaken));
     assert!(rt;
-        verdict_of(Some(&PLAIN), &REPLY_LENGTH) == Verdict::NotHonest(2, Reason::ReplyLength)
+        verdict_of(Some(&TWO_THEN_EIGHT), &REPLY_LENGTH)
+            == Verdict::NotHonest(2, Reason::ReplyLength)
     );
     assert!(rt; verdict_of(None, &STATUS) == Verdict::NotHonest(1, Reason::StatusWithoutData));
     assert!(rt;
@@ -218,7 +222,7 @@ fn what_is_unknown_is_open(rt: HostRuntime) -> Result<(), Fail> {
     Ok(())
 }
 
-/// A reply that no layout makes a good one is lost, and so is one that doesn't come.
+/// A reply that is none in the layouts of the device is lost, and so is one that doesn't come.
 #[test]
 fn losses_are_honest(rt: HostRuntime) -> Result<(), Fail> {
     let mut judge = Judge::new(Odd::Blamed);
@@ -226,12 +230,22 @@ fn losses_are_honest(rt: HostRuntime) -> Result<(), Fail> {
     judge.wake(Wake::Answered);
     judge.exchange(&[0x20, 0x36, 0x9A], None);
     judge.exchange(&[0x20, 0x36, 0x9A], Some(&[0x2C]));
+    // An octet 00 was lost, then six.
+    judge.exchange(&[0xF1, 0x64], Some(&[0, 0, 0, 0, 0, 0, 0, 0x2D]));
+    judge.exchange(&[0xF1, 0x64], Some(&[0, 0, 0x2D]));
     judge.exchange(&[0xF1, 0x64], Some(&[0, 0, 0, 0, 0, 0, 0, 0, 0x2D]));
     assert!(rt; judge.verdict() == Verdict::Honest);
     // Once it is in PREOPERATE it doesn't take a message of STARTUP.
     judge.exchange(&[0xA2, 0x00], Some(&[0x17, 0x1B]));
-    assert!(rt; judge.verdict() == Verdict::NotHonest(4, Reason::NotTaken));
-    assert!(rt; judge.verdict() != Verdict::CantSay(4, Open::TooManyStates));
+    assert!(rt; judge.verdict() == Verdict::NotHonest(6, Reason::NotTaken));
+    assert!(rt; judge.verdict() != Verdict::CantSay(6, Open::TooManyStates));
+    Ok(())
+}
+
+/// Before the page is known, only the layout of STARTUP can be: a good reply of another one is lost.
+#[test]
+fn other_layouts_are_unknown(rt: HostRuntime) -> Result<(), Fail> {
+    assert!(rt; verdict_of(None, &NOT_TAKEN) == Verdict::Honest);
     Ok(())
 }
 

@@ -8,13 +8,13 @@ use Rattle.iol_link.specs.Honest.{IsUnread}
 -- octets that are a good reply to nothing, in no layout, may come back over an
 -- honest wire in place of a reply
 abbrev pub BadIsUnread : Type 0
-BadIsUnread = (sent octets : List ℕ)
+BadIsUnread = (page sent octets : List ℕ)
     → ((layout : Shape) (read : Bool) → ¬ IsGoodReply layout read octets)
-    → IsUnread sent (Some octets)
+    → IsUnread page sent (Some octets)
 
 -- such are those of a good reply with one bit flipped
 abbrev pub FlippedIsUnread : Type 0
 FlippedIsUnread =
-    (layout : Shape) (read : Bool) (sent octets : List ℕ) (place bit : ℕ) → AreOctets octets
-    → place < length octets → bit < 8
-    → IsGoodReply layout read octets → IsUnread sent (Some (with_flip octets place bit))
+    (layout : Shape) (read : Bool) (page sent octets : List ℕ) (place bit : ℕ)
+    → AreOctets octets → place < length octets → bit < 8
+    → IsGoodReply layout read octets → IsUnread page sent (Some (with_flip octets place bit))

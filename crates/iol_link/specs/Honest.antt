@@ -1,23 +1,25 @@
 -- What an honest wire does with octets and with a wake, and what becomes of the far end meanwhile.
 use Rattle.std.specs.Prelude.{◌≡◌, ◌⊎◌, ℕ, ◌+◌, min, Bool, true, if◌then◌else◌, List, [], ◌∷◌, Option, Some, None, IsSome}
-use Rattle.iol_mseq.specs.Shape.{Shape, IsLayout}
-use Rattle.iol_mseq.specs.Master.{master_in}
 use Rattle.iol_mseq.specs.Replies.{reply_in}
 use Rattle.iol_mseq.specs.declared.master.MasterMsg.{MasterMsg}
 use Rattle.iol_link.specs.Attempts.{most_attempts}
+use Rattle.iol_far.specs.declared.mode.DeviceMode.{DeviceMode}
+use Rattle.iol_far.specs.Codec.{layout_in, message_in}
 use Rattle.iol_far.specs.Isdu.{handed_request}
 use Rattle.iol_far.specs.Far.{Far, hear}
 use Rattle.iol_far.specs.Local.{LocalStep, locals, far_after_wake, IsWorkedOff}
 use Rattle.iol_far.specs.Laws.{IsRegular}
 use Rattle.iol_far.specs.Orderly.{IsOrderly}
 
--- nothing, or octets that are well-formed in no layout in which the sent octets spell a message
+-- nothing, or octets that are no good reply in the layouts that both ends can be in: those of the
+-- modes of a device of this page, where the sent octets spell a message there
 -- WIRE-2
-abbrev pub IsUnread : List ℕ → Option (List ℕ) → Type 0
-IsUnread sent None = Unit {0}
-IsUnread sent (Some answer) =
-    (layout : Shape) (message : MasterMsg) → IsLayout layout → master_in layout sent ≡ Some message
-    → reply_in layout message.mc.read answer ≡ None
+abbrev pub IsUnread : List ℕ → List ℕ → Option (List ℕ) → Type 0
+IsUnread page sent None = Unit {0}
+IsUnread page sent (Some answer) =
+    (mode : DeviceMode) (message : MasterMsg)
+    → message_in (layout_in page mode) sent ≡ Some message
+    → reply_in (layout_in page mode) message.mc.read answer ≡ None
 
 -- how far an exchange comes
 -- WIRE-1
@@ -40,7 +42,7 @@ far_after Clean far sent = (hear far sent).far
 -- WIRE-2
 abbrev pub IsAnswer : Passage → Far → List ℕ → Option (List ℕ) → Type 0
 IsAnswer Clean far sent answer = answer ≡ (hear far sent).reply
-IsAnswer passage far sent answer = IsUnread sent answer
+IsAnswer passage far sent answer = IsUnread far.page sent answer
 
 -- the unaltered reply that an exchange brings, none where it brings none
 -- WIRE-4
