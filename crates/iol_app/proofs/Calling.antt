@@ -4,14 +4,13 @@ use Rattle.std.proofs.Common.{arith, ◌≡◌, ℕ, Bool, List}
 use Rattle.std.specs.Prelude.{Option, None, IfSome}
 use Rattle.iol_event.specs.declared.event.Event.{Event}
 use Rattle.iol_image.specs.Image.{IsImage}
-use Rattle.iol_app.specs.Abstract.Steps.{ImageOctets}
+use Rattle.iol_app.specs.Abstract.Steps.{ImageOctets, through_steps}
 use Rattle.iol_far.specs.declared.carried.Carried.{Carried}
 use Rattle.iol_far.specs.Far.{Far}
 use Rattle.iol_mode.specs.declared.configuration.Configuration.{Configuration}
 use Rattle.iol_mode.specs.declared.configuration.Devices.{Devices}
 use Rattle.iol_mode.specs.declared.states.State.{State}
 use Rattle.iol_app.specs.declared.mode.Mode.TheVariants.{Down as ModeDown}
-use Rattle.iol_app.specs.Abstract.Session.{session_through}
 use Rattle.iol_app.specs.Abstract.OfDevice.{Hidden, IsOpen}
 use Rattle.iol_app.specs.Abstract.Shown.{MasterFields}
 use Rattle.iol_app.specs.Abstract.OfMaster.{restart_steps}
@@ -23,6 +22,7 @@ use Rattle.iol_app.specs.State.{SessionState, session_wanting}
 use Rattle.iol_mode.specs.Kinds.{SeesPulses}
 use Rattle.iol_app.specs.StationState.{SessionFits}
 use Rattle.iol_app.specs.Core.{CoreState, Ghost, BothEndsStand, RequestStands, work_of, seen_in, session_in, opened_core, opened_ghost, wanting_core, restarted_core, restarted_ghost}
+use Rattle.iol_app.specs.Abstract.Session.{session_after}
 
 pub opens : (devices : Devices) (limit : ℕ) (far : Far) (silence : ℕ) (told : Bool)
     (due : Event × List Event)
@@ -56,13 +56,14 @@ request_opens : (state : State) (t : SessionState) (g : Ghost) (far : Far) → S
 request_opens state t g far j h = grind (arith, common_steps)
 
 session_is : (seen : MasterFields) (h : Hidden) (carried : List Carried)
-    → session_through (restart_steps seen.request) (session_of seen h carried)
+    → through_steps session_after (restart_steps seen.request) (session_of seen h carried)
     ≡ session_of (record seen { request = None; mode = ModeDown; why = None })
     (hidden_lost seen.request h) carried
 session_is seen h carried = grind (arith, common_steps)
 
 pub restarted_session : (c : CoreState) (g : Ghost) (far : Far)
-    → session_through (restart_steps (request_under_way c.session.current)) (session_in c g far)
+    → through_steps session_after (restart_steps (request_under_way c.session.current))
+    (session_in c g far)
     ≡ session_in (restarted_core c) (restarted_ghost c g) far
 restarted_session c g far = session_is (seen_in c g) g.request.hidden far.carried
 

@@ -13,8 +13,8 @@ use Rattle.iol_far.specs.Isdu.{IsduState}
 use Rattle.iol_far.specs.Far.{Far, far_in_mode, hear, heard_as, far_after_message, events_after}
 use Rattle.iol_far.specs.Local.{LocalStep, locals}
 use Rattle.iol_far.specs.Laws.{confirms as octets_confirm}
-use Rattle.iol_app.specs.Abstract.Steps.{PortStep, ImageOctets}
-use Rattle.iol_app.specs.Abstract.Events.{frozen_through, frozen_after, MayFrozen, MayFrozenAll}
+use Rattle.iol_app.specs.Abstract.Steps.{PortStep, ImageOctets, TakesSteps}
+use Rattle.iol_app.specs.Abstract.Events.{frozen_after, MayFrozen}
 use Rattle.iol_app.proofs.Parts.{runs-append, own_runs}
 use Rattle.iol_app.specs.Abstract.OfDevice.{Hidden, again_steps, own_steps, told_after, told_through, event_steps, output_steps, confirms_by, worked_steps, heard_steps_as, heard_steps, told_worked, told_heard_as, told_heard, passed_steps, told_passed, exchange_steps, told_exchanged, wake_steps, told_wake}
 use Rattle.iol_app.specs.Abstract.Shown.{frozen_of}
@@ -24,8 +24,8 @@ use Rattle.iol_app.proofs.OwnSession.{woken_if}
 
 -- these steps are allowed in the part of the frozen events, and leave this list, told or not
 abbrev pub FrozenRuns : List Event → Bool → List PortStep → List Event → Bool → Type 0
-FrozenRuns f told steps f' told' = MayFrozenAll steps (frozen_of f told)
-    × (frozen_through steps (frozen_of f told) ≡ frozen_of f' told')
+FrozenRuns f told steps f' told' =
+    TakesSteps MayFrozen frozen_after (frozen_of f told) steps (frozen_of f' told')
 
 -- they leave the memory of this far end
 abbrev Leaves : Far → Bool → List PortStep → Far → Bool → Type 0

@@ -9,9 +9,9 @@ use Rattle.iol_isdu.specs.declared.values.Answer.{Answer}
 use Rattle.iol_link.specs.Honest.{Passage, OutLost, far_after}
 use Rattle.iol_far.specs.Isdu.{IsduState, fits}
 use Rattle.iol_far.specs.Far.{Far, accepted_message, far_in_mode, hear, heard_as, far_after_message, output_of}
-use Rattle.iol_far.specs.Local.{LocalStep, local, locals, carried_by}
-use Rattle.iol_app.specs.Abstract.Steps.{PortStep, ImageOctets, Moment}
-use Rattle.iol_app.specs.Abstract.Images.{Images, images_through, images_after, MayImages, MayImagesAll}
+use Rattle.iol_far.specs.Local.{LocalStep, local, locals, carried_by, Carry as OwnCarry}
+use Rattle.iol_app.specs.Abstract.Steps.{PortStep, ImageOctets, Moment, TakesSteps}
+use Rattle.iol_app.specs.Abstract.Images.{Images, images_after, MayImages}
 use Rattle.iol_app.proofs.Parts.{runs-append, own_runs}
 use Rattle.iol_app.specs.Abstract.OfDevice.{Hidden, again_steps, carry_steps, own_step, own_steps, worked_steps, heard_steps_as, heard_steps, passed_steps, exchange_steps, wake_steps}
 use Rattle.iol_app.specs.Abstract.Shown.{ShownProcessData, images_of}
@@ -20,7 +20,7 @@ use Rattle.iol_app.proofs.OwnSession.{woken_if}
 
 -- these steps are allowed in the part of the images, and leave these
 abbrev pub ImagesRuns : Moment → Images → List PortStep → Images → Type 0
-ImagesRuns m i steps i' = MayImagesAll m steps i × (images_through m steps i ≡ i')
+ImagesRuns m i steps i' = TakesSteps (MayImages m) (images_after m) i steps i'
 
 -- they leave what this far end has
 abbrev Leaves : Moment → ShownProcessData → Far → List PortStep → Far → Type 0
@@ -36,7 +36,8 @@ carry_images m request s far a state = grind (arith, common_steps)
 own_step_runs : (m : Moment) (request : Option Request) (s : ShownProcessData) (far : Far)
     (step : LocalStep)
     → Leaves m s far (own_step request far step) (local far step)
-own_step_runs m request s far step = grind (arith, common_steps, carry_images)
+own_step_runs m request s far (OwnCarry answer) = carry_images m request s far answer far.isdu
+own_step_runs m request s far step = grind (arith, common_steps)
 
 own_images : (m : Moment) (request : Option Request) (s : ShownProcessData) (steps : List LocalStep)
     (far : Far) → Leaves m s far (own_steps request far steps) (locals far steps)

@@ -10,8 +10,8 @@ use Rattle.iol_far.specs.declared.carried.Carried.{Carried}
 use Rattle.iol_far.specs.Isdu.{IsduState, Handed}
 use Rattle.iol_far.specs.Far.{Far, far_in_mode, hear, heard_as}
 use Rattle.iol_far.specs.Local.{LocalStep, local, locals, far_after_wake}
-use Rattle.iol_app.specs.Abstract.Steps.{PortStep, Moment, may_repeat}
-use Rattle.iol_app.specs.Abstract.Session.{session_through, session_after, MaySession, MaySessionAll}
+use Rattle.iol_app.specs.Abstract.Steps.{PortStep, Moment, may_repeat, TakesSteps}
+use Rattle.iol_app.specs.Abstract.Session.{session_after, MaySession}
 use Rattle.iol_app.proofs.Parts.{runs-append, own_runs}
 use Rattle.iol_app.specs.Abstract.OfDevice.{Hidden, IsOpen, again_steps, hidden_again, own_steps, hidden_after, hidden_through, worked_steps, heard_steps_as, heard_steps, passed_steps, exchange_steps, wake_steps}
 use Rattle.iol_app.specs.Abstract.Shown.{MasterFields}
@@ -23,8 +23,8 @@ abbrev pub SessionRuns : Moment → MasterFields → Hidden → List Carried →
     → MasterFields → Hidden
     → List Carried → Type 0
 SessionRuns m seen h carried steps seen' h' carried' =
-    MaySessionAll m steps (session_of seen h carried)
-    × (session_through steps (session_of seen h carried) ≡ session_of seen' h' carried')
+    TakesSteps (MaySession m) session_after (session_of seen h carried) steps
+    (session_of seen' h' carried')
 
 pub own_open_step : (request : Option Request) (h : Hidden) (far : Far) (step : LocalStep)
     → IsOpen far.isdu request h → IsOpen (local far step).isdu request

@@ -23,8 +23,8 @@ use Rattle.iol_mode.specs.Stands.{StateStands}
 use Rattle.iol_app.specs.declared.mode.Mode.TheVariants.{Operate as ModeOperate}
 use Rattle.iol_app.specs.declared.said.Said.{Said}
 use Rattle.iol_app.specs.declared.said.Said.TheVariants.{Idle}
-use Rattle.iol_app.specs.Abstract.Steps.{PortStep, Moment, no_make}
-use Rattle.iol_app.specs.Abstract.Images.{Images, MayImagesAll, images_after}
+use Rattle.iol_app.specs.Abstract.Steps.{PortStep, Moment, no_make, MayAll}
+use Rattle.iol_app.specs.Abstract.Images.{Images, images_after, MayImages}
 use Rattle.iol_app.specs.declared.event_work.EventRoom.{EventRoom}
 use Rattle.iol_app.specs.declared.session.Purpose.{Purpose}
 use Rattle.iol_app.specs.declared.brought.WireResult.{WireResult}
@@ -102,7 +102,7 @@ judged_next state came s sends fits =
 
 -- outside OPERATE no message is made
 unmade : (m : Moment) (steps : List PortStep) (i : Images) → (m.began ≡ ModeOperate → ⊥)
-    → MayImagesAll m steps i → no_make steps ≡ true
+    → MayAll (MayImages m) (images_after m) steps i → no_make steps ≡ true
 unmade m [] i down may = refl
 unmade m (x ∷ steps) i down may = grind (arith, common_steps, unmade m steps (images_after m x i))
 

@@ -27,10 +27,10 @@ use Rattle.iol_mode.specs.Stands.{StateStands, IsOperating, IsAccepted}
 use Rattle.iol_app.specs.declared.mode.Mode.TheVariants.{Operate as ModeOperate}
 use Rattle.iol_app.specs.declared.said.Said.{Said}
 use Rattle.iol_app.specs.declared.said.Said.TheVariants.{Idle}
-use Rattle.iol_app.specs.Abstract.Steps.{PortStep, repeats_at, doubts_at, Make, Take, WireCall, Moment, ImageOctets, silence_by, CallFits, no_make, is_for_book, is_report, book_said, reports_said, resets, output_length}
-use Rattle.iol_app.specs.Abstract.Session.{Session, MaySession, MaySessionAll, session_after, session_through}
-use Rattle.iol_app.specs.Abstract.Events.{Frozen, MayFrozenAll, frozen_through}
-use Rattle.iol_app.specs.Abstract.Images.{Images, MayImages, MayImagesAll, images_after, images_through, image_or}
+use Rattle.iol_app.specs.Abstract.Steps.{PortStep, repeats_at, doubts_at, Make, Take, WireCall, Moment, ImageOctets, silence_by, CallFits, no_make, is_for_book, is_report, book_said, reports_said, resets, output_length, TakesSteps}
+use Rattle.iol_app.specs.Abstract.Session.{Session, MaySession, session_after}
+use Rattle.iol_app.specs.Abstract.Events.{Frozen, MayFrozen, frozen_after}
+use Rattle.iol_app.specs.Abstract.Images.{Images, MayImages, images_after, image_or}
 use Rattle.iol_app.specs.Abstract.OfDevice.{Hidden, IsOpen}
 use Rattle.iol_app.specs.Abstract.Shown.{MasterFields}
 use Rattle.iol_app.specs.Abstract.Shown.{ShownProcessData, session_of, frozen_of, images_of}
@@ -366,13 +366,14 @@ pub record CallGives (c : CoreState) (g : Ghost) (far : Far) (silence : ℕ) (sa
   pub said_book : filter is_for_book steps
       ≡ resets (is_reset c.state) (is_reset next.state) ++ book_said said
   pub said_reports : filter is_report steps ≡ reports_said said
-  pub session : MaySessionAll (moment_of c g silence call) steps (session_in c g far)
-      × (session_through steps (session_in c g far) ≡ session_in next after far_new)
-  pub frozen : MayFrozenAll steps (frozen_in g far)
-      × (frozen_through steps (frozen_in g far) ≡ frozen_in after far_new)
-  pub images : MayImagesAll (moment_of c g silence call) steps (images_in c g far)
-      × (images_through (moment_of c g silence call) steps (images_in c g far)
-      ≡ images_in next after far_new)
+  pub session :
+      TakesSteps (MaySession (moment_of c g silence call)) session_after (session_in c g far) steps
+      (session_in next after far_new)
+  pub frozen : TakesSteps MayFrozen frozen_after (frozen_in g far) steps (frozen_in after far_new)
+  pub images :
+      TakesSteps (MayImages (moment_of c g silence call))
+      (images_after (moment_of c g silence call))
+      (images_in c g far) steps (images_in next after far_new)
   pub image_is_last :
       ImageIsLast (moment_of c g silence call) (mode_in next.state) (images_in c g far)
       (images_in next after far_new)

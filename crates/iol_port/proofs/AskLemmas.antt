@@ -5,22 +5,22 @@ use Rattle.iol_isdu.specs.declared.values.Request.{Request}
 use Rattle.iol_link.specs.WireFacts.{WireFacts}
 use Rattle.iol_book.specs.BookModel.{BookState}
 use Rattle.iol_app.specs.declared.said.Said.{Said}
-use Rattle.iol_app.specs.Abstract.Steps.{Reset, resets, book_said}
+use Rattle.iol_app.specs.Abstract.Steps.{Reset, resets, book_said, through_steps}
 use Rattle.iol_app.specs.declared.event_work.EventRoom.{EventRoom}
 use Rattle.iol_app.specs.Core.{CoreState}
 use Rattle.iol_app.specs.Pieces.{SendsMessage, IsMade, IsWholeTurn}
 use Rattle.iol_app.specs.Asking.{asked_in, core_with_request}
-use Rattle.iol_port.specs.Steps.{book_through}
 use Rattle.iol_mode.specs.States.{is_reset}
 use Rattle.iol_app.specs.declared.brought.WireResult.{WireResult}
+use Rattle.iol_port.specs.Steps.{book_after}
 
 -- the device was reset where both cores say so
 pub book_told : (old mid new : CoreState) (next : Option Request)
     (room : EventRoom) (reset began ended : Bool) (said : Said) (b : BookState)
     → mid ≡ core_with_request next old room → began ≡ is_reset mid.state
     → ended ≡ is_reset new.state → reset ≡ (not began && ended)
-    → book_through (cond reset (Reset ∷ []) [] ++ book_said said) b
-    ≡ book_through (resets (is_reset old.state) (is_reset new.state)
+    → through_steps book_after (cond reset (Reset ∷ []) [] ++ book_said said) b
+    ≡ through_steps book_after (resets (is_reset old.state) (is_reset new.state)
     ++ book_said said) b
 book_told old mid new next room reset began ended said b begun from to is =
     grind (arith, common_steps)

@@ -1,12 +1,12 @@
 -- only a cancel sets the mark, and only a request that has it is cancelled
-use Rattle.std.proofs.Common.{◌≡◌, ◌⊎◌, inl, inr, ◌∷◌, [], List, true, sym, ap, ◌∙◌, arith}
+use Rattle.std.proofs.Common.{◌≡◌, ◌⊎◌, inl, inr, ◌∷◌, [], List, true, ap, ◌∙◌, arith}
 use Rattle.std.proofs.lemmas.Grind.{common_steps}
 use Rattle.iol_isdu.specs.declared.values.Cause.TheVariants.{Cancelled}
 use Rattle.iol_book.specs.declared.entries.Ticket.{Ticket}
 use Rattle.iol_book.specs.BookModel.{is_taken}
 use Rattle.iol_app.specs.Abstract.OfMaster.{restart_steps}
-use Rattle.iol_app.specs.Abstract.Steps.{PortStep, Unknown}
-use Rattle.iol_app.specs.Abstract.Session.{Session, session_after, session_through}
+use Rattle.iol_app.specs.Abstract.Steps.{PortStep, Unknown, through_steps}
+use Rattle.iol_app.specs.Abstract.Session.{Session, session_after}
 use Rattle.iol_port.specs.declared.call.Call.TheVariants as call
 use Rattle.iol_port.specs.declared.call.Answered.TheVariants as answered
 use Rattle.iol_port.specs.Run.{PortState, Whole, job_request}
@@ -15,7 +15,8 @@ use Rattle.iol_port.specs.Promises.{CancelledWasAsked, AskedByCancel, is_cancel_
 
 -- no step sets the mark
 asked_through : (steps : List PortStep) (s : Session)
-    → is_cancel_asked (session_through steps s).job ≡ true → is_cancel_asked s.job ≡ true
+    → is_cancel_asked (through_steps session_after steps s).job ≡ true
+    → is_cancel_asked s.job ≡ true
 asked_through [] s h = h
 asked_through (step ∷ steps) s h =
     let later = asked_through steps (session_after step s) h in grind (arith, common_steps)
@@ -38,5 +39,5 @@ asked_by_cancel a b c reply is = by b (piece_did a b c reply is)
     by _ Restarts h =
         inl (asked_through (restart_steps (job_request a.session.job)) a.session h)
     by _ (Moves m steps w) h = inl (asked_through steps a.session
-        (ap (λ s. is_cancel_asked s.job) (sym w.session) ∙ h))
+        (ap (λ s. is_cancel_asked s.job) w.session.1 ∙ h))
     by _ _ h = inl h

@@ -13,9 +13,8 @@ use Rattle.iol_mode.specs.Exchanges.{IsSending}
 use Rattle.iol_app.specs.declared.mode.Mode.TheVariants.{Operate}
 use Rattle.iol_app.specs.declared.said.Said.{Said}
 use Rattle.iol_app.specs.declared.said.Said.TheVariants.{Idle}
-use Rattle.iol_app.specs.Abstract.Steps.{PortStep, Make, Reset, WireCall, Moment, no_make, resets, book_said}
-use Rattle.iol_app.specs.Abstract.Session.{Session, MaySessionAll, session_through}
-use Rattle.iol_app.specs.Abstract.Images.{MayImagesAll, images_through}
+use Rattle.iol_app.specs.Abstract.Steps.{PortStep, Make, Reset, WireCall, Moment, no_make, resets, book_said, through_steps, TakesSteps}
+use Rattle.iol_app.specs.Abstract.Session.{MaySession, session_after}
 use Rattle.iol_app.specs.declared.event_work.EventRoom.{EventRoom}
 use Rattle.iol_app.specs.declared.brought.WireResult.{WireResult}
 use Rattle.iol_app.specs.State.{session_expecting, session_with_cycle}
@@ -26,7 +25,6 @@ use Rattle.iol_app.specs.Seen.{WantSteps}
 use Rattle.iol_port.specs.declared.call.Call.{Call}
 use Rattle.iol_port.specs.declared.call.Answered.{Answered}
 use Rattle.iol_port.specs.declared.call.Answered.TheVariants as answered
-use Rattle.iol_port.specs.Steps.{MayBookAll, book_through}
 use Rattle.iol_port.specs.declared.port_core.PortCore.TheInside.{Inside}
 use Rattle.iol_page.specs.declared.cycle.CycleTime.{CycleTime}
 use Rattle.iol_page.specs.declared.identity.Identity.{Identity}
@@ -35,12 +33,15 @@ use Rattle.iol_port.specs.declared.call.Call.TheVariants as call
 use Rattle.iol_port.specs.EveryWire.{page_shown}
 use Rattle.iol_port.specs.Run.{counting_of, PortState, Pending, SendOf, PieceOf, Send, Receive, is_sending_step, moment_by}
 use Rattle.iol_port.specs.declared.awaited.AwaitedAnswer.TheVariants.{Nothing, Wake, Reply}
-use Rattle.iol_port.specs.Owners.{owners_through}
 use Rattle.iol_port.specs.View.{PortParts, PortValue, Choice, IsOutInOperate, IsTied, PendingAt, StandsFor, IsAbstractCall, Does, BeginsNext, abstract_port, on_wire, over}
 use Rattle.iol_port.specs.CorePort.{IsCoreCall, awaited_answer, CoreDoes, PieceDoes, SendDoes, ReceiveDoes, WakeDoes}
 use Rattle.iol_port.proofs.Filters.{book_through-filter, MayBookAll-filter, kept_through-filter, takes_none, is_no_taking, may_book_said}
-use Rattle.iol_port.proofs.TurnLemmas.{First, Begun, Settles, ahead, images_ahead, under, begun, none_down, terms_of}
+use Rattle.iol_port.proofs.TurnLemmas.{Begun, Settles, under, begun, none_down, terms_of}
 use Rattle.iol_port.proofs.CallLemmas.{none_pending, expect_does, set_cycle_does}
+use Rattle.iol_app.specs.Abstract.Images.{MayImages, images_after}
+use Rattle.iol_port.specs.Steps.{MayBook, book_after}
+use Rattle.iol_port.specs.Owners.{owners_after}
+use Rattle.iol_app.proofs.Parts.{runs-append}
 
 -- the parts that the fields of a port show
 abbrev pub parts_in : {A : Type 0} → Inside A → PortParts
@@ -71,25 +72,18 @@ wake_out p e = grind (arith, common_steps)
 abbrev make_of : Bool → List PortStep
 make_of made = cond made (Make ∷ []) []
 
--- it is no business of the book or the session
-made_book : (made : Bool) (b : BookState)
-    → MayBookAll (make_of made) b × (b ≡ book_through (make_of made) b)
+-- it is no business of the book
+made_book : (made : Bool) (b : BookState) → TakesSteps MayBook book_after b (make_of made) b
 made_book made b = grind (arith, common_steps)
-
-made_may : (made : Bool) (m : Moment) (s : Session) → MaySessionAll m (make_of made) s
-made_may made m s = grind (arith, common_steps)
-
-made_session : (made : Bool) (s : Session) → s ≡ session_through (make_of made) s
-made_session made s = grind (arith, common_steps)
 
 record Sent (mid k : CoreState) (g after : Ghost) (far : Far) (n : ℕ) (made : Bool) : Type 0 where
   stands : BothEndsStand k after far n
-  session : session_in k after far ≡ session_in mid g far
+  session : (m : Moment) → TakesSteps (MaySession m) session_after (session_in mid g far)
+      (make_of made) (session_in k after far)
   frozen : frozen_in after far ≡ frozen_in g far
-  may : (call : WireCall) → MayImagesAll (moment_of mid g n call) (make_of made)
-      (images_in mid g far)
-  images : (call : WireCall) → images_in k after far
-      ≡ images_through (moment_of mid g n call) (make_of made) (images_in mid g far)
+  images : (call : WireCall)
+      → TakesSteps (MayImages (moment_of mid g n call)) (images_after (moment_of mid g n call))
+      (images_in mid g far) (make_of made) (images_in k after far)
   terms : TermsStay mid k g after
   asks : mode_in k.state ≡ Operate → n ≡ 0
       → ordered_output k.state k.session ≡ mid.session.output.wanted
@@ -106,10 +100,9 @@ is_sent {mid = mid} {g = g} {far = far} {n = n} sends tried stands =
         true,
         record {
           stands = s.stands;
-          session = sym s.session;
+          session = λ m. ((tt, tt), s.session);
           frozen = sym s.frozen;
-          may = λ call. (s.may call, tt);
-          images = λ call. sym (s.images call);
+          images = λ call. ((s.may call, tt), s.images call);
           terms = s.terms;
           asks = λ up calm. s.asks;
         },
@@ -117,9 +110,10 @@ is_sent {mid = mid} {g = g} {far = far} {n = n} sends tried stands =
     ]
 
 -- what comes first is of the sending too
-ahead_sends : (first : First) (made : Bool)
-    → IsTrue (list_all is_sending_step (ahead first (make_of made)))
-ahead_sends first made = grind (arith, common_steps)
+made_sends : (first : List PortStep) (made : Bool) → IsTrue (list_all is_sending_step first)
+    → IsTrue (list_all is_sending_step (first ++ make_of made))
+made_sends [] made h = grind (arith, common_steps)
+made_sends (x ∷ xs) made h = grind (arith, common_steps, made_sends xs made)
 
 -- where nothing was out
 goes_out : {s : CoreState} {start : BookState} {after : Ghost} {made : Bool}
@@ -132,12 +126,9 @@ goes_out : {s : CoreState} {start : BookState} {after : Ghost} {made : Bool}
     × StandsFor far n next m
 goes_out {start = start} {after = after} {made = made} p next far n u none kept sent book_is b s =
     let before : PortState = abstract_port far n p u in
-    let steps : List PortStep = ahead b.first (make_of made) in
-    let book = b.book (make_of made) (made_book made start).0 in
-    let images = λ (call : WireCall). images_ahead b.first (moment_by before call) (make_of made)
-    before.images (s.may call) in
+    let steps : List PortStep = b.first ++ make_of made in
     let c : Choice = record {
-      owners = owners_through steps u.owners;
+      owners = through_steps owners_after steps u.owners;
       ghost = after;
       pending = Some (record { wanted = p.core.session.output.wanted });
     } in (
@@ -147,14 +138,15 @@ goes_out {start = start} {after = after} {made = made} p next far n u none kept 
         inl (record {
           free = none;
           steps = steps;
-          only = ahead_sends b.first made;
-          may_book = book.0;
-          book = book_is ∙ (made_book made start).1 ∙ book.1;
-          may_session = λ call. b.may_session (moment_by before call) refl (make_of made)
-              (made_may made (moment_by before call) _);
-          session = s.session ∙ made_session made _ ∙ b.session (make_of made);
-          may_images = λ call. (images call).0;
-          images = λ call. s.images call ∙ (images call).1;
+          only = made_sends b.first made b.only;
+          book = rw book_is (runs-append MayBook book_after b.first (make_of made) _ b.book
+              (made_book made start));
+          session = λ call. let m : Moment = moment_by before call in
+              runs-append (MaySession m) session_after b.first (make_of made) _ (b.session m refl)
+              (s.session m);
+          images = λ call. let m : Moment = moment_by before call in
+              runs-append (MayImages m) (images_after m) b.first (make_of made) _
+              (b.images m before.images) (s.images call);
           owners = refl;
           frozen = s.frozen;
           kept = kept;
@@ -216,7 +208,7 @@ module _ (p next : PortParts) (far far' : Far) (n n' : ℕ) (said : Said) (free 
       let began : Bool = is_reset p.core.state in
       let ended : Bool = is_reset next.core.state in
       let c : Choice = record {
-        owners = owners_through x.steps u.owners;
+        owners = through_steps owners_after x.steps u.owners;
         ghost = x.after;
         pending = None;
       } in (
@@ -234,25 +226,24 @@ module _ (p next : PortParts) (far far' : Far) (n n' : ℕ) (said : Said) (free 
               terms = terms_of x.terms;
             };
             work = record {
-              may_book = MayBookAll-filter x.steps p.book.state
-                  (rw x.said_book (may_book_said began ended said p.book.state));
-              book = settles.posts
-                  ∙ (rw (← x.said_book) (sym (book_through-filter x.steps p.book.state)));
-              may_session = x.session.0;
-              session = sym x.session.1;
+              book = (
+                MayBookAll-filter x.steps p.book.state
+                    (rw x.said_book (may_book_said began ended said p.book.state)),
+                sym (settles.posts
+                    ∙ (rw (← x.said_book) (sym (book_through-filter x.steps p.book.state)))),
+              );
+              session = x.session;
               owners = refl;
               down = none_down next.core.state next.core.session x.after
                   x.after.request.hidden.answer x.stands.joined;
             };
             events = record {
-              may_frozen = x.frozen.0;
-              frozen = sym x.frozen.1;
-              kept = settles.keeps
-                  ∙ (rw (← x.said_reports) (sym (kept_through-filter x.steps p.kept)));
+              frozen = x.frozen;
+              kept = sym (settles.keeps
+                  ∙ (rw (← x.said_reports) (sym (kept_through-filter x.steps p.kept))));
             };
             images = record {
-              may_images = x.images.0;
-              images = sym x.images.1;
+              images = x.images;
               image_is_last = x.image_is_last;
               output_is_wanted = λ silent. x.output_is_wanted silent ∙ shown.1 silent.0 silent.1;
             };
@@ -281,8 +272,8 @@ module _ (p next : PortParts) (far far' : Far) (n n' : ℕ) (said : Said) (free 
 pub heard_reset : {reset began ended : Bool} (old new : State) (said : Said) (b : BookState)
     {after : BookState} → began ≡ is_reset old → ended ≡ is_reset new
     → reset ≡ (not began && ended)
-    → after ≡ book_through (cond reset (Reset ∷ []) [] ++ book_said said) b
-    → after ≡ book_through (resets (is_reset old) (is_reset new) ++ book_said said) b
+    → after ≡ through_steps book_after (cond reset (Reset ∷ []) [] ++ book_said said) b
+    → after ≡ through_steps book_after (resets (is_reset old) (is_reset new) ++ book_said said) b
 heard_reset old new said b from to is told = rw (is, from, to) at told
 
 pub receive_does : (p next : PortParts) (came : Option (List ℕ)) (said : Said) → p.sent ≡ true

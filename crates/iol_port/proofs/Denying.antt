@@ -11,13 +11,13 @@ use Rattle.iol_book.specs.declared.entries.Outcome.TheVariants.{NoIsdu}
 use Rattle.iol_book.specs.Replay.{same_ticket}
 use Rattle.iol_book.specs.BookModel.{BookState, next_taken, book_after_denial, book_after_post}
 use Rattle.iol_app.specs.declared.said.Said.{Said}
-use Rattle.iol_app.specs.Abstract.Steps.{Reset, book_said}
-use Rattle.iol_port.specs.Steps.{book_through}
+use Rattle.iol_app.specs.Abstract.Steps.{Reset, book_said, through_steps}
 use Rattle.iol_port.specs.Asks.{lacks_isdu}
 use Rattle.iol_port.specs.EveryWire.{book_after_taking, HasNoIsdu, IsDenied}
 use Rattle.iol_port.specs.View.{PortParts, Asks}
 use Rattle.iol_port.proofs.OwnerSteps.{ticket_is}
 use Rattle.iol_port.proofs.Replaying.{next_is}
+use Rattle.iol_port.specs.Steps.{book_after}
 
 -- the outcome of a ticket, once one is entered
 lookup-entered : (outs : List (Ticket × Outcome)) (t k : Ticket) (o : Outcome)
@@ -33,12 +33,13 @@ posted_none : (b : BookState) (o : Outcome) (k : Ticket) → (o ≡ NoIsdu → �
 posted_none b o k differs given = grind (arith, common_steps, lookup-entered)
 
 said_none : (said : Said) (b : BookState) (k : Ticket)
-    → HasNoIsdu (book_through (book_said said) b) k → HasNoIsdu b k
+    → HasNoIsdu (through_steps book_after (book_said said) b) k → HasNoIsdu b k
 said_none said b k given = grind (arith, common_steps, posted_none)
 
 module _ (old next : PortParts) (mid : BookState) (reset : Bool) (said : Said)
     (asks : Asks said mid.standing.taken)
-    (book : next.book.state ≡ book_through (cond reset (Reset ∷ []) [] ++ book_said said) mid)
+    (book : next.book.state ≡ through_steps book_after
+    (cond reset (Reset ∷ []) [] ++ book_said said) mid)
     (k : Ticket) (has : HasNoIsdu next.book.state k) where
   abbrev b : BookState
   b = old.book.state
@@ -56,7 +57,8 @@ module _ (old next : PortParts) (mid : BookState) (reset : Bool) (said : Said)
       by true e =
           let first = next_is b.standing t q head in
           let none : mid.standing.taken ≡ None = rw is first.free in
-          let quiet : book_through (cond reset (Reset ∷ []) [] ++ book_said said) mid ≡ mid =
+          let quiet : through_steps book_after (cond reset (Reset ∷ []) [] ++ book_said said)
+          mid ≡ mid =
           let asks_none = rw none at asks in rw asleep (grind (arith, common_steps)) in
           inr (rw (ticket_is t k e) (record {
             told = told;

@@ -16,14 +16,14 @@ use Rattle.iol_book.specs.declared.entries.Outcome.TheVariants as outcome
 use Rattle.iol_book.specs.Replay.{Standing, same_ticket, request_waiting, without, others_without}
 use Rattle.iol_book.specs.BookModel.{BookState, book_with_entry, next_ticket, next_taken, book_after_post}
 use Rattle.iol_book.specs.Takings.{takings, takings_after, first_with}
-use Rattle.iol_app.specs.Abstract.Steps.{PortStep, Take, Deny, Carry, Done, Unknown, LateCarry, Moment}
+use Rattle.iol_app.specs.Abstract.Steps.{PortStep, Take, Deny, Carry, Done, Unknown, LateCarry, Moment, through_steps}
 use Rattle.iol_app.specs.Abstract.Session.{Job, Session, MaySession, session_after}
 use Rattle.iol_app.specs.Abstract.OfMaster.{restart_steps}
 use Rattle.iol_port.specs.declared.call.Call.TheVariants as call
 use Rattle.iol_port.specs.declared.call.Answered.{Answered}
 use Rattle.iol_port.specs.declared.call.Answered.TheVariants as answered
-use Rattle.iol_port.specs.Owners.{Owner, Owners, all, pairs_of, owner_with_answer, owner_with_outcome, owners_after, owners_through, IsOneOf, Fits, HasEnded, allowance_of, times_of}
-use Rattle.iol_port.specs.Steps.{ticket_of, MayBook, book_after, book_through}
+use Rattle.iol_port.specs.Owners.{Owner, Owners, all, pairs_of, owner_with_answer, owner_with_outcome, owners_after, IsOneOf, Fits, HasEnded, allowance_of, times_of}
+use Rattle.iol_port.specs.Steps.{ticket_of, MayBook, book_after}
 use Rattle.iol_port.specs.Run.{PortState, Piece, Whole, PieceOf, Pieces, port_at_opening, job_request}
 use Rattle.iol_port.specs.Sound.{Each, IsOutcome, PortIsSound, times_ever}
 use Rattle.iol_port.specs.CarriesOut.{CarriesOut, IsSubmitted, IsCutOff, Happens, EachDoneHasItsPair, LeavesOut, IsBelow, LateEnds, CutForGoodStaysOut}
@@ -108,12 +108,12 @@ piece_leads a b c reply is sound = by b (piece_did a b c reply is)
       goes = archive_goes a.session a.session.job a.session.late a.owners a.owners.current
           (free_archive a.book may) sound;
     }
-    by _ (Moves m steps w) = rw (w.book, w.session, w.owners) record {
+    by _ (Moves m steps w) = rw (← w.book.1, ← w.session.1, ← w.owners) record {
       terms_are = ap allowance_of w.terms;
       goes = rw w.at at (steps_keep (Goes (allowance_of m.terms) a.session a.owners) m
           (λ step d s l next may g. goes_then g (step_goes m step d s s.job s.late l l.current next
           may g.sound))
-          steps a.book a.session a.owners w.may_book w.may_session (goes_itself (rw w.at sound)));
+          steps a.book a.session a.owners w.book.0 w.session.0 (goes_itself (rw w.at sound)));
     }
     by _ (Stays kept images expected) = record { terms_are = refl; goes = goes_itself sound }
 
@@ -252,8 +252,8 @@ module _ (P : Ticket → Request → Type 0) where
       t = next_ticket a.book
 
       cut : (job : Option Job)
-          → Asked P (book_through (restart_steps (job_request job)) a.book)
-          (owners_through (restart_steps (job_request job)) a.owners)
+          → Asked P (through_steps book_after (restart_steps (job_request job)) a.book)
+          (through_steps owners_after (restart_steps (job_request job)) a.owners)
       cut None = (asked_urgent, asked_waiting, taken)
       cut (Some job) = asked_ended (outcome.Unknown Restarted) a.book a.owners
           (asked_urgent, asked_waiting, taken)
@@ -268,9 +268,9 @@ module _ (P : Ticket → Request → Type 0) where
           let left = asked_left k a.book.standing (asked_urgent, asked_waiting) in
           rw is (left.0, left.1, taken)
       by _ Restarts = cut a.session.job
-      by _ (Moves m steps w) = rw (w.book, w.owners) (steps_keep (λ d s l. Asked P d l) m
+      by _ (Moves m steps w) = rw (← w.book.1, ← w.owners) (steps_keep (λ d s l. Asked P d l) m
           (λ step d s l next may. asked_step m step d s l next may) steps a.book a.session a.owners
-          w.may_book w.may_session (asked_urgent, asked_waiting, taken))
+          w.book.0 w.session.0 (asked_urgent, asked_waiting, taken))
       by _ _ = (asked_urgent, asked_waiting, taken)
 
 asked_run : (pieces more : List Piece) (replies others : List Answered) (a b : PortState)
@@ -446,9 +446,9 @@ piece_wakes a b c reply is below left sound = by b (piece_did a b c reply is) le
     by _ Restarts left = absurd (left (grind (arith, common_steps)))
     by b (Moves m steps w) left =
         let (g, ends) = steps_keep (Wakes a m) m (wake_step a m) steps a.book a.session
-        a.owners w.may_book w.may_session (goes_itself (rw w.at sound), inl (rw w.at below)) in
-        rw (w.session, w.owners) (elim ends [
-          | inl still ↦ absurd (left (rw (w.terms, w.session) (rw w.at at still)))
+        a.owners w.book.0 w.session.0 (goes_itself (rw w.at sound), inl (rw w.at below)) in
+        rw (← w.session.1, ← w.owners) (elim ends [
+          | inl still ↦ absurd (left (rw (w.terms, ← w.session.1) (rw w.at at still)))
           | inr past ↦ past
         ])
     by _ _ left = absurd (left below)

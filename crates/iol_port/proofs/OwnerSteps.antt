@@ -16,14 +16,14 @@ use Rattle.iol_book.specs.Numbers.{times_in}
 use Rattle.iol_book.specs.Replay.{Standing, nothing, same_ticket, without, without_waiting}
 use Rattle.iol_book.specs.BookModel.{BookState, IsReplayed, next_taken, book_after_take, book_after_post, leaves_unsure}
 use Rattle.iol_book.specs.Takings.{takings, taking_of, first_with, taking_with_outcome}
-use Rattle.iol_app.specs.Abstract.Steps.{PortStep, Take, Deny, Carry, Again, Done, Unknown, LateCarry, Start, Reset, Busy, Move, Moment, may_repeat, may_misread}
-use Rattle.iol_app.specs.Abstract.Session.{Job, Session, MaySession, session_after, session_through, cut_for, unanswered_request, job_to_cancel}
+use Rattle.iol_app.specs.Abstract.Steps.{PortStep, Take, Deny, Carry, Again, Done, Unknown, LateCarry, Start, Reset, Busy, Move, Moment, may_repeat, may_misread, through_steps}
+use Rattle.iol_app.specs.Abstract.Session.{Job, Session, MaySession, session_after, cut_for, unanswered_request, job_to_cancel}
 use Rattle.iol_app.specs.Abstract.OfMaster.{restart_steps}
 use Rattle.iol_app.specs.declared.mode.Mode.{Mode}
 use Rattle.iol_app.specs.declared.mode.Mode.TheVariants.{Down, Startup}
 use Rattle.iol_mode.specs.declared.why.Why.{Why}
-use Rattle.iol_port.specs.Owners.{Owner, Owners, all, pairs_of, owner_with_answer, owner_with_outcome, owners_after, owners_through, owners_after_archive, Allowance, IsOneOf, IsToldAs, EndsAs, Fits, HasEnded, allowance_of}
-use Rattle.iol_port.specs.Steps.{ticket_of, MayBook, book_after, book_through}
+use Rattle.iol_port.specs.Owners.{Owner, Owners, all, pairs_of, owner_with_answer, owner_with_outcome, owners_after, owners_after_archive, Allowance, IsOneOf, IsToldAs, EndsAs, Fits, HasEnded, allowance_of}
+use Rattle.iol_port.specs.Steps.{ticket_of, MayBook, book_after}
 use Rattle.iol_port.specs.Run.{job_request}
 use Rattle.iol_port.specs.Sound.{not_under_way, Each, AnswersFitJob, LastTakenIsOpen, IsOutcome, times_ever, Sound}
 use Rattle.iol_port.specs.CarriesOut.{OwnerGoesOn, LastGoesOn, GoOn}
@@ -534,9 +534,10 @@ pub restart_goes : {allowance : Allowance} {b : BookState} (s : Session) (job : 
     (late : Option Request) (l : Owners) (xs : List Owner)
     → Sound allowance b (record s { job = job; late = late }) (record l { current = xs })
     → Goes allowance (record s { job = job; late = late }) (record l { current = xs })
-    (book_through (restart_steps (job_request job)) b)
-    (session_through (restart_steps (job_request job)) (record s { job = job; late = late }))
-    (owners_through (restart_steps (job_request job)) (record l { current = xs }))
+    (through_steps book_after (restart_steps (job_request job)) b)
+    (through_steps session_after (restart_steps (job_request job))
+    (record s { job = job; late = late }))
+    (through_steps owners_after (restart_steps (job_request job)) (record l { current = xs }))
 restart_goes s None late l xs sound = moved_goes Down None sound
 restart_goes s (Some job) None l (x ∷ xs) sound =
     let cut = unknown_goes s l x xs job sound Restarted in

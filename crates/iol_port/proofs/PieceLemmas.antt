@@ -9,71 +9,49 @@ use Rattle.iol_book.specs.declared.entries.Ticket.{Ticket}
 use Rattle.iol_book.specs.declared.entries.Outcome.{Outcome}
 use Rattle.iol_book.specs.declared.entries.Entry.TheVariants.{Collected, Withdrawn}
 use Rattle.iol_book.specs.Replay.{same_ticket}
-use Rattle.iol_book.specs.BookModel.{BookState, book_with_entry, book_after_submit, next_ticket, book_after_collect, book_after_withdrawal, may_archive, book_after_urgent, flight_refusal}
-use Rattle.iol_app.specs.Abstract.Session.{Session, MaySessionAll, session_after, session_cancelling, session_through}
+use Rattle.iol_book.specs.BookModel.{book_with_entry, book_after_submit, next_ticket, book_after_collect, book_after_withdrawal, may_archive, book_after_urgent, flight_refusal}
+use Rattle.iol_app.specs.Abstract.Session.{Session, session_after, session_cancelling, MaySession}
 use Rattle.iol_app.specs.Abstract.Images.{Images}
-use Rattle.iol_app.specs.Abstract.Steps.{PortStep, Moment, Exchanged}
+use Rattle.iol_app.specs.Abstract.Steps.{PortStep, Moment, Exchanged, through_steps, TakesSteps}
 use Rattle.iol_event.specs.declared.event.Event.{Event}
 use Rattle.iol_page.specs.declared.identity.Identity.{Identity}
-use Rattle.iol_port.specs.Steps.{MayBookAll, book_after, book_through}
-use Rattle.iol_port.specs.Owners.{Owners, owners_after, owners_through, owners_after_archive}
+use Rattle.iol_port.specs.Steps.{book_after, MayBook}
+use Rattle.iol_port.specs.Owners.{owners_after, owners_after_archive}
 use Rattle.iol_port.specs.declared.call.Call.TheVariants as call
 use Rattle.iol_port.specs.declared.call.Answered.{Answered}
 use Rattle.iol_port.specs.declared.call.Answered.TheVariants as answered
 use Rattle.iol_port.specs.Run.{PortState, SendOf, ReceiveOf, CallOf, is_sending_step, Piece, Whole, Send, Receive, PieceOf, moment_in, moment_by, port_after_restart}
 use Rattle.iol_port.specs.Promises.{RunsJoin, PiecesJoin}
+use Rattle.iol_app.proofs.Parts.{runs-append, through_steps-append}
 
 -- some steps in the book, the session and the owners, whatever becomes of the events and the images
 pub record IsMoved (m : Moment) (steps : List PortStep) (a b : PortState) : Type 0 where
-  pub may_book : MayBookAll steps a.book
-  pub book : b.book ≡ book_through steps a.book
-  pub may_session : MaySessionAll m steps a.session
-  pub session : b.session ≡ session_through steps a.session
-  pub owners : b.owners ≡ owners_through steps a.owners
+  pub book : TakesSteps MayBook book_after a.book steps b.book
+  pub session : TakesSteps (MaySession m) session_after a.session steps b.session
+  pub owners : through_steps owners_after steps a.owners ≡ b.owners
   pub terms : b.terms ≡ a.terms
   pub at : m.terms ≡ a.terms
 
--- what goes out, and what comes back, in one list of steps
-module _ (m : Moment) (ys : List PortStep) where
-  book_both : (xs : List PortStep) (b : BookState) → MayBookAll xs b
-      → MayBookAll ys (book_through xs b)
-      → MayBookAll (xs ++ ys) b × (book_through (xs ++ ys) b ≡ book_through ys (book_through xs b))
-  book_both [] b h k = (k, refl)
-  book_both (x ∷ xs) b h k = grind (arith, book_both xs (book_after x b) h.1 k)
-
-  session_both : (xs : List PortStep) (s : Session) → MaySessionAll m xs s
-      → MaySessionAll m ys (session_through xs s) → MaySessionAll m (xs ++ ys) s
-      × (session_through (xs ++ ys) s ≡ session_through ys (session_through xs s))
-  session_both [] s h k = (k, refl)
-  session_both (x ∷ xs) s h k = grind (arith, session_both xs (session_after x s) h.1 k)
-
-owners_both : (xs ys : List PortStep) (l : Owners)
-    → owners_through (xs ++ ys) l ≡ owners_through ys (owners_through xs l)
-owners_both [] ys l = refl
-owners_both (x ∷ xs) ys l = owners_both xs ys (owners_after x l)
-
 sending_mode : (xs : List PortStep) (s : Session) → IsTrue (list_all is_sending_step xs)
-    → (session_through xs s).mode ≡ s.mode
+    → (through_steps session_after xs s).mode ≡ s.mode
 sending_mode [] s only = refl
 sending_mode (x ∷ xs) s only = grind (arith, common_steps, sending_mode xs (session_after x s))
 
+-- what goes out, and what comes back, in one list of steps
 turned : (a m b : PortState) (s : SendOf a m) (r : ReceiveOf m b)
     → IsMoved (moment_by a r.turn.call) (s.steps ++ r.turn.steps) a b
 turned a m b s r =
-    let got : List PortStep = r.turn.steps in
     let first : Moment = moment_by a r.turn.call in
-    let mode : m.session.mode ≡ a.session.mode = ap (λ (x : Session). x.mode) s.session
+    let sent = s.session r.turn.call in
+    let mode : m.session.mode ≡ a.session.mode = ap (λ (x : Session). x.mode) (sym sent.1)
     ∙ sending_mode s.steps a.session s.only in
     let same : moment_by m r.turn.call ≡ first = rw (s.terms, mode, s.silence) refl in
-    let book = book_both first got s.steps a.book s.may_book (rw s.book at r.work.may_book) in
-    let session = session_both first got s.steps a.session (s.may_session r.turn.call)
-    (rw (same, s.session) at r.work.may_session) in
     record {
-      may_book = book.0;
-      book = (rw s.book at r.work.book) ∙ sym book.1;
-      may_session = session.0;
-      session = (rw s.session at r.work.session) ∙ sym session.1;
-      owners = (rw s.owners at r.work.owners) ∙ sym (owners_both s.steps got a.owners);
+      book = runs-append MayBook book_after s.steps r.turn.steps a.book s.book r.work.book;
+      session = runs-append (MaySession first) session_after s.steps r.turn.steps a.session sent
+          (rw same at r.work.session);
+      owners = through_steps-append owners_after s.steps r.turn.steps a.owners
+          ∙ ap (through_steps owners_after r.turn.steps) s.owners ∙ r.work.owners;
       terms = r.all.terms ∙ s.terms;
       at = refl;
     }
@@ -144,7 +122,7 @@ module _ (a b : PortState) where
       Moves (moment_by a r.turn.call) (s.steps ++ r.turn.steps) (turned a m b s r)
   piece_did (Whole _) reply e = stayed e.1
   piece_did Send reply (_, inl s) = Moves (moment_by a (Exchanged true)) s.steps
-      (grind (arith, common_steps, s.may_session (Exchanged true)))
+      (grind (arith, common_steps, s.session (Exchanged true)))
   piece_did Send reply (_, inr (_, e)) = stayed e
   piece_did Receive reply (_, r) =
       Moves (moment_in a r.turn) r.turn.steps (grind (arith, common_steps))

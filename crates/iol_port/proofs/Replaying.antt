@@ -14,10 +14,10 @@ use Rattle.iol_book.specs.declared.entries.Entry.TheVariants.{Taken, Answered}
 use Rattle.iol_book.specs.Replay.{Standing, nothing, same_ticket, request_waiting, without, others_without, waiting_after, standing_after, replay_from}
 use Rattle.iol_book.specs.BookModel.{BookState, IsReplayed, book_with_entry, leaves_unsure, book_after_take, book_after_denial, ended_with, book_after_post, next_taken, may_archive, others_behind, waits}
 use Rattle.iol_book.specs.Takings.{Taking, taking_of, taking_with_outcome, first_with, takings, takings_after, takings_from}
-use Rattle.iol_app.specs.Abstract.Steps.{PortStep, Moment, Terms, may_misread}
-use Rattle.iol_app.specs.Abstract.Session.{Session, MayTell, MaySession, MaySessionAll, session_after, session_through}
-use Rattle.iol_port.specs.Owners.{Owners, owners_after, owners_through, IsToldAs}
-use Rattle.iol_port.specs.Steps.{MayBook, MayBookAll, book_after, book_through}
+use Rattle.iol_app.specs.Abstract.Steps.{PortStep, Moment, Terms, may_misread, through_steps, MayAll}
+use Rattle.iol_app.specs.Abstract.Session.{Session, MayTell, MaySession, session_after}
+use Rattle.iol_port.specs.Owners.{Owners, owners_after, IsToldAs}
+use Rattle.iol_port.specs.Steps.{MayBook, book_after}
 
 replay_from-push : (s : Standing) (entries : List Entry) (entry : Entry)
     → replay_from s (entries ++ entry ∷ []) ≡ standing_after (replay_from s entries) entry
@@ -131,9 +131,11 @@ pub steps_keep : (P : BookState → Session → Owners → Type 0) (m : Moment)
     → ((step : PortStep) (b : BookState) (s : Session) (l : Owners) → MayBook step b
     → MaySession m step s → P b s l → P (book_after step b) (session_after step s)
     (owners_after step l))
-    → (steps : List PortStep) (b : BookState) (s : Session) (l : Owners) → MayBookAll steps b
-    → MaySessionAll m steps s → P b s l
-    → P (book_through steps b) (session_through steps s) (owners_through steps l)
+    → (steps : List PortStep) (b : BookState) (s : Session) (l : Owners)
+    → MayAll MayBook book_after steps b
+    → MayAll (MaySession m) session_after steps s → P b s l
+    → P (through_steps book_after steps b) (through_steps session_after steps s)
+    (through_steps owners_after steps l)
 steps_keep P m keeps [] b s l next may holds = holds
 steps_keep P m keeps (step ∷ steps) b s l next may holds =
     steps_keep P m keeps steps _ _ _ next.1 may.1 (keeps step b s l next.0 may.0 holds)

@@ -10,7 +10,7 @@ use Rattle.iol_mode.specs.declared.configuration.Devices.{Devices}
 use Rattle.iol_mode.specs.declared.configuration.Devices.TheVariants.{Own}
 use Rattle.iol_book.specs.declared.limits.Limits.{Limits}
 use Rattle.iol_app.specs.declared.said.Said.{Said}
-use Rattle.iol_app.specs.Abstract.Steps.{resets, book_said, reports_said}
+use Rattle.iol_app.specs.Abstract.Steps.{resets, book_said, reports_said, through_steps}
 use Rattle.iol_app.specs.StationState.{IsSettledSaid}
 use Rattle.iol_app.specs.Core.{after_exchange, after_wake, came_of}
 use Rattle.iol_app.specs.Brought.{brought_in, woken_by}
@@ -24,10 +24,10 @@ use Rattle.iol_port.specs.Asks.{event_room}
 use Rattle.iol_port.specs.EveryWire.{KeepsMemory, loss_left, core_begun, book_begun}
 use Rattle.iol_port.specs.Run.{PortState, Piece, Send, Receive, CallOf, PieceOf, port_at_opening}
 use Rattle.iol_port.specs.Counters.{call_counted, said_counted}
-use Rattle.iol_port.specs.Steps.{book_through, kept_through}
 use Rattle.iol_port.specs.Clean.{IsLevelBetween}
 use Rattle.iol_port.specs.Sound.{PortIsSound}
 use Rattle.iol_port.specs.View.{PortParts, IsUnused, StandsFor, BookDoes, KeepsRecord}
+use Rattle.iol_port.specs.Steps.{book_after, kept_after}
 
 -- what waits for its answer
 abbrev pub awaited_in : State → AwaitedAnswer
@@ -117,12 +117,12 @@ pub record PortReceiveGives (old : PortParts) (came : Option (List ℕ))
       ≡ after_exchange (came_of old.core came) old.core.session
   pub said_is : IsSettledSaid (came_of old.core came) old.core.session said
   pub book : new.book.state
-      ≡ book_through
+      ≡ through_steps book_after
       (resets (is_reset old.core.state) (is_reset new.core.state)
       ++ book_said said)
       old.book.state
   pub memory : KeepsMemory old new
-  pub kept : new.kept ≡ kept_through (reports_said said) old.kept
+  pub kept : new.kept ≡ through_steps kept_after (reports_said said) old.kept
   pub sent : new.sent ≡ false
   pub counters : new.counters
       ≡ said_counted said (call_counted (brought_in old.core.state came) old.counters)
@@ -134,7 +134,7 @@ pub record WakeGives (old : PortParts) (answered : Bool) (new : PortParts) :
     Type 0 where
   pub core : new.core ≡ after_wake answered old.core.session
   pub book : new.book.state
-      ≡ book_through
+      ≡ through_steps book_after
       (resets (is_reset old.core.state) (is_reset new.core.state)) old.book.state
   pub memory : KeepsMemory old new
   pub kept : new.kept ≡ old.kept

@@ -21,7 +21,7 @@ use Rattle.iol_mode.specs.States.{is_reset}
 use Rattle.iol_mode.specs.declared.why.Why.{Why}
 use Rattle.iol_app.specs.declared.mode.Mode.TheVariants.{Down}
 use Rattle.iol_app.specs.declared.said.Said.{Said}
-use Rattle.iol_app.specs.Abstract.Steps.{ImageOctets, resets, book_said, reports_said}
+use Rattle.iol_app.specs.Abstract.Steps.{ImageOctets, resets, book_said, reports_said, through_steps}
 use Rattle.iol_app.specs.Abstract.OfMaster.{restart_steps}
 use Rattle.iol_app.specs.State as session
 use Rattle.iol_app.specs.Due.{is_ready}
@@ -43,8 +43,8 @@ use Rattle.iol_port.specs.Run.{counting_of}
 use Rattle.iol_port.specs.Sound.{request_taken}
 use Rattle.iol_port.specs.Counters.{call_counted, said_counted, restart_counted}
 use Rattle.iol_port.specs.LastLoss.{loss_after}
-use Rattle.iol_port.specs.Steps.{book_through, kept_through}
 use Rattle.iol_port.specs.View.{PortParts, PortOver, status_of}
+use Rattle.iol_port.specs.Steps.{book_after, kept_after}
 
 -- the first refusal that holds, or want of memory where a growth was needed
 abbrev pub RefusesSubmit : BookValue → PortFault → Type 0
@@ -188,7 +188,8 @@ pub record RestartGives (old new : PortParts) : Type 0 where
   pub why : why_in new.core.state ≡ None
   pub session_is : new.core.session ≡ session.session_after_leaving old.core.session
   pub book : new.book.state
-      ≡ book_through (restart_steps (request_taken old.book.state.standing.taken)) old.book.state
+      ≡ through_steps book_after (restart_steps (request_taken old.book.state.standing.taken))
+      old.book.state
   pub memory : KeepsMemory old new
   pub kept : new.kept ≡ old.kept
   pub sent : new.sent ≡ old.sent
@@ -279,12 +280,12 @@ module _ {W : Type 0} (facts : WireFacts W) where
     -- its one call of the wire is the one that the port asks for, and brought this
     pub made : IsMade facts old.wire new.wire (asks_of old.parts) mid said brought new.parts.core
     pub book : new.parts.book.state
-        ≡ book_through
+        ≡ through_steps book_after
         (resets (is_reset old.parts.core.state) (is_reset new.parts.core.state)
         ++ book_said said)
         (book_begun old.parts)
     pub memory : KeepsMemory old.parts new.parts
-    pub kept : new.parts.kept ≡ kept_through (reports_said said) old.parts.kept
+    pub kept : new.parts.kept ≡ through_steps kept_after (reports_said said) old.parts.kept
     pub counters : new.parts.counters ≡ said_counted said (call_counted brought old.parts.counters)
     pub last_loss : new.parts.last_loss ≡ loss_left old.parts new.parts
     -- each new outcome NoIsdu is that of a request which this turn denied

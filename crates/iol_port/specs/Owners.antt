@@ -65,10 +65,6 @@ owners_after (Unknown cause) owners =
     }
 owners_after step owners = owners
 
-abbrev pub owners_through : List PortStep → Owners → Owners
-owners_through [] owners = owners
-owners_through (step ∷ steps) owners = owners_through steps (owners_after step owners)
-
 -- an archive begins a new journal
 abbrev pub owners_after_archive : Owners → Owners
 owners_after_archive owners = record owners { current = []; archived = all owners }

@@ -5,8 +5,8 @@ use Rattle.iol_book.specs.declared.limits.Limits.{Limits}
 use Rattle.iol_book.specs.declared.entries.Ticket.{Ticket}
 use Rattle.iol_book.specs.BookModel.{is_taken}
 use Rattle.iol_isdu.specs.declared.values.Cause.TheVariants.{Cancelled}
-use Rattle.iol_app.specs.Abstract.Steps.{PortStep, Unknown, Moment}
-use Rattle.iol_app.specs.Abstract.Session.{Job, Session, MaySessionAll}
+use Rattle.iol_app.specs.Abstract.Steps.{PortStep, Unknown, Moment, MayAll}
+use Rattle.iol_app.specs.Abstract.Session.{Job, Session, MaySession, session_after}
 use Rattle.iol_app.specs.declared.mode.Mode.TheVariants.{Operate}
 use Rattle.iol_port.specs.declared.call.Call.{Call}
 use Rattle.iol_port.specs.declared.call.Call.TheVariants as call
@@ -73,7 +73,8 @@ SaysCancelled (step ∷ steps) = SaysCancelled steps
 -- a request is cancelled only where the program had asked for it before the turn
 abbrev pub CancelledWasAsked : Type 0
 CancelledWasAsked = (moment : Moment) (steps : List PortStep) (s : Session)
-    → MaySessionAll moment steps s → SaysCancelled steps → is_cancel_asked s.job ≡ true
+    → MayAll (MaySession moment) session_after steps s → SaysCancelled steps
+    → is_cancel_asked s.job ≡ true
 
 -- and a request has that mark only by a cancel of its ticket, which was answered
 abbrev pub AskedByCancel : Type 0

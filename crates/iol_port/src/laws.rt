@@ -100,7 +100,6 @@ pub fn denied_requests_stay_out()
 ///
 /// The turn that says so began with the request marked, and only a cancel of its
 /// ticket sets the mark.
-#[tactic(auto, using(crate::proofs::AskedLemmas::cancelled_was_asked, crate::proofs::AskedLemmas::asked_by_cancel))]
 pub fn cancelled_requests_were_asked()
     ensures turns { CancelledWasAsked }
     ensures marks { AskedByCancel }

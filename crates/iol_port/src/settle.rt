@@ -11,10 +11,10 @@ ghost use Rattle.iol_app.specs.StationState.{operates, mode_in};
 ghost use Rattle.iol_port.specs.Asks.{lacks_isdu, to_begin};
 ghost use Rattle.iol_port.specs.EveryWire.{book_after_taking};
 ghost use Rattle.iol_app.specs.declared.mode.Mode.TheVariants as mode;
-ghost use Rattle.iol_app.specs.Abstract.Steps.{Reset, book_said, reports_said};
-ghost use Rattle.iol_port.specs.Steps.{book_through, kept_through};
+ghost use Rattle.iol_app.specs.Abstract.Steps.{Reset, book_said, reports_said, through_steps};
 ghost use Rattle.iol_port.specs.Replies.{by_book, by_output};
 ghost use Rattle.iol_port.specs.View.{BeginsNext, TakesNext, Asks, ReportHasRoom};
+ghost use Rattle.iol_port.specs.Steps.{book_after, kept_after};
 
 use crate::PortFault;
 use arrayvec::ArrayVec;
@@ -124,9 +124,9 @@ pub(crate) fn settle<A: Allocator + Copy>(
     requires asked { Asks said book.old.state.standing.taken }
     requires room { ReportHasRoom said kept.old.items }
     ensures book { book.new.state
-        ≡ book_through (cond reset (Reset ∷ []) [] ++ book_said said) book.old.state }
+        ≡ through_steps book_after (cond reset (Reset ∷ []) [] ++ book_said said) book.old.state }
     ensures memory { book.new.memory ≡ book.old.memory }
-    ensures kept { kept.new.items ≡ kept_through (reports_said said) kept.old.items }
+    ensures kept { kept.new.items ≡ through_steps kept_after (reports_said said) kept.old.items }
 {
     if reset {
         book.reset();
@@ -143,9 +143,9 @@ fn tell<A: Allocator + Copy>(book: &mut Book<A>, kept: &mut ArrayVec<Event, KEPT
     requires asked { Asks said book.old.state.standing.taken }
     requires room { ReportHasRoom said kept.old.items }
     ensures book { book.new.state
-        ≡ book_through (book_said said) book.old.state }
+        ≡ through_steps book_after (book_said said) book.old.state }
     ensures memory { book.new.memory ≡ book.old.memory }
-    ensures kept { kept.new.items ≡ kept_through (reports_said said) kept.old.items }
+    ensures kept { kept.new.items ≡ through_steps kept_after (reports_said said) kept.old.items }
 {
     match said {
         Said::Idle | Said::Busy => {}

@@ -1,5 +1,5 @@
 -- The events that the device has frozen: where each step is allowed, and what it does.
-use Rattle.std.specs.Prelude.{◌≡◌, ◌≤◌, Bool, true, false, List, [], ◌∷◌, length, Option, Some, None, IsSomeAnd, ⊤}
+use Rattle.std.specs.Prelude.{◌≡◌, ◌≤◌, Bool, true, false, List, [], length, Option, Some, None, IsSomeAnd, ⊤}
 use Rattle.iol_event.specs.declared.event.Event.{Event}
 use Rattle.iol_app.specs.Abstract.Steps.{PortStep, Freeze, Report, Confirm, PowerLoss, Start, Reset}
 
@@ -27,12 +27,3 @@ frozen_after PowerLoss f = None
 frozen_after Start f = untold_events f
 frozen_after Reset f = untold_events f
 frozen_after step f = f
-
--- a list of steps
-abbrev pub frozen_through : List PortStep → Option Frozen → Option Frozen
-frozen_through [] f = f
-frozen_through (step ∷ steps) f = frozen_through steps (frozen_after step f)
-
-abbrev pub MayFrozenAll : List PortStep → Option Frozen → Type 0
-MayFrozenAll [] f = ⊤
-MayFrozenAll (step ∷ steps) f = MayFrozen step f × MayFrozenAll steps (frozen_after step f)

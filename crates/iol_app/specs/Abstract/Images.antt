@@ -53,13 +53,3 @@ images_after moment TellLength i =
       page = Some moment.terms.page;
     }
 images_after moment step i = i
-
--- a list of steps
-abbrev pub images_through : Moment → List PortStep → Images → Images
-images_through moment [] i = i
-images_through moment (step ∷ steps) i = images_through moment steps (images_after moment step i)
-
-abbrev pub MayImagesAll : Moment → List PortStep → Images → Type 0
-MayImagesAll moment [] i = ⊤
-MayImagesAll moment (step ∷ steps) i = MayImages moment step i
-    × MayImagesAll moment steps (images_after moment step i)

@@ -1,5 +1,5 @@
 -- The request under way and the device's record: where each step is allowed, and what it does.
-use Rattle.std.specs.Prelude.{◌≡◌, ◌⊎◌, ℕ, ◌+◌, ◌≤◌, true, false, List, [], ◌∷◌, Option, Some, None, IsSome, IsSomeAnd, IsTrue, ⊤, Bool}
+use Rattle.std.specs.Prelude.{◌≡◌, ◌⊎◌, ℕ, ◌+◌, ◌≤◌, true, false, List, [], Option, Some, None, IsSome, IsSomeAnd, IsTrue, ⊤, Bool}
 use Rattle.iol_isdu.specs.declared.values.Request.{Request}
 use Rattle.iol_isdu.specs.declared.values.Answer.{Answer}
 use Rattle.iol_isdu.specs.declared.values.Cause.{Cause}
@@ -163,13 +163,3 @@ session_after Start s = record s { mode = Startup; why = None }
 session_after Reset s = record s { late = None; mode = Startup; why = None }
 session_after (Move mode why) s = record s { mode = mode; why = why }
 session_after step s = s
-
--- a list of steps
-abbrev pub session_through : List PortStep → Session → Session
-session_through [] s = s
-session_through (step ∷ steps) s = session_through steps (session_after step s)
-
-abbrev pub MaySessionAll : Moment → List PortStep → Session → Type 0
-MaySessionAll moment [] s = ⊤
-MaySessionAll moment (step ∷ steps) s = MaySession moment step s
-    × MaySessionAll moment steps (session_after step s)

@@ -1,5 +1,5 @@
 -- What may happen at one port: an alphabet of steps, and a turn as they are judged in it.
-use Rattle.std.specs.Prelude.{ℕ, ◌+◌, min, Bool, true, false, not, ◌&&◌, cond, List, [], ◌∷◌, Option, Some, None, Result, Ok, Err, ⊤}
+use Rattle.std.specs.Prelude.{◌≡◌, ℕ, ◌+◌, min, Bool, true, false, not, ◌&&◌, cond, List, [], ◌∷◌, Option, Some, None, Result, Ok, Err, ⊤}
 use Rattle.iol_page.specs.Identity.{is_expected}
 use Rattle.iol_page.specs.Page.{layouts_of}
 use Rattle.iol_page.specs.declared.identity.Identity.{Identity}
@@ -189,3 +189,21 @@ reports_said said = []
 -- the device wasn't known to be reset when a turn began, and is behind it
 abbrev pub resets : Bool → Bool → List PortStep
 resets began ended = cond (not began && ended) (Reset ∷ []) []
+
+-- A part of the abstract port, by the steps that it allows and what each leaves of it
+
+module _ {S : Type 0} (after : PortStep → S → S) where
+  -- what a list of steps leaves
+  abbrev pub through_steps : List PortStep → S → S
+  through_steps [] s = s
+  through_steps (step ∷ steps) s = through_steps steps (after step s)
+
+module _ {S : Type 0} (May : PortStep → S → Type 0) (after : PortStep → S → S) where
+  -- each step of a list is allowed
+  abbrev pub MayAll : List PortStep → S → Type 0
+  MayAll [] s = ⊤
+  MayAll (step ∷ steps) s = May step s × MayAll steps (after step s)
+
+  -- these steps are allowed, and leave this
+  abbrev pub TakesSteps : S → List PortStep → S → Type 0
+  TakesSteps s steps next = MayAll steps s × (through_steps after steps s ≡ next)

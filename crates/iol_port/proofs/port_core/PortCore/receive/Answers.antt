@@ -3,14 +3,14 @@ use Rattle.std.proofs.Common.{◌≡◌, ◌∙◌, ◌++◌, refl, ap}
 use Rattle.iol_far.specs.Octets.{octets_in}
 use Rattle.iol_app.specs.Core.{CoreState, came_of}
 use Rattle.iol_mode.specs.States.{is_reset}
-use Rattle.iol_app.specs.Abstract.Steps.{resets, book_said}
-use Rattle.iol_port.specs.Steps.{book_through}
+use Rattle.iol_app.specs.Abstract.Steps.{resets, book_said, through_steps}
 use Rattle.iol_port.specs.View.{PortParts}
 use Rattle.iol_port.specs.CorePort.{awaited_answer}
 use Rattle.iol_port.proofs.CorePorts.{parts_in, reply_out, receive_does, heard_reset}
 use Rattle.iol_port.proofs.TieLemmas.{ends_ask, turn_tied, settled_limit}
 use Rattle.iol_port.proofs.port_core.PortCore.receive.Given as given
 use Rattle.iol_port.proofs.port_core.PortCore.receive.Goals as goal
+use Rattle.iol_port.specs.Steps.{book_after}
 
 pub settle-requires-clause-asked : goal.settle-requires-clause-asked
 settle-requires-clause-asked g c =
@@ -28,7 +28,7 @@ invariant_of-self g c =
 
 -- the book heard of a reset where both cores say so
 book_is : (g : given.Over) (c : goal.After-settle g) → c.settle.new.book.state
-    ≡ book_through
+    ≡ through_steps book_after
     (resets (is_reset c.self.inside.core.state) (is_reset c.receive-brought.new.self.state)
     ++ book_said c.receive-brought.new.said) c.self.inside.book.state
 book_is g c = heard_reset _ _ _ _ c.is_reset-began.ensures c.is_reset.ensures

@@ -2,16 +2,16 @@
 use Rattle.std.proofs.Common.{◌≡◌, ◌∙◌, ◌++◌, refl, ap, append-nil}
 use Rattle.std.specs.Prelude.{is_some}
 use Rattle.iol_mode.specs.States.{is_reset}
-use Rattle.iol_app.specs.Abstract.Steps.{resets, book_said}
+use Rattle.iol_app.specs.Abstract.Steps.{resets, book_said, through_steps}
 use Rattle.iol_app.specs.declared.said.Said.TheVariants.{Idle}
 use Rattle.iol_app.specs.Core.{CoreState}
-use Rattle.iol_port.specs.Steps.{book_through}
 use Rattle.iol_port.specs.View.{PortParts}
 use Rattle.iol_port.specs.CorePort.{awaited_answer}
 use Rattle.iol_port.proofs.CorePorts.{parts_in, wake_out, wake_does, heard_reset}
 use Rattle.iol_port.proofs.TieLemmas.{turn_tied, woken_limit}
 use Rattle.iol_port.proofs.port_core.PortCore.receive_wake.Given as given
 use Rattle.iol_port.proofs.port_core.PortCore.receive_wake.Goals as goal
+use Rattle.iol_port.specs.Steps.{book_after}
 
 pub invariant_of-self : goal.invariant_of-self
 invariant_of-self g c =
@@ -24,7 +24,7 @@ invariant_of-self g c =
 
 -- the book heard of a reset where both cores say so
 book_is : (g : given.Over) (c : goal.After-settle g) → c.settle.new.book.state
-    ≡ book_through
+    ≡ through_steps book_after
     (resets (is_reset c.self.inside.core.state) (is_reset c.receive_wake.new.self.state)
     ++ book_said Idle) c.self.inside.book.state
 book_is g c = heard_reset _ _ Idle c.self.inside.book.state c.is_reset-began.ensures
