@@ -31,12 +31,9 @@
 //! device open|apart ROOM OCTETS                      device bare OCTETS
 //! device hear OCTETS|raise QQ CCCC|input OCTETS|clear|wake|work|power|silence|miss
 //! device handed|answer N ANSWER (where apart)|output|record|page|mode|cycle|pulses
-//! port open JOURNAL BUSY GIVEN [QUEUE]
-//! port send|asks|awaits|receive OCTETS|silence|woken com1|com2|com3|none
-//! port submit|urgent REQUEST|collect T|withdraw T|cancel T|archive
-//! port restart|output OCTETS|clear|image|event|status|counters|last
-//! port expect VENDOR DEVICE|any|pace OO|page|reply
 //! ```
+//!
+//! Those of a port, `port ..`, stand at its module.
 #![tactic(auto)]
 
 mod books;

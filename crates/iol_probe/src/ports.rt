@@ -1,4 +1,12 @@
 //! The lines of a port without a wire.
+//!
+//! ```text
+//! port open JOURNAL BUSY GIVEN [QUEUE]
+//! port send|asks|awaits|receive OCTETS|silence|woken com1|com2|com3|none
+//! port submit|urgent REQUEST|collect T|withdraw T|cancel T|archive
+//! port restart|output OCTETS|clear|image|event|status|counters|last
+//! port expect VENDOR DEVICE|any|pace OO|page|reply
+//! ```
 use crate::devices::print_image;
 use crate::events::print_event;
 use crate::identities::answer_asked;

@@ -7,7 +7,7 @@ ghost use Rattle.iol_script.specs.RunLines.{bare_call, call_form, read_form};
 ghost use Rattle.iol_script.specs.RunLines.{request_form, ticket_form, urgent_form, write_form};
 ghost use Rattle.iol_script.specs.Text.{words_left};
 
-use crate::choices::{cycle_of, expect_of};
+use crate::call_line::{bare_call, cycle_of, expect_of};
 use crate::fields::{end_of, fits_image, fits_value, is, place_of};
 use crate::numerals::decimal_number;
 use crate::parts::Words;
@@ -33,21 +33,8 @@ pub(crate) fn fits_call(name: &[u8], words: Words) -> bool
     } else if is(name, b"cycle") {
         cycle_of(words).is_some()
     } else {
-        end_of(words).is_some() && is_bare(name)
+        end_of(words).is_some() && bare_call(name).is_some()
     }
-}
-
-/// Whether it is the name of a call of one word.
-fn is_bare(name: &[u8]) -> bool
-    ensures { result ≡ is_some (bare_call name.now) }
-{
-    is(name, b"restart")
-        || is(name, b"image")
-        || is(name, b"event")
-        || is(name, b"status")
-        || is(name, b"counters")
-        || is(name, b"last")
-        || is(name, b"archive")
 }
 
 #[tactic(auto, using(iol_sim::proofs::Scripts::mapped_some))]

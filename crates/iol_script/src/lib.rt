@@ -13,7 +13,6 @@
 mod call_check;
 mod call_line;
 mod check_line;
-mod choices;
 mod draft;
 mod fault;
 mod fields;

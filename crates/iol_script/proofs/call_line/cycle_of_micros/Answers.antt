@@ -1,5 +1,5 @@
 use Rattle.iol_script.proofs.Cycles.{computed}
-use Rattle.iol_script.proofs.choices.cycle_of_micros.Goals as goal
+use Rattle.iol_script.proofs.call_line.cycle_of_micros.Goals as goal
 
 pub returns : goal.returns
 returns c = computed c.from_micros.result c.unwrap.result c.args.micros c.unwrap.ensures
