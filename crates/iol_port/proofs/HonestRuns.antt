@@ -29,24 +29,30 @@ goes_on : (p : HonestParts) (next : PortParts) (after : LinePosition) (piece : P
     → ((a : PortState) → StandsFor p.at.far p.at.silence p.parts a
     → (b : PortState) × PieceOf a piece reply b × StandsFor after.far after.silence next b)
     → IsRunInPieces (record p { parts = next; at = after })
-unfolding IsRunInPieces
-goes_on p next after piece reply is does well =
-    let (pieces, replies, b, run, stands) = is well in
-    let (c, step, stands_c) = does b stands in (
-      pieces ++ piece ∷ [],
-      replies ++ reply ∷ [],
-      c,
-      Pieces-snoc _ b c pieces replies piece
-          reply run step,
-      stands_c,
-    )
+goes_on p next after piece reply is does = record {
+  runs = λ well.
+      let (pieces, replies, b, run, stands) = is.runs well in
+      let (c, step, stands_c) = does b stands in (
+        pieces ++ piece ∷ [],
+        replies ++ reply ∷ [],
+        c,
+        Pieces-snoc _ b c pieces replies piece
+            reply run step,
+        stands_c,
+      );
+}
 
-pub called : (p : HonestParts) (next : PortParts) (c : Call) (reply : Answered)
-    → IsRunInPieces p
-    → CoreDoes p.parts c reply next → IsRunInPieces (record p { parts = next })
+-- each call but a turn changes the port alone
+pub called : {parts next : PortParts} {at from : LinePosition} {devices : Devices}
+    {limits : Limits} {c : Call} {reply : Answered}
+    → IsRunInPieces
+    (record { parts = parts; at = at; devices = devices; limits = limits; from = from })
+    → CoreDoes parts c reply next
+    → IsRunInPieces
+    (record { parts = next; at = at; devices = devices; limits = limits; from = from })
 unfolding IsCoreCall
-called p next c reply is does = goes_on p next p.at (Whole c) reply is
-    (does.follows p.at.far p.at.silence)
+called {next = next} {at = at} {c = c} {reply = reply} is does =
+    goes_on _ next at (Whole c) reply is (does.follows at.far at.silence)
 
 pub sent : (p : HonestParts) (next : PortParts) → IsRunInPieces p → SendDoes p.parts next
     → IsRunInPieces (record p { parts = next })
@@ -75,22 +81,21 @@ pub began : (p : PortParts) (devices : Devices) (limits : Limits) (from : LinePo
     → CoreOpensFor devices limits p
     → IsRunInPieces
     (record { parts = p; at = from; devices = devices; limits = limits; from = from })
-unfolding IsRunInPieces
-began p devices limits from opens well = (
-  [],
-  [],
-  port_at_opening devices limits from.far from.silence,
-  refl,
-  opens
-      from.far from.silence well,
-)
+began p devices limits from opens = record {
+  runs = λ well. (
+    [],
+    [],
+    port_at_opening devices limits from.far from.silence,
+    refl,
+    opens from.far from.silence well,
+  );
+}
 
 -- of each run of the one that was opened the record fits the journal
 pub record_kept : OpensSound → PiecesSound → (p : HonestParts) → CoreKeeps p.parts → IsRunInPieces p
     → BeganWell p → RecordFitsJournal p × IsLevelBetween p.at.far p.parts
-unfolding IsRunInPieces
 record_kept opens stay p keeps is well =
-    let (pieces, replies, b, run, stands) = is well in
+    let (pieces, replies, b, run, stands) = is.runs well in
     let first : PortIsSound (port_at_opening p.devices p.limits p.from.far p.from.silence) =
     opens p.devices p.limits p.from.far p.from.silence in
     keeps p.at.far p.at.silence b stands (stay _ b pieces replies run first)

@@ -28,11 +28,10 @@ BeganWell p = IsUnused p.devices p.from.far
 
 -- What every such port keeps: where it began well, it stands, with the device that the line
 -- stands at, for an abstract port that is a run, in pieces, of the one that was opened
-unfoldable pub IsRunInPieces : HonestParts → Type 0
-IsRunInPieces p =
-    BeganWell p → (pieces : List Piece) × (replies : List Answered) × (b : PortState)
-    × Pieces (port_at_opening p.devices p.limits p.from.far p.from.silence) pieces replies b
-    × StandsFor p.at.far p.at.silence p.parts b
+pub record IsRunInPieces (p : HonestParts) : Type 0 where
+  pub runs : BeganWell p → (pieces : List Piece) × (replies : List Answered) × (b : PortState)
+      × Pieces (port_at_opening p.devices p.limits p.from.far p.from.silence) pieces replies b
+      × StandsFor p.at.far p.at.silence p.parts b
 
 -- for some choice both ends stand together, and the record fits the journal
 abbrev pub RecordFitsJournal : HonestParts → Type 0

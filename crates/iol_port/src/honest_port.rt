@@ -1,4 +1,6 @@
 //! A port without a wire, whose line is claimed to be honest.
+#![tactic(auto, using(crate::proofs::HonestRuns::called))]
+
 ghost use Rattle.std.specs.Prelude.{◌≡◌, ◌≤◌, None, Some, IfOk, IfErr, IsTrue, length, is_some};
 ghost use Rattle.std.specs.Result.{result_map_both};
 ghost use Rattle.iol_far.specs.Octets.{octets_in};

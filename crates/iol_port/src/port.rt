@@ -1,4 +1,6 @@
 //! One port.
+#![tactic(auto, using(crate::proofs::WireLemmas::call_kept, crate::proofs::WireLemmas::stays, crate::proofs::WireLemmas::stays_by, crate::proofs::WireLemmas::stays_down,))]
+
 ghost use Rattle.std.specs.Prelude.{◌≡◌, ◌≤◌, None, Some, IfOk, IfErr, OnErr, [], length};
 ghost use Rattle.std.specs.Vec.{vec_capacity};
 ghost use Rattle.std.specs.Option.{option_copied};

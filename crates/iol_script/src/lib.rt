@@ -25,7 +25,7 @@ mod script;
 mod setting;
 mod wire_line;
 
-pub use call_line::CallLine;
+pub use call_line::{CallLine, NAMED_CALLS};
 pub use check_line::{CheckLine, LayoutLine, LineOctets};
 pub use fault::ScriptFault;
 pub use numerals::{

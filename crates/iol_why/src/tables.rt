@@ -1,6 +1,7 @@
 //! The forms of the lines that each command reads.
 use crate::field::{Field, Value};
 use crate::form::{LineForm, Part};
+use iol_script::NAMED_CALLS;
 
 /// A number in its range.
 macro_rules! number {
@@ -325,7 +326,7 @@ pub(crate) static CALLS: [LineForm; 17] = [
     form!("process data in", word!("image")),
     form!(
         "as the port's calls of these names",
-        Part::Words(&["event", "status", "archive", "restart"])
+        Part::Words(&NAMED_CALLS)
     ),
     form!("what the port counted since its opening", word!("counters")),
     form!(

@@ -1,7 +1,0 @@
-use Rattle.std.proofs.Common.{refl}
-use Rattle.iol_port.proofs.WireLemmas.{call_kept, stays}
-use Rattle.iol_port.proofs.port.Port.archive.Goals as goal
-
-pub invariant_of-self : goal.invariant_of-self
-invariant_of-self g c = call_kept g.W.Wire.facts c.self.invariant c.archive.ensures.is.does
-    (stays c.archive.ensures.is.gives.rest refl refl refl)
