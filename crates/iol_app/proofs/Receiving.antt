@@ -211,7 +211,8 @@ module _ (names : TextNamesAnswer) (taken : AnswersAreTakenUp) (laws : Laws)
         → ReceiveGives c g far n said (after_exchange (after_by reply) c.session) far' n'
     by_reply None good met left says =
         by_tries (w.tries == 2) refl
-        (silent laws going goes far far' n n' came x stands.request.level stands.page good) met left says
+        (silent laws going goes far far' n n' came x stands.request.level stands.page good) met
+        left says
     by_reply (Some r) good met left says =
         let is = replied laws going goes far far' n n' came x stands.request.level stands.page r
         good in

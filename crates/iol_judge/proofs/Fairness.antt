@@ -528,7 +528,8 @@ module _ (law : Laws) (stays : RegularStays) (much : MuchStays) (reads : Replies
     clean_works work =
         let reply = reply_octets (reply_to (worked_by work) (layout_of work.there) work.message) in
         let new : IsRegular (worked_by work) = rw work.heard_is at (stays.hears far sent regular) in
-        cond_both (can_be_read (layouts_seen judged.seen) sent reply) (judging.judge_after_reply judged sent reply)
+        cond_both (can_be_read (layouts_seen judged.seen) sent reply)
+        (judging.judge_after_reply judged sent reply)
         (judge_without_reply judged sent) (λ (j : JudgeState). IsFair j (worked_by work))
         (λ e. replied_fair law reads judged honest even far agrees admits sent work new.sized
         new.memory) (λ e. quiet_fair (worked_by work) (inr (work, refl)) work.accepting.by.page)

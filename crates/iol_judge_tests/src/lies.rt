@@ -242,7 +242,8 @@ fn losses_are_honest(rt: HostRuntime) -> Result<(), Fail> {
     Ok(())
 }
 
-/// Before the page is known, only the layout of STARTUP can be: a good reply of another one is lost.
+/// Before the page is known, only the layout of STARTUP can be: a good reply of another one is
+/// lost.
 #[test]
 fn other_layouts_are_unknown(rt: HostRuntime) -> Result<(), Fail> {
     assert!(rt; verdict_of(None, &NOT_TAKEN) == Verdict::Honest);
