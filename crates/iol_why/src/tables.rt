@@ -326,7 +326,7 @@ pub(crate) static CALLS: [LineForm; 17] = [
     form!("process data in", word!("image")),
     form!(
         "as the port's calls of these names",
-        Part::Words(&NAMED_CALLS)
+        Part::Words(NAMED_CALLS)
     ),
     form!("what the port counted since its opening", word!("counters")),
     form!(
