@@ -1,5 +1,6 @@
 """The programs that are compared and timed, and the cases that both of them have."""
 import os
+import shutil
 import subprocess
 import sys
 from pathlib import Path
@@ -40,6 +41,11 @@ CASES = [
 ]
 
 
+def cargo():
+    """The path of cargo: by PATH, or where rustup puts it. None where it is missing."""
+    return shutil.which("cargo") or shutil.which("cargo", path=Path.home() / ".cargo" / "bin")
+
+
 def built(program):
     """The path of a proved program, which has to be there."""
     if not os.access(program, os.X_OK):
@@ -49,5 +55,5 @@ def built(program):
 
 def build_plain():
     """Builds the plain program, and answers its path."""
-    subprocess.run(["cargo", "build", "--release", "--quiet"], cwd=PLAIN, check=True)
+    subprocess.run([cargo(), "build", "--release", "--quiet"], cwd=PLAIN, check=True)
     return str(PLAIN / "target" / "release" / "plain")

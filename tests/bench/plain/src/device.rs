@@ -13,6 +13,38 @@ use crate::refusal::Refusal;
 /// The flow control IDLE 2.
 const IDLE_2: u8 = 0x12;
 
+/// The test read of a wake-up request: octet 0x02 of the page, in the layout of STARTUP.
+const TEST_READ: [u8; 2] = [0xA2, 0x00];
+
+/// When a device hands a request over.
+#[derive(Clone, Copy, Debug, PartialEq, Eq)]
+pub enum HandsOver {
+    FirstRead,
+    LastSegment,
+}
+
+/// How long a device knows its answer.
+#[derive(Clone, Copy, Debug, PartialEq, Eq)]
+pub enum Recalls {
+    UntilLeft,
+    UntilSent,
+}
+
+/// The kind of a device.
+#[derive(Clone, Copy, Debug, PartialEq, Eq)]
+pub struct Kind {
+    pub hands_over: HandsOver,
+    pub recalls: Recalls,
+}
+
+impl Kind {
+    /// The kind of our own devices.
+    pub const OWN: Kind = Kind {
+        hands_over: HandsOver::FirstRead,
+        recalls: Recalls::UntilLeft,
+    };
+}
+
 #[derive(Clone, Copy, Debug, PartialEq, Eq)]
 enum Mode {
     Startup,
@@ -38,6 +70,8 @@ pub struct Carried {
 }
 
 pub struct Device {
+    kind: Kind,
+    misses_pulses: bool,
     page: Page,
     layouts: Layouts,
     params: Params,
@@ -47,6 +81,8 @@ pub struct Device {
     /// The mode that a command asked for, until a good message comes in its layout, and the octets of that command.
     waits: Option<(Mode, Message)>,
     stage: Stage,
+    /// The COUNT of the last write, where a request is handed over with its last segment.
+    counted: Option<u8>,
     joiner: Joiner,
     request: Request,
     cutter: Cutter,
@@ -63,6 +99,8 @@ impl Device {
     pub fn open(params: Params, page: Page, room: usize) -> Result<Device, Refusal> {
         let layouts = page.layouts()?;
         Ok(Device {
+            kind: Kind::OWN,
+            misses_pulses: false,
             page,
             layouts,
             params,
@@ -71,6 +109,7 @@ impl Device {
             mode: Mode::Startup,
             waits: None,
             stage: Stage::Empty,
+            counted: None,
             joiner: Joiner::new(),
             request: Request::Read(crate::isdu::Place { index: 0, sub: 0 }),
             cutter: Cutter::new(),
@@ -81,6 +120,38 @@ impl Device {
             record: Vec::with_capacity(room),
             room,
         })
+    }
+
+    /// The same device, of this kind.
+    pub fn of_kind(mut self, kind: Kind) -> Device {
+        self.kind = kind;
+        self
+    }
+
+    /// The same device, which may miss the pulse of a wake-up request.
+    pub fn missing_pulses(mut self) -> Device {
+        self.misses_pulses = true;
+        self
+    }
+
+    /// Whether it is as a device is that may miss pulses.
+    pub fn is_orderly(&self) -> bool {
+        let holds_text = self.mode == Mode::Startup && self.stage != Stage::Empty;
+        let waits_for_itself = self
+            .waits
+            .as_ref()
+            .is_some_and(|(mode, _)| *mode == self.mode);
+        let output = self.is_output_valid && self.mode != Mode::Operate;
+        !holds_text && !waits_for_itself && !output
+    }
+
+    pub fn misses_pulses(&self) -> bool {
+        self.misses_pulses
+    }
+
+    /// The pulse of a wake-up request was missed, and the test read behind it came: whether it was answered.
+    pub fn miss_pulse(&mut self) -> bool {
+        self.hear(&TEST_READ, &mut Message::new())
     }
 
     /// A wake-up request came.
@@ -94,21 +165,28 @@ impl Device {
     }
 
     /// Octets came: the reply, where they are accepted; else nothing changes.
-    pub fn hear(&mut self, octets: &[u8]) -> Option<Message> {
+    pub fn hear(&mut self, octets: &[u8], reply: &mut Message) -> bool {
+        reply.clear();
         if !self.awake {
-            return None;
+            return false;
         }
-        if let Some((mode, command)) = &self.waits {
+        let mut mode = self.mode;
+        if let Some((next, command)) = &self.waits {
             if **command == *octets {
-                return Some(self.hear_again(octets));
+                self.hear_again(octets, reply);
+                return true;
             }
-            let mode = *mode;
-            let message = read_master(&self.layout(mode), octets).ok()?;
-            self.enter(mode);
-            return Some(self.work_on(&message, octets));
+            mode = *next;
         }
-        let message = read_master(&self.layout(self.mode), octets).ok()?;
-        Some(self.work_on(&message, octets))
+        let layout = self.layout(mode);
+        let Ok(message) = read_master(&layout, octets) else {
+            return false;
+        };
+        if self.waits.is_some() {
+            self.enter(mode);
+        }
+        self.work_on(&layout, &message, octets, reply);
+        true
     }
 
     /// The layout of a mode; an old device never enters PREOPERATE.
@@ -128,13 +206,13 @@ impl Device {
     }
 
     /// The mode command that waits came again, in the layout of before.
-    fn hear_again(&mut self, octets: &[u8]) -> Message {
+    fn hear_again(&mut self, octets: &[u8], reply: &mut Message) {
         self.events.other_heard();
         let layout = self.layout(self.mode);
         if let Ok(message) = read_master(&layout, octets) {
             self.take_output(message.out);
         }
-        self.finish(&layout, Message::new())
+        self.finish(&layout, reply);
     }
 
     fn take_output(&mut self, out: &[u8]) {
@@ -144,8 +222,13 @@ impl Device {
     }
 
     /// A good message in the present layout.
-    fn work_on(&mut self, message: &MasterMsg, octets: &[u8]) -> Message {
-        let layout = self.layout(self.mode);
+    fn work_on(
+        &mut self,
+        layout: &Layout,
+        message: &MasterMsg,
+        octets: &[u8],
+        reply: &mut Message,
+    ) {
         let mc = message.mc;
         if !mc.read && mc.channel == Channel::Diagnosis && mc.address == 0 {
             self.events.confirm();
@@ -153,21 +236,18 @@ impl Device {
             self.events.other_heard();
         }
         self.take_output(message.out);
-        let mut reply = Message::new();
         match (mc.channel, mc.read) {
             (Channel::Page, false) => self.write_page(mc.address, message.od[0], octets),
             (Channel::Isdu, false) => self.write_segment(mc.address, message.od),
             (Channel::Process | Channel::Diagnosis, false) => {}
             (Channel::Process, true) => reply.extend_zeros(layout.od),
-            (Channel::Page, true) => {
-                self.put_first(self.page_octet(mc.address), &layout, &mut reply)
-            }
+            (Channel::Page, true) => self.put_first(self.page_octet(mc.address), layout, reply),
             (Channel::Diagnosis, true) => {
-                self.put_first(self.events.octet(mc.address), &layout, &mut reply);
+                self.put_first(self.events.octet(mc.address), layout, reply);
             }
-            (Channel::Isdu, true) => self.read_segment(mc.address, &layout, &mut reply),
+            (Channel::Isdu, true) => self.read_segment(mc.address, layout, reply),
         }
-        self.finish(&layout, reply)
+        self.finish(layout, reply);
     }
 
     /// The one octet that is meant, and zeros.
@@ -177,14 +257,13 @@ impl Device {
     }
 
     /// Puts the input and the last octet behind the on-request data.
-    fn finish(&self, layout: &Layout, mut reply: Message) -> Message {
+    fn finish(&self, layout: &Layout, reply: &mut Message) {
         match &self.input {
             Some(image) if layout.pd_in > 0 => reply.extend(image.octets()),
             _ => reply.extend_zeros(layout.pd_in),
         }
         let invalid = layout.pd_in > 0 && self.input.is_none();
-        seal_reply(&mut reply, self.events.flag(), invalid);
-        reply
+        seal_reply(reply, self.events.flag(), invalid);
     }
 
     fn page_octet(&self, address: u8) -> u8 {
@@ -223,6 +302,39 @@ impl Device {
     }
 
     fn write_segment(&mut self, flow: u8, segment: &[u8]) {
+        self.recall();
+        if self.kind.hands_over == HandsOver::FirstRead {
+            return self.write_text(flow, segment);
+        }
+        let is_count = flow < 16;
+        if is_count && matches!(self.stage, Stage::Handed | Stage::Answered(None)) {
+            if self.counted != Some(flow) {
+                self.stage = Stage::Empty;
+            }
+        } else {
+            self.write_text(flow, segment);
+            if self.stage == Stage::Whole {
+                self.stage = Stage::Handed;
+            }
+        }
+        if flow == START {
+            self.counted = None;
+        } else if is_count {
+            self.counted = Some(flow);
+        }
+    }
+
+    /// What is left of an answer when the next message on the ISDU channel comes.
+    fn recall(&mut self) {
+        if self.kind.recalls == Recalls::UntilSent
+            && let Stage::Answered(Some(last)) = self.stage
+            && last + 1 == self.cutter.count(self.layout(self.mode).od)
+        {
+            self.stage = Stage::Empty;
+        }
+    }
+
+    fn write_text(&mut self, flow: u8, segment: &[u8]) {
         let joins = match (flow, self.stage) {
             (START, _) => self.layouts.isdu,
             (0..=15, Stage::Receiving | Stage::Whole) => true,
@@ -248,6 +360,7 @@ impl Device {
     }
 
     fn read_segment(&mut self, flow: u8, layout: &Layout, reply: &mut Message) {
+        self.recall();
         let segment = match (flow, self.stage) {
             (IDLE_1 | IDLE_2 | ABORT, _) => None,
             (START, Stage::Whole | Stage::Handed) => {

@@ -129,15 +129,36 @@ impl Layout {
 
 /// The XOR of 0x52 and all octets.
 fn fold(octets: &[u8]) -> u8 {
-    octets.iter().fold(0x52, |sum, octet| sum ^ octet)
+    let (words, rest) = octets.as_chunks::<8>();
+    let word = words
+        .iter()
+        .fold(0, |sum, word| sum ^ u64::from_ne_bytes(*word));
+    let half = (word ^ (word >> 32)) as u32;
+    let quarter = half ^ (half >> 16);
+    let first = (quarter ^ (quarter >> 8)) as u8;
+    rest.iter().fold(0x52 ^ first, |sum, octet| sum ^ octet)
 }
 
 /// Eight bits to six, each the XOR of some of the eight.
-fn compress(sum: u8) -> u8 {
+const fn six_of(sum: u8) -> u8 {
     let pairs = sum ^ (sum >> 1);
     let fours = sum ^ (sum >> 4);
     let halves = fours ^ (fours >> 2);
     ((halves & 3) << 4) | ((pairs >> 3) & 8) | ((pairs >> 2) & 4) | ((pairs >> 1) & 2) | (pairs & 1)
+}
+
+static SIX: [u8; 256] = {
+    let mut table = [0; 256];
+    let mut sum = 0;
+    while sum < 256 {
+        table[sum] = six_of(sum as u8);
+        sum += 1;
+    }
+    table
+};
+
+fn compress(sum: u8) -> u8 {
+    SIX[usize::from(sum)]
 }
 
 /// The checksum of octets whose own six bits are 0.
@@ -164,12 +185,18 @@ pub struct MasterMsg<'a> {
 /// Writes a master message, whose parts have the layout's sizes.
 pub fn encode_master(layout: &Layout, message: &MasterMsg) -> Message {
     let mut octets = Message::new();
+    write_master(layout, message, &mut octets);
+    octets
+}
+
+/// The same in a buffer.
+pub fn write_master(layout: &Layout, message: &MasterMsg, octets: &mut Message) {
+    octets.clear();
     octets.push(message.mc.octet());
     octets.push(layout.kind << 6);
     octets.extend(message.out);
     octets.extend(message.od);
-    octets[1] |= checksum6(&octets);
-    octets
+    octets[1] |= checksum6(octets);
 }
 
 /// Reads a master message. Refused by the first of WrongLength, WrongType, BadChecksum that holds.

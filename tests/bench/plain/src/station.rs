@@ -6,8 +6,8 @@ use crate::event::{EventList, EventReader};
 use crate::image::Image;
 use crate::isdu::{Answer, Cause, Cutter, Joiner, Request, Took};
 use crate::message::{
-    ABORT, Channel, IDLE_1, Layout, MasterMsg, Mc, Message, Reply, START, encode_master, flow_of,
-    read_reply,
+    ABORT, Channel, IDLE_1, Layout, MasterMsg, Mc, Message, Reply, START, flow_of, read_reply,
+    write_master,
 };
 use crate::page::{self, Identity, Layouts, Page, command};
 use crate::refusal::Refusal;
@@ -21,13 +21,21 @@ pub enum Mode {
     Operate,
 }
 
+/// For which devices a port is.
+#[derive(Clone, Copy, Debug, PartialEq, Eq)]
+pub enum Devices {
+    Own,
+    Any,
+}
+
 /// Why the link is down.
 #[derive(Clone, Copy, Debug, PartialEq, Eq)]
 pub enum Why {
     NoWake,
     Lost,
     Page(Refusal),
-    WrongDevice,
+    /// With the device that was found.
+    WrongDevice(Identity),
 }
 
 #[derive(Clone, Copy, Debug, PartialEq, Eq)]
@@ -40,8 +48,8 @@ pub struct Status {
 /// What one turn tells.
 pub enum Said {
     Nothing,
-    /// A wake succeeded.
-    Woken,
+    /// The device is reset.
+    Reset,
     Answered(Answer),
     Cut(Cause),
     Reported(EventList),
@@ -58,6 +66,7 @@ pub enum When {
 /// What a message is for.
 #[derive(Clone, Copy, Debug, PartialEq, Eq)]
 enum Purpose {
+    DeviceStartup,
     ReadPage(u8),
     MasterIdent,
     DevicePreoperate,
@@ -69,9 +78,22 @@ enum Purpose {
     Confirm,
     ReadEvents,
     WriteSegment(usize),
+    /// Whether the device has the one segment, which had no good reply.
+    AskWhether,
     AskAnswer,
     ReadSegment(usize),
     Idle,
+}
+
+impl Purpose {
+    /// Whether it is a message of the request under way.
+    fn is_of_request(self) -> bool {
+        use Purpose::{AskAnswer, AskWhether, ReadSegment, WriteSegment};
+        matches!(
+            self,
+            WriteSegment(_) | AskWhether | AskAnswer | ReadSegment(_)
+        )
+    }
 }
 
 /// How far a request is.
@@ -79,6 +101,8 @@ enum Purpose {
 enum Stage {
     /// The segment that is sent next.
     Writing(usize),
+    /// The one segment was sent once, and had no good reply.
+    Doubting,
     Asking,
     /// The segment that is read next.
     Reading(usize),
@@ -103,8 +127,11 @@ struct Out {
 
 pub struct Station<W> {
     wire: W,
+    devices: Devices,
     mode: Mode,
     why: Option<Why>,
+    /// Why the last session ended.
+    last_loss: Option<Why>,
     layout: Layout,
     page: Page,
     layouts: Option<Layouts>,
@@ -135,6 +162,10 @@ pub struct Station<W> {
     confirm_due: bool,
 
     stage: Option<Stage>,
+    /// Whether the message that is out for the request went out before, at a port for any device.
+    again: bool,
+    /// Whether the device surely holds no text.
+    clear: bool,
     /// Why the request is to be cut off: the first cause stays.
     abort: Option<Cause>,
     is_read: bool,
@@ -145,11 +176,13 @@ pub struct Station<W> {
 }
 
 impl<W: Wire> Station<W> {
-    pub fn new(wire: W, busy_limit: u16) -> Station<W> {
+    pub fn new(wire: W, devices: Devices, busy_limit: u16) -> Station<W> {
         Station {
             wire,
+            devices,
             mode: Mode::Down,
             why: None,
+            last_loss: None,
             layout: Layout::STARTUP,
             page: Page([0; 10]),
             layouts: None,
@@ -171,6 +204,8 @@ impl<W: Wire> Station<W> {
             reader: EventReader::new(),
             confirm_due: false,
             stage: None,
+            again: false,
+            clear: false,
             abort: None,
             is_read: false,
             busy: 0,
@@ -186,6 +221,10 @@ impl<W: Wire> Station<W> {
             why: self.why,
             event_form: self.event_form,
         }
+    }
+
+    pub fn last_loss(&self) -> Option<Why> {
+        self.last_loss
     }
 
     pub fn image(&self) -> Option<&Image> {
@@ -254,7 +293,10 @@ impl<W: Wire> Station<W> {
 
     /// Whether the next turn would send IDLE 1.
     pub fn is_ready(&self, room: bool) -> bool {
-        self.mode == Mode::Operate && self.out.is_none() && self.due(room) == Purpose::Idle
+        self.mode == Mode::Operate
+            && self.out.is_none()
+            && self.due(room) == Purpose::Idle
+            && (self.clear || self.devices == Devices::Own)
     }
 
     /// Begins a request, where none is under way.
@@ -262,6 +304,7 @@ impl<W: Wire> Station<W> {
         request.encode(&mut self.cutter.text);
         self.is_read = request.is_read();
         self.busy = 0;
+        self.again = false;
         self.stage = Some(Stage::Writing(0));
         self.abort = None;
     }
@@ -281,6 +324,9 @@ impl<W: Wire> Station<W> {
     }
 
     fn leave(&mut self, why: Option<Why>) {
+        if self.mode != Mode::Down {
+            self.last_loss = why;
+        }
         self.mode = Mode::Down;
         self.why = why;
         self.layout = Layout::STARTUP;
@@ -308,16 +354,41 @@ impl<W: Wire> Station<W> {
         };
         out.attempts += 1;
         let (purpose, read, attempts) = (out.purpose, out.read, out.attempts);
-        let answer = self.wire.exchange(&self.message);
+        let mut reply = Message::new();
         let layout = self.layout;
-        let came = answer
-            .as_ref()
-            .map(|octets| read_reply(&layout, read, octets));
+        let came = self.wire.exchange(&self.message, &mut reply);
+        let came = came.then(|| read_reply(&layout, read, &reply));
         self.counters.count_exchange(&came, attempts);
         match came {
             Some(Ok(reply)) => self.take(purpose, &reply),
             _ if attempts == ATTEMPTS => self.lose(),
-            _ => Said::Nothing,
+            _ => {
+                if self.devices == Devices::Any && purpose.is_of_request() {
+                    self.miss(purpose);
+                }
+                Said::Nothing
+            }
+        }
+    }
+
+    /// A message of the request had no good reply. One that held the whole text goes out no more: a device that
+    /// handed it over would take it for another request. A question goes out in its place.
+    fn miss(&mut self, purpose: Purpose) {
+        self.again = true;
+        if purpose == Purpose::WriteSegment(0) && self.cutter.count(self.layout.od) == 1 {
+            self.again = false;
+            self.stage = Some(Stage::Doubting);
+            let mc = Mc::read(Channel::Isdu, START);
+            let msg = MasterMsg {
+                mc,
+                out: &self.carried,
+                od: &[],
+            };
+            write_master(&self.layout, &msg, &mut self.message);
+            if let Some(out) = &mut self.out {
+                out.purpose = Purpose::AskWhether;
+                out.read = true;
+            }
         }
     }
 
@@ -328,11 +399,20 @@ impl<W: Wire> Station<W> {
         }
         self.mode = Mode::Startup;
         self.why = None;
-        self.next = Purpose::ReadPage(page::FIRST);
         self.output_told = false;
         self.event_form = false;
+        self.clear = false;
         count(&mut self.counters.startups);
-        Said::Woken
+        match self.devices {
+            Devices::Own => {
+                self.next = Purpose::ReadPage(page::FIRST);
+                Said::Reset
+            }
+            Devices::Any => {
+                self.next = Purpose::DeviceStartup;
+                Said::Nothing
+            }
+        }
     }
 
     fn lose(&mut self) -> Said {
@@ -361,6 +441,7 @@ impl<W: Wire> Station<W> {
         }
         match self.stage {
             Some(Stage::Writing(segment)) => Purpose::WriteSegment(segment),
+            Some(Stage::Doubting) => Purpose::AskWhether,
             Some(Stage::Asking) => Purpose::AskAnswer,
             Some(Stage::Reading(segment)) => Purpose::ReadSegment(segment),
             None => Purpose::Idle,
@@ -371,6 +452,9 @@ impl<W: Wire> Station<W> {
     fn make(&mut self, purpose: Purpose) -> &mut Out {
         let mut od = Bounded::<32>::new();
         let mc = match purpose {
+            Purpose::DeviceStartup => {
+                self.write(&mut od, Channel::Page, 0, command::DEVICE_STARTUP)
+            }
             Purpose::ReadPage(address) => Mc::read(Channel::Page, address),
             Purpose::MasterIdent => self.write(&mut od, Channel::Page, 0, command::MASTER_IDENT),
             Purpose::DevicePreoperate => {
@@ -390,7 +474,7 @@ impl<W: Wire> Station<W> {
                 self.cutter.put(segment, self.layout.od, &mut od);
                 Mc::write(Channel::Isdu, flow_of(segment))
             }
-            Purpose::AskAnswer => Mc::read(Channel::Isdu, START),
+            Purpose::AskWhether | Purpose::AskAnswer => Mc::read(Channel::Isdu, START),
             Purpose::ReadSegment(segment) => Mc::read(Channel::Isdu, flow_of(segment)),
             Purpose::Idle => Mc::read(Channel::Isdu, IDLE_1),
         };
@@ -403,7 +487,11 @@ impl<W: Wire> Station<W> {
             Mode::Operate => &self.carried,
             _ => &[][..],
         };
-        self.message = encode_master(&self.layout, &MasterMsg { mc, out, od: &od });
+        write_master(
+            &self.layout,
+            &MasterMsg { mc, out, od: &od },
+            &mut self.message,
+        );
         self.out.insert(Out {
             purpose,
             read: mc.read,
@@ -426,13 +514,23 @@ impl<W: Wire> Station<W> {
             self.take_image(reply);
         }
         match purpose {
-            Purpose::ReadPage(_)
+            Purpose::Idle | Purpose::Abort => self.clear = true,
+            _ if purpose.is_of_request() => self.clear = false,
+            _ => {}
+        }
+        let again = std::mem::take(&mut self.again);
+        match purpose {
+            Purpose::DeviceStartup
+            | Purpose::ReadPage(_)
             | Purpose::MasterIdent
             | Purpose::DevicePreoperate
             | Purpose::CycleTime
             | Purpose::DeviceOperate => {
                 self.go_on(purpose, reply);
-                Said::Nothing
+                match (purpose, self.devices) {
+                    (Purpose::ReadPage(page::FIRST), Devices::Any) => Said::Reset,
+                    _ => Said::Nothing,
+                }
             }
             Purpose::TellOutput(on) => {
                 self.output_told = on;
@@ -445,8 +543,9 @@ impl<W: Wire> Station<W> {
             }
             Purpose::ReadEvents => self.take_event_octet(reply.od[0]),
             Purpose::WriteSegment(segment) => self.written(segment),
+            Purpose::AskWhether => self.take_whether(reply.od, again),
             Purpose::AskAnswer => self.take_first(reply.od),
-            Purpose::ReadSegment(segment) => self.take_segment(segment, reply.od),
+            Purpose::ReadSegment(segment) => self.take_segment(segment, reply.od, again),
             Purpose::Idle => Said::Nothing,
         }
     }
@@ -464,6 +563,7 @@ impl<W: Wire> Station<W> {
     /// The next step of the start-up.
     fn go_on(&mut self, purpose: Purpose, reply: &Reply) {
         self.next = match purpose {
+            Purpose::DeviceStartup => Purpose::ReadPage(page::FIRST),
             Purpose::ReadPage(address) => {
                 self.page.0[usize::from(address - page::FIRST)] = reply.od[0];
                 if address < page::LAST {
@@ -488,6 +588,7 @@ impl<W: Wire> Station<W> {
             Purpose::CycleTime => Purpose::DeviceOperate,
             _ => {
                 self.mode = Mode::Operate;
+                self.last_loss = None;
                 if let Some(layouts) = self.layouts {
                     self.layout = layouts.run;
                 }
@@ -498,13 +599,17 @@ impl<W: Wire> Station<W> {
 
     /// The page is whole.
     fn take_page(&mut self) {
-        if self.expected.is_some_and(|it| it != self.page.identity()) {
-            return self.leave(Some(Why::WrongDevice));
+        let found = self.page.identity();
+        if self.expected.is_some_and(|it| it != found) {
+            return self.leave(Some(Why::WrongDevice(found)));
         }
         let layouts = match self.page.layouts() {
             Ok(layouts) => layouts,
             Err(refusal) => return self.leave(Some(Why::Page(refusal))),
         };
+        if self.devices == Devices::Any && self.page.is_interleaved(&layouts.run) {
+            return self.leave(Some(Why::Page(Refusal::Interleaved)));
+        }
         let pd_out = layouts.run.pd_out;
         if self.told.is_none_or(|told| told.pd_out != pd_out) {
             self.wanted = None;
@@ -544,6 +649,17 @@ impl<W: Wire> Station<W> {
         Said::Nothing
     }
 
+    /// The reply to the question whether the device has the one segment. Where it has heard nothing of it, the
+    /// segment goes out anew; but a device that was asked before may have answered, and forgotten.
+    fn take_whether(&mut self, od: &[u8], again: bool) -> Said {
+        if od[0] == 0x00 && !again {
+            self.stage = Some(Stage::Writing(0));
+            return Said::Nothing;
+        }
+        self.stage = Some(Stage::Asking);
+        self.take_first(od)
+    }
+
     /// The reply to a START read.
     fn take_first(&mut self, od: &[u8]) -> Said {
         match od[0] {
@@ -554,14 +670,17 @@ impl<W: Wire> Station<W> {
                     self.abort(Cause::BusyTooLong);
                 }
             }
-            _ => return self.take_segment(0, od),
+            _ => return self.take_segment(0, od, false),
         }
         Said::Nothing
     }
 
-    /// A segment of the answer.
-    fn take_segment(&mut self, segment: usize, od: &[u8]) -> Said {
+    /// A segment of the answer. Zeros that end it may be those of a device that has forgotten it, where they come to
+    /// a repeat.
+    fn take_segment(&mut self, segment: usize, od: &[u8], again: bool) -> Said {
+        let is_forgotten = again && od.iter().all(|octet| *octet == 0);
         let whole = match self.joiner.take(flow_of(segment), od) {
+            Ok(Took::Whole) if is_forgotten => Err(Refusal::BadService),
             Ok(Took::Whole) => Answer::read(self.joiner.text(), self.is_read).map(Some),
             Ok(_) => Ok(None),
             Err(refusal) => Err(refusal),

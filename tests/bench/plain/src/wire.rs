@@ -11,7 +11,7 @@ pub trait Wire {
     fn wake(&mut self) -> bool;
 
     /// Sends octets, and answers what came back.
-    fn exchange(&mut self, sent: &[u8]) -> Option<Message>;
+    fn exchange(&mut self, sent: &[u8], reply: &mut Message) -> bool;
 
     fn device(&self) -> &Device;
 
@@ -124,23 +124,34 @@ fn damaged(octets: &[u8]) -> Message {
 
 impl Wire for Sim {
     fn wake(&mut self) -> bool {
+        // What counts of the device is how it is before its own steps.
+        let is_orderly = self.device.is_orderly();
         let fate = self.prepare();
+        if fate == Fate::NoWake && is_orderly && self.device.misses_pulses() {
+            return self.device.miss_pulse();
+        }
         if matches!(fate, Fate::Clean | Fate::BackLost | Fate::BackDamaged) {
             self.device.wake();
         }
         fate == Fate::Clean
     }
 
-    fn exchange(&mut self, sent: &[u8]) -> Option<Message> {
+    fn exchange(&mut self, sent: &[u8], reply: &mut Message) -> bool {
         match self.prepare() {
-            Fate::Clean => self.device.hear(sent),
+            Fate::Clean => self.device.hear(sent, reply),
             Fate::BackLost => {
-                self.device.hear(sent);
-                None
+                self.device.hear(sent, reply);
+                false
             }
-            Fate::BackDamaged => self.device.hear(sent).map(|reply| damaged(&reply)),
-            Fate::OutDamaged => self.device.hear(&damaged(sent)),
-            Fate::OutLost | Fate::NoWake | Fate::Silent => None,
+            Fate::BackDamaged => {
+                let came = self.device.hear(sent, reply);
+                if came && let Some(octet) = reply.last_mut() {
+                    *octet ^= 1;
+                }
+                came
+            }
+            Fate::OutDamaged => self.device.hear(&damaged(sent), reply),
+            Fate::OutLost | Fate::NoWake | Fate::Silent => false,
         }
     }
 
@@ -178,12 +189,12 @@ impl<W: Wire> Wire for Tap<W> {
         found
     }
 
-    fn exchange(&mut self, sent: &[u8]) -> Option<Message> {
-        let answer = self.wire.exchange(sent);
+    fn exchange(&mut self, sent: &[u8], reply: &mut Message) -> bool {
+        let came = self.wire.exchange(sent, reply);
         let mut message = Message::new();
         message.extend(sent);
-        self.last = Some(Passed::Exchange(message, answer.clone()));
-        answer
+        self.last = Some(Passed::Exchange(message, came.then(|| reply.clone())));
+        came
     }
 
     fn device(&self) -> &Device {
