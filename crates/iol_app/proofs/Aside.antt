@@ -10,12 +10,11 @@ use Rattle.iol_link.specs.Honest.{Passage, OutLost}
 use Rattle.iol_far.specs.Isdu.{IsduState}
 use Rattle.iol_far.specs.Far.{Far, accepted_message, far_after_message, output_of}
 use Rattle.iol_far.specs.Local.{LocalStep, local, locals}
-use Rattle.iol_app.specs.Abstract.Steps.{PortStep, Make, ImageOctets, is_for_book, is_report, no_make}
+use Rattle.iol_app.specs.Abstract.Steps.{PortStep, ImageOctets, is_for_book, is_report}
 use Rattle.iol_app.specs.Abstract.OfDevice.{Hidden, again_steps, own_step, own_steps, release_steps, event_steps, output_steps, confirms_by, heard_steps_as, passed_steps, exchange_steps, woken_steps, wake_steps}
 
 -- a step that stands aside of what a call says
 abbrev is_aside : PortStep → Bool
-is_aside Make = false
 is_aside step = not (is_for_book step) && not (is_report step)
 
 abbrev EachAside : List PortStep → Type 0
@@ -28,7 +27,6 @@ aside-append (x ∷ xs) ys h k = (h.0, aside-append xs ys h.1 k)
 
 -- what a call says is what the steps behind these say
 pub record Aside (xs ys : List PortStep) : Type 0 where
-  pub make : no_make ys ≡ true → no_make (xs ++ ys) ≡ true
   pub book : filter is_for_book (xs ++ ys) ≡ filter is_for_book ys
   pub reports : filter is_report (xs ++ ys) ≡ filter is_report ys
 

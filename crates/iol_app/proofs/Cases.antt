@@ -37,7 +37,7 @@ use Rattle.iol_app.specs.State.{IsExchangeSaid, clear_after, od_size}
 use Rattle.iol_app.proofs.Moving.{sent_busy, sent_follows, busy_follows, asked_after, resting_idle, unsent_idle}
 use Rattle.iol_app.proofs.Stations.{resting_quiet}
 use Rattle.iol_app.specs.Core.{seen_in, core_out}
-use Rattle.iol_app.proofs.Had.{Good, Replied, its, Reads, Comes, m, Follows, LevelBy, keeps, rests, took, goes_on, tied, before, settled, reached, follows, od_is, told_now}
+use Rattle.iol_app.proofs.Had.{Good, Replied, its, Reads, Comes, m, Follows, LevelBy, keeps, rests, took, goes_on, tied, before, settled, reached, follows, od_is, told_now, sized}
 use Rattle.iol_app.proofs.ReadingOn.{Took}
 use Rattle.iol_app.specs.Abstract.Session.{MayTell}
 use Rattle.iol_link.specs.Honest.{Clean}
@@ -133,10 +133,11 @@ module _ (names : TextNamesAnswer) (taken : AnswersAreTakenUp) (good : Good) whe
           reads = reads;
           kind = WasBusy;
           says = says;
+          brings = refl;
           busy = g.request.busy + 1;
           session = rw none ((refl, (tt, tt)), refl);
           frozen = ((tt, (tt, tt)), reads.same refl);
-          images = ((tt, ((refl, refl), tt)), refl);
+          images = ((tt, ((refl, refl, sized a), tt)), refl);
           base = base;
           level = rw (busy_follows devices cutter counted) level;
           answer = answer;
@@ -162,10 +163,11 @@ module _ (names : TextNamesAnswer) (taken : AnswersAreTakenUp) (good : Good) whe
           reads = reads;
           kind = WasAnswered x;
           says = says;
+          brings = refl;
           busy = g.request.busy;
           session = ((tells, (tt, tt)), refl);
           frozen = ((tt, (tt, tt)), reads.same refl);
-          images = ((tt, ((refl, refl), tt)), refl);
+          images = ((tt, ((refl, refl, sized a), tt)), refl);
           base = far'.carried;
           level = rw (resting_quiet devices false refl) (settled a p over had);
           answer = refl;
@@ -362,11 +364,12 @@ module _ (names : TextNamesAnswer) (taken : AnswersAreTakenUp) (good : Good) whe
         reads = reads;
         kind = WasAborted cause;
         says = says;
+        brings = refl;
         busy = g.request.busy;
         session = aborted_session (m a) (seen_in c g) hidden far'.carried current.cutter.source
             cause refl (rw is at a.stands.request.busy.1);
         frozen = ((tt, (tt, tt)), reads.same refl);
-        images = ((tt, ((refl, refl), tt)), refl);
+        images = ((tt, ((refl, refl, sized a), tt)), refl);
         base = far'.carried;
         level = reached a None (inr (refl, resting_idle devices true));
         answer = refl;
@@ -419,10 +422,11 @@ module _ (names : TextNamesAnswer) (taken : AnswersAreTakenUp) (good : Good) whe
             };
             kind = WasReported l;
             says = says;
+            brings = refl;
             busy = g.request.busy;
             session = ((tt, (tt, tt)), refl);
             frozen = rw (untold, whole.2, whole.1, whole.0) ((refl, (tt, tt)), refl);
-            images = ((tt, ((refl, refl), tt)), refl);
+            images = ((tt, ((refl, refl, sized a), tt)), refl);
             base = g.request.base;
             level = before a refl;
             answer = tied a (hands_none devices g.kind.hands_over layouts.run.od Other (inr refl));

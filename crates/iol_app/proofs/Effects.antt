@@ -1,7 +1,7 @@
 -- What the far end does in one call of a port outside OPERATE, and what the port makes of it.
 use Rattle.std.proofs.Common.{◌≡◌, ◌≢◌, ◌⊎◌, ℕ, Bool, true, false, ◌&&◌, List, [], ◌∷◌, ◌++◌, filter, refl, sym, ◌∙◌, arith}
 use Rattle.std.proofs.lemmas.Grind.{common_steps}
-use Rattle.std.specs.Prelude.{Some, None}
+use Rattle.std.specs.Prelude.{Some, None, IsTrue}
 use Rattle.iol_event.specs.declared.event.Event.{Event}
 use Rattle.iol_far.specs.Isdu.{Empty}
 use Rattle.iol_far.specs.Far.{Far, hear}
@@ -33,6 +33,8 @@ use Rattle.iol_app.proofs.Shown.{shown_as}
 use Rattle.iol_app.specs.Ends.{SentSeen}
 use Rattle.iol_app.specs.StationState.{SessionFits, mode_in}
 use Rattle.iol_app.specs.Core.{CoreState, Ghost, BothEndsStand, CallGives, work_of, RequestStands, EventsStand, OutputStands, CalmAt, ShownStands, moment_of, seen_in, shown_in, images_in, settled_core}
+use Rattle.iol_app.specs.Abstract.Turn.{may_bring}
+use Rattle.iol_app.proofs.Orders.{InFarOrder, in_order, free_order, wake_order}
 
 no_reset : (was : Bool) → [] ≡ resets was false ++ []
 no_reset was = grind (arith, common_steps)
@@ -67,6 +69,7 @@ module _ (c : CoreState) (g : Ghost) (far : Far) where
     pub images : (m : Moment) → ImagesRuns m (images_in c g far) steps
         (images_of (shown_in c.session g.sent) far')
     pub aside : (ys : List PortStep) → Aside steps ys
+    pub order : InFarOrder (mode_in c.state) steps
     pub opens : IsOpen far'.isdu None hidden
     pub page : far'.page ≡ far.page
     pub kind : far'.kind ≡ far.kind
@@ -102,6 +105,7 @@ module _ (c : CoreState) (g : Ghost) (far : Far) where
           frozen = wake_frozen far own wakes g.events.told;
           images = λ m. wake_images m (shown_in c.session g.sent) far own wakes;
           aside = wake_aside far own wakes;
+          order = wake_order (mode_in c.state) far own wakes;
           opens = kept.3;
           page = kept.0;
           kind = kept.1;
@@ -131,6 +135,7 @@ module _ (c : CoreState) (g : Ghost) (far : Far) where
           (unconfirming o there (told_through far own g.events.told) unconfirmed);
       images = λ m. exchange_images m None (shown_in c.session g.sent) far own passage o sent;
       aside = exchange_aside None far own passage o;
+      order = free_order (mode_in c.state) g.request.hidden far own passage o unconfirmed opens;
       opens = still_open;
       page = page_after laws passage there o ∙ page_locals laws own far;
       kind = kind_after laws passage there o ∙ laws.much.kind_kept far own;
@@ -172,6 +177,7 @@ module _ (c : CoreState) (g : Ghost) (far : Far) where
         (told : Bool) : Type 0 where
       pub limit : next.session.limit ≡ c.session.limit
       pub configuration : next.session.configuration ≡ c.session.configuration
+      pub brings : IsTrue (may_bring (mode_in c.state) call ys)
       pub reports : filter is_report ys ≡ []
       pub book : filter is_for_book ys ≡ resets (is_reset c.state) (is_reset next.state) ++ []
       pub session : SessionRuns (moment_of c g n call) (seen_in c g) effect.hidden far'.carried ys
@@ -201,6 +207,7 @@ module _ (c : CoreState) (g : Ghost) (far : Far) where
           call = call;
           steps = effect.steps ++ ys;
           after = after;
+          order = in_order ys effect.order e.brings;
           fits = fits_call;
           silent = silence;
           terms = (e.limit, refl, e.configuration, refl);
@@ -216,12 +223,14 @@ module _ (c : CoreState) (g : Ghost) (far : Far) where
 
     -- it goes down, for a cause
     pub falls : (call : WireCall) (why : Why) → request_under_way c.session.current ≡ None
+        → IsTrue (may_bring (mode_in c.state) call (MoveTo ModeDown (Some why) ∷ []))
         → MayMove (moment_of c g n call) (mode_in c.state) ModeDown (Some why)
         → Ends call (MoveTo ModeDown (Some why) ∷ [])
         (settled_core (InDown (record { why = Some why })) c.session) effect.hidden effect.told
-    falls call why free may = record {
+    falls call why free brings may = record {
       limit = refl;
       configuration = refl;
+      brings = brings;
       reports = refl;
       book = no_reset (is_reset c.state);
       session = (((may, tt), tt), rw free refl);
@@ -234,11 +243,12 @@ module _ (c : CoreState) (g : Ghost) (far : Far) where
     }
 
     pub loses : (call : WireCall) (why : Why) → request_under_way c.session.current ≡ None
+        → IsTrue (may_bring (mode_in c.state) call (MoveTo ModeDown (Some why) ∷ []))
         → MayMove (moment_of c g n call) (mode_in c.state) ModeDown (Some why)
         → CallFits (mode_in c.state) call → n' ≡ silence_by call n
         → CallGives c g far n Idle (settled_core (InDown (record { why = Some why })) c.session)
         far' n'
-    loses call why free may fits_call silence =
+    loses call why free brings may fits_call silence =
         gives call (MoveTo ModeDown (Some why) ∷ [])
         (settled_core (InDown (record { why = Some why })) c.session) effect.hidden effect.told
-        (falls call why free may) fits_call silence tt tt (refl, refl)
+        (falls call why free brings may) fits_call silence tt tt (refl, refl)

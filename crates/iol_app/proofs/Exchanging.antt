@@ -1,7 +1,7 @@
 -- An exchange in OPERATE: what every outcome needs; a miss, and a loss.
 use Rattle.std.proofs.Common.{◌≡◌, ℕ, suc, ◌+◌, ◌≤◌, min, Bool, true, false, List, ◌++◌, filter, refl, sym, ◌∙◌, ap, subst, arith}
 use Rattle.std.proofs.lemmas.Grind.{common_steps}
-use Rattle.std.specs.Prelude.{Option, Some, None, IfSome}
+use Rattle.std.specs.Prelude.{Option, Some, None, IfSome, IsTrue}
 use Rattle.iol_mseq.specs.Shape.{Shape}
 use Rattle.iol_mseq.specs.Texts.{master_text}
 use Rattle.iol_page.specs.Page.{layouts_of}
@@ -26,14 +26,14 @@ use Rattle.iol_mode.specs.declared.why.Why.TheVariants.{Lost}
 use Rattle.iol_app.specs.declared.mode.Mode.TheVariants.{Down as ModeDown, Operate as ModeOperate}
 use Rattle.iol_app.specs.declared.said.Said.{Said}
 use Rattle.iol_app.specs.declared.said.Said.TheVariants.{Busy as SaidBusy, Answered, Cut as SaidCut, Reported}
-use Rattle.iol_app.specs.Abstract.Steps.{PortStep, Moment, silence_left, repeats_at, doubts_at, WireCall, Exchanged, silence_by, CallFits, is_for_book, is_report, book_said, reports_said, no_make}
+use Rattle.iol_app.specs.Abstract.Steps.{PortStep, Moment, silence_left, repeats_at, doubts_at, WireCall, Exchanged, silence_by, CallFits, is_for_book, is_report, book_said, reports_said}
 use Rattle.iol_app.specs.Abstract.OfDevice.{Hidden, IsOpen, hidden_through, hidden_again, again_steps, told_through, exchange_steps, told_exchanged}
 use Rattle.iol_app.specs.Abstract.Shown.{MasterFields}
 use Rattle.iol_app.specs.Abstract.OfMaster.{ExchangeResult, Missed, Gone, WasBusy, WasAnswered, WasAborted, WasReported, Had, lost_steps, brought_steps, quiet_said, lost_said}
 use Rattle.iol_app.specs.Abstract.Shown.{images_of}
 use Rattle.iol_app.specs.BothEnds.{ReadingState, AnswerFits, wants_confirm}
 use Rattle.iol_app.specs.Exchange.{hidden_lost, is_output_told}
-use Rattle.iol_app.specs.Abstract.Turn.{ImageIsLast}
+use Rattle.iol_app.specs.Abstract.Turn.{ImageIsLast, may_bring, IsInOrder}
 use Rattle.iol_app.proofs.Given.{Laws, page_locals, page_after, kind_after, level_locals, level_after, sees_kept, misses_passed}
 use Rattle.iol_app.specs.Abstract.Session.{MaySession, session_after}
 use Rattle.iol_app.specs.Abstract.Events.{MayFrozen, frozen_after}
@@ -61,10 +61,12 @@ use Rattle.iol_app.proofs.Sessions.{question_parts}
 use Rattle.iol_app.proofs.Doubts.{missed_request_by}
 use Rattle.iol_app.proofs.Missing.{stays, busy_missed}
 use Rattle.iol_app.proofs.Telling.{told_layout}
-use Rattle.iol_app.specs.Core.{CoreState, Ghost, OfRequest, OfEvents, BothEndsStand, ReceiveGives, work_of, vain_by, after_missed, RequestStands, EventsStand, OutputStands, CalmAt, ShownStands, core_out, reading_in, ordered_by, moment_of, seen_in, shown_in, images_in, settled_core}
+use Rattle.iol_app.specs.Core.{CoreState, Ghost, OfRequest, OfEvents, BothEndsStand, CallGives, work_of, vain_by, after_missed, RequestStands, EventsStand, OutputStands, CalmAt, ShownStands, core_out, reading_in, ordered_by, moment_of, seen_in, shown_in, images_in, settled_core}
 use Rattle.iol_mode.specs.Kinds.{trusted_recalls}
 use Rattle.iol_far.specs.declared.kind.Recalls.{Recalls}
 use Rattle.iol_mode.specs.declared.configuration.Devices.{Devices}
+use Rattle.iol_app.proofs.Orders.{in_order, exchange_order}
+use Rattle.std.proofs.lemmas.List.{append_assoc}
 
 -- what goes out again hands over what it did
 repeats_missed : (devices : Devices) (hands_over : HandsOver) (size : ℕ) (e : Purpose)
@@ -87,7 +89,6 @@ Says kind request said = ⊥
 said_of : (kind : ExchangeResult) (request : Option Request) (said : Said) → Says kind request said
     → (filter is_for_book (brought_steps kind request) ≡ book_said said)
     × (filter is_report (brought_steps kind request) ≡ reports_said said)
-    × (no_make (brought_steps kind request) ≡ true)
 said_of kind request said says = grind (arith, common_steps)
 
 -- a loss, with a request under way or none
@@ -102,6 +103,10 @@ lost_session : (m : Moment) (seen : MasterFields) (h : Hidden) (c : List Carried
     (record seen { request = None; mode = ModeDown; why = Some Lost }) (hidden_lost seen.request h)
     c
 lost_session m seen h c runs third = grind (arith, common_steps)
+
+lost_brings : (r : Option Request)
+    → IsTrue (may_bring ModeOperate (Exchanged false) (lost_steps r))
+lost_brings r = grind (arith, common_steps)
 
 -- of an exchange, however far its message came: the octets out, the far end behind it, whether the
 -- frozen list is told then, and the reading that the message is sent in
@@ -258,6 +263,7 @@ module _ (turn : Turn) (passage : Passage) (e : Purpose) (current : Option Curre
     pub images : ImagesRuns (moment_of c g n call) (images_of (shown_in t g.sent) passed)
         (brought_steps kind request) (images_in next (ended of_request of_events) passed)
     pub says : Says kind request said
+    pub brings : IsTrue (may_bring ModeOperate call (brought_steps kind request))
     pub last : ImageIsLast (moment_of c g n call) (mode_in next.state) (images_in c g far)
         (images_in next (ended of_request of_events) passed)
     pub wanted : silence_by call n ≡ 0
@@ -278,7 +284,7 @@ module _ (turn : Turn) (passage : Passage) (e : Purpose) (current : Option Curre
         → Ends said call next of_request of_events kind → CallFits ModeOperate call
         → n' ≡ silence_by call n → StateStands next.state n' far' → StateFits next.state
         → SessionFits next.state next.session → CalmAt next.state n'
-        → ReceiveGives c g far n said next far' n'
+        → CallGives c g far n said next far' n'
     gives {n'} {said} {call} {next} {of_request} {of_events} {kind} far_is b fits silent link
         state_fits joined calm =
         let ys : List PortStep = brought_steps kind request in
@@ -287,49 +293,49 @@ module _ (turn : Turn) (passage : Passage) (e : Purpose) (current : Option Curre
         let again = again_aside request passed.isdu h ys in
         let aside = exchange_aside request far steps passage o (back ++ ys) in
         let after : Ghost = ended of_request of_events in
-        subst (λ (f : Far). ReceiveGives c g far n said next f n') (sym far_is) (record {
-          unmade = aside.make (again.make said_is.2);
-          given = record {
-            call = call;
-            steps = xs ++ (back ++ ys);
-            after = after;
-            fits = fits;
-            silent = silent;
-            terms = (b.terms.0, refl, b.terms.1, refl);
-            said_book = aside.book ∙ again.book ∙ said_is.0;
-            said_reports = aside.reports ∙ again.reports ∙ said_is.1;
-            session = runs-append (MaySession m) session_after _ _ _
-                (exchange_session m (seen_in c g) g.request.hidden far steps passage o up.opens)
-                (runs-append (MaySession m) session_after back ys _
-                (again_session m (seen_in c g) h passed.isdu passed.carried p.again) b.session);
-            frozen = runs-append MayFrozen frozen_after _ _ _
-                (exchange_frozen request far steps passage o g.events.told
-                (confirms_told laws.events o R due (locals far steps)
-                (told_through far steps g.events.told)
-                (told_locals laws.events R (octets_confirm o) steps far g.events.told told_before)))
-                (again_frozen request passed.isdu h _ _ _ _ ys b.frozen);
-            images = runs-append (MayImages m) (images_after m) _ _ _
-                (exchange_images m request (shown_in t g.sent) far steps passage o p.sends)
-                (again_images m request passed.isdu h _ _ ys b.images);
-            image_is_last = b.last;
-            output_is_wanted = λ k. b.wanted k.2;
-            stands = record {
-              page = page_after laws passage (locals far steps) o ∙ page_locals laws steps far
-                  ∙ stands.page;
-              kind = kind_after laws passage (locals far steps) o
-                  ∙ laws.much.kind_kept far steps ∙ stands.kind;
-              sees = rw b.terms.1 (sees_kept t.configuration.devices far passed
-                  (misses_passed laws.much passage steps far o) stands.sees);
-              fits = state_fits;
-              link = rw far_is at link;
-              joined = joined;
-              calm = calm;
-              sent = b.sent;
-              request = b.request_is;
-              events = b.events;
-              output = b.output;
-              shown = b.shown;
-            };
+        subst (λ (f : Far). CallGives c g far n said next f n') (sym far_is) (record {
+          call = call;
+          steps = xs ++ (back ++ ys);
+          after = after;
+          order = subst (IsInOrder ModeOperate call) (append_assoc xs back ys)
+              (in_order ys (exchange_order ModeOperate request g.request.hidden far steps passage o
+              (λ _. refl) up.opens) b.brings);
+          fits = fits;
+          silent = silent;
+          terms = (b.terms.0, refl, b.terms.1, refl);
+          said_book = aside.book ∙ again.book ∙ said_is.0;
+          said_reports = aside.reports ∙ again.reports ∙ said_is.1;
+          session = runs-append (MaySession m) session_after _ _ _
+              (exchange_session m (seen_in c g) g.request.hidden far steps passage o up.opens)
+              (runs-append (MaySession m) session_after back ys _
+              (again_session m (seen_in c g) h passed.isdu passed.carried p.again) b.session);
+          frozen = runs-append MayFrozen frozen_after _ _ _
+              (exchange_frozen request far steps passage o g.events.told
+              (confirms_told laws.events o R due (locals far steps)
+              (told_through far steps g.events.told)
+              (told_locals laws.events R (octets_confirm o) steps far g.events.told told_before)))
+              (again_frozen request passed.isdu h _ _ _ _ ys b.frozen);
+          images = runs-append (MayImages m) (images_after m) _ _ _
+              (exchange_images m request (shown_in t g.sent) far steps passage o p.sends)
+              (again_images m request passed.isdu h _ _ ys b.images);
+          image_is_last = b.last;
+          output_is_wanted = λ k. b.wanted k.2;
+          stands = record {
+            page = page_after laws passage (locals far steps) o ∙ page_locals laws steps far
+                ∙ stands.page;
+            kind = kind_after laws passage (locals far steps) o
+                ∙ laws.much.kind_kept far steps ∙ stands.kind;
+            sees = rw b.terms.1 (sees_kept t.configuration.devices far passed
+                (misses_passed laws.much passage steps far o) stands.sees);
+            fits = state_fits;
+            link = rw far_is at link;
+            joined = joined;
+            calm = calm;
+            sent = b.sent;
+            request = b.request_is;
+            events = b.events;
+            output = b.output;
+            shown = b.shown;
           };
         })
 
@@ -398,6 +404,7 @@ module _ (turn : Turn) (passage : Passage) (e : Purpose) (current : Option Curre
         frozen = (tt, refl);
         images = (tt, refl);
         says = says;
+        brings = refl;
         last = ((λ k. absurd (more_silence n k.1)), (λ k. absurd (k refl)), (λ k l. refl));
         wanted = λ k. absurd (more_silence n k);
         request_is = request_out;
@@ -421,6 +428,7 @@ module _ (turn : Turn) (passage : Passage) (e : Purpose) (current : Option Curre
           frozen = parts.0;
           images = parts.1;
           says = says;
+          brings = lost_brings request;
           last = ((λ k. absurd (more_silence n k.1)), (λ k. refl), (λ k l. cc));
           wanted = λ k. absurd (more_silence n k);
           request_is = lost_opens passed.isdu request h' p.opens;

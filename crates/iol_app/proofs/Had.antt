@@ -1,8 +1,8 @@
 -- A good reply in OPERATE: once for all kinds, over what a kind has to bring.
 use Rattle.std.proofs.lemmas.Grind.{common_steps}
 use Rattle.std.proofs.lemmas.Bool.Decides.{nat_tests}
-use Rattle.std.proofs.Common.{◌≡◌, ◌⊎◌, inl, inr, ℕ, suc, Bool, true, false, not, ◌&&◌, List, [], length, refl, sym, ◌∙◌, ap, arith}
-use Rattle.std.specs.Prelude.{Option, Some, None, IsSome, IfSome, if◌then◌else◌, slice_index, nat_lt}
+use Rattle.std.proofs.Common.{◌≡◌, ◌⊎◌, inl, inr, ℕ, suc, Bool, true, false, not, ◌&&◌, List, [], length, refl, sym, ◌∙◌, ap, arith, subst}
+use Rattle.std.specs.Prelude.{Option, Some, None, IsSome, IfSome, if◌then◌else◌, slice_index, nat_lt, IsTrue}
 use Rattle.iol_mseq.specs.Shape.{Shape}
 use Rattle.iol_mseq.specs.declared.reply.Reply.{Reply}
 use Rattle.iol_octets.specs.declared.control.Channel.TheVariants.{Diagnosis}
@@ -24,7 +24,7 @@ use Rattle.iol_link.specs.Honest.{Clean}
 use Rattle.iol_mode.specs.Stands.{StateStands, operate_link, IsAccepted}
 use Rattle.iol_mode.specs.States.{NextMode, InOperate, StateFits, next_state}
 use Rattle.iol_app.specs.declared.said.Said.{Said}
-use Rattle.iol_app.specs.Abstract.Steps.{repeats_at, Exchanged, Moment}
+use Rattle.iol_app.specs.Abstract.Steps.{repeats_at, Exchanged, Moment, input_length}
 use Rattle.iol_app.specs.Abstract.OfMaster.{ExchangeResult, Had, brought_steps, quiet_said}
 use Rattle.iol_app.specs.Abstract.Shown.{images_of, frozen_of}
 use Rattle.iol_app.specs.BothEnds.{ReadingState, Due, wants_confirm, wants_octet, AnswerFits, ProgressFits, EventsFit}
@@ -50,12 +50,14 @@ use Rattle.iol_mode.specs.declared.configuration.Devices.{Devices}
 use Rattle.iol_app.specs.State.{IsSession, session_after_exchange, clear_after, image_in}
 use Rattle.iol_app.specs.StationState.{SessionFits}
 use Rattle.iol_app.specs.declared.output.OutputState.{OutputState}
-use Rattle.iol_app.specs.Core.{BothEndsStand, ReceiveGives, reading_at, moment_of, seen_in, shown_in, settled_core}
+use Rattle.iol_app.specs.Core.{BothEndsStand, CallGives, reading_at, moment_of, seen_in, shown_in, settled_core}
 use Rattle.iol_app.proofs.ReadingOn.{Took, reads_next}
 use Rattle.iol_app.proofs.SmallFacts.{begins_request, confirms_is, same_output, input_is, input_hear, input_locals, image_octets}
 use Rattle.iol_app.proofs.Exchanging.{Says, Passes, RequestWords, Turn, words, request_words, gives, at, some_od, late', tied', confirms, told'}
 use Rattle.iol_app.proofs.CaseFacts.{more_grown}
 use Rattle.iol_app.proofs.Shown.{shown_as}
+use Rattle.iol_app.specs.Abstract.Turn.{may_bring}
+use Rattle.iol_app.specs.declared.mode.Mode.TheVariants.{Operate as ModeOperate}
 
 pub progress_fits : (devices : Devices) (clear : Bool) (current : Option Current)
     → ProgressFits (progress_of devices clear current) (request_under_way current)
@@ -270,6 +272,11 @@ module _ {good : Good} {e : Purpose} {current : Option Current} (a : Replied goo
 
   -- Process data
 
+  pub sized : IfSome there.input (λ x. length x ≡ input_length g.page)
+  sized = subst (λ (p : List ℕ). IfSome there.input (λ x. length x ≡ input_length p))
+      a.says.before.page_is (laws.sized.hears (locals far steps) o
+      (sized_locals laws steps far regular.sized))
+
   image : image_in r ≡ there.input
   image =
       let same : layouts.run.pd_in ≡ input_size there =
@@ -291,6 +298,7 @@ module _ {good : Good} {e : Purpose} {current : Option Current} (a : Replied goo
     pub reads : Reads
     pub kind : ExchangeResult
     pub says : Says kind request said
+    pub brings : IsTrue (may_bring ModeOperate (Exchanged true) (brought_steps kind request))
     pub busy : ℕ
     pub session : SessionRuns m (seen_in c g) h there.carried (brought_steps kind request)
         (record (seen_in c g) { request = request_under_way next; busy = busy }) h there.carried
@@ -311,7 +319,7 @@ module _ {good : Good} {e : Purpose} {current : Option Current} (a : Replied goo
   pub had : Comes (current_after e t.limit od current)
       → StateStands (next_state outcome) n' far' → StateFits (next_state outcome)
       → SessionFits (next_state outcome) (session_after_exchange e r c.session)
-      → ReceiveGives c g far n said (settled_core outcome c.session) far' n'
+      → CallGives c g far n said (settled_core outcome c.session) far' n'
   had b link fits joined =
       let next = current_after e t.limit od current in
       gives turn Clean e current stands passes {call = Exchanged true}
@@ -323,6 +331,7 @@ module _ {good : Good} {e : Purpose} {current : Option Current} (a : Replied goo
         frozen = b.frozen;
         images = rw (same_output e t.output, image) b.images;
         says = b.says;
+        brings = b.brings;
         last = (
           (λ k. image),
           (λ k. absurd (k refl)),
@@ -379,10 +388,11 @@ module _ {good : Good} {e : Purpose} {current : Option Current} (a : Replied goo
     reads = reads;
     kind = Had;
     says = says;
+    brings = refl;
     busy = g.request.busy;
     session = ((tt, tt), rw same refl);
     frozen = ((tt, tt), reads.same none);
-    images = (((refl, refl), tt), refl);
+    images = (((refl, refl, sized), tt), refl);
     base = base_now;
     level = reached next is;
     answer = rw same (answer_now leaves);

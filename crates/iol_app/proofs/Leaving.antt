@@ -3,7 +3,7 @@
 use Rattle.std.proofs.Common.{◌≡◌, ◌≢◌, ℕ, ◌+◌, min, Bool, true, false, List, [], ◌∷◌, refl, sym, ◌∙◌, ap, subst, arith}
 use Rattle.std.proofs.lemmas.Grind.{common_steps}
 use Rattle.std.proofs.lemmas.Bool.Decides.{nat_tests}
-use Rattle.std.specs.Prelude.{Option, Some, None, ◌==◌, if◌then◌else◌}
+use Rattle.std.specs.Prelude.{Option, Some, None, ◌==◌, if◌then◌else◌, IsTrue}
 use Rattle.iol_mseq.specs.Shape.{Shape, startup_shape}
 use Rattle.iol_mseq.specs.Texts.{master_text}
 use Rattle.iol_mseq.specs.Replies.{reply_in}
@@ -48,6 +48,7 @@ use Rattle.arrayvec.specs.ArrayVec.{ArrayVec}
 use Rattle.iol_app.specs.Requests.{request_under_way}
 use Rattle.iol_app.specs.State.{SessionState}
 use Rattle.iol_app.specs.Core.{CoreState, Ghost, BothEndsStand, CallGives, settled_core}
+use Rattle.iol_app.specs.Abstract.Turn.{may_bring}
 
 below : ModeStartup ≢ ModeOperate
 below e = absurd (cc)
@@ -159,6 +160,10 @@ module _ (laws : Laws) (leaves : OrderlyLaws) (heard : TextsAreHeard) (s : Start
       (record { state = AtStartup next; session = t }) hidden false e tt silence fits link
       (stands.joined.0, rw none tt))
 
+  any_way : (answered : Bool)
+      → IsTrue (may_bring ModeStartup (Exchanged answered) [])
+  any_way answered = grind (arith, common_steps)
+
   -- it goes on before the reset
   goes : (answered : Bool) → n' ≡ silence_by (Exchanged answered) n → {next : Startup}
       → is_behind next.step ≡ false → StartupStands next n' passed → StartupFits next
@@ -167,6 +172,7 @@ module _ (laws : Laws) (leaves : OrderlyLaws) (heard : TextsAreHeard) (s : Start
       stays_up {answered = answered} {ys = []} {hidden = effect.hidden} (record {
         limit = refl;
         configuration = refl;
+        brings = any_way answered;
         reports = refl;
         book = rw (b, before) refl;
         session = (tt, refl);
@@ -203,6 +209,7 @@ module _ (laws : Laws) (leaves : OrderlyLaws) (heard : TextsAreHeard) (s : Start
       (record {
         limit = refl;
         configuration = refl;
+        brings = refl;
         reports = refl;
         book = rw b refl;
         session = ((may_reset t.configuration.devices (stands.request.3 b), tt), rw nothing refl);
@@ -240,7 +247,7 @@ module _ (laws : Laws) (leaves : OrderlyLaws) (heard : TextsAreHeard) (s : Start
       (if two then WasLost else Again) in
       IsRisen (is_behind s.step) outcome n' far far' → NextModeFits outcome → Gives outcome
   by_tries true two silence risen fits =
-      loses c g far passed effect n n' stands below (Exchanged false) Lost nothing
+      loses c g far passed effect n n' stands below (Exchanged false) Lost nothing refl
       (third_time s.sent.tries n (grind (arith, nat_tests)) stands.link.tries) tt silence
   by_tries false two silence risen fits =
       goes false silence b (rw x.far_is at risen.both.stands) fits

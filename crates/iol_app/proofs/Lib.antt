@@ -8,6 +8,7 @@ pub mod ImagesPart
 pub mod Aside
 pub mod Told
 pub mod OpenLevel
+pub mod Orders
 pub mod Given
 pub mod Outputs
 pub mod EventReading

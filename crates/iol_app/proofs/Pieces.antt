@@ -1,6 +1,6 @@
 -- The two pieces of a turn, over the core's own data.
 use Rattle.std.proofs.lemmas.Grind.{common_steps}
-use Rattle.std.proofs.Common.{◌≡◌, inl, inr, ℕ, Bool, true, false, List, [], ◌∷◌, refl, ap, Option, Some, None, arith}
+use Rattle.std.proofs.Common.{◌≡◌, inl, inr, ℕ, Bool, true, false, List, [], refl, ap, Option, Some, None, arith}
 use Rattle.iol_octets.specs.Control.{control_of}
 use Rattle.iol_mseq.specs.Shape.{startup_shape}
 use Rattle.iol_mseq.specs.Master.{HasMasterParts}
@@ -20,20 +20,17 @@ use Rattle.iol_mode.specs.Next.{EnteredFits}
 use Rattle.iol_mode.specs.States.{NextMode, NextModeFits, StateFits, IsDown, next_state, mode_after_wake, operate_by, sending_after_try}
 use Rattle.iol_mode.specs.Exchanges.{IsSending, AcceptedBy, StandsOn, WakeStands, mode_after_reply, text_out}
 use Rattle.iol_mode.specs.Stands.{StateStands}
-use Rattle.iol_app.specs.declared.mode.Mode.TheVariants.{Operate as ModeOperate}
 use Rattle.iol_app.specs.declared.said.Said.{Said}
 use Rattle.iol_app.specs.declared.said.Said.TheVariants.{Idle}
-use Rattle.iol_app.specs.Abstract.Steps.{PortStep, Moment, no_make, MayAll}
-use Rattle.iol_app.specs.Abstract.Images.{Images, images_after, MayImages}
 use Rattle.iol_app.specs.declared.event_work.EventRoom.{EventRoom}
 use Rattle.iol_app.specs.declared.session.Purpose.{Purpose}
 use Rattle.iol_app.specs.declared.brought.WireResult.{WireResult}
 use Rattle.iol_app.specs.Due.{due_of}
 use Rattle.iol_app.specs.Outputs.{output_to_carry}
 use Rattle.iol_app.specs.State.{SessionState, IsSession, IsMessageFor, session_sending, IsOutBy}
-use Rattle.iol_app.specs.StationState.{SessionFits, IsStill, NextFits, IsSettledSaid, mode_in}
+use Rattle.iol_app.specs.StationState.{SessionFits, IsStill, NextFits, IsSettledSaid}
 use Rattle.iol_app.specs.StationLaws.{StationLaws}
-use Rattle.iol_app.specs.Core.{CoreState, Ghost, BothEndsStand, CallGives, IsAttempted, ordered_output, moment_of, images_in, after_exchange, settled_core, after_wake, core_out, free_core}
+use Rattle.iol_app.specs.Core.{CoreState, Ghost, BothEndsStand, CallGives, IsAttempted, ordered_output, after_exchange, settled_core, after_wake, core_out, free_core}
 use Rattle.iol_app.proofs.Orderly.{first_parts}
 use Rattle.iol_app.proofs.Doubts.{core_of, after_fits}
 use Rattle.iol_app.specs.Pieces.{SendsMessage, ReadsOn, IsSettledBy, IsTakenUp, SendSteps, TakeUpGives, WakeSteps, ReceiveSteps}
@@ -100,22 +97,6 @@ pub judged_next : (state : State) (came : Option (List ℕ)) (s : SessionState) 
 judged_next state came s sends fits =
     grind (arith, common_steps, startup_next, preoperate_next, out_next)
 
--- outside OPERATE no message is made
-unmade : (m : Moment) (steps : List PortStep) (i : Images) → (m.began ≡ ModeOperate → ⊥)
-    → MayAll (MayImages m) (images_after m) steps i → no_make steps ≡ true
-unmade m [] i down may = refl
-unmade m (x ∷ steps) i down may = grind (arith, common_steps, unmade m steps (images_after m x i))
-
-unmade_by : {c next : CoreState} {g : Ghost} {far far' : Far} {n n' : ℕ} {said : Said}
-    → (mode_in c.state ≡ ModeOperate → ⊥) → (r : CallGives c g far n said next far' n')
-    → no_make r.steps ≡ true
-unmade_by {c} {g = g} {far = far} {n = n} down r =
-    unmade (moment_of c g n r.call) r.steps (images_in c g far) down r.images.0
-
--- in down neither
-not_up : (state : State) → IsDown state → mode_in state ≡ ModeOperate → ⊥
-not_up state down up = grind (arith, common_steps)
-
 module _ (laws : StationLaws) (came : Option (List ℕ)) (said : Said) (brought : WireResult)
     (g : Ghost)
     (far far' : Far) (n n' : ℕ) where
@@ -153,8 +134,7 @@ module _ (laws : StationLaws) (came : Option (List ℕ)) (said : Said) (brought 
       let got = laws.receives.gives layouts w t e g far far' n n' came said stands j.valid x j.few
       met.0 met.1 on fitting.0 fitting.1 j.said_is in
       record {
-        given = got.given;
-        unmade = got.unmade;
+        given = got;
         attempted = operate_tried w layouts reply s;
       }
 
@@ -169,9 +149,8 @@ module _ (laws : StationLaws) (came : Option (List ℕ)) (said : Said) (brought 
       laws.rises.gives (core_of state s) g far far' n n' came refl stands j.valid x risen j.fits
       (settled_fits o s j.fits (judged_next state came s sends stands.joined)) in
       let settled = risen_settled o s n' far' risen.entered in
-      let down : mode_in state ≡ ModeOperate → ⊥ = λ up. cc in
       rw (settled.0, still_said o s said stands.joined.0 j.said_is)
-      (record { given = given; unmade = unmade_by down given; attempted = settled.1 })
+      (record { given = given; attempted = settled.1 })
 
 pub receive_steps : StationLaws → {old : CoreState} {came : Option (List ℕ)} {said : Said}
     {brought : WireResult} {new : CoreState} → IsSending old.state
@@ -218,6 +197,5 @@ wake_steps laws old answered new down stands_by e = λ g far far' n stands x.
     (waked_fits old.session.configuration.devices answered) in
     rw e (record {
       given = given;
-      unmade = unmade_by (not_up old.state down) given;
       attempted = waked_tried old.session.configuration.devices answered;
     })

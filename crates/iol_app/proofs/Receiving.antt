@@ -47,7 +47,7 @@ use Rattle.iol_app.specs.State.{SessionState, IsSession}
 use Rattle.iol_app.specs.StationState.{SessionFits, IsSettledSaid}
 use Rattle.iol_app.proofs.OperateMessages.{exchange_command}
 use Rattle.iol_app.proofs.Turns.{good_parts}
-use Rattle.iol_app.specs.Core.{CoreState, Ghost, BothEndsStand, ReceiveGives, Receives, core_out, after_exchange}
+use Rattle.iol_app.specs.Core.{CoreState, Ghost, BothEndsStand, CallGives, Receives, core_out, after_exchange}
 use Rattle.iol_app.proofs.SmallFacts.{operating, third_time, begins_request}
 use Rattle.iol_app.proofs.Stations.{trusts}
 use Rattle.iol_app.proofs.FarSide.{Goes, IsGoing, silent, replied, says_of, outputs_sent, outputs_after, opens_after, replied_told, replied_out}
@@ -194,7 +194,7 @@ module _ (names : TextNamesAnswer) (taken : AnswersAreTakenUp) (laws : Laws)
         (record { message = w.message; tries = if b then 0 else w.tries + 1 }) layouts
         (if b then WasLost else Again) in
         IsMet outcome n' far' → Left outcome → IsSettledSaid outcome c.session said
-        → ReceiveGives c g far n said (after_exchange outcome c.session) far' n'
+        → CallGives c g far n said (after_exchange outcome c.session) far' n'
     by_tries true two silence met left says =
         gives turn x.passage e t.current stands (passes x.passage) x.far_is
         (loses turn x.passage e t.current stands (passes x.passage) says
@@ -208,7 +208,7 @@ module _ (names : TextNamesAnswer) (taken : AnswersAreTakenUp) (laws : Laws)
     by_reply : (reply : Option Reply) → good_reply layouts.run w.message came ≡ reply
         → IsMet (after_by reply) n' far' → Left (after_by reply)
         → IsSettledSaid (after_by reply) c.session said
-        → ReceiveGives c g far n said (after_exchange (after_by reply) c.session) far' n'
+        → CallGives c g far n said (after_exchange (after_by reply) c.session) far' n'
     by_reply None good met left says =
         by_tries (w.tries == 2) refl
         (silent laws going goes far far' n n' came x stands.request.level stands.page good) met

@@ -1,7 +1,7 @@
 -- An exchange of a start-up, in both its modes.
 use Rattle.std.proofs.Common.{◌≡◌, ◌≢◌, inl, ℕ, ◌+◌, min, Bool, true, false, ◌&&◌, List, [], ◌∷◌, ◌++◌, refl, sym, ◌∙◌, ap, arith, ◌≤◌, ◌==◌, length, subst}
 use Rattle.std.proofs.lemmas.Grind.{common_steps}
-use Rattle.std.specs.Prelude.{Option, Some, None, Ok, IfSome, not, unwrap_or, Result, Err, IfOk, is_some, slice_index, if◌then◌else◌}
+use Rattle.std.specs.Prelude.{Option, Some, None, Ok, IfSome, not, unwrap_or, Result, Err, IfOk, is_some, slice_index, if◌then◌else◌, IsTrue}
 use Rattle.iol_octets.specs.declared.control.Channel.TheVariants.{Page}
 use Rattle.iol_mseq.specs.Shape.{Shape, startup_shape}
 use Rattle.iol_mseq.specs.Master.{HasMasterParts}
@@ -79,6 +79,7 @@ use Rattle.iol_app.proofs.SmallFacts.{third_time}
 use Rattle.iol_app.proofs.Stations.{resting_quiet}
 use Rattle.iol_app.proofs.Leaving.{leaving_rises}
 use Rattle.iol_app.specs.BothEnds as steps
+use Rattle.iol_app.specs.Abstract.Turn.{may_bring}
 
 -- a start-up whose device was reset
 data Start : Type 0 where
@@ -130,6 +131,21 @@ level_behind step o tries far e h = grind (arith, common_steps)
 
 below : (start : Start) → mode_at start ≢ ModeOperate
 below start e = grind (arith, common_steps)
+
+-- what a reply brings in it
+
+stays_brings : (start : Start) (answered : Bool)
+    → IsTrue (may_bring (mode_at start) (Exchanged answered) [])
+stays_brings start answered = grind (arith, common_steps)
+
+moves_brings : (start : Start) (mode : Mode) (why : Option Why)
+    → IsTrue (may_bring (mode_at start) (Exchanged true) (MoveTo mode why ∷ []))
+moves_brings start mode why = grind (arith, common_steps)
+
+tells_brings : (start : Start) → mode_at start ≡ ModeStartup
+    → IsTrue (may_bring (mode_at start) (Exchanged true) (TellLength ∷ []))
+tells_brings start first = subst (λ (mode : Mode).
+    IsTrue (may_bring mode (Exchanged true) (TellLength ∷ []))) (sym first) refl
 
 -- an output that isn't valid is as told
 invalid : (sent : Option (List ℕ)) (known : Type 0) (far : Far) → OutputOff false far
@@ -358,6 +374,7 @@ module _ {start : Start} {session : SessionState} {g : Ghost} {far far' : Far} {
       let shows = ap (λ (e : MasterFields). session_of e h passed.carried) (sym same) in
       assumption (
         refl,
+        stays_brings start answered,
         shows,
         no_book (is_reset (state_at next)),
         kept next,
@@ -372,14 +389,26 @@ module _ {start : Start} {session : SessionState} {g : Ghost} {far far' : Far} {
       → Brings true (record { state = state; session = session_with_flag event (still session) })
       (MoveTo (mode_in state) (why_in state) ∷ [])
   moves event state may left =
-      assumption (refl, may, no_book (is_reset state), left, stands.sent, shown' state event)
+      assumption (
+        refl,
+        moves_brings start (mode_in state) (why_in state),
+        may,
+        no_book
+            (is_reset state),
+        left,
+        stands.sent,
+        shown' state event,
+      )
 
   -- it goes down, for a cause
   down : {why : Why} (answered : Bool) → n' ≡ silence_by (Exchanged answered) n
+      → IsTrue (may_bring (mode_at start) (Exchanged answered) (MoveTo ModeDown (Some why) ∷ []))
       → MayMove (moment_of c g n (Exchanged answered)) (mode_at start) ModeDown (Some why)
       → Rising (InDown (record { why = Some why }))
-  down {why} answered silence may = by answered silence refl
-      (call_falls c g far passed effect n n' stands (below start) (Exchanged answered) why refl may)
+  down {why} answered silence brings may = by answered silence refl
+      (call_falls c g far passed effect n n' stands (below start) (Exchanged answered) why refl
+      brings
+      may)
 
   -- the page is whole, that of the device that is expected, and is told
   tells : (s : Startup) (behind : is_behind s.step ≡ true) (read : PageFacts)
@@ -405,6 +434,7 @@ module _ {start : Start} {session : SessionState} {g : Ghost} {far far' : Far} {
       record {
         limit = refl;
         configuration = refl;
+        brings = tells_brings start first;
         session = ((tt, tt), ap (λ (e : MasterFields). session_of e h passed.carried) (sym same));
         frozen = ((tt, tt), refl);
         images = (
@@ -534,7 +564,7 @@ module _ (known : Known) (session : SessionState) (valid : IsSession (still sess
         → Rising pre (preoperate_by
         (record { message = s.sent.message; tries = if b then 0 else s.sent.tries + 1 })
         s.cycle_written s.pre s.layouts (if b then WasLost else Again))
-    pre_tries true two silence = down pre false silence
+    pre_tries true two silence = down pre false silence refl
         (third_time s.sent.tries n (grind (arith, nat_tests)) stands.link.tries)
     pre_tries false two silence = by pre false silence refl (stays pre false (InPre _) refl)
 
@@ -564,7 +594,7 @@ module _ (known : Known) (session : SessionState) (valid : IsSession (still sess
         → Rising start (startup_by asks_now
         (record { message = s.sent.message; tries = if b then 0 else s.sent.tries + 1 })
         s.step (if b then WasLost else Again))
-    start_tries true two silence = down start false silence
+    start_tries true two silence = down start false silence refl
         (third_time s.sent.tries n (grind (arith, nat_tests)) stands.link.tries)
     start_tries false two silence = by start false silence
         (told_stays (read_by s.step) (still session) valid stands.joined.1)
@@ -603,7 +633,8 @@ module _ (known : Known) (session : SessionState) (valid : IsSession (still sess
       by_layouts true layouts octets out known risen =
           let asked : is_interleaved g.page ≡ true =
           rw (page_new start) at (risen.interleaved refl) in
-          down start true good.silence_is (left_at asks_now.devices octets g.page out asked) risen
+          down start true good.silence_is refl
+          (left_at asks_now.devices octets g.page out asked) risen
       by_layouts false layouts octets out known risen =
           let read : PageFacts = told_of asks_now layouts octets in
           let behind = rw (page_new start) at
@@ -620,7 +651,7 @@ module _ (known : Known) (session : SessionState) (valid : IsSession (still sess
       by_taken (Err fault) octets known risen =
           let asked : layouts_of g.page ≡ Err fault =
           rw (page_new start) at (risen.fault fault refl) in
-          down start true good.silence_is (may_fault fault (ap fault_in asked)) risen
+          down start true good.silence_is refl (may_fault fault (ap fault_in asked)) risen
       by_taken (Ok layouts) octets known risen =
           by_layouts (is_left_out asks_now.devices octets) layouts octets refl known risen
 
@@ -632,7 +663,7 @@ module _ (known : Known) (session : SessionState) (valid : IsSession (still sess
           rw (page_new start) at (risen.device (identity_of octets) refl) in
           let wrong : is_expected asks_now.expected g.page ≡ false =
           grind (arith, common_steps, found, unknown) in
-          down start true good.silence_is (found, wrong) risen
+          down start true good.silence_is refl (found, wrong) risen
 
       by_known : (b : Bool) (octets : List ℕ) → is_expected asks_now.expected octets ≡ b
           → Rising start (taken_where b asks_now (layouts_of octets) octets)

@@ -70,6 +70,7 @@ module _ (s : Down) (t : SessionState) (g : Ghost) (far : Far) (silence : ℕ)
       (woken_by Any true t) effect.hidden false (record {
         limit = refl;
         configuration = refl;
+        brings = refl;
         reports = refl;
         book = refl;
         session = (((any, refl, refl), tt), rw free refl);
@@ -94,6 +95,7 @@ module _ (s : Down) (t : SessionState) (g : Ghost) (far : Far) (silence : ℕ)
       (Reset ∷ []) (woken_by Own true t) (record effect.hidden { late = None }) false (record {
         limit = refl;
         configuration = refl;
+        brings = refl;
         reports = refl;
         book = refl;
         session = ((may_reset t.configuration.devices own, tt), rw free refl);
@@ -113,7 +115,8 @@ module _ (s : Down) (t : SessionState) (g : Ghost) (far : Far) (silence : ℕ)
   -- no rate is answered
   fails : (far' : Far) → Effect c g far far' → (devices : Devices) → Gives devices false far'
   fails far' effect devices link fits =
-      loses c g far far' effect silence silence stands below (Woke false) NoWake free refl tt refl
+      loses c g far far' effect silence silence stands below (Woke false) NoWake free refl refl
+      tt refl
 
   -- a rate is answered
   answers : (there : Far) → Effect c g far (far_after_wake there) → (devices : Devices)

@@ -27,7 +27,7 @@ use Rattle.iol_mode.specs.Stands.{StateStands, IsOperating, IsAccepted}
 use Rattle.iol_app.specs.declared.mode.Mode.TheVariants.{Operate as ModeOperate}
 use Rattle.iol_app.specs.declared.said.Said.{Said}
 use Rattle.iol_app.specs.declared.said.Said.TheVariants.{Idle}
-use Rattle.iol_app.specs.Abstract.Steps.{PortStep, repeats_at, doubts_at, Make, Take, WireCall, Moment, ImageOctets, silence_by, CallFits, no_make, is_for_book, is_report, book_said, reports_said, resets, output_length, TakesSteps}
+use Rattle.iol_app.specs.Abstract.Steps.{PortStep, repeats_at, doubts_at, Make, Take, WireCall, Moment, ImageOctets, silence_by, CallFits, is_for_book, is_report, book_said, reports_said, resets, output_length, TakesSteps}
 use Rattle.iol_app.specs.Abstract.Session.{Session, MaySession, session_after}
 use Rattle.iol_app.specs.Abstract.Events.{Frozen, MayFrozen, frozen_after}
 use Rattle.iol_app.specs.Abstract.Images.{Images, MayImages, images_after, image_or}
@@ -37,7 +37,7 @@ use Rattle.iol_app.specs.Abstract.Shown.{ShownProcessData, session_of, frozen_of
 use Rattle.iol_app.specs.BothEnds.{AnswerFits, WaitsElsewhere, ReadingState, wants_confirm, wants_octet}
 use Rattle.iol_app.specs.BothEnds as steps
 use Rattle.iol_app.specs.Exchange.{reading_flagged, is_output_told, hidden_lost}
-use Rattle.iol_app.specs.Abstract.Turn.{ImageIsLast, OutputIsWanted}
+use Rattle.iol_app.specs.Abstract.Turn.{ImageIsLast, OutputIsWanted, IsInOrder}
 use Rattle.iol_app.specs.declared.event_work.EventRoom.{EventRoom}
 use Rattle.iol_app.specs.declared.event_work.ReadingProgress as app
 use Rattle.iol_app.specs.declared.event_work.ReadingProgress.TheVariants.{Resting, UnderWay, ConfirmDue, Refused}
@@ -360,6 +360,7 @@ pub record CallGives (c : CoreState) (g : Ghost) (far : Far) (silence : ℕ) (sa
   pub call : WireCall
   pub steps : List PortStep
   pub after : Ghost
+  pub order : IsInOrder (mode_in c.state) call steps
   pub fits : CallFits (mode_in c.state) call
   pub silent : silence_new ≡ silence_by call silence
   pub terms : TermsStay c next g after
@@ -550,13 +551,7 @@ pub record Sends : Type 0 where
       → ((link : FarLink) → IsOperating layouts link → IsAccepted layouts far.page link message)
       → SendGives (free_core layouts t) next g (made_ghost t g) far silence
 
--- what comes back to the message that is out: as CallGives, and no message is made
-pub record ReceiveGives (c : CoreState) (g : Ghost) (far : Far) (silence : ℕ) (said : Said)
-    (next : CoreState)
-    (far_new : Far) (silence_new : ℕ) : Type 0 where
-  pub given : CallGives c g far silence said next far_new silence_new
-  pub unmade : no_make given.steps ≡ true
-
+-- what comes back to the message that is out
 pub record Receives : Type 0 where
   pub gives :
       (layouts : Layouts) (out : Sending) (t : SessionState) (exchange : Purpose) (g : Ghost)
@@ -573,4 +568,4 @@ pub record Receives : Type 0 where
       → StandsOn (next_state outcome) next.state → StateFits next.state
       -- the session's own
       → SessionFits next.state next.session → IsSettledSaid outcome c.session said
-      → ReceiveGives c g far silence said next far_new silence_new
+      → CallGives c g far silence said next far_new silence_new

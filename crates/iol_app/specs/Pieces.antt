@@ -16,7 +16,6 @@ use Rattle.iol_mode.specs.declared.states.State.TheVariants.{Operate as AtOperat
 use Rattle.iol_mode.specs.Exchanges.{IsSending, AreFew, ExchangeGives, StandsOn, WakeStands, text_out, layout_out}
 use Rattle.iol_mode.specs.Messages.{new_sending}
 use Rattle.iol_mode.specs.States.{IsDown, StateFits, NextModeFits, next_state}
-use Rattle.iol_app.specs.Abstract.Steps.{no_make}
 use Rattle.iol_app.specs.declared.said.Said.{Said}
 use Rattle.iol_app.specs.declared.said.Said.TheVariants.{Idle}
 use Rattle.iol_app.specs.declared.asked.Asked.{Asked}
@@ -144,12 +143,11 @@ pub record PutsOut (room : EventRoom) (old new : CoreState) : Type 0 where
   -- where both ends stand, they stand on
   pub steps : SendSteps old new
 
--- what comes back is taken up: no message is made, and one that is out afterwards was sent
+-- what comes back is taken up: a message that is out afterwards was sent
 pub record TakeUpGives (old : CoreState) (g : Ghost) (far : Far) (silence : ℕ) (said : Said)
     (new : CoreState)
     (far_new : Far) (silence_new : ℕ) : Type 0 where
   pub given : CallGives old g far silence said new far_new silence_new
-  pub unmade : no_make given.steps ≡ true
   pub attempted : IsAttempted new.state
 
 -- this came of a wake

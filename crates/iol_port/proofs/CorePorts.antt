@@ -13,7 +13,7 @@ use Rattle.iol_mode.specs.Exchanges.{IsSending}
 use Rattle.iol_app.specs.declared.mode.Mode.TheVariants.{Operate}
 use Rattle.iol_app.specs.declared.said.Said.{Said}
 use Rattle.iol_app.specs.declared.said.Said.TheVariants.{Idle}
-use Rattle.iol_app.specs.Abstract.Steps.{PortStep, Make, Reset, WireCall, Moment, no_make, resets, book_said, through_steps, TakesSteps}
+use Rattle.iol_app.specs.Abstract.Steps.{PortStep, Make, Reset, WireCall, Moment, resets, book_said, through_steps, TakesSteps}
 use Rattle.iol_app.specs.Abstract.Session.{MaySession, session_after}
 use Rattle.iol_app.specs.declared.event_work.EventRoom.{EventRoom}
 use Rattle.iol_app.specs.declared.brought.WireResult.{WireResult}
@@ -35,8 +35,8 @@ use Rattle.iol_port.specs.Run.{counting_of, PortState, Pending, SendOf, PieceOf,
 use Rattle.iol_port.specs.declared.awaited.AwaitedAnswer.TheVariants.{Nothing, Wake, Reply}
 use Rattle.iol_port.specs.View.{PortParts, PortValue, Choice, IsOutInOperate, IsTied, PendingAt, StandsFor, IsAbstractCall, Does, BeginsNext, abstract_port, on_wire, over}
 use Rattle.iol_port.specs.CorePort.{IsCoreCall, awaited_answer, CoreDoes, PieceDoes, SendDoes, ReceiveDoes, WakeDoes}
-use Rattle.iol_port.proofs.Filters.{book_through-filter, MayBookAll-filter, kept_through-filter, takes_none, is_no_taking, may_book_said}
-use Rattle.iol_port.proofs.TurnLemmas.{Begun, Settles, under, begun, none_down, terms_of}
+use Rattle.iol_port.proofs.Filters.{book_through-filter, MayBookAll-filter, kept_through-filter, may_book_said}
+use Rattle.iol_port.proofs.TurnLemmas.{Begun, Settles, under, begun, none_down, terms_of, page_read_of}
 use Rattle.iol_port.proofs.CallLemmas.{none_pending, expect_does, set_cycle_does}
 use Rattle.iol_app.specs.Abstract.Images.{MayImages, images_after}
 use Rattle.iol_port.specs.Steps.{MayBook, book_after}
@@ -137,6 +137,7 @@ goes_out {start = start} {after = after} {made = made} p next far n u none kept 
         refl,
         inl (record {
           free = none;
+          page_read = page_read_of b.stands;
           steps = steps;
           only = made_sends b.first made b.only;
           book = rw book_is (runs-append MayBook book_after b.first (make_of made) _ b.book
@@ -187,11 +188,6 @@ again_does p sent = λ far n a for_a.
 
 -- What comes back
 
-unsent_all : (steps : List PortStep) → IsTrue (list_all is_no_taking steps)
-    → no_make steps ≡ true → IsTrue (list_all (λ step. not (is_sending_step step)) steps)
-unsent_all [] h k = refl
-unsent_all (step ∷ steps) h k = grind (arith, common_steps, unsent_all steps)
-
 -- to what is out
 module _ (p next : PortParts) (far far' : Far) (n n' : ℕ) (said : Said) (free : next.sent ≡ false)
     (settles : Settles p next said (is_reset p.core.state) p.book.state) where
@@ -219,11 +215,12 @@ module _ (p next : PortParts) (far far' : Far) (n n' : ℕ) (said : Said) (free 
             out = out;
             was = was;
             turn = record { call = x.call; steps = x.steps };
-            only = unsent_all x.steps (takes_none x.steps began ended said x.said_book) r.unmade;
             all = record {
+              order = x.order;
               fits = x.fits;
               silence = x.silent;
               terms = terms_of x.terms;
+              page_read = page_read_of x.stands;
             };
             work = record {
               book = (

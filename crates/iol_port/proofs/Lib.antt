@@ -10,6 +10,7 @@ pub mod RunLemmas
 pub mod CorePorts
 pub mod WireLemmas
 pub mod TurnsRuleOut
+pub mod TurnOrders
 pub mod TieLemmas
 pub mod AskedLemmas
 pub mod AskLemmas

@@ -32,7 +32,7 @@ pub record IsMoved (m : Moment) (steps : List PortStep) (a b : PortState) : Type
   pub terms : b.terms ≡ a.terms
   pub at : m.terms ≡ a.terms
 
-sending_mode : (xs : List PortStep) (s : Session) → IsTrue (list_all is_sending_step xs)
+pub sending_mode : (xs : List PortStep) (s : Session) → IsTrue (list_all is_sending_step xs)
     → (through_steps session_after xs s).mode ≡ s.mode
 sending_mode [] s only = refl
 sending_mode (x ∷ xs) s only = grind (arith, common_steps, sending_mode xs (session_after x s))

@@ -1,5 +1,5 @@
 -- the three pieces of a turn make one turn of the abstract port
-use Rattle.std.proofs.Common.{◌≡◌, ◌∷◌, ◌++◌, [], List, ℕ, Bool, Option, None, refl, sym, subst, inl, inr, arith}
+use Rattle.std.proofs.Common.{◌≡◌, ◌∷◌, ◌++◌, [], List, ℕ, Bool, Option, None, refl, sym, subst, inl, inr, arith, ap}
 use Rattle.std.proofs.lemmas.Grind.{common_steps}
 use Rattle.iol_isdu.specs.declared.values.Answer.{Answer}
 use Rattle.iol_book.specs.BookModel.{BookState}
@@ -14,7 +14,7 @@ use Rattle.iol_mode.specs.declared.states.State.{State}
 use Rattle.iol_mode.specs.States.{is_reset}
 use Rattle.iol_app.specs.Requests.{request_under_way}
 use Rattle.iol_app.specs.State.{SessionState, session_after_begin}
-use Rattle.iol_app.specs.StationState.{SessionFits, mode_in}
+use Rattle.iol_app.specs.StationState.{SessionFits, mode_in, IsPresent}
 use Rattle.iol_app.specs.Core.{CoreState, Ghost, OfRequest, BothEndsStand, BeginGives, begun_ghost, session_in}
 use Rattle.iol_app.specs.Seen.{BeginSteps, DenySteps}
 use Rattle.iol_port.specs.declared.call.Call.{Call}
@@ -25,14 +25,41 @@ use Rattle.iol_far.specs.declared.kind.Kind.{Kind}
 use Rattle.iol_mode.specs.declared.configuration.Configuration.{Configuration}
 use Rattle.iol_app.specs.Abstract.Session.{MaySession, session_after}
 use Rattle.std.specs.List.{list_all}
-use Rattle.std.specs.Prelude.{IsTrue}
+use Rattle.std.specs.Prelude.{IsTrue, IfSome, Some}
 use Rattle.iol_port.specs.Run.{is_sending_step}
+use Rattle.iol_app.specs.Abstract.Turn.{IsPageRead}
+use Rattle.iol_mode.specs.declared.states.State.TheVariants.{Preoperate as AtPreoperate, Operate as AtOperate}
+use Rattle.iol_mode.specs.declared.states.PageFacts.{PageFacts}
+use Rattle.iol_page.specs.declared.page.Layouts.{Layouts}
+use Rattle.std.specs.Option.{option_map}
 
 -- down leaves no request under way
 pub none_down : (state : State) (session : SessionState) (g : Ghost) (answer : Option Answer)
     → SessionFits state session → mode_in state ≡ Down
     → job_of (request_under_way session.current) answer g.request.busy g.request.asked ≡ None
 none_down state session g answer fits down = grind (arith, common_steps)
+
+-- beyond STARTUP the page was read in this session
+page_of_layouts : (layouts : Layouts) (present : Option PageFacts) (page : List ℕ)
+    → IsPresent layouts present → IfSome present (λ t. t.page ≡ page)
+    → option_map (λ (t : PageFacts). t.page) present ≡ Some page
+unfolding IsPresent
+page_of_layouts layouts None page told same = absurd told
+page_of_layouts layouts (Some t) page told same = ap Some same
+
+page_read_in : (state : State) (s : SessionState) (page : List ℕ) → SessionFits state s
+    → IfSome s.present (λ t. t.page ≡ page)
+    → IsPageRead (mode_in state) page (option_map (λ (t : PageFacts). t.page) s.present)
+page_read_in (AtPreoperate o) s page (still, (run, isdu, told)) same =
+    page_of_layouts o.layouts s.present page told same
+page_read_in (AtOperate o) s page fits same =
+    page_of_layouts o.layouts s.present page fits.told.2 same
+page_read_in state s page fits same = tt
+
+pub page_read_of : {k : CoreState} {g : Ghost} {far : Far} {n : ℕ} → BothEndsStand k g far n
+    → IsPageRead (mode_in k.state) g.page (option_map (λ (t : PageFacts). t.page) k.session.present)
+page_read_of {k} {g} stands =
+    page_read_in k.state k.session g.page stands.joined stands.shown.present
 
 pub terms_of : {limit was : ℕ} {page old : List ℕ} {asks asked : Configuration} {kind first : Kind}
     → (limit ≡ was) × (page ≡ old) × (asks ≡ asked) × (kind ≡ first)

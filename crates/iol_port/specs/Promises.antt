@@ -1,13 +1,13 @@
 -- The laws of the abstract port, over whole runs.
-use Rattle.std.specs.Prelude.{◌≡◌, ◌⊎◌, ℕ, Bool, true, false, List, [], ◌∷◌, ◌++◌, Option, Some, None, ⊤}
+use Rattle.std.specs.Prelude.{◌≡◌, ◌⊎◌, ℕ, Bool, true, false, List, [], ◌∷◌, ◌++◌, Option, Some, None, ⊤, IfSome, length}
 use Rattle.iol_far.specs.Far.{Far}
 use Rattle.iol_book.specs.declared.limits.Limits.{Limits}
 use Rattle.iol_book.specs.declared.entries.Ticket.{Ticket}
 use Rattle.iol_book.specs.BookModel.{is_taken}
 use Rattle.iol_isdu.specs.declared.values.Cause.TheVariants.{Cancelled}
-use Rattle.iol_app.specs.Abstract.Steps.{PortStep, Unknown, Moment, MayAll}
+use Rattle.iol_app.specs.Abstract.Steps.{PortStep, Unknown, Moment, MayAll, input_length, is_right}
 use Rattle.iol_app.specs.Abstract.Session.{Job, Session, MaySession, session_after}
-use Rattle.iol_app.specs.declared.mode.Mode.TheVariants.{Operate}
+use Rattle.iol_app.specs.declared.mode.Mode.TheVariants.{Operate, Startup, Down}
 use Rattle.iol_port.specs.declared.call.Call.{Call}
 use Rattle.iol_port.specs.declared.call.Call.TheVariants as call
 use Rattle.iol_port.specs.declared.call.Answered.{Answered}
@@ -36,6 +36,26 @@ PiecesSound =
 abbrev pub GoodLinkStays : Type 0
 GoodLinkStays = (a b : PortState) → TurnOf a b → a.session.mode ≡ Operate → b.silence ≡ 0
     → b.session.mode ≡ Operate
+
+-- events come with a good reply in OPERATE alone
+abbrev pub EventsAreRead : Type 0
+EventsAreRead = (a b : PortState) → TurnOf a b
+    → (b.kept ≡ a.kept) ⊎ ((a.session.mode ≡ Operate) × (b.silence ≡ 0))
+
+-- an image that a good reply brings in OPERATE is none, or has the length that the page says
+abbrev pub ImagesHaveLength : Type 0
+ImagesHaveLength = (a b : PortState) → TurnOf a b → a.session.mode ≡ Operate → b.silence ≡ 0
+    → IfSome b.images.image (λ image. length image ≡ input_length b.terms.page)
+
+-- a start-up that has not read the page goes on to no other mode than down
+abbrev pub StartsByPage : Type 0
+StartsByPage = (a b : PortState) → TurnOf a b → a.session.mode ≡ Startup
+    → a.images.page ≡ None → (b.session.mode ≡ Startup) ⊎ (b.session.mode ≡ Down)
+
+-- and it doesn't read that of a device which is not the expected one
+abbrev pub WrongPagesStayUnread : Type 0
+WrongPagesStayUnread = (a b : PortState) → TurnOf a b → a.session.mode ≡ Startup
+    → a.images.page ≡ None → is_right a.terms ≡ false → b.images.page ≡ None
 
 -- where a reply is missing already, a turn changes that, so that nothing at all is no turn
 abbrev pub NothingIsNoTurn : Type 0

@@ -1,5 +1,6 @@
 //! What a client may conclude of a whole run of a port: laws, without code.
-ghost use Rattle.iol_port.specs.Promises.{OpensSound, RunsSound, GoodLinkStays, NothingIsNoTurn, RunsJoin};
+ghost use Rattle.iol_port.specs.Promises.{OpensSound, RunsSound, GoodLinkStays, NothingIsNoTurn, EventsAreRead, ImagesHaveLength, StartsByPage};
+ghost use Rattle.iol_port.specs.Promises.{WrongPagesStayUnread, RunsJoin};
 ghost use Rattle.iol_port.specs.Promises.{PiecesSound, PiecesJoin, HalvesAreTurns};
 ghost use Rattle.iol_port.specs.Promises.{CancelledWasAsked, AskedByCancel};
 ghost use Rattle.iol_port.specs.Clean.{CleanLaws};
@@ -32,12 +33,19 @@ pub fn record_fits_journal()
 
 /// A law of the definitions: what no turn of the abstract port is.
 ///
-/// With a good reply in OPERATE the link stays in OPERATE; and in OPERATE, where
-/// the last reply is missing, leaving all as it was is no turn. What a turn does on
-/// every wire is said by the clause `gives` of [`Port::turn`](crate::Port::turn).
+/// With a good reply in OPERATE the link stays in OPERATE; and in OPERATE, where the last reply is
+/// missing, leaving all as it was is no turn. Events come with a good reply in OPERATE alone, and
+/// an image that one brings has the length that the page says. A start-up that has not read the
+/// page goes on to no mode but down, and it does not read the page of a device that is not the
+/// expected one. What a turn does on every wire is said by the clause `gives` of
+/// [`Port::turn`](crate::Port::turn).
 pub fn turns_rule_out()
     ensures stays { GoodLinkStays }
     ensures nothing { NothingIsNoTurn }
+    ensures events { EventsAreRead }
+    ensures images { ImagesHaveLength }
+    ensures pages { StartsByPage }
+    ensures wrong { WrongPagesStayUnread }
 {}
 
 /// A law of the definitions: the two pieces of a turn, with no call between, are that turn.

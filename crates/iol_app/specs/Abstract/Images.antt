@@ -1,8 +1,8 @@
 -- The process data of both directions: where each step is allowed, and what it does.
-use Rattle.std.specs.Prelude.{◌≡◌, ℕ, Bool, true, List, [], ◌∷◌, Option, Some, None, ⊤}
+use Rattle.std.specs.Prelude.{◌≡◌, ℕ, Bool, true, List, [], Option, Some, None, ⊤, IfSome, length}
 use Rattle.iol_page.specs.Page.{knows_isdu}
 use Rattle.iol_app.specs.declared.mode.Mode.TheVariants.{Startup, Operate}
-use Rattle.iol_app.specs.Abstract.Steps.{PortStep, Start, Reset, ShowImage, DropImage, Make, OutputOn, OutputOff, Input, PowerLoss, TellLength, ImageOctets, WireCall, Woke, Exchanged, Moment, silence_left, output_length, is_right}
+use Rattle.iol_app.specs.Abstract.Steps.{PortStep, Start, Reset, ShowImage, DropImage, Make, OutputOn, OutputOff, Input, PowerLoss, TellLength, ImageOctets, WireCall, Woke, Exchanged, Moment, silence_left, output_length, is_right, input_length}
 
 pub record Images : Type 0 where
   -- what the port shows
@@ -21,6 +21,7 @@ pub record Images : Type 0 where
 
 abbrev pub MayImages : Moment → PortStep → Images → Type 0
 MayImages moment ShowImage i = (moment.began ≡ Operate) × (silence_left moment ≡ 0)
+    × IfSome i.input (λ image. length image ≡ input_length moment.terms.page)
 MayImages moment Make i = (moment.began ≡ Operate) × (moment.silence ≡ 0)
 MayImages moment TellLength i = (moment.began ≡ Startup) × (is_right moment.terms ≡ true)
 MayImages moment step i = ⊤

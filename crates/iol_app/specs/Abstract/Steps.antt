@@ -133,7 +133,10 @@ abbrev pub doubts_at : Devices → Recalls → Bool
 doubts_at Any recalls = true
 doubts_at Own recalls = misreads_at Own recalls
 
--- how many octets the device takes as process data
+-- how many octets of process data the device gives, and how many it takes
+abbrev pub input_length : List ℕ → ℕ
+input_length page = (layout_in page FarOperate).pd_in
+
 abbrev pub output_length : List ℕ → ℕ
 output_length page = (layout_in page FarOperate).pd_out
 
@@ -155,12 +158,6 @@ pub record Moment : Type 0 where
 -- the silence at its end
 abbrev pub silence_left : Moment → ℕ
 silence_left moment = silence_by moment.call moment.silence
-
--- no message is made in them
-abbrev pub no_make : List PortStep → Bool
-no_make [] = true
-no_make (Make ∷ steps) = false
-no_make (step ∷ steps) = no_make steps
 
 -- the steps that the book hears of
 abbrev pub is_for_book : PortStep → Bool

@@ -1,0 +1,307 @@
+-- what comes of the order of a turn's steps
+use Rattle.std.proofs.Common.{◌≡◌, ◌⊎◌, inl, inr, ◌∷◌, ◌++◌, [], List, ℕ, length, true, false, None, refl, sym, ◌∙◌, ap, arith, subst, Option}
+use Rattle.std.proofs.lemmas.Grind.{common_steps}
+use Rattle.std.proofs.lemmas.List.Folds.{list_all-append}
+use Rattle.std.specs.Prelude.{Bool, IsTrue, IfSome}
+use Rattle.std.specs.List.{list_all}
+use Rattle.iol_event.specs.declared.event.Event.{Event}
+use Rattle.iol_app.specs.declared.mode.Mode.{Mode}
+use Rattle.iol_app.specs.declared.mode.Mode.TheVariants.{Down, Startup, Preoperate, Operate}
+use Rattle.iol_app.specs.Abstract.Steps.{PortStep, Again, Confirm, OutputOn, OutputOff, ShowImage, DropImage, Unknown, Move, Start, Reset, TellLength, WireCall, Woke, Exchanged, Moment, CallFits, silence_by, input_length, through_steps, MayAll, is_right}
+use Rattle.iol_app.specs.Abstract.Session.{Session, session_after}
+use Rattle.iol_app.specs.Abstract.Images.{Images, MayImages, images_after, page_after_wire_call}
+use Rattle.iol_app.specs.Abstract.Turn.{is_own_step, is_handing, is_output_then, is_hearing, wake_brings, loss_brings, startup_brings, preoperate_brings, operate_brings, may_bring, IsInOrder, IsPageRead}
+use Rattle.iol_port.specs.Steps.{kept_after}
+use Rattle.iol_port.specs.Run.{PortState, SendOf, is_sending_step, moment_by, moment_in}
+use Rattle.iol_port.specs.Promises.{EventsAreRead, ImagesHaveLength, StartsByPage, WrongPagesStayUnread}
+use Rattle.iol_app.proofs.Parts.{through_steps-append}
+use Rattle.iol_port.proofs.PieceLemmas.{sending_mode}
+
+-- The device's part
+
+abbrev is_far_step : PortStep → Bool
+is_far_step Again = true
+is_far_step Confirm = true
+is_far_step OutputOn = true
+is_far_step OutputOff = true
+is_far_step step = is_own_step step
+
+abbrev AreFar : List PortStep → Type 0
+AreFar steps = list_all is_far_step steps ≡ true
+
+own_far : (steps : List PortStep) → IsTrue (list_all is_own_step steps) → AreFar steps
+own_far [] h = refl
+own_far (step ∷ steps) h = grind (arith, common_steps, own_far steps)
+
+handing_far : (steps : List PortStep) → IsTrue (is_handing steps) → AreFar steps
+handing_far [] h = refl
+handing_far (Again ∷ []) h = refl
+handing_far steps h = absurd (cc)
+
+output_far : (steps : List PortStep) → IsTrue (is_output_then steps) → AreFar steps
+output_far (OutputOn ∷ steps) h = handing_far steps h
+output_far (OutputOff ∷ steps) h = handing_far steps h
+output_far steps h = absurd (cc)
+
+hearing_far : (mode : Mode) (steps : List PortStep) → IsTrue (is_hearing mode steps)
+    → AreFar steps
+hearing_far mode [] h = refl
+hearing_far mode (step ∷ steps) h =
+    grind (arith, common_steps, output_far steps, output_far (step ∷ steps))
+
+-- it reports nothing, and leaves the mode and the page that was read
+far_kept : (steps : List PortStep) (kept : List Event) → AreFar steps
+    → through_steps kept_after steps kept ≡ kept
+far_kept [] kept h = refl
+far_kept (step ∷ steps) kept h = grind (arith, common_steps, far_kept steps)
+
+far_mode : (steps : List PortStep) (s : Session) → AreFar steps
+    → (through_steps session_after steps s).mode ≡ s.mode
+far_mode [] s h = refl
+far_mode (step ∷ steps) s h =
+    grind (arith, common_steps, far_mode steps (session_after step s))
+
+far_page : (m : Moment) (steps : List PortStep) (i : Images) → AreFar steps
+    → (through_steps (images_after m) steps i).page ≡ i.page
+far_page m [] i h = refl
+far_page m (step ∷ steps) i h =
+    grind (arith, common_steps, far_page m steps (images_after m step i))
+
+-- and behind it what the answer brings
+record InParts (mode : Mode) (call : WireCall) (steps : List PortStep) : Type 0 where
+  far : List PortStep
+  brought : List PortStep
+  is : steps ≡ far ++ brought
+  are_far : AreFar far
+  brings : IsTrue (may_bring mode call brought)
+
+in_parts : {mode : Mode} {call : WireCall} {steps : List PortStep} → IsInOrder mode call steps
+    → InParts mode call steps
+in_parts {mode} o = record {
+  far = o.own ++ o.heard;
+  brought = o.brought;
+  is = o.is;
+  are_far = list_all-append is_far_step o.own o.heard
+      ∙ (rw (own_far o.own o.by_itself, hearing_far mode o.heard o.hears) refl);
+  brings = o.brings;
+}
+
+-- What the answer brings
+
+loss_kept : (steps : List PortStep) (kept : List Event) → IsTrue (loss_brings steps)
+    → through_steps kept_after steps kept ≡ kept
+loss_kept [] kept h = refl
+loss_kept (Move mode why ∷ []) kept h = refl
+loss_kept (DropImage ∷ Move mode why ∷ []) kept h = refl
+loss_kept (Unknown cause ∷ DropImage ∷ Move mode why ∷ []) kept h = refl
+loss_kept steps kept h = grind (arith, common_steps)
+
+wake_kept : (answered : Bool) (steps : List PortStep) (kept : List Event)
+    → IsTrue (wake_brings answered steps) → through_steps kept_after steps kept ≡ kept
+wake_kept answered (Move mode why ∷ []) kept h = refl
+wake_kept answered (Start ∷ []) kept h = refl
+wake_kept answered (Reset ∷ []) kept h = refl
+wake_kept answered steps kept h = grind (arith, common_steps)
+
+startup_kept : (steps : List PortStep) (kept : List Event) → IsTrue (startup_brings steps)
+    → through_steps kept_after steps kept ≡ kept
+startup_kept [] kept h = refl
+startup_kept (step ∷ []) kept h = grind (arith, common_steps)
+startup_kept steps kept h = grind (arith, common_steps)
+
+preoperate_kept : (steps : List PortStep) (kept : List Event) → IsTrue (preoperate_brings steps)
+    → through_steps kept_after steps kept ≡ kept
+preoperate_kept [] kept h = refl
+preoperate_kept (step ∷ []) kept h = grind (arith, common_steps)
+preoperate_kept steps kept h = grind (arith, common_steps)
+
+brought_kept : (mode : Mode) (call : WireCall) (steps : List PortStep) (kept : List Event)
+    → IsTrue (may_bring mode call steps)
+    → (through_steps kept_after steps kept ≡ kept) ⊎ ((mode ≡ Operate) × (call ≡ Exchanged true))
+brought_kept Down (Woke answered) steps kept h = inl (wake_kept answered steps kept h)
+brought_kept Startup (Exchanged true) steps kept h = inl (startup_kept steps kept h)
+brought_kept Preoperate (Exchanged true) steps kept h = inl (preoperate_kept steps kept h)
+brought_kept Operate (Exchanged true) steps kept h = inr (refl, refl)
+brought_kept Down (Exchanged false) steps kept h = inl (loss_kept steps kept h)
+brought_kept Startup (Exchanged false) steps kept h = inl (loss_kept steps kept h)
+brought_kept Preoperate (Exchanged false) steps kept h = inl (loss_kept steps kept h)
+brought_kept Operate (Exchanged false) steps kept h = inl (loss_kept steps kept h)
+brought_kept mode call steps kept h = absurd (cc)
+
+-- what goes out leaves the mode
+sent_mode : {a m : PortState} → SendOf a m → m.session.mode ≡ a.session.mode
+sent_mode {a} s = ap (λ (x : Session). x.mode) (sym (s.session (Exchanged true)).1)
+    ∙ sending_mode s.steps a.session s.only
+
+pub events_are_read : EventsAreRead
+events_are_read a b (m, s, r) =
+    let o = in_parts r.all.order in
+    let same : through_steps kept_after o.brought m.kept ≡ b.kept =
+    ap (through_steps kept_after o.brought) (sym (far_kept o.far m.kept o.are_far))
+    ∙ sym (through_steps-append kept_after o.far o.brought m.kept) ∙ (rw o.is at r.events.kept) in
+    elim (brought_kept m.session.mode r.turn.call o.brought m.kept o.brings) [
+      | inl quiet ↦ inl (sym same ∙ quiet ∙ s.kept)
+      | inr loud ↦ inr (
+        sym (sent_mode s) ∙ loud.0,
+        r.all.silence ∙ ap (λ (c : WireCall). silence_by c m.silence) loud.1,
+      )
+    ]
+
+-- An image
+
+may_behind : (m : Moment) (xs ys : List PortStep) (i : Images)
+    → MayAll (MayImages m) (images_after m) (xs ++ ys) i
+    → MayAll (MayImages m) (images_after m) ys (through_steps (images_after m) xs i)
+may_behind m [] ys i may = may
+may_behind m (x ∷ xs) ys i may = may_behind m xs ys (images_after m x i) may.1
+
+abbrev HasLength : Moment → Images → Type 0
+HasLength m i = IfSome i.image (λ image. length image ≡ input_length m.terms.page)
+
+shown_length : (m : Moment) (steps : List PortStep) (i : Images) → IsTrue (operate_brings steps)
+    → MayAll (MayImages m) (images_after m) steps i
+    → HasLength m (through_steps (images_after m) steps i)
+shown_length m (ShowImage ∷ []) i h ((began, quiet, has), rest) = has
+shown_length m (step ∷ ShowImage ∷ []) i h (first, ((began, quiet, has), rest)) = has
+shown_length m steps i h may = absurd (cc)
+
+good_call : (mode : Mode) (call : WireCall) (n n' : ℕ) → mode ≡ Operate → CallFits mode call
+    → n' ≡ silence_by call n → n' ≡ 0 → call ≡ Exchanged true
+good_call mode call n n' up fits is quiet = grind (arith, common_steps)
+
+good_brings : (mode : Mode) (call : WireCall) (steps : List PortStep) → mode ≡ Operate
+    → call ≡ Exchanged true → IsTrue (may_bring mode call steps) → IsTrue (operate_brings steps)
+good_brings mode call steps up good brings = rw (up, good) at brings
+
+pub images_have_length : ImagesHaveLength
+images_have_length a b (m, s, r) up quiet =
+    let o = in_parts r.all.order in
+    let mode : m.session.mode ≡ Operate = sent_mode s ∙ up in
+    let call : r.turn.call ≡ Exchanged true = good_call m.session.mode r.turn.call m.silence
+    b.silence mode r.all.fits r.all.silence quiet in
+    let at : Moment = moment_in m r.turn in
+    let between : Images = through_steps (images_after at) o.far m.images in
+    let is : through_steps (images_after at) o.brought between ≡ b.images =
+    sym (through_steps-append (images_after at) o.far o.brought m.images)
+    ∙ (rw o.is at r.images.images.1) in
+    subst (λ (i : Images). IfSome i.image (λ image. length image ≡ input_length b.terms.page)) is
+    (rw r.all.terms (shown_length at o.brought between
+    (good_brings m.session.mode r.turn.call o.brought mode call o.brings)
+    (may_behind at o.far o.brought m.images (rw o.is at r.images.images.0))))
+
+-- A start-up
+
+abbrev StaysOrFalls : Mode → Type 0
+StaysOrFalls mode = (mode ≡ Startup) ⊎ (mode ≡ Down)
+
+unread : (mode : Mode) (page : List ℕ) → IsPageRead mode page None → StaysOrFalls mode
+unread Startup page h = inl refl
+unread Down page h = inr refl
+unread mode page h = absurd (cc h)
+
+loss_mode : (steps : List PortStep) (s : Session) → IsTrue (loss_brings steps) → s.mode ≡ Startup
+    → StaysOrFalls (through_steps session_after steps s).mode
+loss_mode [] s h up = inl up
+loss_mode (Move Down why ∷ []) s h up = inr refl
+loss_mode (DropImage ∷ Move Down why ∷ []) s h up = inr refl
+loss_mode (Unknown cause ∷ DropImage ∷ Move Down why ∷ []) s h up = inr refl
+loss_mode steps s h up = grind (arith, common_steps)
+
+startup_mode : (m : Moment) (steps : List PortStep) (s : Session) (i : Images)
+    → IsTrue (startup_brings steps) → s.mode ≡ Startup → i.page ≡ None
+    → StaysOrFalls (through_steps session_after steps s).mode
+    ⊎ ((through_steps (images_after m) steps i).page ≡ None)
+startup_mode m [] s i h up none = inr none
+startup_mode m (Reset ∷ []) s i h up none = inl (inl refl)
+startup_mode m (TellLength ∷ []) s i h up none = inl (inl up)
+startup_mode m (Move mode why ∷ []) s i h up none = inr none
+startup_mode m steps s i h up none = absurd (cc)
+
+started : (m : Moment) (call : WireCall) (steps : List PortStep) (s : Session) (i : Images)
+    → IsTrue (may_bring Startup call steps) → s.mode ≡ Startup → i.page ≡ None
+    → StaysOrFalls (through_steps session_after steps s).mode
+    ⊎ ((through_steps (images_after m) steps i).page ≡ None)
+started m (Exchanged false) steps s i h up none = inl (loss_mode steps s h up)
+started m (Exchanged true) steps s i h up none = startup_mode m steps s i h up none
+started m call steps s i h up none = absurd (cc)
+
+first_brings : (mode : Mode) (call : WireCall) (steps : List PortStep) → mode ≡ Startup
+    → IsTrue (may_bring mode call steps) → IsTrue (may_bring Startup call steps)
+first_brings mode call steps up brings = rw up at brings
+
+-- what goes out leaves the page that was read
+sending_page : (m : Moment) (steps : List PortStep) (i : Images)
+    → IsTrue (list_all is_sending_step steps)
+    → (through_steps (images_after m) steps i).page ≡ i.page
+sending_page m [] i h = refl
+sending_page m (step ∷ steps) i h =
+    grind (arith, common_steps, sending_page m steps (images_after m step i))
+
+sent_page : {a m : PortState} → SendOf a m → m.images.page ≡ a.images.page
+sent_page {a} s = ap (λ (i : Images). i.page) (sym (s.images (Exchanged true)).1)
+    ∙ sending_page (moment_by a (Exchanged true)) s.steps a.images s.only
+
+pub starts_by_page : StartsByPage
+starts_by_page a b (m, s, r) up none =
+    let o = in_parts r.all.order in
+    let at : Moment = moment_in m r.turn in
+    let mode : m.session.mode ≡ Startup = sent_mode s ∙ up in
+    let page : m.images.page ≡ None = sent_page s ∙ none in
+    let s1 : Session = through_steps session_after o.far m.session in
+    let i1 : Images = through_steps (images_after at) o.far m.images in
+    let session : through_steps session_after o.brought s1 ≡ b.session =
+    sym (through_steps-append session_after o.far o.brought m.session)
+    ∙ (rw o.is at r.work.session.1) in
+    let images : through_steps (images_after at) o.brought i1 ≡ b.images =
+    sym (through_steps-append (images_after at) o.far o.brought m.images)
+    ∙ (rw o.is at r.images.images.1) in
+    let came = started at r.turn.call o.brought s1 i1 (first_brings m.session.mode r.turn.call
+    o.brought mode o.brings) (far_mode o.far m.session o.are_far ∙ mode)
+    (far_page at o.far m.images o.are_far ∙ page) in
+    elim came [
+      | inl left ↦ subst (λ (x : Session). StaysOrFalls x.mode) session left
+      | inr still ↦ unread b.session.mode b.terms.page
+          (subst (λ (read : Option (List ℕ)). IsPageRead b.session.mode b.terms.page read)
+          (ap (λ (i : Images). i.page) (sym images) ∙ still) r.all.page_read)
+    ]
+
+-- the page of a wrong device
+
+loss_page : (m : Moment) (steps : List PortStep) (i : Images) → IsTrue (loss_brings steps)
+    → (through_steps (images_after m) steps i).page ≡ i.page
+loss_page m [] i h = refl
+loss_page m (Move mode why ∷ []) i h = refl
+loss_page m (DropImage ∷ Move mode why ∷ []) i h = refl
+loss_page m (Unknown cause ∷ DropImage ∷ Move mode why ∷ []) i h = refl
+loss_page m steps i h = grind (arith, common_steps)
+
+reset_page : (call : WireCall) (page : Option (List ℕ)) → page ≡ None
+    → page_after_wire_call call page ≡ None
+reset_page call page none = grind (arith, common_steps)
+
+wrong_page : (m : Moment) (call : WireCall) (steps : List PortStep) (i : Images)
+    → IsTrue (may_bring Startup call steps) → is_right m.terms ≡ false → i.page ≡ None
+    → MayAll (MayImages m) (images_after m) steps i
+    → (through_steps (images_after m) steps i).page ≡ None
+wrong_page m (Exchanged false) steps i h wrong none may = loss_page m steps i h ∙ none
+wrong_page m (Exchanged true) [] i h wrong none may = none
+wrong_page m (Exchanged true) (Reset ∷ []) i h wrong none may = reset_page m.call i.page none
+wrong_page m (Exchanged true) (TellLength ∷ []) i h wrong none ((began, right), rest) =
+    absurd (let z : false ≡ true = sym wrong ∙ right in cc)
+wrong_page m (Exchanged true) (Move mode why ∷ []) i h wrong none may = none
+wrong_page m (Exchanged true) steps i h wrong none may = absurd (cc)
+wrong_page m call steps i h wrong none may = absurd (cc)
+
+pub wrong_pages_stay_unread : WrongPagesStayUnread
+wrong_pages_stay_unread a b (m, s, r) up none wrong =
+    let o = in_parts r.all.order in
+    let at : Moment = moment_in m r.turn in
+    let i1 : Images = through_steps (images_after at) o.far m.images in
+    let images : through_steps (images_after at) o.brought i1 ≡ b.images =
+    sym (through_steps-append (images_after at) o.far o.brought m.images)
+    ∙ (rw o.is at r.images.images.1) in
+    ap (λ (i : Images). i.page) (sym images)
+    ∙ wrong_page at r.turn.call o.brought i1 (first_brings m.session.mode r.turn.call
+    o.brought (sent_mode s ∙ up) o.brings) (ap is_right s.terms ∙ wrong)
+    (far_page at o.far m.images o.are_far ∙ sent_page s ∙ none)
+    (may_behind at o.far o.brought m.images (rw o.is at r.images.images.0))
