@@ -1,7 +1,7 @@
 -- The law of the judge.
 use Rattle.std.proofs.lemmas.Grind.{common_steps}
-use Rattle.std.proofs.Common.{arith, ◌≡◌, ℕ, zero, suc, ◌+◌, ◌-◌, min, Bool, true, false, List, length, refl, sym, ◌∙◌, ap, subst, leb-true, ◌⊎◌, inl, inr, [], ◌∷◌}
-use Rattle.std.specs.Prelude.{Option, Some, None, is_some, Result, Ok, Err, ◌&&◌, ◌||◌, nat_le, slice_index, if◌then◌else◌, IsTrue, option_map}
+use Rattle.std.proofs.Common.{arith, ◌≡◌, ℕ, zero, suc, Bool, true, false, List, refl, sym, ◌∙◌, ap, subst, ◌⊎◌, inl, inr, [], ◌∷◌}
+use Rattle.std.specs.Prelude.{Option, Some, None, is_some, Result, Ok, Err, ◌||◌, if◌then◌else◌, option_map}
 use Rattle.iol_mseq.specs.Shape.{Shape}
 use Rattle.iol_mseq.specs.Replies.{reply_in}
 use Rattle.iol_mseq.specs.declared.master.MasterMsg.{MasterMsg}

@@ -1,1 +1,2 @@
+mod Damaged
 mod Meetings
