@@ -1,18 +1,31 @@
 /* An IO-Link device, whose application is yours.
  *
+ * What you owe, and what nothing checks:
+ *
+ *   - one call of a handle at a time, on the thread that opened it, and none from a signal handler: two threads at one
+ *     handle break all that stands here
+ *   - a handle is zero or was opened, and stays where it is until it is closed
+ *   - a pointer with a count has that many octets; what is written through overlaps nothing else that is passed
+ *
+ * What is checked, in C at the end of this header, which no proof covers: a null pointer is refused with 255, but for
+ * one to 0 octets; a copy of an open handle is refused with 251, so that it isn't closed twice. A copy that is put back
+ * where the handle was isn't seen. Both are tested before all else, and nothing is written then. A call that doesn't
+ * come through this header, as from another language, is the library's own: to it no pointer may be null, not even one
+ * to 0 octets, and no handle a copy.
+ *
+ * What is proved is what the library does behind this: each call's answer, and all that it writes.
+ *
  * A handle is a struct of yours, all zero before it is opened: `iol_device device = {0};`. It says itself whether it is
  * open, so a call of a closed handle, and a second close, are refused and do nothing.
  *
  * Every call answers the number of a refusal, 0 where there is none: 1 to 40 are the library's, and
+ *   251  the handle is a copy of the one that was opened
  *   252  the handle is closed
  *   253  the handle is open already
+ *   255  a pointer is null
  * Beside each call stand its refusals, in the order in which they are tested: the first that holds is answered. Every
  * call but iol_device_open tests 252 first. What is refused changed nothing, and what a call hands out is written only
  * where it answers 0, so that what `out` points to is as it was.
- *
- * What you owe, and what nothing checks: a handle is zero or was opened, and is never copied; one call at a time, on the
- * thread that opened it, and none from a signal handler; no pointer is null, not even one to 0 octets; a pointer with a
- * count has that many octets; what is written through overlaps nothing else that is passed.
  *
  * What a master sends is any octets whatever: nothing is asked of it, and none does harm.
  *
@@ -32,6 +45,7 @@ extern "C" {
 #ifndef IOLINK_SEALED
 #define IOLINK_SEALED
 
+#define IOL_COPIED 251
 #define IOL_CLOSED 252
 #define IOL_IS_OPEN 253
 #define IOL_OUT_OF_RANGE 254
@@ -43,9 +57,42 @@ typedef struct { uint8_t kind; uint8_t sub; uint16_t index; uint8_t length; uint
 /* Process data: `length` octets, none where that is 0. */
 typedef struct { uint8_t length; uint8_t octets[32]; } iol_image;
 
+/* What is checked before a call, at the end of each header. */
+#if defined(__cplusplus) || (defined(__STDC_VERSION__) && __STDC_VERSION__ >= 199901L)
+#define IOL_INLINE static inline
+#else
+#define IOL_INLINE static __inline
 #endif
 
-typedef struct { void *at; bool is_open; } iol_device;
+/* These octets, or some place where there are none. */
+IOL_INLINE const uint8_t *iol_octets_at(const uint8_t *octets)
+{
+    static const uint8_t none = 0;
+    return octets != NULL ? octets : &none;
+}
+
+/* A call by its name and parameters: why it is misused, or what the library answers. An opening notes where. */
+#define IOL_CHECKED(name, parameters, misuse, arguments)                                                               \
+    IOL_INLINE uint8_t iol_checked_##name parameters                                                                   \
+    {                                                                                                                  \
+        uint8_t refusal = misuse;                                                                                      \
+        return refusal != 0 ? refusal : iol_##name arguments;                                                          \
+    }
+
+#define IOL_CHECKED_OPENING(handle, name, parameters, misuse, arguments)                                               \
+    IOL_INLINE uint8_t iol_checked_##name parameters                                                                   \
+    {                                                                                                                  \
+        uint8_t refusal = misuse;                                                                                      \
+        if (refusal == 0)                                                                                              \
+            refusal = iol_##name arguments;                                                                            \
+        if (refusal == 0)                                                                                              \
+            handle->opened_at = handle;                                                                                \
+        return refusal;                                                                                                \
+    }
+
+#endif
+
+typedef struct { void *at; bool is_open; const void *opened_at; } iol_device;
 
 /* Opens a device with direct parameter page 1, the ten octets of its addresses 0x02 to 0x0B, asleep until it is woken.
  * It keeps no record, so it takes no memory after this. 253 it is open already, 8 the RevisionID is neither 0x11 nor
@@ -115,6 +162,76 @@ uint8_t iol_device_clear_input(iol_device *device);
 
 /* The process data out, no octet while none is valid or the master is silent. It changes nothing. 252. */
 uint8_t iol_device_output(iol_device *device, iol_image *out);
+
+/* ---- what is checked before each call: that no pointer is null, and that the handle is where it was opened
+ *
+ * From here on each name above is that of the call with its checks. */
+
+IOL_INLINE uint8_t iol_device_misuse(const iol_device *device, bool has_pointers)
+{
+    if (device == NULL || !has_pointers)
+        return IOL_NOT_ASKED;
+    return device->is_open && device->opened_at != device ? IOL_COPIED : 0;
+}
+
+IOL_CHECKED_OPENING(device, device_open, (iol_device *device, const uint8_t page[10]),
+    iol_device_misuse(device, page != NULL), (device, page))
+#define iol_device_open iol_checked_device_open
+
+IOL_CHECKED(device_close, (iol_device *device), iol_device_misuse(device, true), (device))
+#define iol_device_close iol_checked_device_close
+
+IOL_CHECKED(device_hear, (iol_device *device, const uint8_t *octets, size_t count, iol_reply *out),
+    iol_device_misuse(device, (octets != NULL || count == 0) && out != NULL),
+    (device, iol_octets_at(octets), count, out))
+#define iol_device_hear iol_checked_device_hear
+
+IOL_CHECKED(device_wake, (iol_device *device), iol_device_misuse(device, true), (device))
+#define iol_device_wake iol_checked_device_wake
+
+IOL_CHECKED(device_power_cycle, (iol_device *device), iol_device_misuse(device, true), (device))
+#define iol_device_power_cycle iol_checked_device_power_cycle
+
+IOL_CHECKED(device_silence, (iol_device *device), iol_device_misuse(device, true), (device))
+#define iol_device_silence iol_checked_device_silence
+
+IOL_CHECKED(device_mode, (iol_device *device, uint8_t *out), iol_device_misuse(device, out != NULL), (device, out))
+#define iol_device_mode iol_checked_device_mode
+
+IOL_CHECKED(device_cycle_time, (iol_device *device, uint8_t *out), iol_device_misuse(device, out != NULL),
+    (device, out))
+#define iol_device_cycle_time iol_checked_device_cycle_time
+
+IOL_CHECKED(device_handed, (iol_device *device, uint64_t *number, iol_request *out),
+    iol_device_misuse(device, number != NULL && out != NULL), (device, number, out))
+#define iol_device_handed iol_checked_device_handed
+
+IOL_CHECKED(device_answer_read, (iol_device *device, uint64_t number, const uint8_t *octets, size_t count),
+    iol_device_misuse(device, octets != NULL || count == 0), (device, number, iol_octets_at(octets), count))
+#define iol_device_answer_read iol_checked_device_answer_read
+
+IOL_CHECKED(device_answer_written, (iol_device *device, uint64_t number), iol_device_misuse(device, true),
+    (device, number))
+#define iol_device_answer_written iol_checked_device_answer_written
+
+IOL_CHECKED(device_answer_refused, (iol_device *device, uint64_t number, uint8_t code, uint8_t additional),
+    iol_device_misuse(device, true), (device, number, code, additional))
+#define iol_device_answer_refused iol_checked_device_answer_refused
+
+IOL_CHECKED(device_raise, (iol_device *device, uint8_t qualifier, uint16_t code), iol_device_misuse(device, true),
+    (device, qualifier, code))
+#define iol_device_raise iol_checked_device_raise
+
+IOL_CHECKED(device_set_input, (iol_device *device, const uint8_t *octets, size_t count),
+    iol_device_misuse(device, octets != NULL || count == 0), (device, iol_octets_at(octets), count))
+#define iol_device_set_input iol_checked_device_set_input
+
+IOL_CHECKED(device_clear_input, (iol_device *device), iol_device_misuse(device, true), (device))
+#define iol_device_clear_input iol_checked_device_clear_input
+
+IOL_CHECKED(device_output, (iol_device *device, iol_image *out), iol_device_misuse(device, out != NULL),
+    (device, out))
+#define iol_device_output iol_checked_device_output
 
 #ifdef __cplusplus
 }

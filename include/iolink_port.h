@@ -1,20 +1,32 @@
 /* A port of an IO-Link master.
  *
+ * What you owe, and what nothing checks:
+ *
+ *   - one call of a handle at a time, on the thread that opened it, and none from a signal handler: two threads at one
+ *     handle break all that stands here
+ *   - a handle is zero or was opened, and stays where it is until it is closed
+ *   - a pointer with a count has that many octets; what is written through overlaps nothing else that is passed
+ *
+ * What is checked, in C at the end of this header, which no proof covers: a null pointer is refused with 255, but for
+ * one to 0 octets; a copy of an open handle is refused with 251, so that it isn't closed twice. A copy that is put back
+ * where the handle was isn't seen. Both are tested before all else, and nothing is written then. A call that doesn't
+ * come through this header, as from another language, is the library's own: to it no pointer may be null, not even one
+ * to 0 octets, and no handle a copy.
+ *
+ * What is proved is what the library does behind this: each call's answer, and all that it writes.
+ *
  * A handle is a struct of yours, all zero before it is opened: `iol_port port = {0};`. It says itself whether it is
  * open, so a call of a closed handle, and a second close, are refused and do nothing.
  *
  * Every call answers the number of a refusal, 0 where there is none: 1 to 40 are the library's, and
+ *   251  the handle is a copy of the one that was opened
  *   252  the handle is closed
  *   253  the handle is open already
  *   254  a number is out of its range
- *   255  the call doesn't fit what waits for its answer
+ *   255  the call doesn't fit what waits for its answer, or a pointer is null
  * Beside each call stand its refusals, in the order in which they are tested: the first that holds is answered. What is
  * refused changed nothing of the port. Every call but iol_port_open tests 252 first, and then writes nothing at all; by
  * any other refusal a ticket or a count that a call hands out is 0, and anything else that it hands out is as it was.
- *
- * What you owe, and what nothing checks: a handle is zero or was opened, and is never copied; one call at a time, on the
- * thread that opened it, and none from a signal handler; no pointer is null, not even one to 0 octets; a pointer with a
- * count has that many octets; what is written through overlaps nothing else that is passed.
  *
  * What came on a line is any octets whatever: nothing is asked of it, and none does harm.
  *
@@ -34,6 +46,7 @@ extern "C" {
 #ifndef IOLINK_SEALED
 #define IOLINK_SEALED
 
+#define IOL_COPIED 251
 #define IOL_CLOSED 252
 #define IOL_IS_OPEN 253
 #define IOL_OUT_OF_RANGE 254
@@ -45,9 +58,42 @@ typedef struct { uint8_t kind; uint8_t sub; uint16_t index; uint8_t length; uint
 /* Process data: `length` octets, none where that is 0. */
 typedef struct { uint8_t length; uint8_t octets[32]; } iol_image;
 
+/* What is checked before a call, at the end of each header. */
+#if defined(__cplusplus) || (defined(__STDC_VERSION__) && __STDC_VERSION__ >= 199901L)
+#define IOL_INLINE static inline
+#else
+#define IOL_INLINE static __inline
 #endif
 
-typedef struct { void *at; bool is_open; } iol_port;
+/* These octets, or some place where there are none. */
+IOL_INLINE const uint8_t *iol_octets_at(const uint8_t *octets)
+{
+    static const uint8_t none = 0;
+    return octets != NULL ? octets : &none;
+}
+
+/* A call by its name and parameters: why it is misused, or what the library answers. An opening notes where. */
+#define IOL_CHECKED(name, parameters, misuse, arguments)                                                               \
+    IOL_INLINE uint8_t iol_checked_##name parameters                                                                   \
+    {                                                                                                                  \
+        uint8_t refusal = misuse;                                                                                      \
+        return refusal != 0 ? refusal : iol_##name arguments;                                                          \
+    }
+
+#define IOL_CHECKED_OPENING(handle, name, parameters, misuse, arguments)                                               \
+    IOL_INLINE uint8_t iol_checked_##name parameters                                                                   \
+    {                                                                                                                  \
+        uint8_t refusal = misuse;                                                                                      \
+        if (refusal == 0)                                                                                              \
+            refusal = iol_##name arguments;                                                                            \
+        if (refusal == 0)                                                                                              \
+            handle->opened_at = handle;                                                                                \
+        return refusal;                                                                                                \
+    }
+
+#endif
+
+typedef struct { void *at; bool is_open; const void *opened_at; } iol_port;
 
 /* Opens a port for devices of our own kind, whose link is down. Its journal has at most `journal` entries, 4 to
  * 1,000,000; a request is cut off after `busy` busy replies, 2 to 65,535; `queue` tickets may be outstanding at a time,
@@ -103,12 +149,22 @@ typedef struct {
 uint8_t iol_port_asks(iol_port *port, iol_message *out);
 
 /* What came of the wake that is out: `rate` is 1, 2, 3 for a device that answered at COM1, COM2, COM3, and 0 where none
- * answered. 252, 254 a rate above 3, 255 no wake is out. */
+ * answered. 252, 254 a rate above 3, 255 no wake is out.
+ *
+ * Your duty: a rate above 0 says that the device was reset. A pulse and a test read, `A2 00`, don't show that: a device
+ * that runs type 0 in OPERATE answers the test read though it missed the pulse, and stays in its mode. It may then carry
+ * out what was cut off, after `unknown` was told of it. So send DeviceStartup, `20 17 97`, until it is answered, and then
+ * the test read; or open the port for any device, which sends it first in each start-up. */
 uint8_t iol_port_turn_woken(iol_port *port, uint8_t rate);
 
 /* What came back, in the time of a reply, to the message that is out: these octets, or nothing where `count` is 0. Of
  * more than 66 give the first 66. Without a good reply the message is asked for again; the third time in a row has lost
- * the link. 252, 254 more than 66 octets, 255 no message is out. */
+ * the link. 252, 254 more than 66 octets, 255 no message is out.
+ *
+ * Your duty: what you bring came in answer to this message. After a miss wait out the longest time of a reply before you
+ * send the next message, and drop what comes meanwhile; to empty the receiver is not enough. Else a late reply counts for
+ * the next message: an event that no device raised may be handed out, and a read may end with wrong octets though CHKPDU
+ * is right, as two equal segments cancel each other in it. */
 uint8_t iol_port_turn_answered(iol_port *port, const uint8_t *octets, size_t count);
 
 /* ---- requests */
@@ -257,6 +313,114 @@ uint8_t iol_port_archive(iol_port *port, uint32_t *count);
 /* The next entry of the journal that was archived last, the oldest first. At the end `kind` is 0, and the memory of that
  * journal is given back. 252. */
 uint8_t iol_port_entry(iol_port *port, iol_entry *out);
+
+/* ---- what is checked before each call: that no pointer is null, and that the handle is where it was opened
+ *
+ * From here on each name above is that of the call with its checks. */
+
+IOL_INLINE uint8_t iol_port_misuse(const iol_port *port, bool has_pointers)
+{
+    if (port == NULL || !has_pointers)
+        return IOL_NOT_ASKED;
+    return port->is_open && port->opened_at != port ? IOL_COPIED : 0;
+}
+
+IOL_CHECKED_OPENING(port, port_open, (iol_port *port, uint32_t journal, uint16_t busy, uint8_t queue, uint64_t given),
+    iol_port_misuse(port, true), (port, journal, busy, queue, given))
+#define iol_port_open iol_checked_port_open
+
+IOL_CHECKED_OPENING(port, port_open_for,
+    (iol_port *port, uint8_t devices, uint32_t journal, uint16_t busy, uint8_t queue, uint64_t given),
+    iol_port_misuse(port, true), (port, devices, journal, busy, queue, given))
+#define iol_port_open_for iol_checked_port_open_for
+
+IOL_CHECKED(port_close, (iol_port *port), iol_port_misuse(port, true), (port))
+#define iol_port_close iol_checked_port_close
+
+IOL_CHECKED(port_asks, (iol_port *port, iol_message *out), iol_port_misuse(port, out != NULL), (port, out))
+#define iol_port_asks iol_checked_port_asks
+
+IOL_CHECKED(port_turn_woken, (iol_port *port, uint8_t rate), iol_port_misuse(port, true), (port, rate))
+#define iol_port_turn_woken iol_checked_port_turn_woken
+
+IOL_CHECKED(port_turn_answered, (iol_port *port, const uint8_t *octets, size_t count),
+    iol_port_misuse(port, octets != NULL || count == 0), (port, iol_octets_at(octets), count))
+#define iol_port_turn_answered iol_checked_port_turn_answered
+
+IOL_CHECKED(port_read, (iol_port *port, uint16_t index, uint8_t sub, uint64_t *ticket),
+    iol_port_misuse(port, ticket != NULL), (port, index, sub, ticket))
+#define iol_port_read iol_checked_port_read
+
+IOL_CHECKED(port_read_urgent, (iol_port *port, uint16_t index, uint8_t sub, uint64_t *ticket),
+    iol_port_misuse(port, ticket != NULL), (port, index, sub, ticket))
+#define iol_port_read_urgent iol_checked_port_read_urgent
+
+IOL_CHECKED(port_write,
+    (iol_port *port, uint16_t index, uint8_t sub, const uint8_t *octets, size_t count, uint64_t *ticket),
+    iol_port_misuse(port, (octets != NULL || count == 0) && ticket != NULL),
+    (port, index, sub, iol_octets_at(octets), count, ticket))
+#define iol_port_write iol_checked_port_write
+
+IOL_CHECKED(port_write_urgent,
+    (iol_port *port, uint16_t index, uint8_t sub, const uint8_t *octets, size_t count, uint64_t *ticket),
+    iol_port_misuse(port, (octets != NULL || count == 0) && ticket != NULL),
+    (port, index, sub, iol_octets_at(octets), count, ticket))
+#define iol_port_write_urgent iol_checked_port_write_urgent
+
+IOL_CHECKED(port_collect, (iol_port *port, uint64_t ticket, iol_outcome *out), iol_port_misuse(port, out != NULL),
+    (port, ticket, out))
+#define iol_port_collect iol_checked_port_collect
+
+IOL_CHECKED(port_withdraw, (iol_port *port, uint64_t ticket), iol_port_misuse(port, true), (port, ticket))
+#define iol_port_withdraw iol_checked_port_withdraw
+
+IOL_CHECKED(port_cancel, (iol_port *port, uint64_t ticket), iol_port_misuse(port, true), (port, ticket))
+#define iol_port_cancel iol_checked_port_cancel
+
+IOL_CHECKED(port_expect, (iol_port *port, uint16_t vendor, uint32_t device, uint8_t *counts),
+    iol_port_misuse(port, counts != NULL), (port, vendor, device, counts))
+#define iol_port_expect iol_checked_port_expect
+
+IOL_CHECKED(port_expect_any, (iol_port *port, uint8_t *counts), iol_port_misuse(port, counts != NULL), (port, counts))
+#define iol_port_expect_any iol_checked_port_expect_any
+
+IOL_CHECKED(port_set_cycle, (iol_port *port, uint32_t micros, uint8_t *counts), iol_port_misuse(port, counts != NULL),
+    (port, micros, counts))
+#define iol_port_set_cycle iol_checked_port_set_cycle
+
+IOL_CHECKED(port_page, (iol_port *port, iol_page *out), iol_port_misuse(port, out != NULL), (port, out))
+#define iol_port_page iol_checked_port_page
+
+IOL_CHECKED(port_restart, (iol_port *port), iol_port_misuse(port, true), (port))
+#define iol_port_restart iol_checked_port_restart
+
+IOL_CHECKED(port_set_output, (iol_port *port, const uint8_t *octets, size_t count),
+    iol_port_misuse(port, octets != NULL || count == 0), (port, iol_octets_at(octets), count))
+#define iol_port_set_output iol_checked_port_set_output
+
+IOL_CHECKED(port_clear_output, (iol_port *port), iol_port_misuse(port, true), (port))
+#define iol_port_clear_output iol_checked_port_clear_output
+
+IOL_CHECKED(port_image, (iol_port *port, iol_image *out), iol_port_misuse(port, out != NULL), (port, out))
+#define iol_port_image iol_checked_port_image
+
+IOL_CHECKED(port_take_event, (iol_port *port, iol_event *out), iol_port_misuse(port, out != NULL), (port, out))
+#define iol_port_take_event iol_checked_port_take_event
+
+IOL_CHECKED(port_status, (iol_port *port, iol_status *out), iol_port_misuse(port, out != NULL), (port, out))
+#define iol_port_status iol_checked_port_status
+
+IOL_CHECKED(port_last_loss, (iol_port *port, iol_loss *out), iol_port_misuse(port, out != NULL), (port, out))
+#define iol_port_last_loss iol_checked_port_last_loss
+
+IOL_CHECKED(port_counters, (iol_port *port, iol_counters *out), iol_port_misuse(port, out != NULL), (port, out))
+#define iol_port_counters iol_checked_port_counters
+
+IOL_CHECKED(port_archive, (iol_port *port, uint32_t *count), iol_port_misuse(port, count != NULL), (port, count))
+#define iol_port_archive iol_checked_port_archive
+
+IOL_CHECKED(port_entry, (iol_port *port, iol_entry *out), iol_port_misuse(port, out != NULL), (port, out))
+#define iol_port_entry iol_checked_port_entry
 
 #ifdef __cplusplus
 }

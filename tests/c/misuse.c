@@ -1,0 +1,204 @@
+/* Null pointers and copied handles: each call refuses them, writes nothing, and leaves the handle as it was. What is
+ * printed is compared with misuse.stdout. */
+#include "iolink_port.h"
+#include "iolink_device.h"
+#include <stdio.h>
+#include <string.h>
+
+static int wrong;
+static int calls;
+
+static void is(long long got, long long wanted, const char *what, int line)
+{
+    calls++;
+    if (got == wanted)
+        return;
+    wrong++;
+    printf("line %d: %s is %lld, not %lld\n", line, what, got, wanted);
+}
+#define IS(got, wanted) is((long long)(got), (wanted), #got, __LINE__)
+#define NULLS(call) IS(call, IOL_NOT_ASKED)
+
+static const uint8_t page[10] = {0x17, 0x2D, 0x11, 0, 0, 0x12, 0x34, 0, 1, 7};
+
+/* Each call of a port, with these pointers. */
+static void port_calls(iol_port *port, bool has_others, uint8_t wanted)
+{
+    iol_message message;
+    iol_outcome outcome;
+    iol_page found;
+    iol_image image;
+    iol_event event;
+    iol_status status;
+    iol_loss loss;
+    iol_counters counters;
+    iol_entry entry;
+    uint64_t ticket = 7;
+    uint32_t count = 7;
+    uint8_t counts = 7;
+    memset(&message, 7, sizeof message);
+    memset(&entry, 7, sizeof entry);
+#define OTHER(pointer) (has_others ? (pointer) : NULL)
+    IS(iol_port_asks(port, OTHER(&message)), wanted);
+    IS(iol_port_turn_answered(port, OTHER(page), 1), wanted);
+    IS(iol_port_read(port, 16, 0, OTHER(&ticket)), wanted);
+    IS(iol_port_read_urgent(port, 16, 0, OTHER(&ticket)), wanted);
+    IS(iol_port_write(port, 16, 0, OTHER(page), 1, &ticket), wanted);
+    IS(iol_port_write(port, 16, 0, page, 1, OTHER(&ticket)), wanted);
+    IS(iol_port_write_urgent(port, 16, 0, OTHER(page), 1, &ticket), wanted);
+    IS(iol_port_write_urgent(port, 16, 0, page, 1, OTHER(&ticket)), wanted);
+    IS(iol_port_collect(port, 1, OTHER(&outcome)), wanted);
+    IS(iol_port_expect(port, 1, 1, OTHER(&counts)), wanted);
+    IS(iol_port_expect_any(port, OTHER(&counts)), wanted);
+    IS(iol_port_set_cycle(port, 0, OTHER(&counts)), wanted);
+    IS(iol_port_page(port, OTHER(&found)), wanted);
+    IS(iol_port_set_output(port, OTHER(page), 1), wanted);
+    IS(iol_port_image(port, OTHER(&image)), wanted);
+    IS(iol_port_take_event(port, OTHER(&event)), wanted);
+    IS(iol_port_status(port, OTHER(&status)), wanted);
+    IS(iol_port_last_loss(port, OTHER(&loss)), wanted);
+    IS(iol_port_counters(port, OTHER(&counters)), wanted);
+    IS(iol_port_archive(port, OTHER(&count)), wanted);
+    IS(iol_port_entry(port, OTHER(&entry)), wanted);
+    IS(ticket, 7);
+    IS(count, 7);
+    IS(counts, 7);
+    IS(message.length, 7);
+    IS(entry.kind, 7);
+}
+
+static void port_calls_of_the_handle_alone(iol_port *port, uint8_t wanted)
+{
+    IS(iol_port_turn_woken(port, 0), wanted);
+    IS(iol_port_withdraw(port, 1), wanted);
+    IS(iol_port_cancel(port, 1), wanted);
+    IS(iol_port_restart(port), wanted);
+    IS(iol_port_clear_output(port), wanted);
+    IS(iol_port_open(port, 1000, 100, 64, 0), wanted);
+    IS(iol_port_open_for(port, IOL_DEVICES_OWN, 1000, 100, 64, 0), wanted);
+    IS(iol_port_close(port), wanted);
+}
+
+/* Each call of a device, with these pointers. */
+static void device_calls(iol_device *device, bool has_others, uint8_t wanted)
+{
+    iol_reply reply;
+    iol_request request;
+    iol_image image;
+    uint64_t number = 7;
+    uint8_t octet = 7;
+    memset(&reply, 7, sizeof reply);
+    IS(iol_device_hear(device, OTHER(page), 1, &reply), wanted);
+    IS(iol_device_hear(device, page, 1, OTHER(&reply)), wanted);
+    IS(iol_device_mode(device, OTHER(&octet)), wanted);
+    IS(iol_device_cycle_time(device, OTHER(&octet)), wanted);
+    IS(iol_device_handed(device, OTHER(&number), &request), wanted);
+    IS(iol_device_handed(device, &number, OTHER(&request)), wanted);
+    IS(iol_device_answer_read(device, 1, OTHER(page), 1), wanted);
+    IS(iol_device_set_input(device, OTHER(page), 1), wanted);
+    IS(iol_device_output(device, OTHER(&image)), wanted);
+    IS(reply.length, 7);
+    IS(number, 7);
+    IS(octet, 7);
+}
+
+static void device_calls_of_the_handle_alone(iol_device *device, uint8_t wanted)
+{
+    IS(iol_device_wake(device), wanted);
+    IS(iol_device_power_cycle(device), wanted);
+    IS(iol_device_silence(device), wanted);
+    IS(iol_device_answer_written(device, 1), wanted);
+    IS(iol_device_answer_refused(device, 1, 0x80, 0x11), wanted);
+    IS(iol_device_raise(device, 0x54, 1), wanted);
+    IS(iol_device_clear_input(device), wanted);
+    IS(iol_device_open(device, page), wanted);
+    IS(iol_device_close(device), wanted);
+}
+
+static void nulls(void)
+{
+    iol_port port = {0};
+    iol_device device = {0};
+    port_calls(NULL, true, IOL_NOT_ASKED);
+    port_calls_of_the_handle_alone(NULL, IOL_NOT_ASKED);
+    device_calls(NULL, true, IOL_NOT_ASKED);
+    device_calls_of_the_handle_alone(NULL, IOL_NOT_ASKED);
+    NULLS(iol_device_open(&device, NULL));
+    port_calls(&port, false, IOL_NOT_ASKED);
+    device_calls(&device, false, IOL_NOT_ASKED);
+    IS(iol_port_open(&port, 1000, 100, 64, 0), 0);
+    IS(iol_device_open(&device, page), 0);
+    port_calls(&port, false, IOL_NOT_ASKED);
+    device_calls(&device, false, IOL_NOT_ASKED);
+    IS(iol_port_close(&port), 0);
+    IS(iol_device_close(&device), 0);
+}
+
+/* No octets: null stands for an empty list. */
+static void empty_lists(void)
+{
+    iol_port port = {0};
+    iol_device device = {0};
+    iol_message message;
+    iol_reply reply;
+    uint64_t ticket = 0;
+    IS(iol_port_open(&port, 1000, 100, 64, 0), 0);
+    IS(iol_device_open(&device, page), 0);
+    IS(iol_port_write(&port, 24, 0, NULL, 0, &ticket), 0);
+    IS(ticket, 1);
+    IS(iol_port_write_urgent(&port, 24, 0, NULL, 0, &ticket), 0);
+    IS(ticket, 2);
+    IS(iol_port_asks(&port, &message), 0);
+    IS(iol_port_turn_woken(&port, 2), 0);
+    IS(iol_port_turn_answered(&port, NULL, 0), IOL_NOT_ASKED);
+    IS(iol_port_asks(&port, &message), 0);
+    IS(iol_port_turn_answered(&port, NULL, 0), 0);
+    IS(iol_port_set_output(&port, NULL, 0), 29);
+    IS(iol_device_hear(&device, NULL, 0, &reply), 0);
+    IS(reply.length, 0);
+    IS(iol_device_answer_read(&device, 1, NULL, 0), 37);
+    IS(iol_device_set_input(&device, NULL, 0), 29);
+    IS(iol_port_close(&port), 0);
+    IS(iol_device_close(&device), 0);
+}
+
+/* A copy is told from the handle that was opened, before that is closed and after. */
+static void copies(void)
+{
+    iol_port port = {0}, port_copy;
+    iol_device device = {0}, device_copy;
+    IS(iol_port_open(&port, 1000, 100, 64, 0), 0);
+    IS(iol_device_open(&device, page), 0);
+    port_copy = port;
+    device_copy = device;
+    port_calls(&port_copy, true, IOL_COPIED);
+    port_calls_of_the_handle_alone(&port_copy, IOL_COPIED);
+    device_calls(&device_copy, true, IOL_COPIED);
+    device_calls_of_the_handle_alone(&device_copy, IOL_COPIED);
+    IS(iol_port_restart(&port), 0);
+    IS(iol_device_wake(&device), 0);
+    IS(iol_port_close(&port), 0);
+    IS(iol_device_close(&device), 0);
+    IS(iol_port_close(&port_copy), IOL_COPIED);
+    IS(iol_device_close(&device_copy), IOL_COPIED);
+    IS(iol_port_close(&port), IOL_CLOSED);
+    IS(iol_device_close(&device), IOL_CLOSED);
+    /* A copy of a closed handle is one more closed handle. */
+    port_copy = port;
+    device_copy = device;
+    IS(iol_port_close(&port_copy), IOL_CLOSED);
+    IS(iol_device_close(&device_copy), IOL_CLOSED);
+    IS(iol_port_open(&port_copy, 1000, 100, 64, 0), 0);
+    IS(iol_device_open(&device_copy, page), 0);
+    IS(iol_port_close(&port_copy), 0);
+    IS(iol_device_close(&device_copy), 0);
+}
+
+int main(void)
+{
+    nulls();
+    empty_lists();
+    copies();
+    printf("%d answers, wrong %d\n", calls, wrong);
+    return wrong != 0;
+}
