@@ -8,3 +8,4 @@ pub mod Number
 pub mod Hearing
 pub mod NumberLaws
 pub mod Inside
+pub mod Awaited

@@ -3,6 +3,7 @@ ghost use Rattle.std.specs.Prelude.{◌≡◌, true, ◌+◌, ◌-◌, ◌<◌, 
 ghost use Rattle.iol_far.specs.Codec.{flow_of};
 ghost use Rattle.iol_device.specs.Number.{is_start_write};
 ghost use Rattle.iol_device.specs.Pulses.{is_that};
+ghost use Rattle.iol_device.specs.Awaited.{whole_length};
 
 use crate::app::App;
 use crate::data::{copy_of, message_of, take_image};
@@ -22,6 +23,9 @@ use iol_octets::{Channel, Flow, Mc, OdLength};
 use iol_page::{Layouts, MasterCommand, Page, pages_ask_for_layouts};
 use std::alloc::Allocator;
 use std::marker::Model;
+
+/// The first octet of a message that reads is at least this (IEC 61131-9, A.1.2).
+const READ: u8 = 0x80;
 
 /// The far end of the line.
 #[derive(Drop)]
@@ -85,6 +89,7 @@ impl<R: Record> FarEnd<R> {
     ghost use Rattle.iol_device.specs.Silence.{says_valid, silent_after};
     ghost use Rattle.std.specs.Result.{result_err};
     ghost use Rattle.iol_device.specs.Inside.{new_mode};
+    ghost use Rattle.iol_device.specs.Awaited.{awaited_length, length_behind};
     ghost use Rattle.iol_far.specs.Octets.{octets_in_buffer};
     ghost use Rattle.iol_far.specs.Laws.{IsRegular};
     ghost use Rattle.iol_far.specs.Orderly.{IsOrderly};
@@ -227,6 +232,39 @@ impl<R: Record> FarEnd<R> {
                 self.move_into(into);
                 Some(message)
             }
+        }
+    }
+
+    /// How many octets the message has that begins with these: 1 where none came yet, 0 asleep.
+    pub fn awaited_length(&self, begun: &[u8]) -> u8
+        ensures { result ≡ awaited_length self.now begun.now }
+    {
+        if !self.awake {
+            return 0;
+        }
+        if begun.is_empty() {
+            return 1;
+        }
+        self.length_behind(begun)
+    }
+
+    /// How many octets the message has that begins with these, of which there are some.
+    fn length_behind(&self, begun: &[u8]) -> u8
+        ensures { result ≡ length_behind self.now.waits self.now begun.now }
+    {
+        let control = first(begun);
+        let Some(command) = &self.waits else {
+            return whole_length(&self.layout, control);
+        };
+        let other = whole_length(&self.layout_in(command.into), control);
+        if !command.octets.as_slice().starts_with(begun) {
+            return other;
+        }
+        let again = command.octets.len() as u8;
+        if begun.len() < other as usize {
+            again.min(other)
+        } else {
+            again
         }
     }
 
@@ -663,6 +701,14 @@ impl<A: Allocator + Copy> FarEnd<Kept<A>> {
     {
         self.carried.carried()
     }
+}
+
+/// How many octets a message in this layout has that begins with this one.
+fn whole_length(layout: &Layout, control: u8) -> u8
+    ensures { result ≡ whole_length layout.now control }
+{
+    let od = if control < READ { layout.od().get() } else { 0 };
+    2 + layout.pd_out() + od
 }
 
 /// Whether a message is a START write on the ISDU channel.

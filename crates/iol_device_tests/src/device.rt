@@ -118,3 +118,14 @@ fn laws_of_the_far_end_need_no_device() {
     requests_are_received();
     texts_are_heard();
 }
+
+/// No message is expected asleep; else one octet, and then as many as the layout says.
+#[test]
+fn a_message_is_expected(rt: HostRuntime) {
+    let mut device = Device::new(Apart, Page::from_octets(&PLAIN));
+    assert_eq!(rt; device.expects(&PAGE_READ), 0);
+    device.wake();
+    assert_eq!(rt; device.expects(&[]), 1);
+    assert_eq!(rt; device.expects(&PAGE_READ), 2);
+    assert_eq!(rt; device.expects(&[0x20]), 3);
+}

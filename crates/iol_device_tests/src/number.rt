@@ -163,3 +163,16 @@ fn an_answer_for_the_request_before_is_refused(rt: HostRuntime) -> Result<(), Fa
     }
     Ok(())
 }
+
+/// Numbers go on behind the one that is given.
+#[test]
+fn numbers_go_on(rt: HostRuntime) {
+    for (given, first) in [(0, 1), (41, 42), (u64::MAX, 0)] {
+        let mut device = Device::new_from(Apart, Page::from_octets(&PLAIN), given);
+        device.wake();
+        device.hear(INTO_PREOPERATE);
+        device.hear(READ_16);
+        device.hear(START_READ);
+        assert_eq!(rt; device.handed_number(), Some(first));
+    }
+}
