@@ -95,15 +95,15 @@ IOL_INLINE const uint8_t *iol_octets_at(const uint8_t *octets)
 
 typedef struct { void *at; bool is_open; const void *opened_at; } iol_port;
 
-/* Opens a port for devices of our own kind, whose link is down. Its journal has at most `journal` entries, 4 to
- * 1,000,000; a request is cut off after `busy` busy replies, 2 to 65,535; `queue` tickets may be outstanding at a time,
- * 1 to 64; the first ticket is `given` + 1.
- * 253 it is open already, 254 `journal`, `busy` or `queue` is out of its range, 24 no memory. */
+/* Opens a port for any device by the standard, whoever made it, whose link is down. A start-up writes DeviceStartup
+ * before it reads the page, and a START write of a whole request isn't repeated, but asked for. Its journal has at
+ * most `journal` entries, 4 to 1,000,000; a request is cut off after `busy` busy replies, 2 to 65,535; `queue` tickets
+ * may be outstanding at a time, 1 to 64; the first ticket is `given` + 1. 253 it is open already, 254 `journal`,
+ * `busy` or `queue` is out of its range, 24 no memory. */
 uint8_t iol_port_open(iol_port *port, uint32_t journal, uint16_t busy, uint8_t queue, uint64_t given);
 
-/* The same, for `devices`: IOL_DEVICES_OWN, or IOL_DEVICES_ANY by the standard. For any a start-up writes DeviceStartup
- * before it reads the page, and a START write of a whole request isn't repeated, but asked for. 254 also where it is
- * neither. */
+/* The same, for `devices` by name: IOL_DEVICES_OWN for devices of our own kind alone, which need neither, or
+ * IOL_DEVICES_ANY. 254 also where it is neither. */
 #define IOL_DEVICES_OWN 0
 #define IOL_DEVICES_ANY 1
 uint8_t iol_port_open_for(iol_port *port, uint8_t devices, uint32_t journal, uint16_t busy, uint8_t queue,

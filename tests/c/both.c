@@ -220,7 +220,7 @@ static void open_both(const uint8_t page[10])
     IS(iol_device_open(&device, page), IOL_IS_OPEN);
     IS(device_mode(), 1);
     IS(cycle_time(), 0);
-    IS(iol_port_open(&port, 1000, 100, 64, 0), 0);
+    IS(iol_port_open_for(&port, IOL_DEVICES_OWN, 1000, 100, 64, 0), 0);
     IS(iol_port_open(&port, 1000, 100, 64, 0), IOL_IS_OPEN);
 }
 
@@ -233,10 +233,9 @@ static void close_both(void)
 }
 
 /* The first message of a start-up, and whether a second opening is refused. */
-static void first_message_for(uint8_t devices, size_t length, uint8_t first)
+static void first_message(size_t length, uint8_t first)
 {
     iol_message asked;
-    IS(iol_port_open_for(&port, devices, 1000, 100, 64, 0), 0);
     IS(iol_port_open_for(&port, 2, 1000, 100, 64, 0), IOL_IS_OPEN);
     IS(iol_port_asks(&port, &asked), 0);
     IS(iol_port_turn_woken(&port, 2), 0);
@@ -248,8 +247,12 @@ static void first_message_for(uint8_t devices, size_t length, uint8_t first)
 
 static void opened_for(void)
 {
-    first_message_for(IOL_DEVICES_OWN, 2, 0xA2);
-    first_message_for(IOL_DEVICES_ANY, 3, 0x20);
+    IS(iol_port_open_for(&port, IOL_DEVICES_OWN, 1000, 100, 64, 0), 0);
+    first_message(2, 0xA2);
+    IS(iol_port_open_for(&port, IOL_DEVICES_ANY, 1000, 100, 64, 0), 0);
+    first_message(3, 0x20);
+    IS(iol_port_open(&port, 1000, 100, 64, 0), 0);
+    first_message(3, 0x20);
 }
 
 static void refusals_at_opening(void)

@@ -53,7 +53,7 @@ static void opening(uint32_t journal, uint16_t busy, uint64_t given)
 {
     iol_port port = {0};
     uint64_t ticket = 5;
-    IS(iol_port_open(&port, journal, busy, 64, given), 0);
+    IS(iol_port_open_for(&port, IOL_DEVICES_OWN, journal, busy, 64, given), 0);
     IS(iol_port_read(&port, 16, 0, &ticket), given == UINT64_MAX ? 23 : 0);
     IS(ticket, given == UINT64_MAX ? 0 : given + 1);
     IS(iol_port_close(&port), 0);
@@ -82,7 +82,7 @@ static void at_once(int count)
     for (i = 0; i < count; i++) {
         ends[i].value[0] = 0x42;
         ends[i].value[1] = (uint8_t)i;
-        IS(iol_port_open(&ends[i].port, 1000, 100, 64, (uint64_t)i), 0);
+        IS(iol_port_open_for(&ends[i].port, IOL_DEVICES_OWN, 1000, 100, 64, (uint64_t)i), 0);
         IS(iol_device_open(&ends[i].device, page), 0);
         IS(iol_port_read(&ends[i].port, 16, 0, &ticket), 0);
         IS(ticket, (uint64_t)i + 1);
@@ -117,7 +117,7 @@ static void withdrawn(void)
     iol_outcome outcome;
     uint64_t number, ticket = 0;
     uint32_t count = 0;
-    IS(iol_port_open(&port, 1000000, 100, 64, 0), 0);
+    IS(iol_port_open_for(&port, IOL_DEVICES_OWN, 1000000, 100, 64, 0), 0);
     for (number = 1; number <= WITHDRAWN; number++) {
         IS(iol_port_write(&port, 16, 0, (const uint8_t *)"A", 1, &ticket), 0);
         IS(ticket, number);
@@ -144,7 +144,7 @@ static void full_journal(void)
     iol_outcome outcome;
     uint64_t number, ticket = 0;
     uint32_t count = 0;
-    IS(iol_port_open(&port, 8, 100, 64, 0), 0);
+    IS(iol_port_open_for(&port, IOL_DEVICES_OWN, 8, 100, 64, 0), 0);
     for (number = 1; number <= 2; number++) {
         IS(iol_port_read(&port, 16, 0, &ticket), 0);
         IS(iol_port_withdraw(&port, ticket), 0);
@@ -167,7 +167,7 @@ static void full_queue(uint8_t queue)
     iol_port port = {0};
     iol_outcome outcome;
     uint64_t number, ticket = 0;
-    IS(iol_port_open(&port, 1000, 100, queue, 0), 0);
+    IS(iol_port_open_for(&port, IOL_DEVICES_OWN, 1000, 100, queue, 0), 0);
     for (number = 1; number <= queue; number++) {
         if (number % 2 == 0)
             IS(iol_port_read_urgent(&port, 16, 0, &ticket), 0);

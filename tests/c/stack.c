@@ -228,10 +228,10 @@ static void run(const uint8_t page[10])
 {
     ticket = 0;
     CALL(iol_device_open, &device, page);
-    CALL(iol_port_open_for, &port, IOL_DEVICES_ANY, 1000, 100, 64, 0);
+    CALL(iol_port_open, &port, 1000, 100, 64, 0);
     turns(4, 0);
     CALL(iol_port_close, &port);
-    CALL(iol_port_open, &port, 1000, 100, 64, 0);
+    CALL(iol_port_open_for, &port, IOL_DEVICES_OWN, 1000, 100, 64, 0);
     turns(20, 0);
     requests(0);
     process_data();

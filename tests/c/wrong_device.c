@@ -155,7 +155,7 @@ static void open_all(bool expecting)
     expects = expecting;
     for (i = 0; i < DEVICES; i++)
         IS(iol_device_open(&ends[i].device, pages[i]), 0);
-    IS(iol_port_open(&port, 1000, 100, 64, 0), 0);
+    IS(iol_port_open_for(&port, IOL_DEVICES_OWN, 1000, 100, 64, 0), 0);
     if (expecting) {
         IS(iol_port_expect(&port, VENDOR, DEVICE, &counts), 0);
         IS(counts, 1);

@@ -1,6 +1,6 @@
 //! Opening and closing.
 ghost use Rattle.std.specs.Prelude.{◌≡◌, ◌↔◌, Some, false, IfSome, IsSome, IsTrue, IsFalse};
-ghost use Rattle.iol_mode.specs.declared.configuration.Devices.TheVariants.{Own};
+ghost use Rattle.iol_mode.specs.declared.configuration.Devices.TheVariants.{Any};
 ghost use Rattle.iolink_port_c.specs.Calls.{ClosedPortIsRefused};
 ghost use Rattle.iolink_port_c.specs.Opening.{AreInRange, HandleOpens, devices_of, limits_of};
 
@@ -18,7 +18,8 @@ const OWN: u8 = 0;
 /// For any device by the standard.
 const ANY: u8 = 1;
 
-/// Opens a port for devices of our own kind, whose link is down. The first ticket is `given` + 1.
+/// Opens a port for any device by the standard, whose link is down. The first ticket is
+/// `given` + 1.
 ///
 /// 0, or the first of 253 where the handle is open already, 254 where the journal
 /// isn't 4 to 1,000,000 entries, the busy limit isn't 2 to 65,535 or the limit of
@@ -33,10 +34,10 @@ pub extern "C" fn iol_port_open(
     queue: u8,
     given: u64,
 ) -> u8
-    ensures { HandleOpens (Some Own) (limits_of journal busy queue given) handle.old result
+    ensures { HandleOpens (Some Any) (limits_of journal busy queue given) handle.old result
         handle.new }
 {
-    open_for(alloc, handle, Devices::Own, journal, busy, queue, given)
+    open_for(alloc, handle, Devices::Any, journal, busy, queue, given)
 }
 
 /// The same, for these devices: 0 for those of our own kind, 1 for any by the standard. 254 also
