@@ -24,7 +24,7 @@
  *   253  the handle is open already
  *   255  a pointer is null
  * Beside each call stand its refusals, in the order in which they are tested: the first that holds is answered. Every
- * call but iol_device_open tests 252 first. What is refused changed nothing, and what a call hands out is written only
+ * call but the openings tests 252 first. What is refused changed nothing, and what a call hands out is written only
  * where it answers 0, so that what `out` points to is as it was.
  *
  * What a master sends is any octets whatever: nothing is asked of it, and none does harm.
@@ -64,6 +64,12 @@ typedef struct { uint8_t length; uint8_t octets[32]; } iol_image;
 #define IOL_INLINE static __inline
 #endif
 
+/* 255 where a pointer is null. */
+IOL_INLINE uint8_t iol_null_refusal(bool has_pointers)
+{
+    return has_pointers ? 0 : IOL_NOT_ASKED;
+}
+
 /* These octets, or some place where there are none. */
 IOL_INLINE const uint8_t *iol_octets_at(const uint8_t *octets)
 {
@@ -99,6 +105,10 @@ typedef struct { void *at; bool is_open; const void *opened_at; } iol_device;
  * 0x10, 7 ProcessDataIn or ProcessDataOut is no length, 2 its M-sequence codes have no layout, 24 no memory. */
 uint8_t iol_device_open(iol_device *device, const uint8_t page[10]);
 
+/* The same, whose first request has the number behind `given`. Give the number of the last request that an earlier
+ * handle handed over: then an answer that comes late for one of those is refused with 37. */
+uint8_t iol_device_open_from(iol_device *device, const uint8_t page[10], uint64_t given);
+
 /* Ends the device, and gives its memory back. The handle can be opened again. 252. */
 uint8_t iol_device_close(iol_device *device);
 
@@ -110,6 +120,16 @@ typedef struct { uint8_t length; uint8_t octets[66]; } iol_reply;
 /* These octets came, any number of them: what is sent back, or no octet where the device is asleep or they are no
  * message to it. 252. */
 uint8_t iol_device_hear(iol_device *device, const uint8_t *octets, size_t count, iol_reply *out);
+
+/* How many octets the message has that begins with these `count` octets, 2 to 66; 1 where none came yet, 0 where the
+ * device is asleep. So read until there are as many as `out` says, and ask again; once it says no more, hand them to
+ * iol_device_hear, as you do at a pause. Octets that begin as a command that asked for another mode may be that command
+ * again or a message of the new mode: then it is the shorter of the two, until as many came. It changes nothing. 252. */
+uint8_t iol_device_expects(iol_device *device, const uint8_t *octets, size_t count, uint8_t *out);
+
+/* The checksum, 0 to 63, of a message or a reply of `count` octets, whose own six bits of it are 0. This is the
+ * answer, in place of a refusal; 255 where `octets` is null and `count` isn't 0. */
+uint8_t iol_device_checksum(const uint8_t *octets, size_t count);
 
 /* A wake-up request came: the device is awake, in startup, and a request under way is dropped. 252. */
 uint8_t iol_device_wake(iol_device *device);
@@ -128,11 +148,14 @@ uint8_t iol_device_mode(iol_device *device, uint8_t *out);
 /* MasterCycleTime, the octet of page address 0x01 as the master wrote it last, 0 before. It changes nothing. 252. */
 uint8_t iol_device_cycle_time(iol_device *device, uint8_t *out);
 
+/* The microseconds that an octet of MasterCycleTime means, 0 to 132,800. 39 its time base is reserved. */
+uint8_t iol_device_cycle_micros(uint8_t octet, uint32_t *micros);
+
 /* ---- requests: look whether one is handed over, carry it out, answer it once, by its number
  *
  * The master may cancel a request that is being carried out, and hand the next one over. So an answer names its request:
  * it is refused with 37 where another one is handed over by then, or none. Drop it. The first request of a device has
- * number 1, each further one the next; behind 2^64 - 1 comes 0. */
+ * number 1, or the one behind `given`, each further one the next; behind 2^64 - 1 comes 0. */
 
 /* The request that is handed over and has no answer yet, and its number; where there is none `kind` is 0, `number` 0,
  * and the rest says nothing. A read has `length` 0, a write 0 to 232. It changes nothing. 252. */
@@ -178,6 +201,10 @@ IOL_CHECKED_OPENING(device, device_open, (iol_device *device, const uint8_t page
     iol_device_misuse(device, page != NULL), (device, page))
 #define iol_device_open iol_checked_device_open
 
+IOL_CHECKED_OPENING(device, device_open_from, (iol_device *device, const uint8_t page[10], uint64_t given),
+    iol_device_misuse(device, page != NULL), (device, page, given))
+#define iol_device_open_from iol_checked_device_open_from
+
 IOL_CHECKED(device_close, (iol_device *device), iol_device_misuse(device, true), (device))
 #define iol_device_close iol_checked_device_close
 
@@ -185,6 +212,15 @@ IOL_CHECKED(device_hear, (iol_device *device, const uint8_t *octets, size_t coun
     iol_device_misuse(device, (octets != NULL || count == 0) && out != NULL),
     (device, iol_octets_at(octets), count, out))
 #define iol_device_hear iol_checked_device_hear
+
+IOL_CHECKED(device_expects, (iol_device *device, const uint8_t *octets, size_t count, uint8_t *out),
+    iol_device_misuse(device, (octets != NULL || count == 0) && out != NULL),
+    (device, iol_octets_at(octets), count, out))
+#define iol_device_expects iol_checked_device_expects
+
+IOL_CHECKED(device_checksum, (const uint8_t *octets, size_t count), iol_null_refusal(octets != NULL || count == 0),
+    (iol_octets_at(octets), count))
+#define iol_device_checksum iol_checked_device_checksum
 
 IOL_CHECKED(device_wake, (iol_device *device), iol_device_misuse(device, true), (device))
 #define iol_device_wake iol_checked_device_wake
@@ -201,6 +237,9 @@ IOL_CHECKED(device_mode, (iol_device *device, uint8_t *out), iol_device_misuse(d
 IOL_CHECKED(device_cycle_time, (iol_device *device, uint8_t *out), iol_device_misuse(device, out != NULL),
     (device, out))
 #define iol_device_cycle_time iol_checked_device_cycle_time
+
+IOL_CHECKED(device_cycle_micros, (uint8_t octet, uint32_t *micros), iol_null_refusal(micros != NULL), (octet, micros))
+#define iol_device_cycle_micros iol_checked_device_cycle_micros
 
 IOL_CHECKED(device_handed, (iol_device *device, uint64_t *number, iol_request *out),
     iol_device_misuse(device, number != NULL && out != NULL), (device, number, out))

@@ -65,6 +65,12 @@ typedef struct { uint8_t length; uint8_t octets[32]; } iol_image;
 #define IOL_INLINE static __inline
 #endif
 
+/* 255 where a pointer is null. */
+IOL_INLINE uint8_t iol_null_refusal(bool has_pointers)
+{
+    return has_pointers ? 0 : IOL_NOT_ASKED;
+}
+
 /* These octets, or some place where there are none. */
 IOL_INLINE const uint8_t *iol_octets_at(const uint8_t *octets)
 {
@@ -167,6 +173,10 @@ uint8_t iol_port_turn_woken(iol_port *port, uint8_t rate);
  * is right, as two equal segments cancel each other in it. */
 uint8_t iol_port_turn_answered(iol_port *port, const uint8_t *octets, size_t count);
 
+/* The checksum, 0 to 63, of a message or a reply of `count` octets, whose own six bits of it are 0. This is the
+ * answer, in place of a refusal; 255 where `octets` is null and `count` isn't 0. */
+uint8_t iol_port_checksum(const uint8_t *octets, size_t count);
+
 /* ---- requests */
 
 /* Enters a read and answers its ticket, which is never 0; the urgent one goes before those that wait and aren't urgent.
@@ -222,6 +232,10 @@ uint8_t iol_port_expect_any(iol_port *port, uint8_t *counts);
  * Where that is less than the device's MinCycleTime, and for 0, it writes MinCycleTime. A port is opened with 0.
  * 252, 39 above 132,800. */
 uint8_t iol_port_set_cycle(iol_port *port, uint32_t micros, uint8_t *counts);
+
+/* The microseconds that an octet of MinCycleTime or MasterCycleTime means, 0 to 132,800: that of a page is its first.
+ * 39 its time base is reserved. */
+uint8_t iol_port_cycle_micros(uint8_t octet, uint32_t *micros);
 
 /* Direct parameter page 1, its addresses 0x02 to 0x0B: `length` is 10, or 0 where there is none. */
 typedef struct { uint8_t length; uint8_t octets[10]; } iol_page;
@@ -347,6 +361,10 @@ IOL_CHECKED(port_turn_answered, (iol_port *port, const uint8_t *octets, size_t c
     iol_port_misuse(port, octets != NULL || count == 0), (port, iol_octets_at(octets), count))
 #define iol_port_turn_answered iol_checked_port_turn_answered
 
+IOL_CHECKED(port_checksum, (const uint8_t *octets, size_t count), iol_null_refusal(octets != NULL || count == 0),
+    (iol_octets_at(octets), count))
+#define iol_port_checksum iol_checked_port_checksum
+
 IOL_CHECKED(port_read, (iol_port *port, uint16_t index, uint8_t sub, uint64_t *ticket),
     iol_port_misuse(port, ticket != NULL), (port, index, sub, ticket))
 #define iol_port_read iol_checked_port_read
@@ -387,6 +405,9 @@ IOL_CHECKED(port_expect_any, (iol_port *port, uint8_t *counts), iol_port_misuse(
 IOL_CHECKED(port_set_cycle, (iol_port *port, uint32_t micros, uint8_t *counts), iol_port_misuse(port, counts != NULL),
     (port, micros, counts))
 #define iol_port_set_cycle iol_checked_port_set_cycle
+
+IOL_CHECKED(port_cycle_micros, (uint8_t octet, uint32_t *micros), iol_null_refusal(micros != NULL), (octet, micros))
+#define iol_port_cycle_micros iol_checked_port_cycle_micros
 
 IOL_CHECKED(port_page, (iol_port *port, iol_page *out), iol_port_misuse(port, out != NULL), (port, out))
 #define iol_port_page iol_checked_port_page

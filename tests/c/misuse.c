@@ -90,6 +90,8 @@ static void device_calls(iol_device *device, bool has_others, uint8_t wanted)
     memset(&reply, 7, sizeof reply);
     IS(iol_device_hear(device, OTHER(page), 1, &reply), wanted);
     IS(iol_device_hear(device, page, 1, OTHER(&reply)), wanted);
+    IS(iol_device_expects(device, OTHER(page), 1, &octet), wanted);
+    IS(iol_device_expects(device, page, 1, OTHER(&octet)), wanted);
     IS(iol_device_mode(device, OTHER(&octet)), wanted);
     IS(iol_device_cycle_time(device, OTHER(&octet)), wanted);
     IS(iol_device_handed(device, OTHER(&number), &request), wanted);
@@ -112,6 +114,7 @@ static void device_calls_of_the_handle_alone(iol_device *device, uint8_t wanted)
     IS(iol_device_raise(device, 0x54, 1), wanted);
     IS(iol_device_clear_input(device), wanted);
     IS(iol_device_open(device, page), wanted);
+    IS(iol_device_open_from(device, page, 3), wanted);
     IS(iol_device_close(device), wanted);
 }
 
@@ -124,6 +127,11 @@ static void nulls(void)
     device_calls(NULL, true, IOL_NOT_ASKED);
     device_calls_of_the_handle_alone(NULL, IOL_NOT_ASKED);
     NULLS(iol_device_open(&device, NULL));
+    NULLS(iol_device_open_from(&device, NULL, 3));
+    NULLS(iol_port_cycle_micros(1, NULL));
+    NULLS(iol_device_cycle_micros(1, NULL));
+    NULLS(iol_port_checksum(NULL, 1));
+    NULLS(iol_device_checksum(NULL, 1));
     port_calls(&port, false, IOL_NOT_ASKED);
     device_calls(&device, false, IOL_NOT_ASKED);
     IS(iol_port_open(&port, 1000, 100, 64, 0), 0);
@@ -142,6 +150,7 @@ static void empty_lists(void)
     iol_message message;
     iol_reply reply;
     uint64_t ticket = 0;
+    uint8_t octet = 7;
     IS(iol_port_open(&port, 1000, 100, 64, 0), 0);
     IS(iol_device_open(&device, page), 0);
     IS(iol_port_write(&port, 24, 0, NULL, 0, &ticket), 0);
@@ -156,8 +165,11 @@ static void empty_lists(void)
     IS(iol_port_set_output(&port, NULL, 0), 29);
     IS(iol_device_hear(&device, NULL, 0, &reply), 0);
     IS(reply.length, 0);
+    IS(iol_device_expects(&device, NULL, 0, &octet), 0);
+    IS(octet, 0);
     IS(iol_device_answer_read(&device, 1, NULL, 0), 37);
     IS(iol_device_set_input(&device, NULL, 0), 29);
+    IS(iol_port_checksum(NULL, 0), iol_port_checksum(page, 0));
     IS(iol_port_close(&port), 0);
     IS(iol_device_close(&device), 0);
 }

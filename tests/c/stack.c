@@ -19,8 +19,9 @@ enum { KB = 1024, OF_OPENING = 8 * KB, OF_CALL = 4 * KB, ROOM = 64 * KB, SKIPPED
     X(iol_port_withdraw) X(iol_port_cancel) X(iol_port_restart) X(iol_port_set_output) X(iol_port_clear_output)        \
     X(iol_port_image) X(iol_port_take_event) X(iol_port_status) X(iol_port_archive) X(iol_port_entry)                  \
     X(iol_port_expect) X(iol_port_expect_any) X(iol_port_set_cycle) X(iol_port_page) X(iol_port_counters)              \
-    X(iol_port_last_loss)                                                                                              \
-    X(iol_device_open) X(iol_device_close) X(iol_device_hear) X(iol_device_wake) X(iol_device_power_cycle)             \
+    X(iol_port_last_loss) X(iol_port_checksum) X(iol_port_cycle_micros)                                                \
+    X(iol_device_open) X(iol_device_open_from) X(iol_device_close) X(iol_device_hear) X(iol_device_wake)               \
+    X(iol_device_power_cycle) X(iol_device_expects) X(iol_device_checksum) X(iol_device_cycle_micros)                  \
     X(iol_device_handed) X(iol_device_answer_read) X(iol_device_answer_written) X(iol_device_answer_refused)           \
     X(iol_device_raise) X(iol_device_set_input) X(iol_device_clear_input) X(iol_device_output)                         \
     X(iol_device_silence) X(iol_device_mode) X(iol_device_cycle_time)
@@ -36,7 +37,9 @@ static size_t deepest[CALLS];
 /* Below how many octets a call has to stay. */
 static size_t bound(int call)
 {
-    return call == at_iol_port_open || call == at_iol_port_open_for || call == at_iol_device_open ? OF_OPENING : OF_CALL;
+    bool opens = call == at_iol_port_open || call == at_iol_port_open_for || call == at_iol_device_open
+        || call == at_iol_device_open_from;
+    return opens ? OF_OPENING : OF_CALL;
 }
 
 /* Paints what lies below the caller, but for the little that this function stands on itself. */
@@ -103,6 +106,7 @@ static void turns(int count, int lost)
     iol_message asked;
     iol_reply reply;
     iol_status status;
+    uint8_t expected;
     while (count-- > 0) {
         CALL(iol_port_status, &port, &status);
         CALL(iol_port_asks, &port, &asked);
@@ -111,6 +115,7 @@ static void turns(int count, int lost)
             CALL(iol_port_turn_woken, &port, 2);
             continue;
         }
+        CALL(iol_device_expects, &device, asked.octets, 1, &expected);
         CALL(iol_device_hear, &device, asked.octets, asked.length, &reply);
         work();
         if (lost && count % lost == 0)
@@ -155,10 +160,15 @@ static void requests(int lost)
 static void process_data(void)
 {
     iol_image image;
+    uint32_t micros;
     uint8_t octet;
     size_t i;
     CALL(iol_device_mode, &device, &octet);
     CALL(iol_device_cycle_time, &device, &octet);
+    CALL(iol_device_cycle_micros, octet, &micros);
+    CALL(iol_port_cycle_micros, octet, &micros);
+    CALL(iol_port_checksum, longest, LONGEST);
+    CALL(iol_device_checksum, longest, LONGEST);
     for (i = 0; i <= 32; i++) {
         CALL(iol_port_set_output, &port, longest, i);
         CALL(iol_device_set_input, &device, longest, i);
@@ -228,6 +238,8 @@ static void run(const uint8_t page[10])
 {
     ticket = 0;
     CALL(iol_device_open, &device, page);
+    CALL(iol_device_close, &device);
+    CALL(iol_device_open_from, &device, page, 0);
     CALL(iol_port_open, &port, 1000, 100, 64, 0);
     turns(4, 0);
     CALL(iol_port_close, &port);

@@ -1,8 +1,10 @@
 -- The calls of a device, as C sees them: by a handle, and with numbers in place of answers.
-use Rattle.std.specs.Prelude.{◌≡◌, ℕ, IsFalse, Bool, List, Option, Some, None}
+use Rattle.std.specs.Prelude.{◌≡◌, ℕ, IsTrue, IsFalse, Bool, true, false, List, Option, Some, None, IfErr, IsOk}
+use Rattle.iol_page.specs.Fault.{page_fault_number}
+use Rattle.iol_page.specs.Page.{layouts_of}
 use Rattle.iol_isdu.specs.declared.values.Answer.{Answer}
 use Rattle.iol_isdu.specs.declared.values.Answer.TheVariants.{Read}
-use Rattle.iol_far.specs.Far.{Far}
+use Rattle.iol_far.specs.Far.{Far, new_far}
 use Rattle.iol_far.specs.Local.{LocalStep, local}
 use Rattle.iol_device.specs.Device.{Running}
 use Rattle.iol_device.specs.Faults.{device_fault_number}
@@ -41,6 +43,20 @@ pub record GuardsFar (result : ℕ) (old new : IolDevice) : Type 0 where
   pub guards : Guards result old new
   pub number : number_of new ≡ number_of old
   pub silent : silent_of new ≡ silent_of old
+
+-- What an opening answers and leaves: 253 where the handle is open, the refusal of the page, 24
+-- where there is no memory, else 0 and a device that is new but for its number
+pub record HandleOpensDevice (page : List ℕ) (given : ℕ) (old : IolDevice) (result : ℕ)
+    (new : IolDevice) : Type 0 where
+  pub once : IsTrue old.is_open → (result ≡ 253) × (new ≡ old)
+  pub refused : IsFalse old.is_open
+      → IfErr (layouts_of page) (λ fault. result ≡ page_fault_number fault)
+  pub memory : IsFalse old.is_open → IsOk (layouts_of page) → ¬ (result ≡ 0) → result ≡ 24
+  pub kept : ¬ (result ≡ 0) → new ≡ old
+  pub opened : result ≡ 0 → new.is_open ≡ true
+  pub far : result ≡ 0 → far_of new ≡ new_far page None
+  pub number : result ≡ 0 → number_of new ≡ given
+  pub silent : result ≡ 0 → silent_of new ≡ false
 
 -- the answer to a read, by its octets
 abbrev pub read_of : List ℕ → Answer

@@ -1,11 +1,8 @@
 //! Opening and closing, and what comes to pass at a device by itself.
-ghost use Rattle.std.specs.Prelude.{◌≡◌, true, false, None, IfErr, IsOk, IsTrue, IsFalse};
+ghost use Rattle.std.specs.Prelude.{◌≡◌, false, IsTrue, IsFalse};
 ghost use Rattle.iol_event.specs.Memory.{is_full};
-ghost use Rattle.iol_page.specs.Fault.{page_fault_number};
-ghost use Rattle.iol_page.specs.Page.{layouts_of};
-ghost use Rattle.iol_far.specs.Far.{new_far};
 ghost use Rattle.iol_far.specs.Local.{local, far_after_wake, LocalStep};
-ghost use Rattle.iolink_device_c.specs.Calls.{device_of, far_of, number_of, silent_of, IsRefused, Guards, GuardsFar};
+ghost use Rattle.iolink_device_c.specs.Calls.{device_of, far_of, IsRefused, Guards, GuardsFar, HandleOpensDevice};
 
 use crate::held::{IolDevice, Sensor};
 use core::mem::replace_with;
@@ -15,22 +12,28 @@ use iol_page::Page;
 use iolink_handle::{CLOSED, IS_OPEN, OUT_OF_MEMORY};
 use std::alloc::Global;
 
-/// Opens a device with this direct parameter page 1, asleep. It takes no memory after this.
+/// Opens a device with this direct parameter page 1, asleep. It takes no memory after this. Its
+/// first request has number 1.
 ///
 /// 0, or the first of these that holds, with the handle as it was: 253 it is open
 /// already; 8, 7 or 2 the page is refused, as by `Page::layouts`; 24 there is no memory.
 #[unsafe(no_mangle)]
 pub extern "C" fn iol_device_open(alloc: Global, handle: &mut IolDevice, page: &[u8; 10]) -> u8
-    ensures once { IsTrue handle.old.is_open → (result ≡ 253) × (handle.new ≡ handle.old) }
-    ensures refused { IsFalse handle.old.is_open →
-        IfErr (layouts_of page.now) (λ fault. result ≡ page_fault_number fault) }
-    ensures memory { IsFalse handle.old.is_open → IsOk (layouts_of page.now) →
-        ¬ (result ≡ 0) → result ≡ 24 }
-    ensures kept { ¬ (result ≡ 0) → handle.new ≡ handle.old }
-    ensures opened { result ≡ 0 → handle.new.is_open ≡ true }
-    ensures far { result ≡ 0 → far_of handle.new ≡ new_far page.now None }
-    ensures number { result ≡ 0 → number_of handle.new ≡ 0 }
-    ensures silent { result ≡ 0 → silent_of handle.new ≡ false }
+    ensures { HandleOpensDevice page.now 0 handle.old result handle.new }
+{
+    iol_device_open_from(alloc, handle, page, 0)
+}
+
+/// The same, whose first request has the number behind `given`: that of the last request of an
+/// earlier handle, so that an answer that is late for that one is refused by this one.
+#[unsafe(no_mangle)]
+pub extern "C" fn iol_device_open_from(
+    alloc: Global,
+    handle: &mut IolDevice,
+    page: &[u8; 10],
+    given: u64,
+) -> u8
+    ensures { HandleOpensDevice page.now given handle.old result handle.new }
 {
     if handle.is_open {
         return IS_OPEN;
@@ -39,7 +42,7 @@ pub extern "C" fn iol_device_open(alloc: Global, handle: &mut IolDevice, page: &
     if let Err(fault) = page.layouts() {
         return fault.code();
     }
-    let device = Device::new(Apart, page);
+    let device = Device::new_from(Apart, page, given);
     match Box::new(alloc, Sensor { device }) {
         Ok(sensor) => {
             *handle = IolDevice::of(sensor);

@@ -16,6 +16,7 @@
 mod device;
 mod held;
 mod line;
+mod message;
 mod process;
 mod request;
 mod state;

@@ -1,12 +1,13 @@
 //! How a device stands.
-ghost use Rattle.std.specs.Prelude.{◌≡◌, IsTrue, IsFalse};
+ghost use Rattle.std.specs.Prelude.{◌≡◌, IfNone, IfSome, IsTrue, IsFalse};
+ghost use Rattle.iol_page.specs.Cycle.{cycle_fault, cycle_fault_number, micros_of};
 ghost use Rattle.iolink_device_c.specs.Calls.{far_of, Guards};
 ghost use Rattle.iolink_device_c.specs.Shown.{shown_mode};
 
 use crate::held::IolDevice;
 use core::mem::replace_with;
 use iol_device::{Apart, Device, DeviceMode, Unkept};
-use iolink_handle::CLOSED;
+use iolink_handle::{CLOSED, show_micros};
 use std::alloc::Global;
 
 const ASLEEP: u8 = 1;
@@ -66,4 +67,15 @@ pub extern "C" fn iol_device_cycle_time(alloc: Global, handle: &mut IolDevice, o
     });
     *out = octet;
     0
+}
+
+/// The microseconds that an octet of MasterCycleTime means: 0, or 39 where its time base is
+/// reserved, with `out` as it was.
+#[unsafe(no_mangle)]
+pub extern "C" fn iol_device_cycle_micros(octet: u8, out: &mut u32) -> u8
+    ensures shown { IfNone (cycle_fault octet) ((result ≡ 0) × (out.new ≡ micros_of octet)) }
+    ensures refused { IfSome (cycle_fault octet) (λ fault.
+        (result ≡ cycle_fault_number fault) × (out.new ≡ out.old)) }
+{
+    show_micros(octet, out)
 }

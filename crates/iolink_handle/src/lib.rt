@@ -1,5 +1,5 @@
 //! What the libraries for C have in common: the box behind a handle, what C is shown of
-//! octets, a request and process data, and the refusals of their own.
+//! octets, a request, process data and a cycle time, and the refusals of their own.
 //!
 //! A handle of C is a `#[repr(C)]` struct of the library that it belongs to, with one pointer. Such
 //! a struct can have no type parameter, so each library has its own, and makes it of a [`Loose`].
@@ -8,12 +8,14 @@
 //! was.
 #![tactic(auto)]
 
+mod cycle;
 mod image;
 mod loose;
 mod octets;
 mod refusal;
 mod request;
 
+pub use cycle::show_micros;
 pub use image::{IolImage, show_image};
 pub use loose::Loose;
 pub use octets::put;

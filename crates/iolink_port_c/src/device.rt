@@ -1,7 +1,7 @@
 //! Which device is expected, its page, and the cycle time that it is given.
 ghost use Rattle.std.specs.Prelude.{◌≡◌, ◌≤◌, ◌<◌, ◌↔◌, Some, None, unwrap_or, [], IsTrue, IsFalse};
 ghost use Rattle.std.specs.Prelude.{IsErr, IfOk, IfSome, IfNone};
-ghost use Rattle.iol_page.specs.Cycle.{longest_cycle};
+ghost use Rattle.iol_page.specs.Cycle.{longest_cycle, cycle_fault, cycle_fault_number, micros_of};
 ghost use Rattle.iol_port.specs.declared.call.Call.TheVariants as call;
 ghost use Rattle.iol_port.specs.declared.call.Answered.TheVariants as answered;
 ghost use Rattle.iol_port.specs.EveryWire.{page_shown};
@@ -13,7 +13,7 @@ ghost use Rattle.iolink_port_c.specs.DeviceCalls.{IsCycleOf, HandleExpects, Pace
 use crate::held::IolPort;
 use iol_page::{CycleFault, CycleTime, Identity, Page};
 use iol_port::Counting;
-use iolink_handle::{CLOSED, OUT_OF_RANGE, put};
+use iolink_handle::{CLOSED, OUT_OF_RANGE, put, show_micros};
 use std::alloc::Global;
 
 /// The largest DeviceID, which has 24 bits (IEC 61131-9, B.1.9).
@@ -123,6 +123,17 @@ fn show_counting(answer: Option<Counting>, counts: &mut u8) -> u8
         None => return CLOSED,
     };
     0
+}
+
+/// The microseconds that an octet of MinCycleTime or MasterCycleTime means: 0, or 39 where its
+/// time base is reserved, with `out` as it was.
+#[unsafe(no_mangle)]
+pub extern "C" fn iol_port_cycle_micros(octet: u8, out: &mut u32) -> u8
+    ensures shown { IfNone (cycle_fault octet) ((result ≡ 0) × (out.new ≡ micros_of octet)) }
+    ensures refused { IfSome (cycle_fault octet) (λ fault.
+        (result ≡ cycle_fault_number fault) × (out.new ≡ out.old)) }
+{
+    show_micros(octet, out)
 }
 
 /// Direct parameter page 1: ten octets, that of address 0x02 first; none where `length` is 0.

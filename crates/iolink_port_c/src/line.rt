@@ -2,6 +2,7 @@
 ghost use Rattle.std.specs.Prelude.{◌≡◌, ◌≤◌, ◌<◌, length, IsTrue};
 ghost use Rattle.iol_port.specs.declared.awaited.AwaitedAnswer.{AwaitedAnswer};
 ghost use Rattle.iol_port.specs.CorePort.{awaited_answer};
+ghost use Rattle.iol_octets.specs.Checksum.{checksum_of};
 ghost use Rattle.iolink_port_c.specs.Calls.{held_parts, IsNotAsked, GuardsPort, GuardsOut};
 ghost use Rattle.iolink_port_c.specs.Calls.{rate_of, answer_of};
 ghost use Rattle.iolink_port_c.specs.LineCalls.{HandleSends, HandleReceives, HandleWakes};
@@ -10,6 +11,7 @@ use crate::held::IolPort;
 use iol_app::Asked;
 use iol_link::Rate;
 use iol_mseq::Message;
+use iol_octets::checksum6;
 use iol_port::AwaitedAnswer;
 use iolink_handle::{CLOSED, NOT_ASKED, OUT_OF_RANGE, put};
 use std::alloc::Global;
@@ -132,4 +134,13 @@ pub extern "C" fn iol_port_turn_answered(alloc: Global, handle: &mut IolPort, oc
         AwaitedAnswer::Nothing | AwaitedAnswer::Wake => NOT_ASKED,
     });
     code.unwrap_or(CLOSED)
+}
+
+/// The checksum, 0 to 63, of a message or a reply whose own six bits of it are 0. It answers that
+/// in the place of a refusal.
+#[unsafe(no_mangle)]
+pub extern "C" fn iol_port_checksum(octets: &[u8]) -> u8
+    ensures value { result ≡ checksum_of octets.now }
+{
+    checksum6(octets)
 }
