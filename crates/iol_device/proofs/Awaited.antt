@@ -23,7 +23,8 @@ whole_in layout octets is = grind (arith, common_steps)
 
 -- nothing is both
 clash : {A : Type 0} (b : Bool) → b ≡ true → b ≡ false → A
-clash b yes no = grind
+clash true one other = absurd (cc)
+clash false one other = absurd (cc)
 
 -- by whether the octets are those of the command that waits
 whole_behind : (far : Far) (command : WaitingCommand) (control : ℕ) (others rest : List ℕ)
@@ -67,7 +68,8 @@ whole_awake : (awake : Bool) (far : Far) (control : ℕ) (others rest : List ℕ
 whole_awake true far control others rest not is = whole_by far far.waits control others rest not is
 whole_awake false far control others rest not is = clash _ is refl
 
-pub whole : (far : Far) (begun : List ℕ) → AwaitsWhole far begun (awaited_length far begun)
-whole far [] rest is some not = absurd (some refl)
-whole far (control ∷ others) rest is some not =
-    whole_awake far.awake far control others rest not is
+pub whole : (far : Far) (begun : List ℕ) (count : ℕ) → count ≡ awaited_length far begun
+    → AwaitsWhole far begun count
+whole far [] count is rest accepted some not = absurd (some refl)
+whole far (control ∷ others) count is rest accepted some not =
+    whole_awake far.awake far control others rest not accepted ∙ sym is
