@@ -1,5 +1,5 @@
 //! Opening and closing, and what comes to pass at a device by itself.
-ghost use Rattle.std.specs.Prelude.{◌≡◌, false, IsTrue, IsFalse};
+ghost use Rattle.std.specs.Prelude.{◌≡◌, true, false, IsTrue, IsFalse};
 ghost use Rattle.iol_event.specs.Memory.{is_full};
 ghost use Rattle.iol_far.specs.Local.{local, far_after_wake, LocalStep};
 ghost use Rattle.iolink_device_c.specs.Calls.{device_of, far_of, IsRefused, Guards, GuardsFar, HandleOpensDevice};
