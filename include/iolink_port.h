@@ -46,6 +46,12 @@ extern "C" {
 #ifndef IOLINK_SEALED
 #define IOLINK_SEALED
 
+/* The version of this header: 10,000 for its first number, 100 for its second, 1 for its third. */
+#define IOLINK_VERSION 100
+
+/* The version of the library that is linked, in this form. It needs no handle. */
+uint32_t iol_version(void);
+
 #define IOL_COPIED 251
 #define IOL_CLOSED 252
 #define IOL_IS_OPEN 253
