@@ -48,7 +48,7 @@ class Room:
 
     def examples(self):
         """The names of the examples, with their traces; None is no script of `trace`."""
-        paths = sorted(glob.glob(f"{ROOT}/examples/*"))
+        paths = sorted(it for it in glob.glob(f"{ROOT}/examples/*") if os.path.isfile(it))
         return {os.path.basename(it): self.trace_of(read(it)) for it in paths}
 
     def row_traces(self):
