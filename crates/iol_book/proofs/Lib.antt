@@ -1,2 +1,6 @@
 pub mod LineLemmas
 pub mod SoundLemmas
+pub mod RestatedLemmas
+pub mod NumberLemmas
+pub mod CompactLemmas
+pub mod JoinLemmas

@@ -3,16 +3,19 @@
 -- say, after one more entry and after edits of its lists: the part `lines`, and the clauses that
 -- look a ticket up (`answer` of `collect_into` and of `withdraw`). Last the place of a key in a
 -- list of pairs, and the list without it: the clauses of `place_in` and `outcome_at`.
-use Rattle.std.proofs.Common.{◌≡◌, ℕ, Bool, true, false, List, [], ◌∷◌, ◌++◌, length, Option, None, Some, is_some, refl, ap, cond, drop, suc, zero, arith, ◌+◌, sym, nat_lt, add-one, add_comm, get_or}
+use Rattle.std.proofs.Common.{◌≡◌, ℕ, Bool, true, false, List, [], ◌∷◌, ◌++◌, length, Option, None, Some, is_some, refl, ap, cond, drop, suc, zero, arith, ◌+◌, ◌≤◌, sym, nat_lt, add-one, add_comm, get_or, ◌∙◌, Bor}
 use Rattle.std.specs.Prelude.{slice_get, not, IfSome, IfNone}
-use Rattle.std.specs.Option.{option_map, option_to_list}
+use Rattle.std.specs.Option.{option_copied, option_map, option_to_list}
 use Rattle.std.specs.Map.{lookup, remove_entry}
+use Rattle.std.proofs.lemmas.Bool.{eq-eqb}
 use Rattle.std.proofs.lemmas.Grind.{common_steps}
+use Rattle.iol_isdu.specs.declared.values.Request.{Request}
 use Rattle.iol_book.specs.declared.entries.Ticket.{Ticket}
 use Rattle.iol_book.specs.declared.entries.Entry.{Entry}
 use Rattle.iol_book.specs.Replay.{Standing, nothing, standing_after, replay_from, replay, same_ticket, is_among, without, others_without}
-use Rattle.iol_book.specs.BookModel.{others_behind}
-use Rattle.iol_book.specs.Lines.{TicketLines, values_at, AllPass, has_request, taken_at}
+use Rattle.iol_book.specs.BookModel.{next_taken, others_behind}
+use Rattle.iol_book.specs.Drained.{IsInTurn, AreInTurn}
+use Rattle.iol_book.specs.Lines.{entry_ticket, TicketLines, values_at, AllPass, has_request, has_request_of, is_of, entry_request, taken_at, standing_at}
 use Rattle.std.specs.List.{remove, position, position_or_len}
 
 replay_from-push : (s : Standing) (es : List Entry) (e : Entry)
@@ -23,6 +26,16 @@ replay_from-push s (x ∷ es) e = replay_from-push (standing_after s x) es e
 pub replay-push : (es : List Entry) (e : Entry)
     → replay (es ++ e ∷ []) ≡ standing_after (replay es) e
 replay-push es e = replay_from-push nothing es e
+
+-- one more entry that comes where it may
+pub in_turn-push : (s : Standing) (es : List Entry) (e : Entry) → AreInTurn s es
+    → IsInTurn (replay_from s es) e → AreInTurn s (es ++ e ∷ [])
+in_turn-push s [] e h turn = (turn, tt)
+in_turn-push s (x ∷ es) e h turn = (h.0, in_turn-push (standing_after s x) es e h.1 turn)
+
+-- a longer list is as long as one before
+pub longer : (es : List Entry) (e : Entry) {n : ℕ} → n ≤ length es → n ≤ length (es ++ e ∷ [])
+longer es e h = grind (arith, common_steps)
 
 -- the usual lemmas and it, for the state that a call leaves
 pub ruleset entry_steps = (arith, common_steps, replay-push)
@@ -40,59 +53,61 @@ get-more test none e (x ∷ es) zero passes = refl
 get-more test none e (x ∷ es) (suc i) passes = get-more test none e es i passes
 
 -- lines that pass, and what they say
-pub record Says {X : Type 0} (test : Option Entry → Bool) (value : Option Entry → X)
+pub record Says {X : Type 0} (test : Ticket → Option Entry → Bool) (value : Option Entry → X)
     (es : List Entry) (ls : TicketLines) (xs : List (Ticket × X)) : Type 0 where
   pub pass : AllPass test es ls
   pub said : values_at value es ls ≡ xs
 
-module _ {X : Type 0} {test : Option Entry → Bool} {value : Option Entry → X} where
-  says-cons : {es : List Entry} {ls : TicketLines} {xs : List (Ticket × X)} (l : Ticket × ℕ) {x : X}
-      → test (slice_get es l.1) ≡ true → value (slice_get es l.1) ≡ x
+module _ {X : Type 0} {test : Ticket → Option Entry → Bool} {value : Option Entry → X} where
+  pub says-cons : {es : List Entry} {ls : TicketLines} {xs : List (Ticket × X)} (l : Ticket × ℕ)
+      {x : X}
+      → test l.0 (slice_get es l.1) ≡ true → value (slice_get es l.1) ≡ x
       → Says test value es ls xs → Says test value es (l ∷ ls) ((l.0, x) ∷ xs)
   says-cons l passes is h = record { pass = (passes, h.pass); said = rw (is, h.said) refl }
 
   -- after one more entry the lines say what they said
-  pub says-more : (es : List Entry) (e : Entry) (ls : TicketLines) → test None ≡ false
+  pub says-more : (es : List Entry) (e : Entry) (ls : TicketLines)
+      → ((t : Ticket) → test t None ≡ false)
       → AllPass test es ls → Says test value (es ++ e ∷ []) ls (values_at value es ls)
   says-more es e [] none h = record { pass = tt; said = refl }
-  says-more es e (l ∷ ls) none h = let same = get-more test none e es l.1 h.0 in
+  says-more es e (l ∷ ls) none h = let same = get-more (test l.0) (none l.0) e es l.1 h.0 in
       says-cons l (rw same h.0) (ap value same) (says-more es e ls none h.1)
 
   -- and one line more says that entry
-  pub says-new : (es : List Entry) (e : Entry) (ls : TicketLines) (t : Ticket) → test None ≡ false
-      → test (Some e) ≡ true → AllPass test es ls
+  pub says-new : (es : List Entry) (e : Entry) (ls : TicketLines) (t : Ticket)
+      → ((t : Ticket) → test t None ≡ false) → test t (Some e) ≡ true → AllPass test es ls
       → Says test value (es ++ e ∷ []) (ls ++ (t, length es) ∷ [])
       (values_at value es ls ++ (t, value (Some e)) ∷ [])
   says-new es e [] t none new h = let same = get-new es e in
       says-cons (t, length es) (rw same new) (ap value same) (record { pass = tt; said = refl })
-  says-new es e (l ∷ ls) t none new h = let same = get-more test none e es l.1 h.0 in
+  says-new es e (l ∷ ls) t none new h = let same = get-more (test l.0) (none l.0) e es l.1 h.0 in
       says-cons l (rw same h.0) (ap value same) (says-new es e ls t none new h.1)
 
-module _ {X : Type 0} {test : Option Entry → Bool} {value : Option Entry → X} {es : List Entry}
-  where
-    -- so it is of a list without one
-    pub says-drop : {ls : TicketLines} {xs : List (Ticket × X)} → Says test value es ls xs
-        → Says test value es (drop 1 ls) (drop 1 xs)
-    says-drop {ls = []} h = rw (← h.said) (record { pass = tt; said = refl })
-    says-drop {ls = l ∷ ls} h = rw (← h.said) (record { pass = h.pass.1; said = refl })
+module _ {X : Type 0} {test : Ticket → Option Entry → Bool} {value : Option Entry → X}
+    {es : List Entry} where
+  -- so it is of a list without one
+  pub says-drop : {ls : TicketLines} {xs : List (Ticket × X)} → Says test value es ls xs
+      → Says test value es (drop 1 ls) (drop 1 xs)
+  says-drop {ls = []} h = rw (← h.said) (record { pass = tt; said = refl })
+  says-drop {ls = l ∷ ls} h = rw (← h.said) (record { pass = h.pass.1; said = refl })
 
-    pub says-behind : {us ws : TicketLines} {ys xs : List (Ticket × X)} → Says test value es us ys
-        → Says test value es ws xs → Says test value es (others_behind us ws) (others_behind ys xs)
-    says-behind {us = []} u h = rw (← u.said) (says-drop h)
-    says-behind {us = l ∷ us} u h = rw (← u.said) h
+  pub says-behind : {us ws : TicketLines} {ys xs : List (Ticket × X)} → Says test value es us ys
+      → Says test value es ws xs → Says test value es (others_behind us ws) (others_behind ys xs)
+  says-behind {us = []} u h = rw (← u.said) (says-drop h)
+  says-behind {us = l ∷ us} u h = rw (← u.said) h
 
-    pub says-without : {ls : TicketLines} {xs : List (Ticket × X)} (t : Ticket)
-        → Says test value es ls xs
-        → Says test value es (without t ls) (without t xs)
-    says-without {ls = []} t h = rw (← h.said) (record { pass = tt; said = refl })
-    says-without {ls = l ∷ ls} t h =
-        let rest : Says test value es ls (values_at value es ls) =
-        record { pass = h.pass.1; said = refl } in
-        rw (← h.said) (elim (same_ticket t l.0) as (λ b.
-        Says test value es (cond b ls (l ∷ without t ls))
-        (cond b (values_at value es ls)
-        ((l.0, value (slice_get es l.1)) ∷ without t (values_at value es ls))))
-        [ true ↦ rest | false ↦ says-cons l h.pass.0 refl (says-without {ls = ls} t rest) ])
+  pub says-without : {ls : TicketLines} {xs : List (Ticket × X)} (t : Ticket)
+      → Says test value es ls xs
+      → Says test value es (without t ls) (without t xs)
+  says-without {ls = []} t h = rw (← h.said) (record { pass = tt; said = refl })
+  says-without {ls = l ∷ ls} t h =
+      let rest : Says test value es ls (values_at value es ls) =
+      record { pass = h.pass.1; said = refl } in
+      rw (← h.said) (elim (same_ticket t l.0) as (λ b.
+      Says test value es (cond b ls (l ∷ without t ls))
+      (cond b (values_at value es ls)
+      ((l.0, value (slice_get es l.1)) ∷ without t (values_at value es ls))))
+      [ true ↦ rest | false ↦ says-cons l h.pass.0 refl (says-without {ls = ls} t rest) ])
 
 -- what the lines say of a ticket
 pub lookup-values : {X : Type 0} (value : Option Entry → X) (es : List Entry) (t : Ticket)
@@ -105,11 +120,20 @@ pub among-values : {X : Type 0} (value : Option Entry → X) (es : List Entry) (
     (ls : TicketLines) → is_among t (values_at value es ls) ≡ is_among t ls
 among-values value es t ls = grind (arith, common_steps, lookup-values value es t ls)
 
+-- a line with the ticket's request is one of its lines
+pub request-own : (t : Ticket) (found : Option Entry) → has_request_of t found ≡ true
+    → is_of t found ≡ true
+request-own t found h = grind (arith, common_steps)
+
+pub request-found : (t : Ticket) (found : Option Entry) → has_request_of t found ≡ true
+    → has_request found ≡ true
+request-found t found h = grind (arith, common_steps)
+
 -- what the checks of a book's calls need beside the usual lemmas
 pub ruleset line_steps = (replay-push, lookup-values, among-values)
 
 -- the others without a ticket, by their lines
-pub says-others : {X : Type 0} {test : Option Entry → Bool} {value : Option Entry → X}
+pub says-others : {X : Type 0} {test : Ticket → Option Entry → Bool} {value : Option Entry → X}
     {es : List Entry} {us ws : TicketLines} {ys xs : List (Ticket × X)} (t : Ticket)
     → Says test value es us ys → Says test value es ws xs
     → Says test value es (others_without t us ws) (others_without t ys xs)
@@ -119,13 +143,20 @@ says-others {test} {value} {es} {us} {ws} {xs} t u h = rw (← u.said, among-val
     [ true ↦ h | false ↦ says-without t h ])
 
 -- the first of two lists has a line that passes, and what it says is the first of what they say
-pub head-passes : (test : Option Entry → Bool) (es : List Entry) (us ws : TicketLines)
+pub head-passes : (test : Ticket → Option Entry → Bool) (es : List Entry) (us ws : TicketLines)
     (p : Ticket × ℕ)
     → slice_get (us ++ ws) 0 ≡ Some p → AllPass test es us → AllPass test es ws
-    → test (slice_get es p.1) ≡ true
+    → test p.0 (slice_get es p.1) ≡ true
 head-passes test es [] [] p head hu hw = absurd (cc)
 head-passes test es [] (w ∷ ws) p head hu hw = let e : w ≡ p = cc in rw (← e) hw.0
 head-passes test es (u ∷ us) ws p head hu hw = let e : u ≡ p = cc in rw (← e) hu.0
+
+-- so the first that waits has a request
+pub first-request : (es : List Entry) (us ws : TicketLines) (p : Ticket × ℕ)
+    → slice_get (us ++ ws) 0 ≡ Some p → AllPass has_request_of es us
+    → AllPass has_request_of es ws → has_request (slice_get es p.1) ≡ true
+first-request es us ws p head hu hw =
+    request-found p.0 _ (head-passes has_request_of es us ws p head hu hw)
 
 pub head-at : {X : Type 0} (value : Option Entry → X) (es : List Entry) (us ws : TicketLines)
     {p : Ticket × ℕ} → slice_get (us ++ ws) 0 ≡ Some p
@@ -135,18 +166,32 @@ head-at value es [] [] head = absurd (cc)
 head-at value es [] (w ∷ ws) {p} head = let e : w ≡ p = cc in rw e refl
 head-at value es (u ∷ us) ws {p} head = let e : u ≡ p = cc in rw e refl
 
+-- what is copied of a line that has a request, and what is told of the next one
+pub copied-request : (r : Option (Bor Request)) (found : Option Entry)
+    → is_some r ≡ has_request found → IfSome r (λ q. q.now ≡ entry_request found)
+    → has_request found ≡ true → option_copied r ≡ Some (entry_request found)
+copied-request None found none value has = absurd (let never : false ≡ true = none ∙ has in cc)
+copied-request (Some q) found some value has = ap (λ x. Some x) value
+
+pub next-request : (es : List Entry) (us ws os : TicketLines) (taken : Option (Ticket × ℕ))
+    (p : Ticket × ℕ) (r : Option Request) → is_some taken ≡ false → slice_get (us ++ ws) 0 ≡ Some p
+    → r ≡ Some (entry_request (slice_get es p.1))
+    → r ≡ option_map (λ t. t.1) (next_taken (standing_at es us ws taken os))
+next-request es us ws os None p r none head is = rw (head-at entry_request es us ws head, is) refl
+next-request es us ws os (Some l) p r none head is = absurd (cc)
+
 -- the one that is taken stays in the journal, and is the same
 pub taken-more : (e : Entry) (es : List Entry) (taken : Option (Ticket × ℕ))
-    → AllPass is_some es (option_to_list taken)
-    → AllPass is_some (es ++ e ∷ []) (option_to_list taken)
+    → AllPass is_of es (option_to_list taken)
+    → AllPass is_of (es ++ e ∷ []) (option_to_list taken)
     × (taken_at (es ++ e ∷ []) taken ≡ taken_at es taken)
 taken-more e es None h = (tt, refl)
-taken-more e es (Some line) h = let same = get-more is_some refl e es line.1 h.0 in
+taken-more e es (Some line) h = let same = get-more (is_of line.0) refl e es line.1 h.0 in
     ((rw same h.0, tt), rw same refl)
 
-pub request-within : (found : Option Entry) → has_request found ≡ true → is_some found ≡ true
-request-within None h = absurd (cc)
-request-within (Some e) h = refl
+-- an entry is one of its ticket's
+pub own-entry : (e : Entry) → is_of (entry_ticket e) (Some e) ≡ true
+own-entry e = eq-eqb (entry_ticket e).0 (entry_ticket e).0 refl
 
 module _ {K X : Type 0} (test : K → Bool) where
   -- without the first pair whose key passes

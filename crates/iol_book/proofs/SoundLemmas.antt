@@ -14,8 +14,9 @@ use Rattle.iol_book.specs.declared.entries.Ticket.{Ticket}
 use Rattle.iol_book.specs.declared.entries.Outcome.{Outcome}
 use Rattle.iol_book.specs.declared.entries.Outcome.TheVariants.{Done, Unknown, Withdrawn, NoIsdu}
 use Rattle.iol_book.specs.declared.entries.Entry.TheVariants.{Submitted, Urgent, Taken, Answered, Collected}
-use Rattle.iol_book.specs.Replay.{Standing, standing_after, same_ticket, waiting_after, is_among, without, others_without, without_waiting}
+use Rattle.iol_book.specs.Replay.{Standing, nothing, standing_after, same_ticket, waiting_after, is_among, without, others_without, without_waiting}
 use Rattle.iol_book.specs.BookModel.{waits, is_taken, others_behind, without_first}
+use Rattle.iol_book.specs.Drained.{IsInTurn}
 use Rattle.iol_book.specs.Numbers.{times, times_in, IsNumbered}
 use Rattle.std.specs.VecDeque.{deque_capacity}
 use Rattle.std.specs.declared.collections.VecDeque.{VecDeque}
@@ -23,8 +24,8 @@ use Rattle.std.specs.declared.vec.Vec.{Vec}
 use Rattle.iol_book.specs.declared.entries.Entry.{Entry}
 use Rattle.iol_book.specs.declared.book.Book.TheInside.{Inside}
 use Rattle.iol_book.specs.BookInside.{IsSoundBook, HasRoom, standing_of}
-use Rattle.iol_book.specs.Lines.{TicketLines, AllPass, has_request, entry_request, outcome_in, taken_at}
-use Rattle.iol_book.proofs.LineLemmas.{remove-absent, replay-push, Says, says-more, says-new, says-drop, says-behind, says-without, says-others, among-values, head-passes, head-at, taken-more, request-within}
+use Rattle.iol_book.specs.Lines.{TicketLines, AllPass, has_request_of, is_of, entry_request, outcome_in, taken_at}
+use Rattle.iol_book.proofs.LineLemmas.{remove-absent, replay-push, Says, says-more, says-new, says-drop, says-behind, says-without, says-others, among-values, head-passes, head-at, taken-more, request-own, own-entry, in_turn-push, longer}
 
 abbrev pub one_if : Bool → ℕ
 one_if b = cond b 1 0
@@ -213,6 +214,11 @@ module _ (s : Standing) (p : Ticket × Request) where
       ≡ standing_after s (Answered p.0 o)
   posted-step o e h = rw (taken-waits h p o e) refl
 
+-- the outcome of the one that is taken comes where it may
+posted-turn : (s : Standing) (o : Outcome) (t : Ticket) (r : Request) → s.taken ≡ Some (t, r)
+    → IsInTurn s (Answered t o)
+posted-turn s o t r held = rw held (own-entry (Answered t o))
+
 -- where none waits nothing leaves its queue
 pub sound-same_queues : {A : Type 0} {fields : Inside A} → IsSoundBook fields
     → (urgent waiting : VecDeque (Ticket × ℕ) A) → urgent.items ≡ fields.urgent.items
@@ -223,6 +229,8 @@ pub sound-same_queues : {A : Type 0} {fields : Inside A} → IsSoundBook fields
 sound-same_queues sound urgent waiting us ws urgent_room waiting_room = record {
   lines = rw (us, ws) sound.lines;
   replayed = rw (us, ws) sound.replayed;
+  in_turn = sound.in_turn;
+  head = sound.head;
   numbered = rw (us, ws) sound.numbered;
   room = record {
     urgent_room = rw urgent_room sound.room.urgent_room;
@@ -241,19 +249,20 @@ IsSoundWithRoom fields = HasRoom fields → IsSoundBook fields
 -- the lines of a book are in this journal, and say this standing
 record Tells {A : Type 0} (entries : List Entry) (fields : Inside A) (next : Standing)
     : Type 0 where
-  pub urgent : Says has_request entry_request entries fields.urgent.items next.urgent
-  pub waiting : Says has_request entry_request entries fields.waiting.items next.waiting
-  pub taken : AllPass is_some entries (option_to_list fields.taken)
+  pub urgent : Says has_request_of entry_request entries fields.urgent.items next.urgent
+  pub waiting : Says has_request_of entry_request entries fields.waiting.items next.waiting
+  pub taken : AllPass is_of entries (option_to_list fields.taken)
       × (taken_at entries fields.taken ≡ next.taken)
-  pub outcomes : Says is_some outcome_in entries fields.outcomes.items next.outcomes
+  pub outcomes : Says is_of outcome_in entries fields.outcomes.items next.outcomes
 
 module _ {A : Type 0} {old : Inside A} (sound : IsSoundBook old) where
   module _ {entries : List Entry} (e : Entry) (n : entries ≡ old.journal.items ++ e ∷ []) where
     -- a book whose lines say what one more entry leaves is sound
     sound-entered : (new : Inside A) (next : Standing) → new.journal.items ≡ entries
+        → new.restated ≡ old.restated → IsInTurn (standing_of old) e
         → next ≡ standing_after (standing_of old) e → IsNumbered new.last next → HasRoom new
         → Tells new.journal.items new next → IsSoundBook new
-    sound-entered new next same steps numbered room tells = record {
+    sound-entered new next same head turn steps numbered room tells = record {
       lines = record {
         urgent_requests = tells.urgent.pass;
         waiting_requests = tells.waiting.pass;
@@ -262,6 +271,9 @@ module _ {A : Type 0} {old : Inside A} (sound : IsSoundBook old) where
       };
       replayed = stands ∙ steps ∙ rw (same, n, replay-push old.journal.items e)
           (ap (λ s. standing_after s e) sound.replayed);
+      in_turn = rw (same, n) (in_turn-push nothing old.journal.items e sound.in_turn
+          (rw (← sound.replayed) turn));
+      head = rw (head, same, n) (longer old.journal.items e sound.head);
       numbered = rw stands numbered;
       room = room;
     }
@@ -272,20 +284,20 @@ module _ {A : Type 0} {old : Inside A} (sound : IsSoundBook old) where
     -- after one more entry the lines say what they said
     kept : Tells entries old (standing_of old)
     kept = rw n (record {
-      urgent = says-more _ e _ refl sound.lines.urgent_requests;
-      waiting = says-more _ e _ refl sound.lines.waiting_requests;
+      urgent = says-more _ e _ (λ _. refl) sound.lines.urgent_requests;
+      waiting = says-more _ e _ (λ _. refl) sound.lines.waiting_requests;
       taken = taken-more e _ old.taken sound.lines.taken_within;
-      outcomes = says-more _ e _ refl sound.lines.outcomes_within;
+      outcomes = says-more _ e _ (λ _. refl) sound.lines.outcomes_within;
     })
 
     -- one more outcome, of a ticket that has none
-    outcomes-new : {os : TicketLines} (t : Ticket)
+    outcomes-new : {os : TicketLines} (t : Ticket) → is_of t (Some e) ≡ true
         → os ≡ old.outcomes.items ++ (t, length old.journal.items) ∷ []
         → lookup (same_ticket t) (standing_of old).outcomes ≡ None
-        → Says is_some outcome_in entries os
+        → Says is_of outcome_in entries os
         (insert_entry same_ticket (standing_of old).outcomes t (outcome_in (Some e)))
-    outcomes-new t o free = rw (insert_entry-none 0 t (outcome_in (Some e)) _ free, n, o)
-        (says-new _ e _ t refl refl sound.lines.outcomes_within)
+    outcomes-new t own o free = rw (insert_entry-none 0 t (outcome_in (Some e)) _ free, n, o)
+        (says-new _ e _ t (λ _. refl) own sound.lines.outcomes_within)
 
   pub sound-submitted : (journal : Vec Entry A) (last : ℕ) (waiting : VecDeque (Ticket × ℕ) A)
       (t : Ticket) (r : Request) → journal.items ≡ old.journal.items ++ Submitted t r ∷ []
@@ -294,10 +306,11 @@ module _ {A : Type 0} {old : Inside A} (sound : IsSoundBook old) where
       → IsSoundWithRoom (record old { journal = journal; last = last; waiting = waiting })
   sound-submitted journal last waiting t r n later number w room =
       let same = kept (Submitted t r) n in
-      sound-entered (Submitted t r) n _ _ refl refl (rw later (numbered-more
+      sound-entered (Submitted t r) n _ _ refl refl tt refl (rw later (numbered-more
       (λ i. rw (← number) (times-submitted i (standing_of old) t r)) sound.numbered)) room (record {
         urgent = same.urgent;
-        waiting = rw (n, w) (says-new _ (Submitted t r) _ t refl refl sound.lines.waiting_requests);
+        waiting = rw (n, w) (says-new _ (Submitted t r) _ t (λ _. refl)
+            (own-entry (Submitted t r)) sound.lines.waiting_requests);
         taken = same.taken;
         outcomes = same.outcomes;
       })
@@ -309,9 +322,10 @@ module _ {A : Type 0} {old : Inside A} (sound : IsSoundBook old) where
       → IsSoundWithRoom (record old { journal = journal; last = last; urgent = urgent })
   sound-urgent journal last urgent t r n later number u room =
       let same = kept (Urgent t r) n in
-      sound-entered (Urgent t r) n _ _ refl refl (rw later (numbered-more
+      sound-entered (Urgent t r) n _ _ refl refl tt refl (rw later (numbered-more
       (λ i. rw (← number) (times-urgent i (standing_of old) t r)) sound.numbered)) room (record {
-        urgent = rw (n, u) (says-new _ (Urgent t r) _ t refl refl sound.lines.urgent_requests);
+        urgent = rw (n, u) (says-new _ (Urgent t r) _ t (λ _. refl) (own-entry (Urgent t r))
+            sound.lines.urgent_requests);
         waiting = same.waiting;
         taken = same.taken;
         outcomes = same.outcomes;
@@ -322,7 +336,7 @@ module _ {A : Type 0} {old : Inside A} (sound : IsSoundBook old) where
       → outcomes.items ≡ without t old.outcomes.items
       → IsSoundWithRoom (record old { journal = journal; outcomes = outcomes })
   sound-collected journal outcomes t n o room = let same = kept (Collected t) n in
-      sound-entered (Collected t) n _ _ refl refl
+      sound-entered (Collected t) n _ _ refl refl tt refl
       (numbered-fewer (λ i. times-collected i (standing_of old) t) sound.numbered) room (record {
         urgent = same.urgent;
         waiting = same.waiting;
@@ -345,13 +359,13 @@ module _ {A : Type 0} {old : Inside A} (sound : IsSoundBook old) where
       let same = kept (Answered p.0 o) n in
       let was = ap (λ found. taken_at old.journal.items found) held in
       let free = taken-unanswered sound.numbered p.0 (grind (arith, common_steps, held)) in
-      sound-entered (Answered p.0 o) n _ _ refl
+      sound-entered (Answered p.0 o) n _ _ refl refl (posted-turn (standing_of old) o p.0 _ was)
       (posted-step (standing_of old) _ o was sound.numbered)
       (numbered-fewer (λ i. times-posted i (standing_of old) _ o was) sound.numbered) room (record {
         urgent = same.urgent;
         waiting = same.waiting;
         taken = rw none (tt, refl);
-        outcomes = outcomes-new (Answered p.0 o) n p.0 add free;
+        outcomes = outcomes-new (Answered p.0 o) n p.0 (own-entry (Answered p.0 o)) add free;
       })
 
   -- the first that waits leaves its queue
@@ -369,12 +383,14 @@ module _ {A : Type 0} {old : Inside A} (sound : IsSoundBook old) where
   sound-taken journal urgent waiting {p} head none u w n room =
       let same = kept (Taken p.0) n in
       let next = head-at entry_request old.journal.items old.urgent.items old.waiting.items head in
-      let within : AllPass is_some old.journal.items (p ∷ []) = (
-        request-within _ (head-passes has_request old.journal.items old.urgent.items
+      let within : AllPass is_of old.journal.items (p ∷ []) = (
+        request-own p.0 _ (head-passes has_request_of old.journal.items old.urgent.items
             old.waiting.items p head sound.lines.urgent_requests sound.lines.waiting_requests),
         tt,
       ) in
-      sound-entered (Taken p.0) n _ _ refl (taken-step (standing_of old) _ next)
+      sound-entered (Taken p.0) n _ _ refl refl
+      (ap (λ found. taken_at old.journal.items found) none)
+      (taken-step (standing_of old) _ next)
       (numbered-fewer (λ i. times-taken i (standing_of old) _
       (ap (λ found. taken_at old.journal.items found) none) next) sound.numbered) room (record {
         urgent = rw u (says-drop same.urgent);
@@ -387,6 +403,7 @@ module _ {A : Type 0} {old : Inside A} (sound : IsSoundBook old) where
   pub sound-left : (journal : Vec Entry A) (urgent waiting : VecDeque (Ticket × ℕ) A)
       (outcomes : Vec (Ticket × ℕ) A) (e : Entry) (t : Ticket)
       → journal.items ≡ old.journal.items ++ e ∷ []
+      → is_of t (Some e) ≡ true → IsInTurn (standing_of old) e
       → (is_among t old.urgent.items || is_among t old.waiting.items) ≡ true
       → record (without_waiting (standing_of old) t) {
         outcomes = insert_entry same_ticket (standing_of old).outcomes t (outcome_in (Some e));
@@ -399,16 +416,16 @@ module _ {A : Type 0} {old : Inside A} (sound : IsSoundBook old) where
         waiting = waiting;
         outcomes = outcomes;
       })
-  sound-left journal urgent waiting outcomes e t n found is u w o room =
+  sound-left journal urgent waiting outcomes e t n own turn found is u w o room =
       let same = kept e n in
       let waited : waits (standing_of old) t ≡ true = rw (
         among-values entry_request old.journal.items t old.urgent.items,
         among-values entry_request old.journal.items t old.waiting.items,
       ) found in
-      sound-entered e n _ _ refl is (numbered-fewer (λ i.
+      sound-entered e n _ _ refl refl turn is (numbered-fewer (λ i.
       times-left i (standing_of old) t (outcome_in (Some e)) waited) sound.numbered) room (record {
         urgent = rw u (says-without t same.urgent);
         waiting = rw w (says-others t same.urgent same.waiting);
         taken = same.taken;
-        outcomes = outcomes-new e n t o (waiting-unanswered sound.numbered t waited);
+        outcomes = outcomes-new e n t own o (waiting-unanswered sound.numbered t waited);
       })

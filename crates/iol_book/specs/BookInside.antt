@@ -2,9 +2,10 @@
 use Rattle.std.specs.Prelude.{ℕ, ◌+◌, ◌-◌, ◌/◌, ◌≤◌, min, length}
 use Rattle.std.specs.Vec.{vec_capacity}
 use Rattle.std.specs.VecDeque.{deque_capacity}
-use Rattle.iol_book.specs.Replay.{Standing}
+use Rattle.iol_book.specs.Replay.{Standing, nothing}
 use Rattle.iol_book.specs.Lines.{AreLines, standing_at}
 use Rattle.iol_book.specs.BookModel.{BookState, BookMemory, BookValue, IsReplayed, outstanding_count, entries_owed}
+use Rattle.iol_book.specs.Drained.{AreInTurn}
 use Rattle.iol_book.specs.Limits.{request_entries, most_entries}
 use Rattle.iol_book.specs.Numbers.{IsNumbered}
 use Rattle.iol_book.specs.declared.book.Book.TheInside.{Inside}
@@ -19,6 +20,7 @@ module _ {A : Type 0} where
   abbrev pub book_state : Inside A → BookState
   book_state fields = record {
     journal = fields.journal.items;
+    restated = fields.restated;
     last = fields.last;
     standing = standing_of fields;
     unsure = fields.unsure;
@@ -70,6 +72,10 @@ module _ {A : Type 0} where
         fields.outcomes.items
     -- the journal alone says where every ticket stands
     pub replayed : IsReplayed (book_state fields)
+    -- and each entry came where it may
+    pub in_turn : AreInTurn nothing fields.journal.items
+    -- what was restated is there
+    pub head : fields.restated ≤ length fields.journal.items
     -- each ticket names one request
     pub numbered : IsNumbered fields.last (standing_of fields)
     pub room : HasRoom fields

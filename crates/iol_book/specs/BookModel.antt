@@ -17,8 +17,11 @@ use Rattle.iol_book.specs.Limits.{request_entries}
 use Rattle.iol_book.specs.Replay.{Standing, nothing, standing_after, replay, same_ticket, is_among}
 
 pub record BookState : Type 0 where
-  -- the entries since the book was opened or last archived
+  -- the entries since the book was opened or last archived, or what the last drain left of them
+  -- and those since
   pub journal : List Entry
+  -- how many entries at its beginning the last drain left there
+  pub restated : ℕ
   -- the last ticket given
   pub last : ℕ
   -- which requests wait, which one is taken, which tickets have an outcome
@@ -52,6 +55,7 @@ abbrev pub empty_book : Limits → BookState
 empty_book limits =
     record {
       journal = [];
+      restated = 0;
       last = limits.given;
       standing = nothing;
       unsure = false;
@@ -248,7 +252,8 @@ may_archive book = nat_eq (outstanding_count book.standing) 0 && not book.unsure
 
 -- the book after an archive
 abbrev pub book_after_archive : BookState → BookState
-book_after_archive book = if may_archive book then record book { journal = [] } else book
+book_after_archive book = if may_archive book then record book { journal = []; restated = 0 }
+    else book
 
 -- the memory after an archive: that of the journal is handed out with it
 -- BOOK-12

@@ -2,7 +2,9 @@ pub mod Faults
 pub mod Limits
 pub mod Replay
 pub mod BookModel
+pub mod Drained
 pub mod Lines
 pub mod BookInside
 pub mod Numbers
 pub mod Takings
+pub mod OneJournal

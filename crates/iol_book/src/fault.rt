@@ -10,7 +10,8 @@ pub enum BookFault {
     /// urgent requests and of others together.
     #[error("Full")]
     Full,
-    /// 22: the journal has no room for the entries of one more request, urgent or not.
+    /// 22: the journal has no room for the entries of one more request, urgent or not. It has once
+    /// it was archived, or drained.
     #[error("JournalFull")]
     JournalFull,
     /// 23: the last ticket was 2^64 - 1.

@@ -12,16 +12,18 @@
 //! once an urgent request overtook another. One that is taken is never overtaken. IEC 61131-9
 //! leaves it to the master how requests are queued: all of this is this project's profile.
 //!
-//! Definitions begin in `specs/Replay`; then `BookModel` and `Takings`. A book is the replay of its
-//! journal, and each call answers and leaves exactly what its definition says.
+//! Definitions begin in `specs/Replay`; then `BookModel`, `Drained` and `Takings`. A book is the
+//! replay of its journal, and each call answers and leaves exactly what its definition says.
 #![tactic(auto)]
 
 mod book;
 mod entries;
 mod fault;
+mod laws;
 mod limits;
 
 pub use book::Book;
 pub use entries::{Entry, Outcome, Ticket};
 pub use fault::BookFault;
+pub use laws::drains_join;
 pub use limits::{BusyLimit, JournalLimit, Limits, QueueLimit};

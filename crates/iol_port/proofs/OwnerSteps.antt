@@ -551,7 +551,7 @@ pub archive_goes : {allowance : Allowance} {b : BookState} (s : Session) (job : 
     → (b.standing ≡ nothing) × (b.unsure ≡ false)
     → Sound allowance b (record s { job = job; late = late }) (record l { current = xs })
     → Goes allowance (record s { job = job; late = late }) (record l { current = xs })
-    (record b { journal = [] }) (record s { job = job; late = late })
+    (record b { journal = []; restated = 0 }) (record s { job = job; late = late })
     (owners_after_archive (record l { current = xs }))
 archive_goes s None None l xs (free, sure) sound = record {
   sound = record {

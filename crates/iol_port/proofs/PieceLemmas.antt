@@ -76,7 +76,10 @@ pub data Did (a : PortState) (c : Piece) (reply : Answered) : PortState → Type
       → Did a c reply (record a { session = session_cancelling a.session })
   Restarts : Did a c reply (port_after_restart a)
   Archives : may_archive a.book ≡ true → Did a c reply
-      (record a { book = record a.book { journal = [] }; owners = owners_after_archive a.owners })
+      (record a {
+        book = record a.book { journal = []; restated = 0 };
+        owners = owners_after_archive a.owners;
+      })
   Moves : (m : Moment) (steps : List PortStep) {b : PortState} → IsMoved m steps a b
       → Did a c reply b
 

@@ -107,3 +107,40 @@ fn each_request_for_memory_is_refused(rt: HostRuntime) {
         }
     }
 }
+
+/// Whether a book with this journal, of which none is in a journal before it, hands it out as it
+/// is, and begins the next one with it.
+fn is_drained<A: Handle>(book: &mut Book<A>, journal: &[Entry]) -> bool {
+    let is_new = book.restated() == 0;
+    let is_handed_out = match book.drain() {
+        Ok(drained) => drained.as_slice() == journal,
+        Err(_) => false,
+    };
+    is_new && is_handed_out && book.restated() == journal.len() && book.journal() == journal
+}
+
+/// A drain for which there is no memory is refused, and hands the journal out once there is.
+fn drain_waits_for_memory<A: Handle>(alloc: A, refusing: &RefusingAlloc) -> bool {
+    refusing.order(Refusal::Never);
+    let Ok(mut book) = Book::open(alloc, &Limits::default()) else {
+        return false;
+    };
+    let is_submitted = book.submit(read()) == Ok(Ticket(1));
+    refusing.order(Refusal::Only(0));
+    let is_refused = match book.drain() {
+        Ok(_) => false,
+        Err(fault) => fault == BookFault::OutOfMemory,
+    };
+    let is_as_it_was = refusing.has_refused() && are_submits(book.journal(), Kind::Ordinary, 1);
+    refusing.order(Refusal::Never);
+    is_submitted
+        && is_refused
+        && is_as_it_was
+        && is_drained(&mut book, &[Kind::Ordinary.entry(Ticket(1))])
+}
+
+#[test]
+fn a_drain_waits_for_memory(rt: HostRuntime) {
+    let refusing = RefusingAlloc::new(rt.alloc());
+    assert!(rt; drain_waits_for_memory(&refusing, &refusing));
+}

@@ -1,5 +1,5 @@
 //! The lines of a book alone.
-use crate::printing::{print_ok, print_request};
+use crate::printing::{print_ok, print_refused, print_request};
 use crate::reading::{Line, is};
 use crate::tickets::{
     limits, print_archived, print_collected, print_done, print_entries, print_submitted, ticket,
@@ -57,9 +57,14 @@ fn answer_call(
         print_next(output, book.next())
     } else if is(name, b"archive") {
         print_archived(output, book.archive().map_err(PortFault::Book))
+    } else if is(name, b"drain") {
+        print_drained(output, book)
     } else if is(name, b"journal") {
         output.push_str("journal")?;
         print_entries(output, book.journal())
+    } else if is(name, b"restated") {
+        let count = book.restated();
+        writeln!(output, "restated {count}")
     } else {
         print_done(output, settle(book, name, line).map_err(PortFault::Book))
     }
@@ -130,6 +135,18 @@ fn print_taken(output: &mut String, taken: Option<(Ticket, Request)>) -> Result<
             output.push_str("\n")
         }
         None => output.push_str("taken none\n"),
+    }
+}
+
+/// How many of the entries that are handed out were restated, and all of them.
+fn print_drained(output: &mut String, book: &mut Book) -> Result<(), AllocError> {
+    let head = book.restated();
+    match book.drain() {
+        Ok(entries) => {
+            write!(output, "drained {head} of")?;
+            print_entries(output, entries.as_slice())
+        }
+        Err(fault) => print_refused(output, fault.code(), &fault),
     }
 }
 
