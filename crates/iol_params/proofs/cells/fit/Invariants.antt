@@ -1,0 +1,7 @@
+use Rattle.std.proofs.Common.{◌≡◌, ◌<◌, ◌≤◌, ◌+◌, ◌++◌, ◌∷◌, [], true, length, take, drop, ℕ}
+use Rattle.iol_params.specs.Values.{value_at, fits_place, overlay, all_fit, reset_values, room_for, values_in}
+use Rattle.iol_params.proofs.cells.fit.Given as goal
+
+abbrev pub invariant-loop-member : goal.invariant-loop-member
+invariant-loop-member l = fits_place (drop l.member-index l.members) l.place l.octets
+    ≡ fits_place l.members l.place l.initial.octets

@@ -1,0 +1,5 @@
+use Rattle.iol_params.proofs.Downloads.{uploads-one_moment}
+use Rattle.iol_params.proofs.laws.uploads_are_one_moment.Goals as goal
+
+pub returns : goal.returns
+returns c = uploads-one_moment

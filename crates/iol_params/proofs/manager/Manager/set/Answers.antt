@@ -1,0 +1,49 @@
+use Rattle.std.proofs.Common.{◌≡◌, ◌∙◌, ℕ, List, None, true, sym, ap, arith, length, take, drop}
+use Rattle.std.proofs.lemmas.Grind.{common_steps}
+use Rattle.iol_params.specs.Values.{all_fit, fits_place, overlay, values_in, defaults, reset_values}
+use Rattle.iol_params.specs.Carry.{is_consistent, write_refusal, local_refusal, content_refusal}
+use Rattle.iol_params.specs.State.{is_at_rest}
+use Rattle.iol_params.specs.Manager.{ManagerValue, manager_view}
+use Rattle.iol_params.proofs.Consistency.{overlay-fits, reset-fits}
+use Rattle.iol_params.proofs.ManagerLemmas.{write-taken, local-taken, content-fits}
+use Rattle.iol_params.proofs.manager.Manager.set.Goals as goal
+
+pub invariant_of-self : goal.invariant_of-self
+invariant_of-self g c =
+    let i = c.self.inside in
+    let ms = i.table.now.members in
+    let place = c.args.place in
+    let octets = c.args.octets.now in
+    let values = values_in ms i.values.items in
+    let refusal = ap (λ (m : ManagerValue). local_refusal m.table m.state place octets)
+    (c.self.view_is ∙ c.local_refusal.ensures.state) ∙ sym c.in_default.ensures.value in
+    let taken = local-taken i.table.now (manager_view i).state place octets refusal in
+    let fit = overlay-fits ms values place octets c.self.invariant.fit taken.0 in
+    let holds = taken.1 in
+    record {
+      values_room = grind (arith, common_steps);
+      copy_room = c.self.invariant.copy_room;
+      fit = grind (arith, common_steps, fit);
+      copy_fit = c.self.invariant.copy_fit;
+      consistent = grind (arith, common_steps, holds);
+    }
+
+pub invariant_of-self-else-has_stored : goal.invariant_of-self-else-has_stored
+invariant_of-self-else-has_stored g c =
+    let i = c.self.inside in
+    let ms = i.table.now.members in
+    let place = c.args.place in
+    let octets = c.args.octets.now in
+    let values = values_in ms i.values.items in
+    let refusal = ap (λ (m : ManagerValue). local_refusal m.table m.state place octets)
+    (c.self.view_is ∙ c.local_refusal.ensures.state) ∙ sym c.in_default.ensures.value in
+    let taken = local-taken i.table.now (manager_view i).state place octets refusal in
+    let fit = overlay-fits ms values place octets c.self.invariant.fit taken.0 in
+    let holds = taken.1 in
+    record {
+      values_room = grind (arith, common_steps);
+      copy_room = c.self.invariant.copy_room;
+      fit = grind (arith, common_steps, fit);
+      copy_fit = c.self.invariant.copy_fit;
+      consistent = grind (arith, common_steps, holds);
+    }

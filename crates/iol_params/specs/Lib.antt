@@ -1,0 +1,12 @@
+pub mod Errors
+pub mod Members
+pub mod Values
+pub mod Table
+pub mod State
+pub mod Commands
+pub mod Carry
+pub mod Manager
+pub mod Laws
+pub mod SoundTable
+pub mod Storage
+pub mod Requests

@@ -1,0 +1,33 @@
+//! What a reader may conclude of a manager: laws, without code.
+ghost use Rattle.iol_params.specs.Laws.{DownloadsAreWhole, StaysConsistent, UploadsAreOneMoment, FlagStays};
+
+/// A law of the definitions: a download, of a block or of Data Storage, is applied whole or not at
+/// all. Whatever is written in it, no value changes before its end. The end, if it is Written,
+/// brings all that was written, in order, none of it refused, and no order rule is broken. If the
+/// end is refused, or the activity is over, all values are as they were.
+///
+/// Rule ACT-2.
+pub fn downloads_are_whole()
+    ensures { DownloadsAreWhole }
+{}
+
+/// A law of the definitions: what an upload reads is of one moment.
+pub fn uploads_are_one_moment()
+    ensures { UploadsAreOneMoment }
+{}
+
+/// A law of the definitions: only the ends of Data Storage's activities and a factory reset clear
+/// the flag, and only if they are Written.
+///
+/// Rule DSD-4.
+pub fn flag_stays()
+    ensures { FlagStays }
+{}
+
+/// A law of the definitions: by each write, command and end of an activity, each member keeps a
+/// value that fits, and each order rule holds.
+///
+/// Rule PAR-6.
+pub fn stays_consistent()
+    ensures { StaysConsistent }
+{}

@@ -1,0 +1,708 @@
+//! The parameters of a device, and what becomes of them.
+ghost use Rattle.std.specs.Prelude.{◌≡◌, ◌≤◌, ◌++◌, ◌∷◌, [], Option, Some, None, IfOk, IfErr, length, true, false};
+ghost use Rattle.std.specs.Result.{result_err};
+ghost use Rattle.iol_params.specs.Values.{values_in, room_for, defaults, overlay};
+ghost use Rattle.iol_params.specs.Table.{is_of_index};
+ghost use Rattle.iol_params.specs.State.{is_uploading, after_end, with_flag_cleared, with_flag_set};
+ghost use Rattle.iol_params.specs.Carry.{write, command, upload_settled, place_refusal, access_refusal, content_refusal, alone_refusal, write_refusal, local_change, local_refusal, download_end, with_reset, rules_hold, is_consistent};
+ghost use Rattle.iol_params.specs.Storage.{storage_value, state_octet};
+ghost use Rattle.iol_params.specs.Manager.{new_manager, read_answer, IsFitting};
+
+use crate::error_type::ErrorType;
+use crate::state::{Activity, Command, Locks, Scope, WritesSoFar};
+use crate::table::{Table, has_index, has_place, has_read_only, has_stored, most_at};
+use crate::{cells, storage};
+use iol_isdu::{Answer, Octets, Place, Request};
+use std::alloc::{AllocError, Allocator, Global};
+use std::marker::Model;
+
+/// The parameters of a device: their values, and what the master does with them.
+///
+/// Two copies of the values take all the memory, and it is taken at the opening.
+#[derive(Drop)]
+pub struct Manager<'a, A: Allocator + Copy = Global> {
+    table: &'a Table<'a>,
+    values: Vec<u8, A>,
+    copy: Vec<u8, A>,
+    activity: Activity,
+    locks: Locks,
+    flag: bool,
+    event_due: bool,
+}
+
+impl<'a, A: Allocator + Copy> Model for Manager<'a, A> {
+    ghost use Rattle.iol_params.specs.Manager.{IsSoundManager, manager_view, ManagerValue};
+
+    ghost Value = { ManagerValue };
+
+    ghost view = { λ m. manager_view m };
+
+    ghost invariant = { λ m. IsSoundManager m };
+}
+
+impl<'a, A: Allocator + Copy> Manager<'a, A> {
+    /// The manager of a table, with the values that it has at first. An AllocError where there is
+    /// no memory for them; no other call takes memory.
+    pub fn open(alloc: A, table: &'a Table<'a>) -> Result<Manager<'a, A>, AllocError>
+        ensures { IfOk result (λ m. m ≡ new_manager table.now) }
+    {
+        table.is_sound();
+        let room = cells::room_for(table.members());
+        let mut values = Vec::with_capacity(alloc, room)?;
+        values.resize(room, 0)?;
+        cells::set_defaults(table.members(), &mut values);
+        let mut copy = Vec::with_capacity(alloc, room)?;
+        copy.resize(room, 0)?;
+        Ok(Manager {
+            table,
+            values,
+            copy,
+            activity: Activity::Idle,
+            locks: Locks::none(),
+            flag: false,
+            event_due: false,
+        })
+    }
+
+    /// Answers a read of a parameter of the table: its value in force, in a download too.
+    ///
+    /// Rule PAR-5.
+    pub fn read(&self, place: Place) -> Answer
+        ensures { result ≡ read_answer self.now.table self.now.state place }
+    {
+        if let Some(why) = self.place_refusal(place) {
+            return why.answer();
+        }
+        self.table.is_sound();
+        let mut value = Octets::new();
+        cells::read_into(self.table.members(), &self.values, place, &mut value);
+        Answer::Read(value)
+    }
+
+    /// Writes a parameter of the table: at once, or in a download to its copy.
+    ///
+    /// Refused with the first of these: 0x8011, 0x8012, there is no such place; 0x8023, it can't
+    /// be written, or is locked; 0x8036, an upload is under way; 0x8033, 0x8034, too many octets,
+    /// or too few; 0x8030, a number out of its range; 0x8040, alone it would break an order rule.
+    /// Then no value changes, and a download can't be applied any more.
+    ///
+    /// Rules PAR-4, ACT-2, ACT-3.
+    pub fn write(&mut self, place: Place, octets: &[u8]) -> Result<(), ErrorType>
+        ensures state { let after = write self.old.table self.old.state place octets.now in
+            self.new ≡ record self.old { state = after.1 } }
+        ensures refusal { result_err result
+            ≡ (write self.old.table self.old.state place octets.now).0 }
+    {
+        if let Some(why) = self.write_refusal(place, octets) {
+            self.activity = self.activity.spoiled();
+            return Err(why);
+        }
+        match self.activity {
+            Activity::Idle => cells::write(self.table.members(), &mut self.values, place, octets),
+            Activity::Upload(_) => {}
+            Activity::Download(..) => {
+                cells::write(self.table.members(), &mut self.copy, place, octets);
+            }
+        }
+        Ok(())
+    }
+
+    /// A change at the device itself, as by its buttons; Data Storage is asked to keep it.
+    ///
+    /// Refused with the first of these, and nothing changed: 0x8011, 0x8012, there is no such
+    /// place; 0x8023, it is locked; 0x8036, an activity is under way, so try again; 0x8033,
+    /// 0x8034, too many octets, or too few; 0x8030, a number out of its range; 0x8040, it would
+    /// break an order rule.
+    ///
+    /// Rules ACT-4, DSD-5.
+    pub fn set(&mut self, place: Place, octets: &[u8]) -> Result<(), ErrorType>
+        ensures state { let after = local_change self.old.table self.old.state place octets.now in
+            self.new ≡ record self.old { state = after.1 } }
+        ensures refusal { result_err result
+            ≡ (local_change self.old.table self.old.state place octets.now).0 }
+    {
+        if let Some(why) = self.local_refusal(place, octets) {
+            return Err(why);
+        }
+        let members = self.table.members();
+        cells::write(members, &mut self.values, place, octets);
+        if has_stored(members, place) {
+            self.set_flag();
+        }
+        Ok(())
+    }
+
+    /// DS_UPLOAD_FLAG: whether there is something new for Data Storage to keep.
+    pub fn flag(&self) -> bool
+        ensures { result ≡ self.now.state.flag }
+    {
+        self.flag
+    }
+
+    /// Whether the event FF91 is to be raised.
+    pub fn is_event_due(&self) -> bool
+        ensures { result ≡ self.now.state.event_due }
+    {
+        self.event_due
+    }
+
+    /// The event FF91 was raised.
+    pub fn event_raised(&mut self)
+        ensures { self.new ≡ record self.old {
+          state = record self.old.state {
+            event_due = false;
+          };
+        } }
+    {
+        self.event_due = false;
+    }
+
+    /// What is under way.
+    pub fn activity(&self) -> Activity
+        ensures { result ≡ self.now.state.activity }
+    {
+        self.activity
+    }
+
+    /// What Data Storage reads at Subindex 2 to 5 of Index 3.
+    ///
+    /// Rules DSD-1, DSD-2, DSD-3.
+    pub(crate) fn storage_value(&self, sub: u8) -> Octets
+        ensures { result.items ≡ storage_value self.now.table self.now.state sub }
+    {
+        self.table.is_sound();
+        match sub {
+            2 => cells::octets_of(&[self.state_octet()]),
+            3 => cells::octets_of(&(storage::size(self.table.members()) as u32).to_be_bytes()),
+            4 => cells::octets_of(&storage::checksum(self.table, &self.values).to_be_bytes()),
+            _ => storage::list(self.table),
+        }
+    }
+
+    fn state_octet(&self) -> u8
+        ensures { result ≡ state_octet self.now.state }
+    {
+        let doing = if self.locks.storage {
+            3
+        } else {
+            self.activity.storage_activity()
+        };
+        128 * u8::from(self.flag) + 2 * doing
+    }
+
+    /// From now on these locks hold.
+    pub(crate) fn set_locks(&mut self, locks: Locks)
+        ensures { self.new ≡ record self.old { state = record self.old.state { locks = locks } } }
+    {
+        self.locks = locks;
+    }
+
+    /// The locks.
+    pub fn locks(&self) -> Locks
+        ensures { result ≡ self.now.state.locks }
+    {
+        self.locks
+    }
+
+    /// Carries out a command.
+    ///
+    /// Refused with 0x8036, where an activity of the other scope is under way, or none is for its
+    /// end; the end of a download with 0x8041, where a write of it was refused, or an order rule
+    /// would be broken. Then no value changes.
+    ///
+    /// Rules ACT-3, ACT-6.
+    pub fn command(&mut self, scope: Scope, asked: Command) -> Result<(), ErrorType>
+        ensures state { let after = command self.old.table self.old.state scope asked in
+            self.new ≡ record self.old { state = after.1 } }
+        ensures refusal { result_err result
+            ≡ (command self.old.table self.old.state scope asked).0 }
+    {
+        if self.activity.is_foreign(scope) {
+            return Err(ErrorType::FunctionUnavailable);
+        }
+        match asked {
+            Command::UploadStart => self.activity = Activity::Upload(scope),
+            Command::UploadEnd => return self.end_upload(scope),
+            Command::DownloadStart => self.begin_download(scope),
+            Command::DownloadEnd => {
+                self.end_download()?;
+                self.clear_flag(scope);
+            }
+            Command::DownloadStore => {
+                self.end_download()?;
+                self.set_flag();
+            }
+            Command::Break => self.end(),
+            Command::ApplicationReset => {
+                self.reset();
+                self.set_flag();
+            }
+            Command::FactoryReset => {
+                self.reset();
+                self.clear_flag(Scope::Storage);
+            }
+        }
+        Ok(())
+    }
+
+    /// The link was lost or began anew, or the master left OPERATE: an activity ends, without
+    /// effect.
+    ///
+    /// Rule ACT-5.
+    pub fn over(&mut self)
+        ensures { self.new ≡ record self.old { state = after_end self.old.state } }
+    {
+        self.end();
+    }
+
+    // Why there is nothing at a place.
+    fn place_refusal(&self, place: Place) -> Option<ErrorType>
+        ensures { result ≡ place_refusal self.now.table.members place }
+    {
+        let members = self.table.members();
+        if !has_index(members, place.index) {
+            Some(ErrorType::IndexNotAvailable)
+        } else if !has_place(members, place) {
+            Some(ErrorType::SubindexNotAvailable)
+        } else {
+            None
+        }
+    }
+
+    // Why the master may not write there now.
+    fn access_refusal(&self, place: Place) -> Option<ErrorType>
+        ensures { result ≡ access_refusal self.now.table self.now.state place }
+    {
+        let members = self.table.members();
+        if self.locks.parameters || has_read_only(members, place) {
+            Some(ErrorType::AccessDenied)
+        } else if self.activity.is_upload() {
+            Some(ErrorType::FunctionUnavailable)
+        } else {
+            None
+        }
+    }
+
+    // Why octets are no value of a place.
+    fn content_refusal(&self, place: Place, octets: &[u8]) -> Option<ErrorType>
+        ensures { result ≡ content_refusal self.now.table.members place octets.now }
+    {
+        self.table.is_sound();
+        let members = self.table.members();
+        if octets.len() > most_at(members, place) {
+            Some(ErrorType::TooLong)
+        } else if octets.len() < cells::least_at(members, place) {
+            Some(ErrorType::TooShort)
+        } else if !cells::fit(members, place, octets) {
+            Some(ErrorType::ValueOutOfRange)
+        } else {
+            None
+        }
+    }
+
+    // Why a write alone can't stand. The copy, which nothing needs then, has its outcome.
+    fn alone_refusal(&mut self, place: Place, octets: &[u8]) -> Option<ErrorType>
+        requires { IsFitting self.old place octets.now }
+        ensures state { self.new ≡ self.old }
+        ensures value { result ≡ alone_refusal self.old.table self.old.state place octets.now }
+    {
+        if !self.activity.is_at_rest() {
+            return None;
+        }
+        self.copy.copy_from_slice(&self.values);
+        cells::write(self.table.members(), &mut self.copy, place, octets);
+        if cells::are_consistent(self.table, &self.copy) {
+            None
+        } else {
+            Some(ErrorType::InvalidSet)
+        }
+    }
+
+    // Why a write is refused.
+    fn write_refusal(&mut self, place: Place, octets: &[u8]) -> Option<ErrorType>
+        ensures state { self.new ≡ self.old }
+        ensures value { result ≡ write_refusal self.old.table self.old.state place octets.now }
+    {
+        if let Some(why) = self.place_refusal(place) {
+            return Some(why);
+        }
+        if let Some(why) = self.access_refusal(place) {
+            return Some(why);
+        }
+        if let Some(why) = self.content_refusal(place, octets) {
+            return Some(why);
+        }
+        self.alone_refusal(place, octets)
+    }
+
+    // Why the device itself may not change a value.
+    fn local_refusal(&mut self, place: Place, octets: &[u8]) -> Option<ErrorType>
+        ensures state { self.new ≡ self.old }
+        ensures value { result ≡ local_refusal self.old.table self.old.state place octets.now }
+    {
+        if let Some(why) = self.place_refusal(place) {
+            return Some(why);
+        }
+        if self.locks.local {
+            return Some(ErrorType::AccessDenied);
+        }
+        if !self.activity.is_at_rest() {
+            return Some(ErrorType::FunctionUnavailable);
+        }
+        if let Some(why) = self.content_refusal(place, octets) {
+            return Some(why);
+        }
+        self.alone_refusal(place, octets)
+    }
+
+    // An activity ends, without effect.
+    fn end(&mut self)
+        ensures { self.new ≡ record self.old { state = after_end self.old.state } }
+    {
+        self.event_due = self.event_due || (self.activity.is_in(Scope::Block) && self.flag);
+        self.activity = Activity::Idle;
+    }
+
+    fn clear_flag(&mut self, scope: Scope)
+        ensures { self.new ≡ record self.old { state = with_flag_cleared scope self.old.state } }
+    {
+        if scope == Scope::Storage {
+            self.flag = false;
+            self.event_due = false;
+        }
+    }
+
+    fn set_flag(&mut self)
+        ensures { self.new ≡ record self.old { state = with_flag_set self.old.state } }
+    {
+        self.flag = true;
+        self.event_due = true;
+    }
+
+    fn begin_download(&mut self, scope: Scope)
+        ensures { self.new ≡ record self.old {
+          state = record self.old.state {
+            activity = Activity.Download scope WritesSoFar.AllTaken;
+            copy = self.old.state.values;
+          };
+        } }
+    {
+        self.copy.copy_from_slice(&self.values);
+        self.activity = Activity::Download(scope, WritesSoFar::AllTaken);
+    }
+}
+
+impl<'a, A: Allocator + Copy> Manager<'a, A> {
+    // The end of an upload.
+    fn end_upload(&mut self, scope: Scope) -> Result<(), ErrorType>
+        ensures state { let state = self.old.state in
+            let after = upload_settled (is_uploading state.activity) scope state in
+            self.new ≡ record self.old { state = after.1 } }
+        ensures refusal { let state = self.old.state in result_err result
+            ≡ (upload_settled (is_uploading state.activity) scope state).0 }
+    {
+        if !self.activity.is_upload() {
+            return Err(ErrorType::FunctionUnavailable);
+        }
+        self.end();
+        self.clear_flag(scope);
+        Ok(())
+    }
+
+    // The end of a download: its copy is in force, if it is whole and no order rule is broken.
+    #[tactic(auto, using(crate::proofs::ManagerLemmas::download_ways))]
+    fn end_download(&mut self) -> Result<(), ErrorType>
+        ensures state { let after = download_end self.old.table self.old.state (λ s. s) in
+            self.new ≡ record self.old { state = after.1 } }
+        ensures refusal { result_err result
+            ≡ (download_end self.old.table self.old.state (λ s. s)).0 }
+    {
+        if !self.activity.is_download() {
+            return Err(ErrorType::FunctionUnavailable);
+        }
+        if !self.activity.took_each_write() || !cells::are_consistent(self.table, &self.copy) {
+            self.end();
+            return Err(ErrorType::InconsistentSet);
+        }
+        self.values.copy_from_slice(&self.copy);
+        self.end();
+        Ok(())
+    }
+
+    /// Defaults where the master may write, and no locks; an activity ends.
+    ///
+    /// Rule PAR-8.
+    fn reset(&mut self)
+        ensures { self.new ≡ record self.old {
+          state = with_reset self.old.table (after_end self.old.state);
+        } }
+    {
+        self.end();
+        self.table.is_sound();
+        cells::reset(self.table.members(), &mut self.values);
+        self.locks = Locks::none();
+    }
+}
+
+#[cfg(test)]
+mod tests {
+    use super::*;
+    use crate::member::{Access, DataType, IntegerWidth, Member};
+    use crate::table::OrderRule;
+    use std::test::Fail;
+
+    const fn at(index: u16) -> Place {
+        Place { index, sub: 0 }
+    }
+
+    const MEMBERS: [Member; 4] = [
+        Member {
+            place: Place { index: 24, sub: 0 },
+            data_type: DataType::Text(16),
+            access: Access::Stored,
+            default: b"tag",
+        },
+        Member {
+            place: Place { index: 64, sub: 0 },
+            data_type: DataType::UInteger(IntegerWidth::One, 0, 100),
+            access: Access::Stored,
+            default: &[10],
+        },
+        Member {
+            place: Place { index: 65, sub: 0 },
+            data_type: DataType::UInteger(IntegerWidth::One, 0, 100),
+            access: Access::Stored,
+            default: &[90],
+        },
+        Member {
+            place: Place { index: 21, sub: 0 },
+            data_type: DataType::OctetString(4),
+            access: Access::ReadOnly,
+            default: &[1, 2, 3, 4],
+        },
+    ];
+
+    const RULES: [OrderRule; 1] = [OrderRule {
+        low: Place { index: 64, sub: 0 },
+        high: Place { index: 65, sub: 0 },
+    }];
+
+    #[test]
+    fn a_block_is_applied_whole(rt: HostRuntime) -> Result<(), Fail> {
+        let table = Table::new(&MEMBERS, &RULES)?;
+        let mut manager = Manager::open(rt.alloc(), &table)?;
+        assert_eq!(rt; manager.write(at(64), &[95]), Err(ErrorType::InvalidSet));
+        manager.command(Scope::Block, Command::DownloadStart)?;
+        manager.write(at(64), &[95])?;
+        manager.write(at(65), &[99])?;
+        assert_eq!(rt; octet_at(&manager, 64), Some(10));
+        manager.command(Scope::Block, Command::DownloadEnd)?;
+        assert_eq!(rt; octet_at(&manager, 64), Some(95));
+        assert_eq!(rt; octet_at(&manager, 65), Some(99));
+        Ok(())
+    }
+
+    #[test]
+    fn each_write_is_refused_for_its_first_reason(rt: HostRuntime) -> Result<(), Fail> {
+        let table = Table::new(&MEMBERS, &RULES)?;
+        let mut manager = Manager::open(rt.alloc(), &table)?;
+        assert_eq!(rt;
+            manager.write(at(99), &[]),
+            Err(ErrorType::IndexNotAvailable)
+        );
+        let part = Place { index: 64, sub: 1 };
+        assert_eq!(rt;
+            manager.write(part, &[]),
+            Err(ErrorType::SubindexNotAvailable)
+        );
+        assert_eq!(rt; manager.write(at(21), &[]), Err(ErrorType::AccessDenied));
+        assert_eq!(rt; manager.write(at(64), &[1, 2]), Err(ErrorType::TooLong));
+        assert_eq!(rt; manager.write(at(64), &[]), Err(ErrorType::TooShort));
+        assert_eq!(rt;
+            manager.write(at(64), &[101]),
+            Err(ErrorType::ValueOutOfRange)
+        );
+        assert_eq!(rt; manager.write(at(64), &[91]), Err(ErrorType::InvalidSet));
+        manager.command(Scope::Block, Command::UploadStart)?;
+        assert_eq!(rt;
+            manager.write(at(64), &[1, 2]),
+            Err(ErrorType::FunctionUnavailable)
+        );
+        assert_eq!(rt; octet_at(&manager, 64), Some(10));
+        assert!(rt; !manager.flag());
+        Ok(())
+    }
+
+    #[test]
+    fn a_block_with_a_hole_is_none(rt: HostRuntime) -> Result<(), Fail> {
+        let table = Table::new(&MEMBERS, &RULES)?;
+        let mut manager = Manager::open(rt.alloc(), &table)?;
+        manager.command(Scope::Block, Command::DownloadStart)?;
+        manager.write(at(64), &[20])?;
+        assert_eq!(rt;
+            manager.write(at(65), &[101]),
+            Err(ErrorType::ValueOutOfRange)
+        );
+        let end = manager.command(Scope::Block, Command::DownloadEnd);
+        assert_eq!(rt; end, Err(ErrorType::InconsistentSet));
+        assert_eq!(rt; octet_at(&manager, 64), Some(10));
+        let end = manager.command(Scope::Block, Command::DownloadEnd);
+        assert_eq!(rt; end, Err(ErrorType::FunctionUnavailable));
+        Ok(())
+    }
+
+    #[test]
+    fn an_activity_stands_alone(rt: HostRuntime) -> Result<(), Fail> {
+        let table = Table::new(&MEMBERS, &RULES)?;
+        let mut manager = Manager::open(rt.alloc(), &table)?;
+        manager.command(Scope::Storage, Command::DownloadStart)?;
+        let other = manager.command(Scope::Block, Command::FactoryReset);
+        assert_eq!(rt; other, Err(ErrorType::FunctionUnavailable));
+        assert_eq!(rt;
+            manager.set(at(64), &[5]),
+            Err(ErrorType::FunctionUnavailable)
+        );
+        manager.write(at(64), &[5])?;
+        manager.over();
+        assert_eq!(rt; octet_at(&manager, 64), Some(10));
+        manager.set(at(64), &[5])?;
+        assert_eq!(rt; octet_at(&manager, 64), Some(5));
+        Ok(())
+    }
+
+    #[test]
+    fn the_flag_is_set_and_cleared(rt: HostRuntime) -> Result<(), Fail> {
+        let table = Table::new(&MEMBERS, &RULES)?;
+        let mut manager = Manager::open(rt.alloc(), &table)?;
+        manager.write(at(64), &[5])?;
+        assert!(rt; !manager.flag());
+        manager.set(at(64), &[6])?;
+        assert!(rt; manager.flag() && manager.is_event_due());
+        manager.event_raised();
+        manager.command(Scope::Block, Command::UploadStart)?;
+        manager.command(Scope::Block, Command::UploadEnd)?;
+        assert!(rt; manager.flag() && manager.is_event_due());
+        manager.command(Scope::Storage, Command::UploadStart)?;
+        manager.command(Scope::Storage, Command::UploadEnd)?;
+        assert!(rt; !manager.flag() && !manager.is_event_due());
+        manager.command(Scope::Block, Command::DownloadStart)?;
+        manager.command(Scope::Block, Command::DownloadStore)?;
+        assert!(rt; manager.flag());
+        manager.command(Scope::Block, Command::FactoryReset)?;
+        assert!(rt; !manager.flag());
+        assert_eq!(rt; octet_at(&manager, 64), Some(10));
+        manager.command(Scope::Block, Command::ApplicationReset)?;
+        assert!(rt; manager.flag());
+        Ok(())
+    }
+
+    fn written<A: Allocator + Copy>(
+        manager: &mut Manager<A>,
+        index: u16,
+        sub: u8,
+        octets: &[u8],
+    ) -> Answer {
+        let place = Place { index, sub };
+        match Request::write(place, octets) {
+            Ok(request) => manager.carry(&request),
+            Err(_) => Answer::Written,
+        }
+    }
+
+    fn read_at<A: Allocator + Copy>(manager: &mut Manager<A>, index: u16, sub: u8) -> Answer {
+        manager.carry(&Request::read(Place { index, sub }))
+    }
+
+    fn read_as(octets: &[u8]) -> Answer
+        requires { length octets.now ≤ 232 }
+    {
+        Answer::Read(cells::octets_of(octets))
+    }
+
+    #[test]
+    fn data_storage_reads_what_a_sensor_has(rt: HostRuntime) -> Result<(), Fail> {
+        let members = [
+            MEMBERS[0],
+            MEMBERS[1],
+            MEMBERS[2],
+            Member {
+                place: at(80),
+                data_type: DataType::OctetString(6),
+                access: Access::Stored,
+                default: &[0; 6],
+            },
+        ];
+        let table = Table::new(&members, &RULES)?;
+        let mut manager = Manager::open(rt.alloc(), &table)?;
+        let sum = read_at(&mut manager, 3, 4);
+        assert_eq!(rt; sum, read_as(&[0x16, 0xB4, 0xB2, 0xDE]));
+        manager.set(at(65), &[50])?;
+        assert_eq!(rt; read_at(&mut manager, 3, 2), read_as(&[0x80]));
+        assert_eq!(rt; read_at(&mut manager, 3, 3), read_as(&[0, 0, 0, 40]));
+        let sum = read_at(&mut manager, 3, 4);
+        assert_eq!(rt; sum, read_as(&[0xFC, 0xA3, 0xC5, 0xA3]));
+        let list = [0, 24, 0, 0, 64, 0, 0, 65, 0, 0, 80, 0, 0, 0];
+        assert_eq!(rt; read_at(&mut manager, 3, 5), read_as(&list));
+        assert_eq!(rt; written(&mut manager, 3, 1, &[1]), Answer::Written);
+        assert_eq!(rt; read_at(&mut manager, 3, 2), read_as(&[0x82]));
+        assert_eq!(rt; written(&mut manager, 3, 1, &[2]), Answer::Written);
+        assert_eq!(rt; read_at(&mut manager, 3, 2), read_as(&[0]));
+        Ok(())
+    }
+
+    #[test]
+    fn locks_and_commands_are_carried_out(rt: HostRuntime) -> Result<(), Fail> {
+        let table = Table::new(&MEMBERS, &RULES)?;
+        let mut manager = Manager::open(rt.alloc(), &table)?;
+        assert_eq!(rt;
+            written(&mut manager, 12, 0, &[0, 16]),
+            Answer::Refused(0x80, 0x30)
+        );
+        assert_eq!(rt;
+            written(&mut manager, 12, 0, &[0]),
+            Answer::Refused(0x80, 0x34)
+        );
+        assert_eq!(rt;
+            written(&mut manager, 12, 0, &[0, 0, 0]),
+            Answer::Refused(0x80, 0x33)
+        );
+        assert_eq!(rt; written(&mut manager, 12, 0, &[0, 3]), Answer::Written);
+        assert_eq!(rt; read_at(&mut manager, 12, 0), read_as(&[0, 3]));
+        assert_eq!(rt;
+            written(&mut manager, 64, 0, &[1]),
+            Answer::Refused(0x80, 0x23)
+        );
+        assert_eq!(rt;
+            written(&mut manager, 3, 1, &[1]),
+            Answer::Refused(0x80, 0x23)
+        );
+        assert_eq!(rt; read_at(&mut manager, 3, 2), read_as(&[6]));
+        assert_eq!(rt;
+            written(&mut manager, 2, 0, &[9]),
+            Answer::Refused(0x80, 0x35)
+        );
+        assert_eq!(rt;
+            written(&mut manager, 2, 1, &[9]),
+            Answer::Refused(0x80, 0x12)
+        );
+        assert_eq!(rt; read_at(&mut manager, 2, 0), Answer::Refused(0x80, 0x23));
+        assert_eq!(rt; written(&mut manager, 2, 0, &[0x82]), Answer::Written);
+        assert_eq!(rt; written(&mut manager, 64, 0, &[1]), Answer::Written);
+        assert_eq!(rt;
+            written(&mut manager, 3, 1, &[6]),
+            Answer::Refused(0x80, 0x30)
+        );
+        assert_eq!(rt;
+            written(&mut manager, 3, 3, &[6]),
+            Answer::Refused(0x80, 0x23)
+        );
+        Ok(())
+    }
+
+    fn octet_at<A: Allocator + Copy>(manager: &Manager<A>, index: u16) -> Option<u8> {
+        match manager.read(at(index)) {
+            Answer::Read(octets) => octets.first().copied(),
+            _ => None,
+        }
+    }
+}
