@@ -12,9 +12,13 @@ class Ended {
 const MEMORY64 = new Uint8Array([0, 0x61, 0x73, 0x6d, 1, 0, 0, 0, 5, 3, 1, 4, 1]);
 const canRun = () => typeof WebAssembly === 'object' && WebAssembly.validate(MEMORY64);
 
+/** What stands in the packed module for the digits of base64, in their order. */
+const DIGITS = '!#$%()*,.:';
+
 /** Unpacks and compiles the program. */
 async function compiled() {
-  const packed = Uint8Array.from(atob(byId('module').textContent.trim()), (it) => it.charCodeAt(0));
+  const text = byId('module').textContent.trim().replace(/[^\w+/=]/g, (it) => DIGITS.indexOf(it));
+  const packed = Uint8Array.from(atob(text), (it) => it.charCodeAt(0));
   const plain = new Blob([packed]).stream().pipeThrough(new DecompressionStream('gzip'));
   return WebAssembly.compile(await new Response(plain).arrayBuffer());
 }
