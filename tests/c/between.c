@@ -1,9 +1,10 @@
 /* Every other call between what a port asks for and its answer, in each state of a request: a port against a device,
- * both through C, over a line of this program. For each state and call one line is printed, first of a write, then of a
- * read: the number that the call answers; the outcome of each request, by its ticket; the tickets that the device's
- * application carried out, in order; the output that the device has then; how many events are left; and how many
- * entries the journal has. What is printed is compared with between.stdout. */
-#include "iolink_port.h"
+ * both through C, over a line of this program. The calls are those of calls.h. One whose row there says how a run with
+ * it ends is held against that; of any other one line is printed for each state, first of a write, then of a read: the
+ * number that the call answers; the outcome of each request, by its ticket; the tickets that the device's application
+ * carried out, in order; the output that the device has then; how many events are left; and how many entries the
+ * journal has. What is printed is compared with between.stdout. */
+#include "calls.h"
 #include "iolink_device.h"
 #include <stdio.h>
 #include <string.h>
@@ -17,25 +18,11 @@ static const char *const state_names[STATES] = {
     [SEGMENT] = "segment", [ASKED] = "asked", [BUSY] = "busy",       [ANSWER] = "answer", [ENDED] = "ended",
 };
 
-enum call {
-    NOTHING, READ, READ_URGENT, WRITE, WRITE_URGENT, CANCEL, WITHDRAW, COLLECT, TAKE_EVENT, SET_OUTPUT, CLEAR_OUTPUT,
-    RESTART, STATUS, IMAGE, ARCHIVE, ENTRY, EXPECT, EXPECT_ANY, SET_CYCLE, PAGE, COUNTERS, LAST_LOSS,
-    CALLS
-};
+#define NAME(name, end, arguments) [CALL_##name] = #name,
+static const char *const call_names[CALLS] = {[NOTHING] = "nothing", EACH_CALL(NAME)};
 
-static const char *const call_names[CALLS] = {
-    [NOTHING] = "nothing",           [READ] = "read",
-    [READ_URGENT] = "read_urgent",   [WRITE] = "write",
-    [WRITE_URGENT] = "write_urgent", [CANCEL] = "cancel",
-    [WITHDRAW] = "withdraw",         [COLLECT] = "collect",
-    [TAKE_EVENT] = "take_event",     [SET_OUTPUT] = "set_output",
-    [CLEAR_OUTPUT] = "clear_output", [RESTART] = "restart",
-    [STATUS] = "status",             [IMAGE] = "image",
-    [ARCHIVE] = "archive",           [ENTRY] = "entry",
-    [EXPECT] = "expect",             [EXPECT_ANY] = "expect_any",
-    [SET_CYCLE] = "set_cycle",       [PAGE] = "page",
-    [COUNTERS] = "counters",         [LAST_LOSS] = "last_loss",
-};
+#define END(name, end, arguments) [CALL_##name] = end,
+static const struct end ends[CALLS] = {[NOTHING] = BY_STATE, EACH_CALL(END)};
 
 /* The first octet of a message on the ISDU channel (IEC 61131-9, A.1.2, 7.3.6); a count stands in its low four bits. */
 enum { WRITE_START = 0x70, WRITE_COUNT = 0x60, READ_START = 0xF0, READ_COUNT = 0xE0, READ_IDLE = 0xF1 };
@@ -44,13 +31,17 @@ enum { WRITE_START = 0x70, WRITE_COUNT = 0x60, READ_START = 0xF0, READ_COUNT = 0
  * there is none, its outcome, how often it was carried out, and the octet that a read was answered with last. */
 struct job { uint64_t ticket; bool reads; bool collected; iol_outcome outcome; int carried_out; uint8_t answer; };
 
-enum { INDEX = 24, INDEX_BETWEEN = 40, OCTETS = 3, RECORD = 32, TAIL = 160 };
+enum { INDEX = 24, INDEX_BETWEEN = 40, OCTETS = 3, RECORD = 32, OUTCOMES = 80 };
+
+/* What is left of a run: the outcomes of its requests, what was carried out, the output that the device has, and how
+ * many events and entries there are. */
+struct left { char outcomes[OUTCOMES]; char record[RECORD]; uint8_t output; int events; uint32_t entries; };
 
 /* The device that is there, and a cycle time that it allows. */
 enum { VENDOR = 0x1234, DEVICE = 0x000107, MICROS = 10000 };
 
 static const uint8_t page[10] = {0x17, 1, 0x11, 0x10, 8, 0x12, 0x34, 0, 1, 7};
-static const uint8_t written[OCTETS] = {0xB1, 0xB2, 0xB3}, output = 0x5A, output_between = 0xA5;
+static const uint8_t written[OCTETS] = {0xB1, 0xB2, 0xB3}, output = OUTPUT;
 
 static iol_port port;
 static iol_device device;
@@ -231,64 +222,35 @@ static bool has_page(void)
     return found.length > 0;
 }
 
-/* The calls on the device: from when on they count is known by the page. */
-static uint8_t configure(enum call call)
+/* From when on what is asked of the device counts is known by the page. */
+static bool configures(enum call call)
 {
-    uint8_t counts = 0, number;
-    bool checked = has_page();
-    switch (call) {
-    case EXPECT: number = iol_port_expect(&port, VENDOR, DEVICE, &counts); break;
-    case EXPECT_ANY: number = iol_port_expect_any(&port, &counts); break;
-    default: number = iol_port_set_cycle(&port, MICROS, &counts);
-    }
-    IS(counts, checked ? 2 : 1);
-    return number;
-}
-
-/* The calls that look. */
-static uint8_t look(enum call call)
-{
-    iol_status status;
-    iol_image image;
-    iol_entry entry;
-    iol_page found;
-    iol_counters counters;
-    iol_loss loss;
-    switch (call) {
-    case COUNTERS: return iol_port_counters(&port, &counters);
-    case LAST_LOSS: return iol_port_last_loss(&port, &loss);
-    case PAGE: return iol_port_page(&port, &found);
-    case STATUS: return iol_port_status(&port, &status);
-    case IMAGE: return iol_port_image(&port, &image);
-    case ENTRY: return iol_port_entry(&port, &entry);
-    default: return 0;
-    }
+    return call == CALL_expect || call == CALL_expect_any || call == CALL_set_cycle;
 }
 
 static uint8_t call_between(enum call call)
 {
-    uint64_t *ticket = &jobs[1].ticket;
-    iol_event event;
-    uint32_t count;
-    jobs[1].reads = call == READ || call == READ_URGENT;
+    struct given given = {INDEX_BETWEEN, jobs[0].ticket, {0}, OCTETS, OUTPUT_BETWEEN, VENDOR, DEVICE, MICROS};
+    struct room room;
+    bool checked = has_page();
+    uint8_t answered = 0;
+    memcpy(given.octets, written, OCTETS);
+    memset(&room, 0, sizeof room);
     switch (call) {
-    case READ: return iol_port_read(&port, INDEX_BETWEEN, 0, ticket);
-    case READ_URGENT: return iol_port_read_urgent(&port, INDEX_BETWEEN, 0, ticket);
-    case WRITE: return iol_port_write(&port, INDEX_BETWEEN, 0, written, OCTETS, ticket);
-    case WRITE_URGENT: return iol_port_write_urgent(&port, INDEX_BETWEEN, 0, written, OCTETS, ticket);
-    case CANCEL: return iol_port_cancel(&port, jobs[0].ticket);
-    case WITHDRAW: return iol_port_withdraw(&port, jobs[0].ticket);
-    case COLLECT: return collect(&jobs[0]);
-    case TAKE_EVENT: return iol_port_take_event(&port, &event);
-    case SET_OUTPUT: return iol_port_set_output(&port, &output_between, 1);
-    case CLEAR_OUTPUT: return iol_port_clear_output(&port);
-    case RESTART: return iol_port_restart(&port);
-    case ARCHIVE: return iol_port_archive(&port, &count);
-    case EXPECT:
-    case EXPECT_ANY:
-    case SET_CYCLE: return configure(call);
-    default: return look(call);
+#define PORT &port
+#define P(pointer) (pointer)
+#define MAKE(name, end, arguments) case CALL_##name: answered = iol_port_##name arguments; break;
+    EACH_CALL(MAKE)
+    default: break;
     }
+    IS(room.counts, !configures(call) ? 0 : checked ? 2 : 1);
+    jobs[1].reads = call == CALL_read || call == CALL_read_urgent;
+    jobs[1].ticket = room.ticket;
+    if (call == CALL_collect && answered == 0) {
+        jobs[0].collected = true;
+        jobs[0].outcome = room.outcome;
+    }
+    return answered;
 }
 
 /* A request that is done was carried out once, and has the answer of that time; one whose outcome is unknown was
@@ -311,7 +273,7 @@ static const char *judge(const struct job *job)
 }
 
 /* The outcome of a request, as it is printed; its ticket is collected then. */
-static size_t tell_job(struct job *job, char *tail, size_t room)
+static size_t tell_job(struct job *job, char *outcomes, size_t room)
 {
     const char *name;
     if (job->ticket == 0) {
@@ -322,86 +284,95 @@ static size_t tell_job(struct job *job, char *tail, size_t room)
         IS(collect(job), 0);
     name = judge(job);
     if (job->outcome.cause != 0)
-        return (size_t)snprintf(tail, room, "%d %s, cause %d; ", (int)job->ticket, name, job->outcome.cause);
-    return (size_t)snprintf(tail, room, "%d %s; ", (int)job->ticket, name);
+        return (size_t)snprintf(outcomes, room, "%d %s, cause %d; ", (int)job->ticket, name, job->outcome.cause);
+    return (size_t)snprintf(outcomes, room, "%d %s; ", (int)job->ticket, name);
 }
 
 /* Every request ends, both ends are closed, and this is what is left of the run. */
-static void finish(char tail[TAIL])
+static void finish(struct left *left)
 {
     iol_image image;
     iol_event event;
-    uint32_t entries = 0;
-    int events = 0;
     size_t at;
+    memset(left, 0, sizeof *left);
     turns(100);
-    at = tell_job(&jobs[0], tail, TAIL);
-    at += tell_job(&jobs[1], tail + at, TAIL - at);
+    at = tell_job(&jobs[0], left->outcomes, OUTCOMES);
+    tell_job(&jobs[1], left->outcomes + at, OUTCOMES - at);
+    strcpy(left->record, record[0] ? record : " none");
     IS(iol_device_output(&device, &image), 0);
+    left->output = image.length ? image.octets[0] : 0;
     while (iol_port_take_event(&port, &event) == 0)
-        events++;
-    IS(iol_port_archive(&port, &entries), 0);
-    snprintf(tail + at, TAIL - at, "carried out%s; output %02X, events %d, entries %u", record[0] ? record : " none",
-             image.length ? image.octets[0] : 0, events, (unsigned)entries);
+        left->events++;
+    IS(iol_port_archive(&port, &left->entries), 0);
     IS(iol_port_close(&port), 0);
     IS(iol_device_close(&device), 0);
 }
 
+static void is_same(const struct left *left, const struct left *wanted)
+{
+    IS(strcmp(left->outcomes, wanted->outcomes), 0);
+    IS(strcmp(left->record, wanted->record), 0);
+    IS(left->output, wanted->output);
+    IS(left->events, wanted->events);
+    IS(left->entries, wanted->entries);
+}
+
 /* The state is reached, the call is made, and what is out is answered, or its answer is lost once. What doesn't fit is
  * tried before and after. */
-static uint8_t run(enum state state, enum call call, bool lost, char tail[TAIL])
+static uint8_t run(enum state state, enum call call, bool lost, struct left *left)
 {
-    uint8_t number;
+    uint8_t answered;
     reach(state);
-    number = call_between(call);
+    answered = call_between(call);
     ask_again();
     misfits_while_out();
     answer(lost);
     misfits_while_nothing_is_out();
-    finish(tail);
-    return number;
+    finish(left);
+    return answered;
 }
 
 /* The state is reached and left with no call between, and none that is refused. */
-static void run_plainly(enum state state, char tail[TAIL])
+static void run_plainly(enum state state, struct left *left)
 {
     reach(state);
     answer(false);
-    finish(tail);
+    finish(left);
 }
 
-/* What was refused changed nothing, and neither did a look: all went as it goes without. What is expected is there, so
- * that this changes nothing either; and no cycle time changes what is printed. */
-static bool changes_nothing(enum call call, uint8_t number)
+/* What was refused changed nothing. A lost answer changes nothing of how it ends. What is expected is there, so that to
+ * expect it changes nothing either; and no cycle time changes what is left. */
+static void try_call(enum state state, enum call call, const struct left *plain)
 {
-    return number != 0 || call == NOTHING || call == STATUS || call == IMAGE || call >= ENTRY;
-}
-
-/* A lost answer changes nothing of how it ends. */
-static void try_call(enum state state, enum call call, const char plain[TAIL])
-{
-    char name[40], tail[TAIL], tail_lost[TAIL];
-    uint8_t number;
+    char name[40];
+    struct left left, left_if_lost, wanted = *plain;
+    uint8_t answered;
     snprintf(name, sizeof name, "%s %s", state_names[state], call_names[call]);
     where = name;
-    number = run(state, call, false, tail);
-    IS(run(state, call, true, tail_lost), number);
-    IS(strcmp(tail_lost, tail), 0);
-    if (call == RESTART)
-        IS(number, IOL_NOT_ASKED);
-    if (changes_nothing(call, number))
-        IS(strcmp(tail, plain), 0);
-    printf("%-8s%-13s%3d: %s\n", state_names[state], call_names[call], number, tail);
+    answered = run(state, call, false, &left);
+    IS(run(state, call, true, &left_if_lost), answered);
+    is_same(&left_if_lost, &left);
+    if (!ends[call].is_shown) {
+        IS(answered, ends[call].answer);
+        wanted.output = ends[call].output;
+        wanted.events = ends[call].events;
+    }
+    if (!ends[call].is_shown || answered != 0 || call == NOTHING)
+        is_same(&left, &wanted);
+    if (ends[call].is_shown)
+        printf("%-8s%-13s%3d: %scarried out%s; output %02X, events %d, entries %u\n", state_names[state],
+               call_names[call], answered, left.outcomes, left.record, left.output, left.events,
+               (unsigned)left.entries);
 }
 
 static void try_state(enum state state)
 {
-    char plain[TAIL];
+    struct left plain;
     int call;
     where = state_names[state];
-    run_plainly(state, plain);
+    run_plainly(state, &plain);
     for (call = 0; call < CALLS; call++)
-        try_call(state, call, plain);
+        try_call(state, call, &plain);
 }
 
 int main(void)

@@ -1,7 +1,7 @@
-/* A million random messages to a device, and as many random replies to a port, with other calls before them and behind.
- * Nothing is asked of them: the program is to end, and the sanitizers are to stay silent. What is printed is compared
+/* A million random messages to a device, and as many random replies to a port, with calls of calls.h before them and
+ * behind. Nothing is asked of them: the program is to end, and the sanitizers are to stay silent. What is printed is compared
  * with noise.stdout. */
-#include "iolink_port.h"
+#include "calls.h"
 #include "iolink_device.h"
 #include <stdio.h>
 
@@ -68,34 +68,28 @@ static long heard(long count)
     return iol_device_close(&device) == 0 ? replies : -1;
 }
 
-/* The calls that may come at any time; whether a ticket was given. */
-static bool called(iol_port *port)
+/* A dozen calls at random; how many tickets were given. Restarts are rare, as else no start-up gets far. */
+static long called(iol_port *port)
 {
-    static uint64_t ticket;
-    iol_outcome outcome;
-    iol_event event;
-    iol_page page;
-    iol_counters counters;
-    iol_loss loss;
-    uint32_t entries;
-    uint8_t counts;
-    bool given = iol_port_read(port, 16, 0, &ticket) == 0;
-    iol_port_cancel(port, ticket);
-    iol_port_withdraw(port, ticket);
-    iol_port_collect(port, ticket, &outcome);
-    iol_port_take_event(port, &event);
-    iol_port_archive(port, &entries);
-    iol_port_page(port, &page);
-    iol_port_counters(port, &counters);
-    iol_port_last_loss(port, &loss);
-    iol_port_set_cycle(port, next() % 200000, &counts);
-    if (next() % 256 == 0)
-        iol_port_restart(port);
-    if (next() % 64 == 0)
-        iol_port_expect(port, next() & 0xFFFF, next(), &counts);
-    else
-        iol_port_expect_any(port, &counts);
-    return given;
+    static struct room room;
+    long tickets = 0;
+    int count = 12;
+    while (count-- > 0) {
+        struct given given = {16, room.ticket, {1, 2, 3}, next() % 4, next() & 0xFF, next() % 64 ? 0x1234 : 0x1235,
+                              next() % 64 ? 0x000107 : next(), next() % 200000};
+        enum call call = next() % CALLS;
+        if (call == CALL_restart && next() % 16 != 0)
+            continue;
+        switch (call) {
+#define PORT port
+#define P(pointer) (pointer)
+#define MAKE(name, end, arguments) case CALL_##name: iol_port_##name arguments; break;
+        EACH_CALL(MAKE)
+        default: break;
+        }
+        tickets += room.ticket > given.ticket;
+    }
+    return tickets;
 }
 
 static long turned(long count)

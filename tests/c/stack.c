@@ -1,9 +1,9 @@
 /* How much stack each call takes: what lies below it is painted, the call is made, and what it overwrote is counted.
- * Each line says that a call stays below the bound of docs/speed.md, in whatever the runs below lead it to, and this is
- * compared with stack.stdout. `stack measure` prints the octets instead, which differ from one machine to another; 256
- * means 256 or less. It is to run with LD_BIND_NOW=1: else the first call of a function of the C library counts what the
+ * Each has to be called, and to stay below the bound of docs/speed.md, in whatever the runs below lead it to; what is
+ * printed is compared with stack.stdout. `stack measure` prints the octets of each, which differ from one machine to
+ * another; 256 means 256 or less. It is to run with LD_BIND_NOW=1: else the first call of a function of the C library counts what the
  * dynamic linker needs to find it. */
-#include "iolink_port.h"
+#include "calls.h"
 #include "iolink_device.h"
 #include <stdio.h>
 #include <string.h>
@@ -12,14 +12,10 @@ enum { KB = 1024, OF_OPENING = 8 * KB, OF_CALL = 4 * KB, ROOM = 64 * KB, SKIPPED
 
 #define PAINT UINT64_C(0xA5C3A5C3A5C3A5C3)
 
-#define EACH_CALL(X)                                                                                                   \
+/* The calls that calls.h doesn't have. */
+#define EACH_OTHER(X)                                                                                                  \
     X(iol_port_open) X(iol_port_open_for) X(iol_port_close) X(iol_port_asks) X(iol_port_turn_woken)                    \
-    X(iol_port_turn_answered)                                                                                          \
-    X(iol_port_read) X(iol_port_read_urgent) X(iol_port_write) X(iol_port_write_urgent) X(iol_port_collect)            \
-    X(iol_port_withdraw) X(iol_port_cancel) X(iol_port_restart) X(iol_port_set_output) X(iol_port_clear_output)        \
-    X(iol_port_image) X(iol_port_take_event) X(iol_port_status) X(iol_port_archive) X(iol_port_entry)                  \
-    X(iol_port_expect) X(iol_port_expect_any) X(iol_port_set_cycle) X(iol_port_page) X(iol_port_counters)              \
-    X(iol_port_last_loss) X(iol_port_checksum) X(iol_port_cycle_micros)                                                \
+    X(iol_port_turn_answered) X(iol_port_checksum) X(iol_port_cycle_micros)                                            \
     X(iol_device_open) X(iol_device_open_from) X(iol_device_close) X(iol_device_hear) X(iol_device_wake)               \
     X(iol_device_power_cycle) X(iol_device_expects) X(iol_device_checksum) X(iol_device_cycle_micros)                  \
     X(iol_device_handed) X(iol_device_answer_read) X(iol_device_answer_written) X(iol_device_answer_refused)           \
@@ -27,12 +23,14 @@ enum { KB = 1024, OF_OPENING = 8 * KB, OF_CALL = 4 * KB, ROOM = 64 * KB, SKIPPED
     X(iol_device_silence) X(iol_device_mode) X(iol_device_cycle_time)
 
 #define AT(name) at_##name,
-enum { EACH_CALL(AT) CALLS };
+#define AT_PORT(name, end, arguments) at_iol_port_##name,
+enum { EACH_OTHER(AT) EACH_CALL(AT_PORT) MEASURED };
 
 #define NAME(name) #name,
-static const char *const names[CALLS] = {EACH_CALL(NAME)};
+#define NAME_PORT(name, end, arguments) "iol_port_" #name,
+static const char *const names[MEASURED] = {EACH_OTHER(NAME) EACH_CALL(NAME_PORT)};
 
-static size_t deepest[CALLS];
+static size_t deepest[MEASURED];
 
 /* Below how many octets a call has to stay. */
 static size_t bound(int call)
@@ -76,6 +74,9 @@ static __attribute__((noinline)) int reach(void)
 }
 
 #define CALL(name, ...) (paint(), note(at_##name, name(__VA_ARGS__)))
+#define PORT &port
+#define P(pointer) (pointer)
+#define MAKE(name, end, arguments) (paint(), note(at_iol_port_##name, iol_port_##name arguments));
 
 static iol_port port;
 static iol_device device;
@@ -98,6 +99,14 @@ static void work(void)
         CALL(iol_device_answer_written, &device, number);
     else if (asked.kind != 0)
         CALL(iol_device_answer_refused, &device, number, 0x80, 0x11);
+}
+
+/* Every call of calls.h, in whatever state the port is. */
+static void calls(void)
+{
+    struct given given = {16, ticket, {1, 2, 3}, 3, 1, 0x1234, 0x107, 20000};
+    struct room room;
+    EACH_CALL(MAKE)
 }
 
 /* The reply is lost in one of so many turns, in none for 0. */
@@ -197,9 +206,6 @@ static void events(void)
 /* What start-ups ask of the device; the first that is expected isn't there. */
 static void configured(void)
 {
-    iol_page page;
-    iol_counters counters;
-    iol_loss loss;
     uint8_t counts;
     uint32_t micros;
     CALL(iol_port_expect, &port, 0x1234, 0x108, &counts);
@@ -210,9 +216,7 @@ static void configured(void)
     for (micros = 0; micros <= 140000; micros += 20000)
         CALL(iol_port_set_cycle, &port, micros, &counts);
     turns(20, 0);
-    CALL(iol_port_page, &port, &page);
-    CALL(iol_port_counters, &port, &counters);
-    CALL(iol_port_last_loss, &port, &loss);
+    calls();
 }
 
 /* Replies and messages of octets that no one means. */
@@ -229,6 +233,7 @@ static void noise(void)
             octets[i] = (uint8_t)(turn * 7 + (int)i * 31);
         CALL(iol_device_hear, &device, octets, count, &reply);
         CALL(iol_port_asks, &port, &asked);
+        calls();
         CALL(iol_port_turn_answered, &port, octets, count);
         CALL(iol_port_turn_woken, &port, 3);
     }
@@ -241,6 +246,7 @@ static void run(const uint8_t page[10])
     CALL(iol_device_close, &device);
     CALL(iol_device_open_from, &device, page, 0);
     CALL(iol_port_open, &port, 1000, 100, 64, 0);
+    calls();
     turns(4, 0);
     CALL(iol_port_close, &port);
     CALL(iol_port_open_for, &port, IOL_DEVICES_OWN, 1000, 100, 64, 0);
@@ -271,11 +277,13 @@ int main(int count, char **words)
     run(plain);
     run(process);
     run(largest);
-    for (call = 0; call < CALLS; call++) {
+    for (call = 0; call < MEASURED; call++) {
         if (measures)
             printf("%s %zu\n", names[call], deepest[call]);
-        else
-            printf("%s %s %zu KB\n", names[call], deepest[call] < bound(call) ? "below" : "NOT below", bound(call) / KB);
+        else if (deepest[call] == 0 || deepest[call] >= bound(call))
+            printf("%s is not %s\n", names[call], deepest[call] == 0 ? "called" : "below its bound");
     }
+    if (!measures)
+        printf("of %d KB for opening, and %d KB for any other call\n", OF_OPENING / KB, OF_CALL / KB);
     return 0;
 }
