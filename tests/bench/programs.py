@@ -37,6 +37,8 @@ CASES = [
     Case("ports1", "turn of 1 port, served by its worker", 1_000, 200_000, 680),
     Case("ports2", "turn of each of 2 ports", 1_000, 100_000),
     Case("ports4", "turn of each of 4 ports", 1_000, 50_000),
+    Case("ports8", "turn of each of 8 ports", 500, 20_000),
+    Case("ports32", "turn of each of 32 ports", 100, 5_000),
     Case("seat", "image read at a seat", 1_000, 2_000_000, 42),
 ]
 

@@ -37,12 +37,16 @@ pub(crate) enum Case {
     Ports2,
     /// A turn of each of four ports.
     Ports4,
+    /// A turn of each of eight ports.
+    Ports8,
+    /// A turn of each of 32 ports.
+    Ports32,
     /// An image is read at a seat.
     Seat,
 }
 
 /// All cases, with their names.
-const CASES: [(&str, Case); 14] = [
+const CASES: [(&str, Case); 16] = [
     ("idle", Case::Idle),
     ("idle_data", Case::IdleData),
     ("read", Case::Read),
@@ -56,6 +60,8 @@ const CASES: [(&str, Case); 14] = [
     ("ports1", Case::Ports1),
     ("ports2", Case::Ports2),
     ("ports4", Case::Ports4),
+    ("ports8", Case::Ports8),
+    ("ports32", Case::Ports32),
     ("seat", Case::Seat),
 ];
 
@@ -94,6 +100,8 @@ impl Case {
             Case::Ports1 => served::ports(rt, alloc, 1, count),
             Case::Ports2 => served::ports(rt, alloc, 2, count),
             Case::Ports4 => served::ports(rt, alloc, 4, count),
+            Case::Ports8 => served::ports(rt, alloc, 8, count),
+            Case::Ports32 => served::ports(rt, alloc, 32, count),
             Case::Seat => seats::seat(rt, alloc, count),
         }
     }
