@@ -10,7 +10,8 @@ use Rattle.iol_link.specs.Honest.{Passage, OutLost}
 use Rattle.iol_far.specs.Isdu.{IsduState}
 use Rattle.iol_far.specs.Far.{Far, accepted_message, far_after_message, output_of}
 use Rattle.iol_far.specs.Local.{LocalStep, local, locals}
-use Rattle.iol_app.specs.Abstract.Steps.{PortStep, ImageOctets, is_for_book, is_report}
+use Rattle.iol_app.specs.Abstract.Steps.{PortStep, ImageOctets, is_report}
+use Rattle.iol_app.specs.Abstract.OfMaster.{is_for_book}
 use Rattle.iol_app.specs.Abstract.OfDevice.{Hidden, again_steps, own_step, own_steps, release_steps, event_steps, output_steps, confirms_by, heard_steps_as, passed_steps, exchange_steps, woken_steps, wake_steps}
 
 -- a step that stands aside of what a call says

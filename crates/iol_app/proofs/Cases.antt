@@ -133,6 +133,7 @@ module _ (names : TextNamesAnswer) (taken : AnswersAreTakenUp) (good : Good) whe
           reads = reads;
           kind = WasBusy;
           says = says;
+          by_reading = λ events k. cc;
           brings = refl;
           busy = g.request.busy + 1;
           session = rw none ((refl, (tt, tt)), refl);
@@ -163,6 +164,7 @@ module _ (names : TextNamesAnswer) (taken : AnswersAreTakenUp) (good : Good) whe
           reads = reads;
           kind = WasAnswered x;
           says = says;
+          by_reading = λ events k. cc;
           brings = refl;
           busy = g.request.busy;
           session = ((tells, (tt, tt)), refl);
@@ -364,6 +366,7 @@ module _ (names : TextNamesAnswer) (taken : AnswersAreTakenUp) (good : Good) whe
         reads = reads;
         kind = WasAborted cause;
         says = says;
+        by_reading = λ events k. cc;
         brings = refl;
         busy = g.request.busy;
         session = aborted_session (m a) (seen_in c g) hidden far'.carried current.cutter.source
@@ -422,6 +425,7 @@ module _ (names : TextNamesAnswer) (taken : AnswersAreTakenUp) (good : Good) whe
             };
             kind = WasReported l;
             says = says;
+            by_reading = λ events k. refl;
             brings = refl;
             busy = g.request.busy;
             session = ((tt, (tt, tt)), refl);

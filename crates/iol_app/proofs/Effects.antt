@@ -7,14 +7,15 @@ use Rattle.iol_far.specs.Isdu.{Empty}
 use Rattle.iol_far.specs.Far.{Far, hear}
 use Rattle.iol_far.specs.Local.{LocalStep, locals}
 use Rattle.iol_far.specs.Laws.{confirms as octets_confirm}
-use Rattle.iol_link.specs.Honest.{Passage, far_after}
+use Rattle.iol_link.specs.Honest.{Passage, far_after, unaltered_reply, silence_after}
 use Rattle.iol_mode.specs.declared.why.Why.{Why}
 use Rattle.iol_mode.specs.Kinds.{SeesPulses}
 use Rattle.iol_mode.specs.Stands.{StateStands}
 use Rattle.iol_mode.specs.States.{InDown, StateFits, is_reset}
 use Rattle.iol_app.specs.declared.mode.Mode.TheVariants.{Down as ModeDown, Operate as ModeOperate}
 use Rattle.iol_app.specs.declared.said.Said.TheVariants.{Idle}
-use Rattle.iol_app.specs.Abstract.Steps.{PortStep, Move as MoveTo, WireCall, Moment, silence_by, CallFits, is_for_book, is_report, resets}
+use Rattle.iol_app.specs.Abstract.Steps.{PortStep, Report, Move as MoveTo, WireCall, Woke, Exchanged, Moment, silence_by, CallFits, is_report}
+use Rattle.iol_app.specs.Abstract.OfMaster.{is_for_book, resets}
 use Rattle.iol_app.specs.Abstract.OfDevice.{Hidden, IsOpen, hidden_through, told_through, wake_steps, told_wake, exchange_steps, told_exchanged}
 use Rattle.iol_app.specs.Abstract.Session.{MayMove, MaySession, session_after}
 use Rattle.iol_app.specs.Abstract.Events.{untold_events, MayFrozen, frozen_after}
@@ -34,7 +35,7 @@ use Rattle.iol_app.specs.Ends.{SentSeen}
 use Rattle.iol_app.specs.StationState.{SessionFits, mode_in}
 use Rattle.iol_app.specs.Core.{CoreState, Ghost, BothEndsStand, CallGives, work_of, RequestStands, EventsStand, OutputStands, CalmAt, ShownStands, moment_of, seen_in, shown_in, images_in, settled_core}
 use Rattle.iol_app.specs.Abstract.Turn.{may_bring}
-use Rattle.iol_app.proofs.Orders.{InFarOrder, in_order, free_order, wake_order}
+use Rattle.iol_app.proofs.Orders.{InFarOrder, AnswersAwake, in_order, free_order, wake_order, replies_awake}
 
 no_reset : (was : Bool) → [] ≡ resets was false ++ []
 no_reset was = grind (arith, common_steps)
@@ -57,19 +58,26 @@ pub opens_passed : (h : Hidden) (far : Far) (own : List LocalStep) (passage : Pa
     → IsOpen (far_after passage (locals far own) o).isdu None (hidden_through None far own h)
 opens_passed h far own passage o holds opens = grind (arith, common_steps, own_open)
 
+-- a wake is no exchange
+woken_awake : (call : WireCall) (far : Far) → CallFits ModeDown call → AnswersAwake call far
+woken_awake (Woke answered) far fits is = absurd (cc)
+woken_awake (Exchanged replied) far fits is = absurd fits
+
 module _ (c : CoreState) (g : Ghost) (far : Far) where
   -- the far end's part, with no request under way
-  pub record Effect (far' : Far) : Type 0 where
+  pub record Effect (far' : Far) (n n' : ℕ) : Type 0 where
     pub steps : List PortStep
     pub hidden : Hidden
     pub told : Bool
     pub session : (m : Moment) → SessionRuns m (seen_in c g) g.request.hidden far.carried steps
         (seen_in c g) hidden far'.carried
     pub frozen : FrozenRuns far.events.frozen g.events.told steps far'.events.frozen told
-    pub images : (m : Moment) → ImagesRuns m (images_in c g far) steps
-        (images_of (shown_in c.session g.sent) far')
+    pub images : (m : Moment) → CallFits (mode_in c.state) m.call
+        → ImagesRuns m (images_in c g far) steps (images_of (shown_in c.session g.sent) far')
     pub aside : (ys : List PortStep) → Aside steps ys
     pub order : InFarOrder (mode_in c.state) steps
+    pub awake : (call : WireCall) → CallFits (mode_in c.state) call → n' ≡ silence_by call n
+        → AnswersAwake call far'
     pub opens : IsOpen far'.isdu None hidden
     pub page : far'.page ≡ far.page
     pub kind : far'.kind ≡ far.kind
@@ -87,8 +95,9 @@ module _ (c : CoreState) (g : Ghost) (far : Far) where
     hidden_there = hidden_through None far own g.request.hidden
 
     -- a wake that it sees, or nothing of it
-    pub seen_effect : (wakes : Bool) → Effect (woken_if wakes there)
-    seen_effect wakes =
+    pub seen_effect : (n : ℕ) → mode_in c.state ≡ ModeDown → (wakes : Bool)
+        → Effect (woken_if wakes there) n n
+    seen_effect n down wakes =
         let page = page_locals laws own far in
         let kind = laws.much.kind_kept far own in
         let misses = laws.much.misses_kept far own in
@@ -103,9 +112,11 @@ module _ (c : CoreState) (g : Ghost) (far : Far) where
           session = λ m.
               wake_session m (seen_in c g) g.request.hidden far own wakes free opens_seen;
           frozen = wake_frozen far own wakes g.events.told;
-          images = λ m. wake_images m (shown_in c.session g.sent) far own wakes;
+          images = λ m fits.
+              wake_images m (shown_in c.session g.sent) far own wakes (rw down at fits);
           aside = wake_aside far own wakes;
           order = wake_order (mode_in c.state) far own wakes;
+          awake = λ call fits silent. woken_awake call (woken_if wakes there) (rw down at fits);
           opens = kept.3;
           page = kept.0;
           kind = kept.1;
@@ -122,10 +133,12 @@ module _ (c : CoreState) (g : Ghost) (far : Far) where
         ∙ sym (none_rests (far_after passage there o).awake)
 
     -- octets that confirm nothing
-    abbrev pub passed_effect : (passage : Passage) (o : List ℕ) → octets_confirm o ≡ false
+    abbrev pub passed_effect : (n n' : ℕ) (passage : Passage) (o : List ℕ)
+        → ((call : WireCall) → CallFits (mode_in c.state) call → n' ≡ silence_by call n
+        → AnswersAwake call (far_after passage there o)) → octets_confirm o ≡ false
         → IsOpen (far_after passage there o).isdu None hidden_there
-        → OutputsSent g.sent there o → Effect (far_after passage there o)
-    passed_effect passage o unconfirmed still_open sent = record {
+        → OutputsSent g.sent there o → Effect (far_after passage there o) n n'
+    passed_effect n n' passage o answers unconfirmed still_open sent = record {
       steps = exchange_steps None far own passage o;
       hidden = hidden_there;
       told = told_exchanged far own passage o g.events.told;
@@ -133,27 +146,32 @@ module _ (c : CoreState) (g : Ghost) (far : Far) where
           passage o opens_seen));
       frozen = exchange_frozen None far own passage o g.events.told
           (unconfirming o there (told_through far own g.events.told) unconfirmed);
-      images = λ m. exchange_images m None (shown_in c.session g.sent) far own passage o sent;
+      images = λ m fits. exchange_images m None (shown_in c.session g.sent) far own passage o sent;
       aside = exchange_aside None far own passage o;
       order = free_order (mode_in c.state) g.request.hidden far own passage o unconfirmed opens;
+      awake = answers;
       opens = still_open;
       page = page_after laws passage there o ∙ page_locals laws own far;
       kind = kind_after laws passage there o ∙ laws.much.kind_kept far own;
       misses = misses_passed laws.much passage own far o;
     }
 
-    abbrev pub untold_effect : (passage : Passage) (o : List ℕ) → octets_confirm o ≡ false
+    abbrev pub untold_effect : (n n' : ℕ) (passage : Passage) (o : List ℕ)
+        → n' ≡ silence_after n (unaltered_reply passage there o) → octets_confirm o ≡ false
         → IsOpen (far_after passage there o).isdu None hidden_there
-        → OutputsSent g.sent there o → g.events.told ≡ false → Effect (far_after passage there o)
-    untold_effect passage o unconfirmed still_open sent untold =
-        let e = passed_effect passage o unconfirmed still_open sent in
+        → OutputsSent g.sent there o → g.events.told ≡ false
+        → Effect (far_after passage there o) n n'
+    untold_effect n n' passage o silence unconfirmed still_open sent untold =
+        let e = passed_effect n n' passage o
+        (λ call fits silent. replies_awake call passage there o n n' silence silent) unconfirmed
+        still_open sent in
         record e {
           told = false;
           frozen = rw (untold_after passage o unconfirmed untold) at e.frozen;
         }
 
   -- what the port makes of it, outside OPERATE
-  module _ (far' : Far) (effect : Effect far') (n n' : ℕ) (stands : BothEndsStand c g far n)
+  module _ (far' : Far) (n n' : ℕ) (effect : Effect far' n n') (stands : BothEndsStand c g far n)
       (below : mode_in c.state ≢ ModeOperate) where
     -- with this of its hidden part, and of whether the frozen list is told
     abbrev pub ended : Hidden → Bool → Ghost
@@ -213,9 +231,13 @@ module _ (c : CoreState) (g : Ghost) (far : Far) where
           terms = (e.limit, refl, e.configuration, refl);
           said_book = aside.book ∙ e.book;
           said_reports = aside.reports ∙ e.reports;
+          was_frozen = λ events k.
+              let none : [] ≡ Report events ∷ [] = sym (aside.reports ∙ e.reports) ∙ k in cc;
           session = runs-append (MaySession m) session_after _ _ _ (effect.session m) e.session;
           frozen = runs-append MayFrozen frozen_after _ _ _ effect.frozen e.frozen;
-          images = runs-append (MayImages m) (images_after m) _ _ _ (effect.images m) e.images;
+          images = runs-append (MayImages m) (images_after m) _ _ _
+              (effect.images m fits_call) e.images;
+          awake = effect.awake call fits_call silence;
           image_is_last = ((λ k. absurd (below k.0)), (λ k. e.image), (λ k f. e.image ∙ sym was));
           output_is_wanted = λ k. absurd (below k.0);
           stands = assumption (effect.page ∙ stands.page, effect.kind ∙ stands.kind, sees);

@@ -1,5 +1,5 @@
 -- An exchange in OPERATE: what every outcome needs; a miss, and a loss.
-use Rattle.std.proofs.Common.{◌≡◌, ℕ, suc, ◌+◌, ◌≤◌, min, Bool, true, false, List, ◌++◌, filter, refl, sym, ◌∙◌, ap, subst, arith}
+use Rattle.std.proofs.Common.{◌≡◌, ℕ, suc, ◌+◌, ◌≤◌, min, Bool, true, false, List, [], ◌∷◌, ◌++◌, filter, refl, sym, ◌∙◌, ap, subst, arith}
 use Rattle.std.proofs.lemmas.Grind.{common_steps}
 use Rattle.std.specs.Prelude.{Option, Some, None, IfSome, IsTrue}
 use Rattle.iol_mseq.specs.Shape.{Shape}
@@ -26,17 +26,17 @@ use Rattle.iol_mode.specs.declared.why.Why.TheVariants.{Lost}
 use Rattle.iol_app.specs.declared.mode.Mode.TheVariants.{Down as ModeDown, Operate as ModeOperate}
 use Rattle.iol_app.specs.declared.said.Said.{Said}
 use Rattle.iol_app.specs.declared.said.Said.TheVariants.{Busy as SaidBusy, Answered, Cut as SaidCut, Reported}
-use Rattle.iol_app.specs.Abstract.Steps.{PortStep, Moment, silence_left, repeats_at, doubts_at, WireCall, Exchanged, silence_by, CallFits, is_for_book, is_report, book_said, reports_said}
+use Rattle.iol_app.specs.Abstract.Steps.{PortStep, Moment, silence_left, repeats_at, doubts_at, Report, WireCall, Exchanged, silence_by, CallFits, is_report}
 use Rattle.iol_app.specs.Abstract.OfDevice.{Hidden, IsOpen, hidden_through, hidden_again, again_steps, told_through, exchange_steps, told_exchanged}
 use Rattle.iol_app.specs.Abstract.Shown.{MasterFields}
-use Rattle.iol_app.specs.Abstract.OfMaster.{ExchangeResult, Missed, Gone, WasBusy, WasAnswered, WasAborted, WasReported, Had, lost_steps, brought_steps, quiet_said, lost_said}
+use Rattle.iol_app.specs.Abstract.OfMaster.{ExchangeResult, Missed, Gone, WasBusy, WasAnswered, WasAborted, WasReported, Had, lost_steps, brought_steps, quiet_said, lost_said, is_for_book, book_said, reports_said}
 use Rattle.iol_app.specs.Abstract.Shown.{images_of}
 use Rattle.iol_app.specs.BothEnds.{ReadingState, AnswerFits, wants_confirm}
 use Rattle.iol_app.specs.Exchange.{hidden_lost, is_output_told}
 use Rattle.iol_app.specs.Abstract.Turn.{ImageIsLast, may_bring, IsInOrder}
 use Rattle.iol_app.proofs.Given.{Laws, page_locals, page_after, kind_after, level_locals, level_after, sees_kept, misses_passed}
 use Rattle.iol_app.specs.Abstract.Session.{MaySession, session_after}
-use Rattle.iol_app.specs.Abstract.Events.{MayFrozen, frozen_after}
+use Rattle.iol_app.specs.Abstract.Events.{Frozen, MayFrozen, frozen_after}
 use Rattle.iol_app.specs.Abstract.Images.{Images, MayImages, images_after}
 use Rattle.iol_app.proofs.Parts.{runs-append}
 use Rattle.iol_app.proofs.OwnSession.{SessionRuns, MayAgain, exchange_session, again_session}
@@ -61,11 +61,11 @@ use Rattle.iol_app.proofs.Sessions.{question_parts}
 use Rattle.iol_app.proofs.Doubts.{missed_request_by}
 use Rattle.iol_app.proofs.Missing.{stays, busy_missed}
 use Rattle.iol_app.proofs.Telling.{told_layout}
-use Rattle.iol_app.specs.Core.{CoreState, Ghost, OfRequest, OfEvents, BothEndsStand, CallGives, work_of, vain_by, after_missed, RequestStands, EventsStand, OutputStands, CalmAt, ShownStands, core_out, reading_in, ordered_by, moment_of, seen_in, shown_in, images_in, settled_core}
+use Rattle.iol_app.specs.Core.{CoreState, Ghost, OfRequest, OfEvents, BothEndsStand, CallGives, work_of, vain_by, after_missed, RequestStands, EventsStand, OutputStands, CalmAt, ShownStands, core_out, reading_in, ordered_by, moment_of, seen_in, shown_in, frozen_in, images_in, settled_core}
 use Rattle.iol_mode.specs.Kinds.{trusted_recalls}
 use Rattle.iol_far.specs.declared.kind.Recalls.{Recalls}
 use Rattle.iol_mode.specs.declared.configuration.Devices.{Devices}
-use Rattle.iol_app.proofs.Orders.{in_order, exchange_order}
+use Rattle.iol_app.proofs.Orders.{AnswersAwake, in_order, exchange_order}
 use Rattle.std.proofs.lemmas.List.{append_assoc}
 
 -- what goes out again hands over what it did
@@ -136,6 +136,17 @@ pub record RequestWords : Type 0 where
   pub repeats : Bool
   pub progress : Progress
   pub vain : ℕ
+
+-- what is said to be reported was frozen, and not reported yet
+abbrev pub SaidWasFrozen : Said → Option Frozen → Type 0
+SaidWasFrozen said f = (events : List Event) → reports_said said ≡ Report events ∷ []
+    → f ≡ Some (record { events = events; told = false })
+
+quiet_frozen : (r : Option Request) (f : Option Frozen) → SaidWasFrozen (quiet_said r) f
+quiet_frozen r f events k = grind (arith, common_steps)
+
+lost_frozen : (r : Option Request) (f : Option Frozen) → SaidWasFrozen (lost_said r) f
+lost_frozen r f events k = grind (arith, common_steps)
 
 -- an exchange under way: the message out, and the far end's own steps before it
 pub record Turn : Type 0 where
@@ -263,6 +274,7 @@ module _ (turn : Turn) (passage : Passage) (e : Purpose) (current : Option Curre
     pub images : ImagesRuns (moment_of c g n call) (images_of (shown_in t g.sent) passed)
         (brought_steps kind request) (images_in next (ended of_request of_events) passed)
     pub says : Says kind request said
+    pub was_frozen : SaidWasFrozen said (frozen_in g far)
     pub brings : IsTrue (may_bring ModeOperate call (brought_steps kind request))
     pub last : ImageIsLast (moment_of c g n call) (mode_in next.state) (images_in c g far)
         (images_in next (ended of_request of_events) passed)
@@ -281,11 +293,13 @@ module _ (turn : Turn) (passage : Passage) (e : Purpose) (current : Option Curre
   module _ (p : Passes turn passage e current) where
     pub gives : {far' : Far} {n' : ℕ} {said : Said} {call : WireCall} {next : CoreState}
         {of_request : OfRequest} {of_events : OfEvents} {kind : ExchangeResult} → far' ≡ passed
-        → Ends said call next of_request of_events kind → CallFits ModeOperate call
+        → Ends said call next of_request of_events kind → AnswersAwake call passed
+        → CallFits ModeOperate call
         → n' ≡ silence_by call n → StateStands next.state n' far' → StateFits next.state
         → SessionFits next.state next.session → CalmAt next.state n'
         → CallGives c g far n said next far' n'
-    gives {n'} {said} {call} {next} {of_request} {of_events} {kind} far_is b fits silent link
+    gives {n'} {said} {call} {next} {of_request} {of_events} {kind} far_is b answers fits silent
+        link
         state_fits joined calm =
         let ys : List PortStep = brought_steps kind request in
         let said_is = said_of kind request said b.says in
@@ -305,6 +319,8 @@ module _ (turn : Turn) (passage : Passage) (e : Purpose) (current : Option Curre
           terms = (b.terms.0, refl, b.terms.1, refl);
           said_book = aside.book ∙ again.book ∙ said_is.0;
           said_reports = aside.reports ∙ again.reports ∙ said_is.1;
+          was_frozen = λ events k. b.was_frozen events
+              (sym (aside.reports ∙ again.reports ∙ said_is.1) ∙ k);
           session = runs-append (MaySession m) session_after _ _ _
               (exchange_session m (seen_in c g) g.request.hidden far steps passage o up.opens)
               (runs-append (MaySession m) session_after back ys _
@@ -318,6 +334,7 @@ module _ (turn : Turn) (passage : Passage) (e : Purpose) (current : Option Curre
           images = runs-append (MayImages m) (images_after m) _ _ _
               (exchange_images m request (shown_in t g.sent) far steps passage o p.sends)
               (again_images m request passed.isdu h _ _ ys b.images);
+          awake = answers;
           image_is_last = b.last;
           output_is_wanted = λ k. b.wanted k.2;
           stands = record {
@@ -404,6 +421,7 @@ module _ (turn : Turn) (passage : Passage) (e : Purpose) (current : Option Curre
         frozen = (tt, refl);
         images = (tt, refl);
         says = says;
+        was_frozen = rw says (quiet_frozen request (frozen_in g far));
         brings = refl;
         last = ((λ k. absurd (more_silence n k.1)), (λ k. absurd (k refl)), (λ k l. refl));
         wanted = λ k. absurd (more_silence n k);
@@ -428,6 +446,7 @@ module _ (turn : Turn) (passage : Passage) (e : Purpose) (current : Option Curre
           frozen = parts.0;
           images = parts.1;
           says = says;
+          was_frozen = rw says (lost_frozen request (frozen_in g far));
           brings = lost_brings request;
           last = ((λ k. absurd (more_silence n k.1)), (λ k. refl), (λ k l. cc));
           wanted = λ k. absurd (more_silence n k);

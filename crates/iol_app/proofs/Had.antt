@@ -1,7 +1,7 @@
 -- A good reply in OPERATE: once for all kinds, over what a kind has to bring.
 use Rattle.std.proofs.lemmas.Grind.{common_steps}
 use Rattle.std.proofs.lemmas.Bool.Decides.{nat_tests}
-use Rattle.std.proofs.Common.{◌≡◌, ◌⊎◌, inl, inr, ℕ, suc, Bool, true, false, not, ◌&&◌, List, [], length, refl, sym, ◌∙◌, ap, arith, subst}
+use Rattle.std.proofs.Common.{◌≡◌, ◌⊎◌, inl, inr, ℕ, suc, Bool, true, false, not, ◌&&◌, List, [], ◌∷◌, length, refl, sym, ◌∙◌, ap, arith, subst}
 use Rattle.std.specs.Prelude.{Option, Some, None, IsSome, IfSome, if◌then◌else◌, slice_index, nat_lt, IsTrue}
 use Rattle.iol_mseq.specs.Shape.{Shape}
 use Rattle.iol_mseq.specs.declared.reply.Reply.{Reply}
@@ -24,15 +24,15 @@ use Rattle.iol_link.specs.Honest.{Clean}
 use Rattle.iol_mode.specs.Stands.{StateStands, operate_link, IsAccepted}
 use Rattle.iol_mode.specs.States.{NextMode, InOperate, StateFits, next_state}
 use Rattle.iol_app.specs.declared.said.Said.{Said}
-use Rattle.iol_app.specs.Abstract.Steps.{repeats_at, Exchanged, Moment, input_length}
-use Rattle.iol_app.specs.Abstract.OfMaster.{ExchangeResult, Had, brought_steps, quiet_said}
+use Rattle.iol_app.specs.Abstract.Steps.{repeats_at, Report, Exchanged, Moment, input_length}
+use Rattle.iol_app.specs.Abstract.OfMaster.{ExchangeResult, Had, WasReported, brought_steps, quiet_said, reports_said}
 use Rattle.iol_app.specs.Abstract.Shown.{images_of, frozen_of}
 use Rattle.iol_app.specs.BothEnds.{ReadingState, Due, wants_confirm, wants_octet, AnswerFits, ProgressFits, EventsFit}
 use Rattle.iol_app.specs.Exchange.{reading_kept, is_output_told}
 use Rattle.iol_app.proofs.Given.{sized_locals}
 use Rattle.iol_app.proofs.EventReading.{ReaderLaws, memory_locals, memory_hear, kept_fits, kept_due, ends_hold}
 use Rattle.iol_app.specs.Ends.{BusySeen, output_for}
-use Rattle.iol_app.proofs.Told.{told_locals}
+use Rattle.iol_app.proofs.Told.{heard_awake, told_locals, frozen_kept}
 use Rattle.iol_app.proofs.OwnSession.{SessionRuns}
 use Rattle.iol_app.proofs.FrozenPart.{FrozenRuns}
 use Rattle.iol_app.proofs.ImagesPart.{ImagesRuns}
@@ -42,6 +42,7 @@ use Rattle.iol_app.specs.declared.event_work.ReadingProgress as app
 use Rattle.iol_app.specs.declared.event_work.ReadingProgress.TheVariants.{Resting}
 use Rattle.iol_app.specs.declared.request.Current.{Current}
 use Rattle.iol_app.specs.declared.session.Purpose.{Purpose}
+use Rattle.iol_app.specs.declared.session.Purpose.TheVariants.{ReadEvent}
 use Rattle.iol_app.specs.EventReading.{is_refused, reader_of, reading_after_exchange, list_read}
 use Rattle.iol_app.specs.Messages.{Head, head_of, read_head}
 use Rattle.iol_app.specs.Requests.{request_under_way, current_after}
@@ -50,10 +51,11 @@ use Rattle.iol_mode.specs.declared.configuration.Devices.{Devices}
 use Rattle.iol_app.specs.State.{IsSession, session_after_exchange, clear_after, image_in}
 use Rattle.iol_app.specs.StationState.{SessionFits}
 use Rattle.iol_app.specs.declared.output.OutputState.{OutputState}
-use Rattle.iol_app.specs.Core.{BothEndsStand, CallGives, reading_at, moment_of, seen_in, shown_in, settled_core}
+use Rattle.iol_app.specs.Core.{BothEndsStand, CallGives, reading_at, moment_of, seen_in, shown_in, frozen_in, settled_core}
+use Rattle.iol_app.proofs.Orders.{awake_first}
 use Rattle.iol_app.proofs.ReadingOn.{Took, reads_next}
 use Rattle.iol_app.proofs.SmallFacts.{begins_request, confirms_is, same_output, input_is, input_hear, input_locals, image_octets}
-use Rattle.iol_app.proofs.Exchanging.{Says, Passes, RequestWords, Turn, words, request_words, gives, at, some_od, late', tied', confirms, told'}
+use Rattle.iol_app.proofs.Exchanging.{Says, SaidWasFrozen, Passes, RequestWords, Turn, words, request_words, gives, at, some_od, late', tied', confirms, told'}
 use Rattle.iol_app.proofs.CaseFacts.{more_grown}
 use Rattle.iol_app.proofs.Shown.{shown_as}
 use Rattle.iol_app.specs.Abstract.Turn.{may_bring}
@@ -81,6 +83,12 @@ kept_at : (reading : app.ReadingProgress) (flag event : Bool) (due : Event × Li
     → is_refused reading ≡ false → reading_kept (reading_at reading flag due) event
     ≡ reading_at reading event due
 kept_at other flag event due h = grind (arith, common_steps)
+
+-- what is said to be reported came so
+reported_kind : (kind : ExchangeResult) (request : Option Request) (said : Said)
+    → Says kind request said → (events : List Event) → reports_said said ≡ Report events ∷ []
+    → kind ≡ WasReported events
+reported_kind kind request said says events k = grind (arith, common_steps)
 
 -- one exchange that brought this reply, and what is said of it
 pub record Good : Type 0 where
@@ -298,6 +306,7 @@ module _ {good : Good} {e : Purpose} {current : Option Current} (a : Replied goo
     pub reads : Reads
     pub kind : ExchangeResult
     pub says : Says kind request said
+    pub by_reading : (events : List Event) → kind ≡ WasReported events → e ≡ ReadEvent
     pub brings : IsTrue (may_bring ModeOperate (Exchanged true) (brought_steps kind request))
     pub busy : ℕ
     pub session : SessionRuns m (seen_in c g) h there.carried (brought_steps kind request)
@@ -312,6 +321,23 @@ module _ {good : Good} {e : Purpose} {current : Option Current} (a : Replied goo
     pub busy_is : BusySeen doubts t.limit next busy g.request.asked
     pub sure : IfSome next (λ c. c.again ≡ false)
     pub known : IsSome (request_under_way next) → IsSome request
+
+  -- what is reported was frozen before
+  was_frozen : {next : Option Current} → Comes next → SaidWasFrozen said (frozen_in g far)
+  was_frozen b events k =
+      let is : b.kind ≡ WasReported events = reported_kind b.kind request said b.says events k in
+      let reads : e ≡ ReadEvent = b.by_reading events is in
+      let wants : wants_octet R ≡ true = up.out.reads reads in
+      let up_there : (locals far steps).awake ≡ true =
+      sym (heard_awake (locals far steps) o) ∙ a.says.before.awake in
+      let up_here : far.awake ≡ true = awake_first steps far up_there in
+      let same : there.events.frozen ≡ far.events.frozen = frozen_kept laws.events R
+      (confirms_events e) steps far o (confirms_by ∙ ap confirms_events reads) wants
+      (stands.events.0 up_here) a.says.before.awake in
+      let as_told : g.events.told ≡ told =
+      stands.events.1 ∙ ap (λ (x : Bool). x && wants_confirm R) up_here ∙ sym told_now in
+      ap (λ (f : List Event). frozen_of f g.events.told) (sym same)
+      ∙ ap (frozen_of there.events.frozen) as_told ∙ (rw is at b.frozen).0.0
 
   abbrev outcome : NextMode
   outcome = InOperate (record { out = None; layouts = layouts }) (Some r)
@@ -331,6 +357,7 @@ module _ {good : Good} {e : Purpose} {current : Option Current} (a : Replied goo
         frozen = b.frozen;
         images = rw (same_output e t.output, image) b.images;
         says = b.says;
+        was_frozen = was_frozen b;
         brings = b.brings;
         last = (
           (λ k. image),
@@ -361,7 +388,8 @@ module _ {good : Good} {e : Purpose} {current : Option Current} (a : Replied goo
         shown = shown_as stands.shown (λ k. absurd (k refl)) (rw (same_output e t.output) refl)
             stands.shown.present b.reads.form;
       })
-      tt a.silent link fits joined a.silent
+      (λ k. a.says.before.awake) tt a.silent link fits
+      joined a.silent
 
   -- the answer fits the record that the request began with, or was handed over with last
   answer_now : (what ≡ Leave → IsIdle progress) → AnswerFits base_now request h there.carried
@@ -388,6 +416,7 @@ module _ {good : Good} {e : Purpose} {current : Option Current} (a : Replied goo
     reads = reads;
     kind = Had;
     says = says;
+    by_reading = λ events k. cc;
     brings = refl;
     busy = g.request.busy;
     session = ((tt, tt), rw same refl);

@@ -1,7 +1,7 @@
 -- The images: own steps, what is heard, and a wake are allowed there, and leave the far end's
 -- input and output.
 use Rattle.std.proofs.lemmas.Grind.{common_steps}
-use Rattle.std.proofs.Common.{arith, ◌≡◌, ℕ, Bool, List, ◌++◌, refl}
+use Rattle.std.proofs.Common.{arith, ◌≡◌, ℕ, Bool, true, List, ◌++◌, refl}
 use Rattle.std.specs.Prelude.{Option, Some, None, IfSome, ⊤}
 use Rattle.iol_mseq.specs.declared.master.MasterMsg.{MasterMsg}
 use Rattle.iol_isdu.specs.declared.values.Request.{Request}
@@ -10,7 +10,8 @@ use Rattle.iol_link.specs.Honest.{Passage, OutLost, far_after}
 use Rattle.iol_far.specs.Isdu.{IsduState, fits}
 use Rattle.iol_far.specs.Far.{Far, accepted_message, far_in_mode, hear, heard_as, far_after_message, output_of}
 use Rattle.iol_far.specs.Local.{LocalStep, local, locals, carried_by, Carry as OwnCarry}
-use Rattle.iol_app.specs.Abstract.Steps.{PortStep, ImageOctets, Moment, TakesSteps}
+use Rattle.iol_app.specs.Abstract.Steps.{PortStep, ImageOctets, CallFits, Moment, TakesSteps}
+use Rattle.iol_app.specs.declared.mode.Mode.TheVariants.{Down}
 use Rattle.iol_app.specs.Abstract.Images.{Images, images_after, MayImages}
 use Rattle.iol_app.proofs.Parts.{runs-append, own_runs}
 use Rattle.iol_app.specs.Abstract.OfDevice.{Hidden, again_steps, carry_steps, own_step, own_steps, worked_steps, heard_steps_as, heard_steps, passed_steps, exchange_steps, wake_steps}
@@ -55,9 +56,9 @@ OutputIsSent sent there o msg = IfSome (output_of (far_after_message there o msg
 
 worked_images : (m : Moment) (s : ShownProcessData) (there : Far) (o : List ℕ) (msg : MasterMsg)
     (before : Images) → before.input ≡ there.input → OutputIsSent s.sent there o msg →
-    before ≡ record (images_of s there) { output = before.output }
+    before ≡ record (images_of s there) { output = before.output } → there.awake ≡ true
     → ImagesRuns m before (worked_steps there o msg) (images_of s (far_after_message there o msg))
-worked_images m s there o msg before input_is fits is = grind (arith, common_steps)
+worked_images m s there o msg before input_is fits is awake = grind (arith, common_steps)
 
 -- whatever the far end accepts there, its output is then the image that the master sent
 abbrev SentIn : Option ImageOctets → List ℕ → Option (Far × MasterMsg) → Type 0
@@ -72,9 +73,10 @@ heard_images : (m : Moment) (s : ShownProcessData) (far : Far) (o : List ℕ)
 heard_images m s far o = by_accepted
     (λ q. SentIn s.sent o q → Leaves m s far (heard_steps_as q o) (heard_as far o q).far)
     far o (λ f. (tt, refl))
-    (λ awake msg spells f. worked_images m s far o msg (images_of s far) refl (f far msg refl) refl)
+    (λ awake msg spells f. worked_images m s far o msg (images_of s far) refl (f far msg refl) refl
+    awake)
     (λ awake command w msg spells f. worked_images m s (far_in_mode far command.into) o msg
-    (images_of s far) refl (f (far_in_mode far command.into) msg refl) refl)
+    (images_of s far) refl (f (far_in_mode far command.into) msg refl) refl awake)
 
 passed_images : (m : Moment) (s : ShownProcessData) (passage : Passage) (far : Far) (o : List ℕ)
     → OutputsSent s.sent far o
@@ -94,9 +96,9 @@ exchange_images m request s far steps passage o fits =
 
 -- the far end's part of a wake
 pub wake_images : (m : Moment) (s : ShownProcessData) (far : Far) (steps : List LocalStep)
-    (wakes : Bool)
+    (wakes : Bool) → CallFits Down m.call
     → Leaves m s far (wake_steps far steps wakes) (woken_if wakes (locals far steps))
-wake_images m s far steps wakes = runs-append (MayImages m) (images_after m) _ _ _
+wake_images m s far steps wakes woken = runs-append (MayImages m) (images_after m) _ _ _
     (own_images m None s steps far) (grind (arith, common_steps))
 
 -- nor an image's

@@ -101,8 +101,9 @@ module _ (laws : Laws) (leaves : OrderlyLaws) (heard : TextsAreHeard) (s : Start
   nothing : request_under_way t.current ≡ None
   nothing = ap request_under_way stands.joined.0.0
 
-  abbrev effect : Effect c g far passed
-  effect = untold_effect c g far laws nothing stands.request.1 x.steps x.passage o unconfirmed
+  abbrev effect : Effect c g far passed n n'
+  effect = untold_effect c g far laws nothing stands.request.1 x.steps n n' x.passage o
+      x.silence_is unconfirmed
       (opens_passed g.request.hidden far x.steps x.passage o
       (leaves.holds there o message to_page) stands.request.1)
       (alike_sent leaves g.sent there o message to_page orderly) stands.events.1
@@ -150,13 +151,13 @@ module _ (laws : Laws) (leaves : OrderlyLaws) (heard : TextsAreHeard) (s : Start
 
   -- it stays in STARTUP
   stays_up : {answered : Bool} {ys : List PortStep} {next : Startup} {hidden : Hidden}
-      → Ends c g far passed effect n n' stands below (Exchanged answered) ys
+      → Ends c g far passed n n' effect stands below (Exchanged answered) ys
       (record { state = AtStartup next; session = t }) hidden false
       → n' ≡ silence_by (Exchanged answered) n
       → StartupFits next → StartupStands next n' passed → read_by next.step ≡ None
       → Gives (InStartup next)
   stays_up {answered} {ys} {next} {hidden} e silence fits link none = rw none
-      (gives c g far passed effect n n' stands below (Exchanged answered) ys
+      (gives c g far passed n n' effect stands below (Exchanged answered) ys
       (record { state = AtStartup next; session = t }) hidden false e tt silence fits link
       (stands.joined.0, rw none tt))
 
@@ -247,7 +248,7 @@ module _ (laws : Laws) (leaves : OrderlyLaws) (heard : TextsAreHeard) (s : Start
       (if two then WasLost else Again) in
       IsRisen (is_behind s.step) outcome n' far far' → NextModeFits outcome → Gives outcome
   by_tries true two silence risen fits =
-      loses c g far passed effect n n' stands below (Exchanged false) Lost nothing refl
+      loses c g far passed n n' effect stands below (Exchanged false) Lost nothing refl
       (third_time s.sent.tries n (grind (arith, nat_tests)) stands.link.tries) tt silence
   by_tries false two silence risen fits =
       goes false silence b (rw x.far_is at risen.both.stands) fits

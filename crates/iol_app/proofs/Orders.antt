@@ -13,14 +13,16 @@ use Rattle.iol_far.specs.Far.{Far, hear, heard_as, far_in_mode, far_after_messag
 use Rattle.iol_far.specs.Isdu.{IsduState, Empty}
 use Rattle.iol_far.specs.Laws.{confirms as octets_confirm}
 use Rattle.iol_far.specs.Local.{LocalStep, locals, local}
-use Rattle.iol_link.specs.Honest.{Passage, OutLost, far_after}
+use Rattle.iol_link.specs.Honest.{Passage, OutLost, far_after, unaltered_reply, silence_after}
 use Rattle.iol_app.specs.declared.mode.Mode.{Mode}
 use Rattle.iol_app.specs.declared.mode.Mode.TheVariants.{Operate}
-use Rattle.iol_app.specs.Abstract.Steps.{PortStep, WireCall, ImageOctets}
+use Rattle.iol_app.specs.Abstract.Steps.{PortStep, WireCall, Exchanged, silence_by, ImageOctets}
 use Rattle.iol_app.specs.Abstract.Turn.{is_own_step, is_hearing, may_bring, IsInOrder}
 use Rattle.iol_app.specs.Abstract.OfDevice.{Hidden, IsOpen, again_steps, own_step, own_steps, hidden_through, event_steps, output_steps, heard_steps_as, heard_steps, passed_steps, exchange_steps, woken_steps, wake_steps, confirms_by}
 use Rattle.iol_app.proofs.Accepted.{by_accepted}
 use Rattle.iol_app.proofs.FirstOctet.{confirms_of}
+use Rattle.iol_app.proofs.Given.{by_locals}
+use Rattle.iol_app.proofs.Told.{heard_awake}
 use Rattle.iol_app.proofs.OwnSession.{own_open}
 
 -- what the far end does in a call
@@ -95,6 +97,42 @@ passed_order : (mode : Mode) (request : Option Request) (h : Hidden) (passage : 
     (passed_steps passage far o ++ again_steps request (far_after passage far o).isdu h))
 passed_order mode request h OutLost far o may opens = unheard_order mode request far.isdu h opens
 passed_order mode request h other far o may opens = heard_order mode request h far o may opens
+
+-- Awake
+
+-- a power cycle leaves it asleep until a wake
+asleep : (steps : List LocalStep) (far : Far) → far.awake ≡ false
+    → (locals far steps).awake ≡ false
+asleep = by_locals (λ far. far.awake ≡ false) (λ far step h. grind (arith, common_steps))
+
+pub awake_first : (steps : List LocalStep) (far : Far) → (locals far steps).awake ≡ true
+    → far.awake ≡ true
+awake_first steps far up = by_awake far.awake refl
+  where
+    by_awake : (b : Bool) → far.awake ≡ b → b ≡ true
+    by_awake true e = refl
+    by_awake false e = cc (asleep steps far e)
+
+-- only an awake far end answers
+abbrev pub AnswersAwake : WireCall → Far → Type 0
+AnswersAwake call far = call ≡ Exchanged true → far.awake ≡ true
+
+-- a reply is good only where no silence is left
+answered_awake : (call : WireCall) (passage : Passage) (far : Far) (o : List ℕ) (n n' : ℕ)
+    → n' ≡ silence_after n (unaltered_reply passage far o) → n' ≡ silence_by call n
+    → AnswersAwake call far
+answered_awake call passage far o n n' after by is = grind (arith, common_steps)
+
+passed_awake : (passage : Passage) (far : Far) (o : List ℕ)
+    → (far_after passage far o).awake ≡ far.awake
+passed_awake OutLost far o = refl
+passed_awake other far o = heard_awake far o
+
+pub replies_awake : (call : WireCall) (passage : Passage) (far : Far) (o : List ℕ) (n n' : ℕ)
+    → n' ≡ silence_after n (unaltered_reply passage far o) → n' ≡ silence_by call n
+    → AnswersAwake call (far_after passage far o)
+replies_awake call passage far o n n' after by is =
+    passed_awake passage far o ∙ answered_awake call passage far o n n' after by is
 
 -- an exchange
 pub exchange_order : (mode : Mode) (request : Option Request) (h : Hidden) (far : Far)

@@ -1,6 +1,6 @@
 -- The two pieces of a turn, over the core's own data.
 use Rattle.std.proofs.lemmas.Grind.{common_steps}
-use Rattle.std.proofs.Common.{◌≡◌, inl, inr, ℕ, Bool, true, false, List, [], refl, ap, Option, Some, None, arith}
+use Rattle.std.proofs.Common.{◌≡◌, inl, inr, ℕ, Bool, true, false, List, refl, ap, Option, Some, None, arith}
 use Rattle.iol_octets.specs.Control.{control_of}
 use Rattle.iol_mseq.specs.Shape.{startup_shape}
 use Rattle.iol_mseq.specs.Master.{HasMasterParts}

@@ -198,12 +198,12 @@ module _ (names : TextNamesAnswer) (taken : AnswersAreTakenUp) (laws : Laws)
     by_tries true two silence met left says =
         gives turn x.passage e t.current stands (passes x.passage) x.far_is
         (loses turn x.passage e t.current stands (passes x.passage) says
-        (third_time w.tries n (grind (arith, nat_tests)) stands.link.tries)) tt silence
+        (third_time w.tries n (grind (arith, nat_tests)) stands.link.tries)) (λ k. cc) tt silence
         (left.on far' n' met.stands) left.fits left.joined tt
     by_tries false two silence met left says =
         gives turn x.passage e t.current stands (passes x.passage) x.far_is
         (misses turn x.passage e t.current stands (passes x.passage) heard valid says)
-        tt silence (left.on far' n' met.stands) left.fits left.joined tt
+        (λ k. cc) tt silence (left.on far' n' met.stands) left.fits left.joined tt
 
     by_reply : (reply : Option Reply) → good_reply layouts.run w.message came ≡ reply
         → IsMet (after_by reply) n' far' → Left (after_by reply)

@@ -37,7 +37,8 @@ use Rattle.iol_mode.specs.Turns.{IsRisen}
 use Rattle.iol_app.specs.declared.mode.Mode.{Mode}
 use Rattle.iol_app.specs.declared.mode.Mode.TheVariants.{Down as ModeDown, Startup as ModeStartup, Operate as ModeOperate}
 use Rattle.iol_app.specs.declared.said.Said.TheVariants.{Idle}
-use Rattle.iol_app.specs.Abstract.Steps.{PortStep, resets, TellLength, Move as MoveTo, Exchanged, silence_by, output_length, page_refusal, fault_in}
+use Rattle.iol_app.specs.Abstract.Steps.{PortStep, TellLength, Move as MoveTo, Exchanged, silence_by, output_length, page_refusal, fault_in}
+use Rattle.iol_app.specs.Abstract.OfMaster.{resets}
 use Rattle.iol_app.specs.Abstract.OfDevice.{Hidden, IsOpen, hidden_through}
 use Rattle.iol_app.specs.Abstract.Shown.{MasterFields}
 use Rattle.iol_app.specs.Abstract.Session.{MayMove, HoldsNothing}
@@ -318,18 +319,19 @@ module _ {start : Start} {session : SessionState} {g : Ghost} {far far' : Far} {
   unconfirmed = sym (confirms_of (layout_in far.page (accepting_link k.link o).mode) o k.message
       goes.sent_at.spells) ∙ page_confirms k.message k.page
 
-  abbrev effect : Effect c g far passed
-  effect = untold_effect c g far laws refl rests.opens x.steps x.passage o unconfirmed opens
+  abbrev effect : Effect c g far passed n n'
+  effect = untold_effect c g far laws refl rests.opens x.steps n n' x.passage o
+      x.silence_is unconfirmed opens
       (outputs_sent laws going goes there page_there level outputs) rests.untold
 
   -- What an outcome has to bring
 
   abbrev Brings : Bool → CoreState → List PortStep → Type 0
-  Brings answered next ys = Ends c g far passed effect n n' stands (below start)
+  Brings answered next ys = Ends c g far passed n n' effect stands (below start)
       (Exchanged answered) ys next h false
 
   abbrev LeftIn : State → SessionState → Type 0
-  LeftIn state u = Left c g far passed effect n n' stands (below start)
+  LeftIn state u = Left c g far passed n n' effect stands (below start)
       (record { state = state; session = u }) h false
 
   abbrev Rising : NextMode → Type 0
@@ -344,7 +346,7 @@ module _ {start : Start} {session : SessionState} {g : Ghost} {far far' : Far} {
       → n' ≡ silence_by (Exchanged answered) n → settled_session outcome (still session) ≡ u
       → Brings answered (record { state = next_state outcome; session = u }) ys → Rising outcome
   by answered silence same b risen fits joined = rw (same, x.far_is)
-      (call_gives c g far passed effect n n' stands (below start) (Exchanged answered) _ _ h false
+      (call_gives c g far passed n n' effect stands (below start) (Exchanged answered) _ _ h false
       b (grind (arith, common_steps)) silence fits (rw x.far_is at risen.both.stands)
       (rw same at joined))
 
@@ -406,7 +408,7 @@ module _ {start : Start} {session : SessionState} {g : Ghost} {far far' : Far} {
       → MayMove (moment_of c g n (Exchanged answered)) (mode_at start) ModeDown (Some why)
       → Rising (InDown (record { why = Some why }))
   down {why} answered silence brings may = by answered silence refl
-      (call_falls c g far passed effect n n' stands (below start) (Exchanged answered) why refl
+      (call_falls c g far passed n n' effect stands (below start) (Exchanged answered) why refl
       brings
       may)
 

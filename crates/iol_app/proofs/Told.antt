@@ -8,12 +8,13 @@ use Rattle.iol_link.specs.Honest.{Passage, OutLost, far_after}
 use Rattle.iol_far.specs.Codec.{layout_in}
 use Rattle.iol_far.specs.Far.{Far, hear, heard_as}
 use Rattle.iol_far.specs.Local.{LocalStep, local, locals}
-use Rattle.iol_far.specs.Laws.{EventLaws, confirms as octets_confirm}
+use Rattle.iol_far.specs.Laws.{EventLaws, IsFrozen, Awake, confirms as octets_confirm}
 use Rattle.iol_app.specs.Abstract.OfDevice.{told_after, told_through, told_worked, told_heard_as, told_heard, told_exchanged}
-use Rattle.iol_app.specs.BothEnds.{ReadingState, Resting, Flagged, Under, Due, wants_confirm, EventsFit}
+use Rattle.iol_app.specs.BothEnds.{ReadingState, Resting, Flagged, Under, Due, wants_confirm, wants_octet, EventsFit}
 use Rattle.iol_app.specs.Ends.{EventsTold}
 use Rattle.iol_app.proofs.Accepted.{by_accepted}
 use Rattle.iol_app.proofs.FirstOctet.{confirms_of}
+use Rattle.iol_app.proofs.Given.{by_locals}
 use Rattle.iol_app.proofs.FrozenPart.{ConfirmsTold}
 
 pub heard_awake : (far : Far) (o : List ℕ) → (hear far o).far.awake ≡ far.awake
@@ -52,6 +53,27 @@ module _ (laws : (first : Event) (rest : List Event) → EventLaws first rest) w
   fit_hear (Due x xs) true far o is due h w =
       (laws x xs).confirming_hears far o is h (heard_awake far o ∙ w)
   fit_hear other true far o is due h w = cc (due refl)
+
+  -- what is read stays frozen over an exchange that confirms nothing
+  stays_frozen : (first : Event) (rest : List Event) (steps : List LocalStep) (far : Far)
+      (o : List ℕ) → octets_confirm o ≡ false → IsFrozen first rest far.events
+      → (hear (locals far steps) o).far.awake ≡ true
+      → (hear (locals far steps) o).far.events.frozen ≡ far.events.frozen
+  stays_frozen first rest steps far o other frozen up =
+      ((laws first rest).frozen_hears (locals far steps) o other
+      (by_locals (Awake (IsFrozen first rest)) (laws first rest).frozen_steps steps far
+      (λ w. frozen)) up).0
+      ∙ sym frozen.0
+
+  pub frozen_kept : (reading : ReadingState) (c : Bool) (steps : List LocalStep) (far : Far)
+      (o : List ℕ) → octets_confirm o ≡ false → wants_octet reading ≡ true
+      → EventsFit reading c far.events → (hear (locals far steps) o).far.awake ≡ true
+      → (hear (locals far steps) o).far.events.frozen ≡ far.events.frozen
+  frozen_kept Flagged c steps far o other wants fit up =
+      stays_frozen fit.0 fit.1 steps far o other fit.2 up
+  frozen_kept (Under octets) c steps far o other wants fit up =
+      stays_frozen fit.0 fit.1 steps far o other fit.2 up
+  frozen_kept now c steps far o other wants fit up = absurd (cc)
 
   module _ (o : List ℕ) (reading : ReadingState)
       (due : octets_confirm o ≡ true → wants_confirm reading ≡ true) where

@@ -63,10 +63,10 @@ module _ (s : Down) (t : SessionState) (g : Ghost) (far : Far) (silence : ℕ)
       → CallGives c g far silence Idle (woken_by devices answered t) far' silence
 
   -- a port for any device knows nothing of it yet
-  starts : (far' : Far) → Effect c g far far' → t.configuration.devices ≡ Any
+  starts : (far' : Far) → Effect c g far far' silence silence → t.configuration.devices ≡ Any
       → Gives Any true far'
   starts far' effect any link fits =
-      gives c g far far' effect silence silence stands below (Woke true) (Start ∷ [])
+      gives c g far far' silence silence effect stands below (Woke true) (Start ∷ [])
       (woken_by Any true t) effect.hidden false (record {
         limit = refl;
         configuration = refl;
@@ -88,10 +88,11 @@ module _ (s : Down) (t : SessionState) (g : Ghost) (far : Far) (silence : ℕ)
       }) tt refl fits link (stands.joined, tt)
 
   -- our own device was reset
-  resets : (there : Far) → Effect c g far (far_after_wake there) → t.configuration.devices ≡ Own
+  resets : (there : Far) → Effect c g far (far_after_wake there) silence silence
+      → t.configuration.devices ≡ Own
       → Gives Own true (far_after_wake there)
   resets there effect own link fits =
-      gives c g far (far_after_wake there) effect silence silence stands below (Woke true)
+      gives c g far (far_after_wake there) silence silence effect stands below (Woke true)
       (Reset ∷ []) (woken_by Own true t) (record effect.hidden { late = None }) false (record {
         limit = refl;
         configuration = refl;
@@ -113,19 +114,22 @@ module _ (s : Down) (t : SessionState) (g : Ghost) (far : Far) (silence : ℕ)
       }) tt refl fits link (stands.joined, tt)
 
   -- no rate is answered
-  fails : (far' : Far) → Effect c g far far' → (devices : Devices) → Gives devices false far'
+  fails : (far' : Far) → Effect c g far far' silence silence → (devices : Devices)
+      → Gives devices false far'
   fails far' effect devices link fits =
-      loses c g far far' effect silence silence stands below (Woke false) NoWake free refl refl
+      loses c g far far' silence silence effect stands below (Woke false) NoWake free refl refl
       tt refl
 
   -- a rate is answered
-  answers : (there : Far) → Effect c g far (far_after_wake there) → (devices : Devices)
+  answers : (there : Far) → Effect c g far (far_after_wake there) silence silence
+      → (devices : Devices)
       → t.configuration.devices ≡ devices → Gives devices true (far_after_wake there)
   answers there effect Any any = starts (far_after_wake there) effect any
   answers there effect Own own = resets there effect own
 
   -- a wake that it doesn't see
-  unseen : (after : Far) → Effect c g far after → far.misses_pulses ≡ true → (answered : Bool)
+  unseen : (after : Far) → Effect c g far after silence silence → far.misses_pulses ≡ true
+      → (answered : Bool)
       (devices : Devices) → t.configuration.devices ≡ devices → Gives devices answered after
   unseen after effect misses false devices e = fails after effect devices
   unseen after effect misses true Any any = starts after effect any
@@ -140,9 +144,11 @@ module _ (s : Down) (t : SessionState) (g : Ghost) (far : Far) (silence : ℕ)
         let there : Far = locals far w.steps in
         let is : far' ≡ far_after_wake there = w.far_is
         ∙ ap (λ (b : Bool). woken_if b there) (w.answered_is refl) in
-        rw is (answers there (seen_effect c g far laws free stands.request w.steps true) _ refl)
+        rw is (answers there (seen_effect c g far laws free stands.request w.steps silence refl
+        true) _ refl)
     by_seen far' false w = rw w.far_is (fails (woken_if w.wakes (locals far w.steps))
-        (seen_effect c g far laws free stands.request w.steps w.wakes) t.configuration.devices)
+        (seen_effect c g far laws free stands.request w.steps silence refl w.wakes)
+        t.configuration.devices)
 
     by_unseen : (far' : Far) (answered : Bool) → UnseenWake far answered far'
         → Gives t.configuration.devices answered far'
@@ -150,7 +156,8 @@ module _ (s : Down) (t : SessionState) (g : Ghost) (far : Far) (silence : ℕ)
         let there : Far = locals far w.steps in
         let to_page : IsToPage test_read (page_read 2) = test_to_page heard in
         rw w.far_is (unseen (hear there test_read).far
-        (passed_effect c g far laws free stands.request w.steps BackLost test_read test_confirms
+        (passed_effect c g far laws free stands.request w.steps silence silence BackLost test_read
+        (λ call fits silent k. absurd (rw k at fits)) test_confirms
         (opens_passed g.request.hidden far w.steps BackLost test_read
         (leaves.holds there test_read (page_read 2) to_page) stands.request)
         (alike_sent leaves g.sent there test_read (page_read 2) to_page

@@ -27,7 +27,8 @@ use Rattle.iol_mode.specs.Stands.{StateStands, IsOperating, IsAccepted}
 use Rattle.iol_app.specs.declared.mode.Mode.TheVariants.{Operate as ModeOperate}
 use Rattle.iol_app.specs.declared.said.Said.{Said}
 use Rattle.iol_app.specs.declared.said.Said.TheVariants.{Idle}
-use Rattle.iol_app.specs.Abstract.Steps.{PortStep, repeats_at, doubts_at, Make, Take, WireCall, Moment, ImageOctets, silence_by, CallFits, is_for_book, is_report, book_said, reports_said, resets, output_length, TakesSteps}
+use Rattle.iol_app.specs.Abstract.Steps.{PortStep, repeats_at, doubts_at, Make, Take, WireCall, Exchanged, Moment, ImageOctets, silence_by, CallFits, is_report, output_length, TakesSteps}
+use Rattle.iol_app.specs.Abstract.OfMaster.{is_for_book, book_said, reports_said, resets}
 use Rattle.iol_app.specs.Abstract.Session.{Session, MaySession, session_after}
 use Rattle.iol_app.specs.Abstract.Events.{Frozen, MayFrozen, frozen_after}
 use Rattle.iol_app.specs.Abstract.Images.{Images, MayImages, images_after, image_or}
@@ -37,7 +38,7 @@ use Rattle.iol_app.specs.Abstract.Shown.{ShownProcessData, session_of, frozen_of
 use Rattle.iol_app.specs.BothEnds.{AnswerFits, WaitsElsewhere, ReadingState, wants_confirm, wants_octet}
 use Rattle.iol_app.specs.BothEnds as steps
 use Rattle.iol_app.specs.Exchange.{reading_flagged, is_output_told, hidden_lost}
-use Rattle.iol_app.specs.Abstract.Turn.{ImageIsLast, OutputIsWanted, IsInOrder}
+use Rattle.iol_app.specs.Abstract.Turn.{ImageIsLast, OutputIsWanted, IsInOrder, WasFrozen}
 use Rattle.iol_app.specs.declared.event_work.EventRoom.{EventRoom}
 use Rattle.iol_app.specs.declared.event_work.ReadingProgress as app
 use Rattle.iol_app.specs.declared.event_work.ReadingProgress.TheVariants.{Resting, UnderWay, ConfirmDue, Refused}
@@ -367,6 +368,7 @@ pub record CallGives (c : CoreState) (g : Ghost) (far : Far) (silence : ℕ) (sa
   pub said_book : filter is_for_book steps
       ≡ resets (is_reset c.state) (is_reset next.state) ++ book_said said
   pub said_reports : filter is_report steps ≡ reports_said said
+  pub was_frozen : WasFrozen steps (frozen_in g far)
   pub session :
       TakesSteps (MaySession (moment_of c g silence call)) session_after (session_in c g far) steps
       (session_in next after far_new)
@@ -375,6 +377,7 @@ pub record CallGives (c : CoreState) (g : Ghost) (far : Far) (silence : ℕ) (sa
       TakesSteps (MayImages (moment_of c g silence call))
       (images_after (moment_of c g silence call))
       (images_in c g far) steps (images_in next after far_new)
+  pub awake : call ≡ Exchanged true → far_new.awake ≡ true
   pub image_is_last :
       ImageIsLast (moment_of c g silence call) (mode_in next.state) (images_in c g far)
       (images_in next after far_new)

@@ -5,7 +5,8 @@ use Rattle.iol_isdu.specs.declared.values.Request.{Request}
 use Rattle.iol_link.specs.WireFacts.{WireFacts}
 use Rattle.iol_book.specs.BookModel.{BookState}
 use Rattle.iol_app.specs.declared.said.Said.{Said}
-use Rattle.iol_app.specs.Abstract.Steps.{Reset, resets, book_said, through_steps}
+use Rattle.iol_app.specs.Abstract.Steps.{Reset, through_steps}
+use Rattle.iol_app.specs.Abstract.OfMaster.{resets, book_said}
 use Rattle.iol_app.specs.declared.event_work.EventRoom.{EventRoom}
 use Rattle.iol_app.specs.Core.{CoreState}
 use Rattle.iol_app.specs.Pieces.{SendsMessage, IsMade, IsWholeTurn}

@@ -6,7 +6,7 @@ use Rattle.iol_book.specs.declared.entries.Ticket.{Ticket}
 use Rattle.iol_book.specs.BookModel.{is_taken}
 use Rattle.iol_app.specs.Abstract.OfMaster.{restart_steps}
 use Rattle.iol_app.specs.Abstract.Steps.{PortStep, Unknown, through_steps}
-use Rattle.iol_app.specs.Abstract.Session.{Session, session_after}
+use Rattle.iol_app.specs.Abstract.Session.{Session, MaySession, session_after}
 use Rattle.iol_port.specs.declared.call.Call.TheVariants as call
 use Rattle.iol_port.specs.declared.call.Answered.TheVariants as answered
 use Rattle.iol_port.specs.Run.{PortState, Whole, job_request}
@@ -23,9 +23,11 @@ asked_through (step ∷ steps) s h =
 
 pub cancelled_was_asked : CancelledWasAsked
 cancelled_was_asked m [] s may cancels = absurd cancels
-cancelled_was_asked m (Unknown Cancelled ∷ steps) s may cancels = grind (arith, common_steps)
-cancelled_was_asked m (step ∷ steps) s may cancels =
-    let later = cancelled_was_asked m steps (session_after step s) may.1 cancels in
+cancelled_was_asked m (step ∷ steps) s may (inl is) =
+    let cut : MaySession m (Unknown Cancelled) s = rw is at may.0 in
+    grind (arith, common_steps, cut)
+cancelled_was_asked m (step ∷ steps) s may (inr later) =
+    let asked = cancelled_was_asked m steps (session_after step s) may.1 later in
     grind (arith, common_steps)
 
 pub asked_by_cancel : AskedByCancel

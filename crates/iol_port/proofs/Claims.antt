@@ -12,7 +12,15 @@ use Rattle.iol_port.proofs.PieceLemmas.{runs_join}
 module _ {W : Type 0} (facts : WireFacts W) (o : Opening W) (q : PortOver W) where
   has_it : (a : PortState) → StandsOver facts q a → Has facts a q
   has_it a (up, stands) = let (c, shows, same) = stands in rw same
-      record { book = refl; kept = refl; image = refl; input = refl; output = refl; carried = refl }
+      record {
+        book = refl;
+        kept = refl;
+        image = refl;
+        input = refl;
+        output = refl;
+        awake = refl;
+        carried = refl;
+      }
 
   holds : (earlier calls : List Call) (answered replies : List Answered) (b : PortState)
       → Run (opened_with o) (earlier ++ calls) (answered ++ replies) b → StandsOver facts q b

@@ -13,7 +13,8 @@ use Rattle.iol_mode.specs.Exchanges.{IsSending}
 use Rattle.iol_app.specs.declared.mode.Mode.TheVariants.{Operate}
 use Rattle.iol_app.specs.declared.said.Said.{Said}
 use Rattle.iol_app.specs.declared.said.Said.TheVariants.{Idle}
-use Rattle.iol_app.specs.Abstract.Steps.{PortStep, Make, Reset, WireCall, Moment, resets, book_said, through_steps, TakesSteps}
+use Rattle.iol_app.specs.Abstract.Steps.{PortStep, Make, Reset, WireCall, Moment, through_steps, TakesSteps}
+use Rattle.iol_app.specs.Abstract.OfMaster.{resets, book_said}
 use Rattle.iol_app.specs.Abstract.Session.{MaySession, session_after}
 use Rattle.iol_app.specs.declared.event_work.EventRoom.{EventRoom}
 use Rattle.iol_app.specs.declared.brought.WireResult.{WireResult}
@@ -236,11 +237,13 @@ module _ (p next : PortParts) (far far' : Far) (n n' : ℕ) (said : Said) (free 
             };
             events = record {
               frozen = x.frozen;
+              was_frozen = x.was_frozen;
               kept = sym (settles.keeps
                   ∙ (rw (← x.said_reports) (sym (kept_through-filter x.steps p.kept))));
             };
             images = record {
               images = x.images;
+              awake = x.awake;
               image_is_last = x.image_is_last;
               output_is_wanted = λ silent. x.output_is_wanted silent ∙ shown.1 silent.0 silent.1;
             };

@@ -11,7 +11,8 @@ use Rattle.iol_book.specs.declared.entries.Outcome.TheVariants.{NoIsdu}
 use Rattle.iol_book.specs.Replay.{same_ticket}
 use Rattle.iol_book.specs.BookModel.{BookState, next_taken, book_after_denial, book_after_post}
 use Rattle.iol_app.specs.declared.said.Said.{Said}
-use Rattle.iol_app.specs.Abstract.Steps.{Reset, book_said, through_steps}
+use Rattle.iol_app.specs.Abstract.Steps.{Reset, through_steps}
+use Rattle.iol_app.specs.Abstract.OfMaster.{book_said}
 use Rattle.iol_port.specs.Asks.{lacks_isdu}
 use Rattle.iol_port.specs.EveryWire.{book_after_taking, HasNoIsdu, IsDenied}
 use Rattle.iol_port.specs.View.{PortParts, Asks}

@@ -8,7 +8,8 @@ use Rattle.iol_app.specs.declared.said.Said.{Said}
 use Rattle.iol_far.specs.Far.{Far}
 use Rattle.iol_app.specs.Abstract.Images.{Images, MayImages, images_after}
 use Rattle.iol_app.specs.declared.request.Current.{Current}
-use Rattle.iol_app.specs.Abstract.Steps.{PortStep, Take, Deny, Moment, Terms, resets, book_said, reports_said, through_steps, TakesSteps}
+use Rattle.iol_app.specs.Abstract.Steps.{PortStep, Take, Deny, Moment, Terms, through_steps, TakesSteps}
+use Rattle.iol_app.specs.Abstract.OfMaster.{resets, book_said, reports_said}
 use Rattle.iol_app.specs.Abstract.Shown.{job_of}
 use Rattle.iol_mode.specs.declared.states.State.{State}
 use Rattle.iol_mode.specs.States.{is_reset}

@@ -1,5 +1,5 @@
 -- what comes of the order of a turn's steps
-use Rattle.std.proofs.Common.{◌≡◌, ◌⊎◌, inl, inr, ◌∷◌, ◌++◌, [], List, ℕ, length, true, false, None, refl, sym, ◌∙◌, ap, arith, subst, Option}
+use Rattle.std.proofs.Common.{◌≡◌, ◌≢◌, ◌⊎◌, inl, inr, ◌∷◌, ◌++◌, [], List, filter, ℕ, length, true, false, Some, None, refl, sym, ◌∙◌, ap, arith, subst, Option}
 use Rattle.std.proofs.lemmas.Grind.{common_steps}
 use Rattle.std.proofs.lemmas.List.Folds.{list_all-append}
 use Rattle.std.specs.Prelude.{Bool, IsTrue, IfSome}
@@ -7,13 +7,14 @@ use Rattle.std.specs.List.{list_all}
 use Rattle.iol_event.specs.declared.event.Event.{Event}
 use Rattle.iol_app.specs.declared.mode.Mode.{Mode}
 use Rattle.iol_app.specs.declared.mode.Mode.TheVariants.{Down, Startup, Preoperate, Operate}
-use Rattle.iol_app.specs.Abstract.Steps.{PortStep, Again, Confirm, OutputOn, OutputOff, ShowImage, DropImage, Unknown, Move, Start, Reset, TellLength, WireCall, Woke, Exchanged, Moment, CallFits, silence_by, input_length, through_steps, MayAll, is_right}
+use Rattle.iol_app.specs.Abstract.Steps.{PortStep, Again, Confirm, PowerLoss, OutputOn, OutputOff, ShowImage, DropImage, Busy, Done, Report, Unknown, Move, Start, Reset, TellLength, WireCall, Woke, Exchanged, Moment, CallFits, silence_by, is_report, input_length, through_steps, MayAll, is_right}
 use Rattle.iol_app.specs.Abstract.Session.{Session, session_after}
+use Rattle.iol_app.specs.Abstract.Events.{Frozen, MayFrozen, frozen_after}
 use Rattle.iol_app.specs.Abstract.Images.{Images, MayImages, images_after, page_after_wire_call}
 use Rattle.iol_app.specs.Abstract.Turn.{is_own_step, is_handing, is_output_then, is_hearing, wake_brings, loss_brings, startup_brings, preoperate_brings, operate_brings, may_bring, IsInOrder, IsPageRead}
 use Rattle.iol_port.specs.Steps.{kept_after}
-use Rattle.iol_port.specs.Run.{PortState, SendOf, is_sending_step, moment_by, moment_in}
-use Rattle.iol_port.specs.Promises.{EventsAreRead, ImagesHaveLength, StartsByPage, WrongPagesStayUnread}
+use Rattle.iol_port.specs.Run.{PortState, SendOf, ReceiveOf, is_sending_step, moment_by, moment_in}
+use Rattle.iol_port.specs.Promises.{EventsAreRead, NoneIsSwallowed, AsleepAnswersNothing, ImagesHaveLength, StartsByPage, WrongPagesStayUnread}
 use Rattle.iol_app.proofs.Parts.{through_steps-append}
 use Rattle.iol_port.proofs.PieceLemmas.{sending_mode}
 
@@ -115,13 +116,31 @@ preoperate_kept [] kept h = refl
 preoperate_kept (step ∷ []) kept h = grind (arith, common_steps)
 preoperate_kept steps kept h = grind (arith, common_steps)
 
+-- in OPERATE it may report
+abbrev ReportedOf : List PortStep → List Event → Type 0
+ReportedOf steps kept = (events : List Event) × (filter is_report steps ≡ Report events ∷ [])
+    × (through_steps kept_after steps kept ≡ kept ++ events)
+
+operate_kept : (steps : List PortStep) (kept : List Event) → IsTrue (operate_brings steps)
+    → (through_steps kept_after steps kept ≡ kept) ⊎ ReportedOf steps kept
+operate_kept (ShowImage ∷ []) kept h = inl refl
+operate_kept (Busy ∷ ShowImage ∷ []) kept h = inl refl
+operate_kept (Done answer ∷ ShowImage ∷ []) kept h = inl refl
+operate_kept (Unknown cause ∷ ShowImage ∷ []) kept h = inl refl
+operate_kept (Report events ∷ ShowImage ∷ []) kept h = inr (events, refl, refl)
+operate_kept (step ∷ ShowImage ∷ []) kept h = absurd (cc)
+operate_kept steps kept h = absurd (cc)
+
 brought_kept : (mode : Mode) (call : WireCall) (steps : List PortStep) (kept : List Event)
-    → IsTrue (may_bring mode call steps)
-    → (through_steps kept_after steps kept ≡ kept) ⊎ ((mode ≡ Operate) × (call ≡ Exchanged true))
+    → IsTrue (may_bring mode call steps) → (through_steps kept_after steps kept ≡ kept)
+    ⊎ ((mode ≡ Operate) × (call ≡ Exchanged true) × ReportedOf steps kept)
 brought_kept Down (Woke answered) steps kept h = inl (wake_kept answered steps kept h)
 brought_kept Startup (Exchanged true) steps kept h = inl (startup_kept steps kept h)
 brought_kept Preoperate (Exchanged true) steps kept h = inl (preoperate_kept steps kept h)
-brought_kept Operate (Exchanged true) steps kept h = inr (refl, refl)
+brought_kept Operate (Exchanged true) steps kept h = elim (operate_kept steps kept h) [
+  | inl same ↦ inl same
+  | inr more ↦ inr (refl, refl, more)
+]
 brought_kept Down (Exchanged false) steps kept h = inl (loss_kept steps kept h)
 brought_kept Startup (Exchanged false) steps kept h = inl (loss_kept steps kept h)
 brought_kept Preoperate (Exchanged false) steps kept h = inl (loss_kept steps kept h)
@@ -133,6 +152,12 @@ sent_mode : {a m : PortState} → SendOf a m → m.session.mode ≡ a.session.mo
 sent_mode {a} s = ap (λ (x : Session). x.mode) (sym (s.session (Exchanged true)).1)
     ∙ sending_mode s.steps a.session s.only
 
+-- the device's part reports nothing
+far_reports : (steps more : List PortStep) → AreFar steps
+    → filter is_report (steps ++ more) ≡ filter is_report more
+far_reports [] more h = refl
+far_reports (step ∷ steps) more h = grind (arith, common_steps, far_reports steps more)
+
 pub events_are_read : EventsAreRead
 events_are_read a b (m, s, r) =
     let o = in_parts r.all.order in
@@ -141,11 +166,221 @@ events_are_read a b (m, s, r) =
     ∙ sym (through_steps-append kept_after o.far o.brought m.kept) ∙ (rw o.is at r.events.kept) in
     elim (brought_kept m.session.mode r.turn.call o.brought m.kept o.brings) [
       | inl quiet ↦ inl (sym same ∙ quiet ∙ s.kept)
-      | inr loud ↦ inr (
-        sym (sent_mode s) ∙ loud.0,
-        r.all.silence ∙ ap (λ (c : WireCall). silence_by c m.silence) loud.1,
+      | inr (up, replied, (events, reports, more)) ↦ inr (
+        sym (sent_mode s) ∙ up,
+        r.all.silence ∙ ap (λ (c : WireCall). silence_by c m.silence) replied,
+        (
+          events,
+          sym s.frozen ∙ r.events.was_frozen events
+              (ap (filter is_report) o.is ∙ far_reports o.far o.brought o.are_far ∙ reports),
+          sym same ∙ more ∙ ap (λ (kept : List Event). kept ++ events) s.kept,
+        ),
       )
     ]
+
+-- Asleep
+
+-- a turn of a port that isn't down has no wake
+unwoken : (mode : Mode) (call : WireCall) → mode ≢ Down → CallFits mode call → CallFits Down call
+    → ⊥
+unwoken mode (Woke answered) up fits woken = up (only_down mode answered fits)
+  where
+    only_down : (mode : Mode) (answered : Bool) → CallFits mode (Woke answered) → mode ≡ Down
+    only_down Down answered fits = refl
+    only_down mode answered fits = absurd fits
+unwoken mode (Exchanged replied) up fits woken = woken
+
+-- behind a power cycle a device hears no message
+asleep_stays : (m : Moment) (steps : List PortStep) (i : Images) → (CallFits Down m.call → ⊥)
+    → AreFar steps → MayAll (MayImages m) (images_after m) steps i → i.awake ≡ false
+    → (through_steps (images_after m) steps i).awake ≡ false
+asleep_stays m [] i no_wake h may off = off
+asleep_stays m (OutputOn ∷ steps) i no_wake h may off = absurd (cc (may.0, off))
+asleep_stays m (OutputOff ∷ steps) i no_wake h may off = absurd (elim may.0 [
+  | inl up ↦ cc (up, off)
+  | inr woken ↦ no_wake woken
+])
+asleep_stays m (step ∷ steps) i no_wake h may off =
+    grind (arith, common_steps, asleep_stays m steps (images_after m step i) no_wake)
+
+-- What is frozen, and not reported yet
+
+abbrev unreported : List Event → Option Frozen
+unreported events = Some (record { events = events; told = false })
+
+abbrev reported : List Event → Option Frozen
+reported events = Some (record { events = events; told = true })
+
+abbrev events_of : Option Frozen → List Event
+events_of None = []
+events_of (Some frozen) = frozen.events
+
+abbrev MayFreeze : List PortStep → Option Frozen → Type 0
+MayFreeze steps f = MayAll MayFrozen frozen_after steps f
+
+far_frozen : (m : Moment) (steps : List PortStep) (events : List Event) (i : Images)
+    → (CallFits Down m.call → ⊥) → AreFar steps → MayAll (MayImages m) (images_after m) steps i
+    → (through_steps (images_after m) steps i).awake ≡ true → MayFreeze steps (unreported events)
+    → through_steps frozen_after steps (unreported events) ≡ unreported events
+far_frozen m [] events i no_wake h shows up may = refl
+far_frozen m (PowerLoss ∷ steps) events i no_wake h shows up may =
+    absurd (let off = asleep_stays m steps (images_after m PowerLoss i) no_wake h shows.1
+    refl in cc)
+far_frozen m (step ∷ steps) events i no_wake h shows up may =
+    grind (arith, common_steps, far_frozen m steps events (images_after m step i) no_wake)
+
+freezes_behind : (xs ys : List PortStep) (f : Option Frozen) → MayFreeze (xs ++ ys) f
+    → MayFreeze ys (through_steps frozen_after xs f) × MayFreeze xs f
+freezes_behind [] ys f may = (may, tt)
+freezes_behind (x ∷ xs) ys f may =
+    let (behind, first) = freezes_behind xs ys (frozen_after x f) may.1 in
+    (behind, (may.0, first))
+
+abbrev Stays : List PortStep → List Event → List Event → Type 0
+Stays steps events kept =
+    (through_steps frozen_after steps (unreported events) ≡ unreported events)
+    ⊎ ((through_steps frozen_after steps (unreported events) ≡ reported events)
+    × (through_steps kept_after steps kept ≡ kept ++ events))
+
+brought_frozen : (mode : Mode) (steps : List PortStep) (events kept : List Event)
+    → IsTrue (may_bring mode (Exchanged true) steps) → MayFreeze steps (unreported events)
+    → Stays steps events kept
+brought_frozen Startup [] events kept h may = inl refl
+brought_frozen Startup (Reset ∷ []) events kept h may = inl refl
+brought_frozen Startup (TellLength ∷ []) events kept h may = inl refl
+brought_frozen Startup (Move mode why ∷ []) events kept h may = inl refl
+brought_frozen Preoperate [] events kept h may = inl refl
+brought_frozen Preoperate (Move mode why ∷ []) events kept h may = inl refl
+brought_frozen Operate (ShowImage ∷ []) events kept h may = inl refl
+brought_frozen Operate (Busy ∷ ShowImage ∷ []) events kept h may = inl refl
+brought_frozen Operate (Done answer ∷ ShowImage ∷ []) events kept h may = inl refl
+brought_frozen Operate (Unknown cause ∷ ShowImage ∷ []) events kept h may = inl refl
+brought_frozen Operate (Report others ∷ ShowImage ∷ []) events kept h (is, rest) =
+    let same : events ≡ others = ap events_of is in inr (rw same refl, rw same refl)
+brought_frozen Operate (step ∷ ShowImage ∷ []) events kept h may = absurd (cc)
+brought_frozen mode steps events kept h may = absurd (cc)
+
+replied_brings : (mode : Mode) (call : WireCall) (steps : List PortStep) → call ≡ Exchanged true
+    → IsTrue (may_bring mode call steps) → IsTrue (may_bring mode (Exchanged true) steps)
+replied_brings mode call steps replied brings = rw replied at brings
+
+replied_call : (mode : Mode) (call : WireCall) (n n' : ℕ) → mode ≢ Down → CallFits mode call
+    → n' ≡ silence_by call n → n' ≡ 0 → call ≡ Exchanged true
+replied_call Down call n n' up fits is quiet = absurd (up refl)
+replied_call mode call n n' up fits is quiet = grind (arith, common_steps)
+
+-- what the answer to an exchange brings leaves the device awake or not
+good_awake : (m : Moment) (mode : Mode) (steps : List PortStep) (i : Images)
+    → IsTrue (may_bring mode (Exchanged true) steps)
+    → (through_steps (images_after m) steps i).awake ≡ i.awake
+good_awake m Startup [] i h = refl
+good_awake m Startup (Reset ∷ []) i h = refl
+good_awake m Startup (TellLength ∷ []) i h = refl
+good_awake m Startup (Move mode why ∷ []) i h = refl
+good_awake m Preoperate [] i h = refl
+good_awake m Preoperate (Move mode why ∷ []) i h = refl
+good_awake m Operate (ShowImage ∷ []) i h = refl
+good_awake m Operate (Busy ∷ ShowImage ∷ []) i h = refl
+good_awake m Operate (Done answer ∷ ShowImage ∷ []) i h = refl
+good_awake m Operate (Unknown cause ∷ ShowImage ∷ []) i h = refl
+good_awake m Operate (Report events ∷ ShowImage ∷ []) i h = refl
+good_awake m Operate (step ∷ ShowImage ∷ []) i h = absurd (cc)
+good_awake m mode steps i h = absurd (cc)
+
+bad_awake : (m : Moment) (steps : List PortStep) (i : Images) → IsTrue (loss_brings steps)
+    → (through_steps (images_after m) steps i).awake ≡ i.awake
+bad_awake m [] i h = refl
+bad_awake m (Move mode why ∷ []) i h = refl
+bad_awake m (DropImage ∷ Move mode why ∷ []) i h = refl
+bad_awake m (Unknown cause ∷ DropImage ∷ Move mode why ∷ []) i h = refl
+bad_awake m steps i h = grind (arith, common_steps)
+
+brought_awake : (m : Moment) (mode : Mode) (call : WireCall) (steps : List PortStep) (i : Images)
+    → mode ≢ Down → CallFits mode call → IsTrue (may_bring mode call steps)
+    → (through_steps (images_after m) steps i).awake ≡ i.awake
+brought_awake m mode (Exchanged true) steps i up fits h = good_awake m mode steps i h
+brought_awake m Startup (Exchanged false) steps i up fits h = bad_awake m steps i h
+brought_awake m Preoperate (Exchanged false) steps i up fits h = bad_awake m steps i h
+brought_awake m Operate (Exchanged false) steps i up fits h = bad_awake m steps i h
+brought_awake m Down call steps i up fits h = absurd (up refl)
+brought_awake m mode call steps i up fits h = absurd fits
+
+may_before : (m : Moment) (xs ys : List PortStep) (i : Images)
+    → MayAll (MayImages m) (images_after m) (xs ++ ys) i
+    → MayAll (MayImages m) (images_after m) xs i
+may_before m [] ys i may = tt
+may_before m (x ∷ xs) ys i may = (may.0, may_before m xs ys (images_after m x i) may.1)
+
+-- so that the device is awake behind a turn as it was behind its own part
+awake_behind : {m b : PortState} (r : ReceiveOf m b) → m.session.mode ≢ Down
+    → b.images.awake
+    ≡ (through_steps (images_after (moment_in m r.turn)) (in_parts r.all.order).far m.images).awake
+awake_behind {m} r up =
+    let o = in_parts r.all.order in
+    let at : Moment = moment_in m r.turn in
+    ap (λ (i : Images). i.awake) (sym (rw o.is at r.images.images.1)
+    ∙ through_steps-append (images_after at) o.far o.brought m.images)
+    ∙ brought_awake at m.session.mode r.turn.call o.brought
+    (through_steps (images_after at) o.far m.images) up r.all.fits o.brings
+
+pub none_is_swallowed : NoneIsSwallowed
+none_is_swallowed a b (m, s, r) up quiet events frozen =
+    let o = in_parts r.all.order in
+    let high : m.session.mode ≢ Down = λ down. up (sym (sent_mode s) ∙ down) in
+    let call : r.turn.call ≡ Exchanged true = replied_call m.session.mode r.turn.call m.silence
+    b.silence high r.all.fits r.all.silence quiet in
+    let was : m.frozen ≡ unreported events = s.frozen ∙ frozen in
+    let (behind, first) = freezes_behind o.far o.brought (unreported events)
+    (rw (o.is, was) at r.events.frozen.0) in
+    let at : Moment = moment_in m r.turn in
+    let still : through_steps frozen_after o.far (unreported events) ≡ unreported events =
+    far_frozen at o.far events m.images
+    (unwoken m.session.mode r.turn.call high r.all.fits) o.are_far
+    (may_before at o.far o.brought m.images (rw o.is at r.images.images.0))
+    (sym (awake_behind r high) ∙ r.images.awake call) first in
+    let ends : through_steps frozen_after o.brought (unreported events) ≡ b.frozen =
+    ap (through_steps frozen_after o.brought) (sym still)
+    ∙ sym (through_steps-append frozen_after o.far o.brought (unreported events))
+    ∙ (rw (o.is, was) at r.events.frozen.1) in
+    let keeps : through_steps kept_after o.brought m.kept ≡ b.kept =
+    ap (through_steps kept_after o.brought) (sym (far_kept o.far m.kept o.are_far))
+    ∙ sym (through_steps-append kept_after o.far o.brought m.kept) ∙ (rw o.is at r.events.kept) in
+    elim (brought_frozen m.session.mode o.brought events m.kept
+    (replied_brings m.session.mode r.turn.call o.brought call o.brings)
+    (rw still at behind)) [
+      | inl same ↦ inl (sym ends ∙ same ∙ sym frozen)
+      | inr (told, more) ↦ inr (
+        sym ends ∙ told,
+        sym keeps ∙ more ∙ ap (λ (kept : List Event). kept ++ events) s.kept,
+      )
+    ]
+
+-- what goes out leaves it awake or not
+sending_awake : (m : Moment) (steps : List PortStep) (i : Images)
+    → IsTrue (list_all is_sending_step steps)
+    → (through_steps (images_after m) steps i).awake ≡ i.awake
+sending_awake m [] i h = refl
+sending_awake m (step ∷ steps) i h =
+    grind (arith, common_steps, sending_awake m steps (images_after m step i))
+
+pub asleep_answers_nothing : AsleepAnswersNothing
+asleep_answers_nothing a b (m, s, r) up off =
+    let o = in_parts r.all.order in
+    let at : Moment = moment_in m r.turn in
+    let high : m.session.mode ≢ Down = λ down. up (sym (sent_mode s) ∙ down) in
+    let was : m.images.awake ≡ false =
+    ap (λ (i : Images). i.awake) (sym (s.images (Exchanged true)).1)
+    ∙ sending_awake (moment_by a (Exchanged true)) s.steps a.images s.only ∙ off in
+    let asleep : b.images.awake ≡ false = awake_behind r high
+    ∙ asleep_stays at o.far m.images (unwoken m.session.mode r.turn.call high r.all.fits) o.are_far
+    (may_before at o.far o.brought m.images (rw o.is at r.images.images.0)) was in (
+      asleep,
+      λ quiet.
+          let call : r.turn.call ≡ Exchanged true =
+          replied_call m.session.mode r.turn.call m.silence
+          b.silence high r.all.fits r.all.silence quiet in
+          let woken = r.images.awake call in cc,
+    )
 
 -- An image
 

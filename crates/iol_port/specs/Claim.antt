@@ -25,6 +25,7 @@ module _ {W : Type 0} (facts : WireFacts W) where
     pub image : q.parts.core.session.image ≡ a.images.image
     pub input : (far q.wire).input ≡ a.images.input
     pub output : output_of (far q.wire) ≡ a.images.output
+    pub awake : (far q.wire).awake ≡ a.images.awake
     pub carried : (far q.wire).carried ≡ a.session.carried
 
   -- All calls since the opening, these the last of them, with what each answered are a run of an
@@ -32,6 +33,13 @@ module _ {W : Type 0} (facts : WireFacts W) where
   -- calls, each at most once, in the order taken; and each Done tells its answer to that very
   -- request. Otherwise is only what the allowance says, which is none at a port for any device. The
   -- journal has the requests that were taken since it began, which all ended but the one under way.
+  --
+  -- A run may still choose these, and nothing else. What the device does by itself, and when: it
+  -- answers a request that it was handed, or is busy with it; it freezes events; its input changes;
+  -- it has a power cycle, and then answers nothing until a wake. What the line loses. How soon the
+  -- port gets on: takes the next request, tells an answer that is there, reports what is frozen,
+  -- has read the page, and changes the mode. That a port which may be in doubt of a request cuts it
+  -- off. That a submit lacks memory. What the counters and the last loss say.
   pub record Claim (o : Opening W) (calls : List Call) (replies : List Answered) (q : PortOver W) :
       Type 0 where
     pub earlier : List Call

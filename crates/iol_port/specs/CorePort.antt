@@ -10,7 +10,8 @@ use Rattle.iol_mode.specs.declared.configuration.Devices.{Devices}
 use Rattle.iol_mode.specs.declared.configuration.Devices.TheVariants.{Own}
 use Rattle.iol_book.specs.declared.limits.Limits.{Limits}
 use Rattle.iol_app.specs.declared.said.Said.{Said}
-use Rattle.iol_app.specs.Abstract.Steps.{resets, book_said, reports_said, through_steps}
+use Rattle.iol_app.specs.Abstract.Steps.{through_steps}
+use Rattle.iol_app.specs.Abstract.OfMaster.{resets, book_said, reports_said}
 use Rattle.iol_app.specs.StationState.{IsSettledSaid}
 use Rattle.iol_app.specs.Core.{after_exchange, after_wake, came_of}
 use Rattle.iol_app.specs.Brought.{brought_in, woken_by}

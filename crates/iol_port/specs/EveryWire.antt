@@ -21,8 +21,8 @@ use Rattle.iol_mode.specs.States.{is_reset}
 use Rattle.iol_mode.specs.declared.why.Why.{Why}
 use Rattle.iol_app.specs.declared.mode.Mode.TheVariants.{Down}
 use Rattle.iol_app.specs.declared.said.Said.{Said}
-use Rattle.iol_app.specs.Abstract.Steps.{ImageOctets, resets, book_said, reports_said, through_steps}
-use Rattle.iol_app.specs.Abstract.OfMaster.{restart_steps}
+use Rattle.iol_app.specs.Abstract.Steps.{ImageOctets, through_steps}
+use Rattle.iol_app.specs.Abstract.OfMaster.{restart_steps, resets, book_said, reports_said}
 use Rattle.iol_app.specs.State as session
 use Rattle.iol_app.specs.Due.{is_ready}
 use Rattle.iol_app.specs.Asking.{core_with_request, IsCall}

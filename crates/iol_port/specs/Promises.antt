@@ -1,10 +1,11 @@
 -- The laws of the abstract port, over whole runs.
-use Rattle.std.specs.Prelude.{◌≡◌, ◌⊎◌, ℕ, Bool, true, false, List, [], ◌∷◌, ◌++◌, Option, Some, None, ⊤, IfSome, length}
+use Rattle.std.specs.Prelude.{◌≡◌, ◌≢◌, ◌⊎◌, ℕ, Bool, true, false, List, ◌++◌, Option, Some, None, IfSome, length}
 use Rattle.iol_far.specs.Far.{Far}
 use Rattle.iol_book.specs.declared.limits.Limits.{Limits}
 use Rattle.iol_book.specs.declared.entries.Ticket.{Ticket}
 use Rattle.iol_book.specs.BookModel.{is_taken}
 use Rattle.iol_isdu.specs.declared.values.Cause.TheVariants.{Cancelled}
+use Rattle.iol_event.specs.declared.event.Event.{Event}
 use Rattle.iol_app.specs.Abstract.Steps.{PortStep, Unknown, Moment, MayAll, input_length, is_right}
 use Rattle.iol_app.specs.Abstract.Session.{Job, Session, MaySession, session_after}
 use Rattle.iol_app.specs.declared.mode.Mode.TheVariants.{Operate, Startup, Down}
@@ -13,6 +14,7 @@ use Rattle.iol_port.specs.declared.call.Call.TheVariants as call
 use Rattle.iol_port.specs.declared.call.Answered.{Answered}
 use Rattle.iol_port.specs.declared.call.Answered.TheVariants as answered
 use Rattle.iol_port.specs.Run.{PortState, TurnOf, SendOf, ReceiveOf, Piece, Whole, PieceOf, Pieces, Run, port_at_opening}
+use Rattle.iol_port.specs.Owners.{IsOneOf}
 use Rattle.iol_port.specs.Sound.{PortIsSound}
 use Rattle.iol_mode.specs.declared.configuration.Devices.{Devices}
 
@@ -37,10 +39,24 @@ abbrev pub GoodLinkStays : Type 0
 GoodLinkStays = (a b : PortState) → TurnOf a b → a.session.mode ≡ Operate → b.silence ≡ 0
     → b.session.mode ≡ Operate
 
--- events come with a good reply in OPERATE alone
+-- events come with a good reply in OPERATE alone: those that the device had frozen when the turn
+-- began, and that were not reported yet
 abbrev pub EventsAreRead : Type 0
-EventsAreRead = (a b : PortState) → TurnOf a b
-    → (b.kept ≡ a.kept) ⊎ ((a.session.mode ≡ Operate) × (b.silence ≡ 0))
+EventsAreRead = (a b : PortState) → TurnOf a b → (b.kept ≡ a.kept)
+    ⊎ ((a.session.mode ≡ Operate) × (b.silence ≡ 0) × ((events : List Event)
+    × (a.frozen ≡ Some (record { events = events; told = false })) × (b.kept ≡ a.kept ++ events)))
+
+-- a turn with a good reply that finds such events leaves them frozen, unless it reports them
+abbrev pub NoneIsSwallowed : Type 0
+NoneIsSwallowed = (a b : PortState) → TurnOf a b → a.session.mode ≢ Down → b.silence ≡ 0
+    → (events : List Event) → a.frozen ≡ Some (record { events = events; told = false })
+    → (b.frozen ≡ a.frozen) ⊎ ((b.frozen ≡ Some (record { events = events; told = true }))
+    × (b.kept ≡ a.kept ++ events))
+
+-- a device that had a power cycle stays asleep, and answers nothing, until a wake
+abbrev pub AsleepAnswersNothing : Type 0
+AsleepAnswersNothing = (a b : PortState) → TurnOf a b → a.session.mode ≢ Down
+    → a.images.awake ≡ false → (b.images.awake ≡ false) × (b.silence ≢ 0)
 
 -- an image that a good reply brings in OPERATE is none, or has the length that the page says
 abbrev pub ImagesHaveLength : Type 0
@@ -84,16 +100,11 @@ abbrev pub is_cancel_asked : Option Job → Bool
 is_cancel_asked None = false
 is_cancel_asked (Some job) = job.asked
 
--- steps of which one says that a request was cancelled
-abbrev pub SaysCancelled : List PortStep → Type 0
-SaysCancelled [] = ⊥
-SaysCancelled (Unknown Cancelled ∷ steps) = ⊤
-SaysCancelled (step ∷ steps) = SaysCancelled steps
-
 -- a request is cancelled only where the program had asked for it before the turn
 abbrev pub CancelledWasAsked : Type 0
 CancelledWasAsked = (moment : Moment) (steps : List PortStep) (s : Session)
-    → MayAll (MaySession moment) session_after steps s → SaysCancelled steps
+    → MayAll (MaySession moment) session_after steps s
+    → IsOneOf (Unknown Cancelled) steps
     → is_cancel_asked s.job ≡ true
 
 -- and a request has that mark only by a cancel of its ticket, which was answered

@@ -1,5 +1,6 @@
 //! What a client may conclude of a whole run of a port: laws, without code.
-ghost use Rattle.iol_port.specs.Promises.{OpensSound, RunsSound, GoodLinkStays, NothingIsNoTurn, EventsAreRead, ImagesHaveLength, StartsByPage};
+ghost use Rattle.iol_port.specs.Promises.{OpensSound, RunsSound, GoodLinkStays, NothingIsNoTurn, EventsAreRead, NoneIsSwallowed, AsleepAnswersNothing, ImagesHaveLength, StartsByPage};
+ghost use Rattle.iol_port.specs.Admitted.{WakesAreMissed, FrozenAreReported, PowerIsLost, InputsAreShown, RightPagesAreRead, PagesLeadOn};
 ghost use Rattle.iol_port.specs.Promises.{WrongPagesStayUnread, RunsJoin};
 ghost use Rattle.iol_port.specs.Promises.{PiecesSound, PiecesJoin, HalvesAreTurns};
 ghost use Rattle.iol_port.specs.Promises.{CancelledWasAsked, AskedByCancel};
@@ -35,7 +36,10 @@ pub fn record_fits_journal()
 ///
 /// With a good reply in OPERATE the link stays in OPERATE; and in OPERATE, where the last reply is
 /// missing, leaving all as it was is no turn. Events come with a good reply in OPERATE alone, and
-/// an image that one brings has the length that the page says. A start-up that has not read the
+/// are those that the device had frozen when the turn began. With a good reply none of these that
+/// wasn't reported yet is gone: it is frozen still, or is reported. A device that had a power cycle
+/// brings no good reply, until a wake. An image that a good reply in
+/// OPERATE brings has the length that the page says. A start-up that has not read the
 /// page goes on to no mode but down, and it does not read the page of a device that is not the
 /// expected one. What a turn does on every wire is said by the clause `gives` of
 /// [`Port::turn`](crate::Port::turn).
@@ -43,9 +47,26 @@ pub fn turns_rule_out()
     ensures stays { GoodLinkStays }
     ensures nothing { NothingIsNoTurn }
     ensures events { EventsAreRead }
+    ensures frozen { NoneIsSwallowed }
+    ensures asleep { AsleepAnswersNothing }
     ensures images { ImagesHaveLength }
     ensures pages { StartsByPage }
     ensures wrong { WrongPagesStayUnread }
+{}
+
+/// A law of the definitions: what a turn of the abstract port may be, by examples.
+///
+/// A wake that isn't answered brings nothing, whatever the device does by itself. A good reply in
+/// OPERATE reports events that were frozen, and shows the device's input. Where
+/// none comes, a power cycle may have taken the events, the input and the output. A start-up reads
+/// the page of the right device, and goes on by it.
+pub fn turns_admit()
+    ensures wakes { WakesAreMissed }
+    ensures reports { FrozenAreReported }
+    ensures loses { PowerIsLost }
+    ensures shows { InputsAreShown }
+    ensures reads { RightPagesAreRead }
+    ensures leads { PagesLeadOn }
 {}
 
 /// A law of the definitions: the two pieces of a turn, with no call between, are that turn.

@@ -1,5 +1,5 @@
 -- The events that the device has frozen: where each step is allowed, and what it does.
-use Rattle.std.specs.Prelude.{◌≡◌, ◌≤◌, Bool, true, false, List, [], length, Option, Some, None, IsSomeAnd, ⊤}
+use Rattle.std.specs.Prelude.{◌≡◌, ◌≤◌, Bool, true, false, List, length, Option, Some, None, IsSomeAnd, ⊤}
 use Rattle.iol_event.specs.declared.event.Event.{Event}
 use Rattle.iol_app.specs.Abstract.Steps.{PortStep, Freeze, Report, Confirm, PowerLoss, Start, Reset}
 

@@ -1,15 +1,16 @@
 -- The process data of both directions: where each step is allowed, and what it does.
-use Rattle.std.specs.Prelude.{◌≡◌, ℕ, Bool, true, List, [], Option, Some, None, ⊤, IfSome, length}
+use Rattle.std.specs.Prelude.{◌≡◌, ◌⊎◌, ℕ, Bool, true, false, List, Option, Some, None, ⊤, IfSome, length}
 use Rattle.iol_page.specs.Page.{knows_isdu}
-use Rattle.iol_app.specs.declared.mode.Mode.TheVariants.{Startup, Operate}
-use Rattle.iol_app.specs.Abstract.Steps.{PortStep, Start, Reset, ShowImage, DropImage, Make, OutputOn, OutputOff, Input, PowerLoss, TellLength, ImageOctets, WireCall, Woke, Exchanged, Moment, silence_left, output_length, is_right, input_length}
+use Rattle.iol_app.specs.declared.mode.Mode.TheVariants.{Down, Startup, Operate}
+use Rattle.iol_app.specs.Abstract.Steps.{PortStep, Start, Reset, ShowImage, DropImage, Make, OutputOn, OutputOff, Input, PowerLoss, TellLength, ImageOctets, WireCall, Woke, Exchanged, CallFits, Moment, silence_left, output_length, is_right, input_length}
 
 pub record Images : Type 0 where
   -- what the port shows
   pub image : Option ImageOctets
-  -- the device's
+  -- the device's, and whether it was woken since its last power cycle
   pub input : Option ImageOctets
   pub output : Option ImageOctets
+  pub awake : Bool
   -- the output that is wanted, and the last one wanted that a message carried
   pub wanted : Option ImageOctets
   pub sent : Option ImageOctets
@@ -23,6 +24,9 @@ abbrev pub MayImages : Moment → PortStep → Images → Type 0
 MayImages moment ShowImage i = (moment.began ≡ Operate) × (silence_left moment ≡ 0)
     × IfSome i.input (λ image. length image ≡ input_length moment.terms.page)
 MayImages moment Make i = (moment.began ≡ Operate) × (moment.silence ≡ 0)
+-- a device that is asleep hears nothing but a wake
+MayImages moment OutputOn i = i.awake ≡ true
+MayImages moment OutputOff i = (i.awake ≡ true) ⊎ CallFits Down moment.call
 MayImages moment TellLength i = (moment.began ≡ Startup) × (is_right moment.terms ≡ true)
 MayImages moment step i = ⊤
 
@@ -41,12 +45,12 @@ images_after moment ShowImage i = record i { image = i.input }
 images_after moment DropImage i = record i { image = None }
 images_after moment Make i = record i { sent = image_or i.wanted i.sent }
 images_after moment OutputOn i = record i { output = i.sent }
-images_after moment OutputOff i = record i { output = None }
+images_after moment OutputOff i = record i { output = None; awake = true }
 images_after moment Start i = record i { page = None }
 images_after moment Reset i = record i
     { output = None; page = page_after_wire_call moment.call i.page }
 images_after moment (Input input) i = record i { input = input }
-images_after moment PowerLoss i = record i { input = None; output = None }
+images_after moment PowerLoss i = record i { input = None; output = None; awake = false }
 images_after moment TellLength i =
     record i {
       told = Some (output_length moment.terms.page);

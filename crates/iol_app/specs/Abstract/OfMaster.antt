@@ -1,6 +1,6 @@
 -- What a turn's exchange brought the master: its steps after the far end's own, and
 -- what the turn says.
-use Rattle.std.specs.Prelude.{List, [], ◌∷◌, Option, Some, None}
+use Rattle.std.specs.Prelude.{Bool, true, false, not, ◌&&◌, cond, List, [], ◌∷◌, Option, Some, None}
 use Rattle.iol_isdu.specs.declared.values.Request.{Request}
 use Rattle.iol_isdu.specs.declared.values.Answer.{Answer}
 use Rattle.iol_isdu.specs.declared.values.Cause.{Cause}
@@ -11,8 +11,8 @@ use Rattle.iol_app.specs.declared.mode.Mode.TheVariants.{Down}
 use Rattle.iol_mode.specs.declared.why.Why.{Why}
 use Rattle.iol_mode.specs.declared.why.Why.TheVariants.{Lost}
 use Rattle.iol_app.specs.declared.said.Said.{Said}
-use Rattle.iol_app.specs.declared.said.Said.TheVariants.{Idle, Busy as SaidBusy, Cut}
-use Rattle.iol_app.specs.Abstract.Steps.{PortStep, Done, Unknown, Report, ShowImage, DropImage, TellLength, Busy, Move}
+use Rattle.iol_app.specs.declared.said.Said.TheVariants.{Idle, Busy as SaidBusy, Answered, Cut, Reported}
+use Rattle.iol_app.specs.Abstract.Steps.{PortStep, Take, Deny, Done, Unknown, Reset, Report, ShowImage, DropImage, TellLength, Busy, Move}
 
 pub data ExchangeResult : Type 0 where
   -- no good reply, and not for the third time
@@ -65,3 +65,28 @@ quiet_said (Some request) = SaidBusy
 abbrev pub lost_said : Option Request → Said
 lost_said None = Idle
 lost_said (Some request) = Cut LinkLost
+
+-- What a turn says of its steps
+
+-- the steps that the book hears of
+abbrev pub is_for_book : PortStep → Bool
+is_for_book (Take ticket request) = true
+is_for_book (Deny ticket) = true
+is_for_book (Done answer) = true
+is_for_book (Unknown cause) = true
+is_for_book Reset = true
+is_for_book step = false
+
+-- what a turn says tells of its steps
+abbrev pub book_said : Said → List PortStep
+book_said (Answered answer) = Done answer ∷ []
+book_said (Cut cause) = Unknown cause ∷ []
+book_said said = []
+
+abbrev pub reports_said : Said → List PortStep
+reports_said (Reported events) = Report events ∷ []
+reports_said said = []
+
+-- the device wasn't known to be reset when a turn began, and is behind it
+abbrev pub resets : Bool → Bool → List PortStep
+resets began ended = cond (not began && ended) (Reset ∷ []) []

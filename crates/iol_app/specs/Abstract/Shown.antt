@@ -60,6 +60,7 @@ images_of shown far =
       image = shown.image;
       input = far.input;
       output = output_of far;
+      awake = far.awake;
       wanted = shown.wanted;
       sent = shown.sent;
       told = shown.told;

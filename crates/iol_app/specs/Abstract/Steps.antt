@@ -1,5 +1,5 @@
 -- What may happen at one port: an alphabet of steps, and a turn as they are judged in it.
-use Rattle.std.specs.Prelude.{◌≡◌, ℕ, ◌+◌, min, Bool, true, false, not, ◌&&◌, cond, List, [], ◌∷◌, Option, Some, None, Result, Ok, Err, ⊤}
+use Rattle.std.specs.Prelude.{◌≡◌, ℕ, ◌+◌, min, Bool, true, false, List, [], ◌∷◌, Option, Some, None, Result, Ok, Err, ⊤}
 use Rattle.iol_page.specs.Identity.{is_expected}
 use Rattle.iol_page.specs.Page.{layouts_of}
 use Rattle.iol_page.specs.declared.identity.Identity.{Identity}
@@ -23,8 +23,6 @@ use Rattle.iol_mode.specs.declared.configuration.Devices.{Devices}
 use Rattle.iol_mode.specs.declared.configuration.Devices.TheVariants.{Own, Any}
 use Rattle.iol_mode.specs.declared.why.Why.{Why}
 use Rattle.iol_mode.specs.Why.{why_of}
-use Rattle.iol_app.specs.declared.said.Said.{Said}
-use Rattle.iol_app.specs.declared.said.Said.TheVariants.{Answered, Cut, Reported}
 
 -- the octets of one direction's process data
 abbrev pub ImageOctets : Type 0
@@ -159,33 +157,10 @@ pub record Moment : Type 0 where
 abbrev pub silence_left : Moment → ℕ
 silence_left moment = silence_by moment.call moment.silence
 
--- the steps that the book hears of
-abbrev pub is_for_book : PortStep → Bool
-is_for_book (Take ticket request) = true
-is_for_book (Deny ticket) = true
-is_for_book (Done answer) = true
-is_for_book (Unknown cause) = true
-is_for_book Reset = true
-is_for_book step = false
-
--- and the steps that bring events to the port
+-- the steps that bring events to the port
 abbrev pub is_report : PortStep → Bool
 is_report (Report events) = true
 is_report step = false
-
--- what a turn says tells of its steps
-abbrev pub book_said : Said → List PortStep
-book_said (Answered answer) = Done answer ∷ []
-book_said (Cut cause) = Unknown cause ∷ []
-book_said said = []
-
-abbrev pub reports_said : Said → List PortStep
-reports_said (Reported events) = Report events ∷ []
-reports_said said = []
-
--- the device wasn't known to be reset when a turn began, and is behind it
-abbrev pub resets : Bool → Bool → List PortStep
-resets began ended = cond (not began && ended) (Reset ∷ []) []
 
 -- A part of the abstract port, by the steps that it allows and what each leaves of it
 

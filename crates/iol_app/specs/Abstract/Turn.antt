@@ -1,12 +1,14 @@
 -- What a turn gives: one call of the wire and one list of steps, in order, allowed and with
 -- their effects in each part of the abstract port.
-use Rattle.std.specs.Prelude.{◌≡◌, ◌≢◌, ◌⊎◌, ◌≤◌, ℕ, Bool, true, false, List, [], ◌∷◌, ◌++◌, Option, Some, None, IsTrue, ⊤}
+use Rattle.std.specs.Prelude.{◌≡◌, ◌≢◌, ◌⊎◌, ◌≤◌, ℕ, Bool, true, false, List, [], ◌∷◌, ◌++◌, filter, Option, Some, None, IsTrue, ⊤}
 use Rattle.std.specs.List.{list_all}
 use Rattle.iol_isdu.specs.declared.values.Cause.TheVariants.{LinkLost}
+use Rattle.iol_event.specs.declared.event.Event.{Event}
 use Rattle.iol_mode.specs.declared.why.Why.TheVariants.{NoWake, Lost}
 use Rattle.iol_app.specs.declared.mode.Mode.{Mode}
 use Rattle.iol_app.specs.declared.mode.Mode.TheVariants.{Down, Startup, Preoperate, Operate}
-use Rattle.iol_app.specs.Abstract.Steps.{PortStep, Carry, Again, Done, Unknown, LateCarry, Start, Reset, Freeze, Report, Confirm, ShowImage, DropImage, OutputOn, OutputOff, Input, PowerLoss, TellLength, Busy, Move, WireCall, Woke, Exchanged, silence_by, Moment}
+use Rattle.iol_app.specs.Abstract.Steps.{PortStep, Carry, Again, Done, Unknown, LateCarry, Start, Reset, Freeze, Report, Confirm, ShowImage, DropImage, OutputOn, OutputOff, Input, PowerLoss, TellLength, Busy, Move, WireCall, Woke, Exchanged, silence_by, is_report, Moment}
+use Rattle.iol_app.specs.Abstract.Events.{Frozen}
 use Rattle.iol_app.specs.Abstract.Images.{Images}
 
 -- The steps of one wake, or of one exchange
@@ -100,6 +102,11 @@ pub record IsInOrder (mode : Mode) (call : WireCall) (steps : List PortStep) : T
   pub by_itself : IsTrue (list_all is_own_step own)
   pub hears : IsTrue (is_hearing mode heard)
   pub brings : IsTrue (may_bring mode call brought)
+
+-- what is reported was frozen when the turn began, and not reported yet
+abbrev pub WasFrozen : List PortStep → Option Frozen → Type 0
+WasFrozen steps f = (events : List Event) → filter is_report steps ≡ Report events ∷ []
+    → f ≡ Some (record { events = events; told = false })
 
 -- beyond STARTUP the page was read whole in this session
 abbrev pub IsPageRead : Mode → List ℕ → Option (List ℕ) → Type 0

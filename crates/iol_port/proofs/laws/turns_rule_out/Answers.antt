@@ -1,5 +1,5 @@
 use Rattle.iol_port.proofs.TurnsRuleOut.{good_link_stays, nothing_is_no_turn}
-use Rattle.iol_port.proofs.TurnOrders.{events_are_read, images_have_length, starts_by_page, wrong_pages_stay_unread}
+use Rattle.iol_port.proofs.TurnOrders.{events_are_read, none_is_swallowed, asleep_answers_nothing, images_have_length, starts_by_page, wrong_pages_stay_unread}
 use Rattle.iol_port.proofs.laws.turns_rule_out.Goals as goal
 
 pub returns : goal.returns
@@ -7,6 +7,8 @@ returns c = record {
   stays = good_link_stays;
   nothing = nothing_is_no_turn;
   events = events_are_read;
+  frozen = none_is_swallowed;
+  asleep = asleep_answers_nothing;
   images = images_have_length;
   pages = starts_by_page;
   wrong = wrong_pages_stay_unread;

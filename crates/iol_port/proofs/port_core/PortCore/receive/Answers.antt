@@ -3,7 +3,8 @@ use Rattle.std.proofs.Common.{◌≡◌, ◌∙◌, ◌++◌, refl, ap}
 use Rattle.iol_far.specs.Octets.{octets_in}
 use Rattle.iol_app.specs.Core.{CoreState, came_of}
 use Rattle.iol_mode.specs.States.{is_reset}
-use Rattle.iol_app.specs.Abstract.Steps.{resets, book_said, through_steps}
+use Rattle.iol_app.specs.Abstract.Steps.{through_steps}
+use Rattle.iol_app.specs.Abstract.OfMaster.{resets, book_said}
 use Rattle.iol_port.specs.View.{PortParts}
 use Rattle.iol_port.specs.CorePort.{awaited_answer}
 use Rattle.iol_port.proofs.CorePorts.{parts_in, reply_out, receive_does, heard_reset}

@@ -2,7 +2,8 @@
 use Rattle.std.proofs.Common.{◌≡◌, ◌∙◌, ◌++◌, refl, ap, append-nil}
 use Rattle.std.specs.Prelude.{is_some}
 use Rattle.iol_mode.specs.States.{is_reset}
-use Rattle.iol_app.specs.Abstract.Steps.{resets, book_said, through_steps}
+use Rattle.iol_app.specs.Abstract.Steps.{through_steps}
+use Rattle.iol_app.specs.Abstract.OfMaster.{resets, book_said}
 use Rattle.iol_app.specs.declared.said.Said.TheVariants.{Idle}
 use Rattle.iol_app.specs.Core.{CoreState}
 use Rattle.iol_port.specs.View.{PortParts}

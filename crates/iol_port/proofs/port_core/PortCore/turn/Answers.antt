@@ -1,7 +1,8 @@
 -- A turn of a port: what goes out, one call of the wire, and what is made of what came.
 use Rattle.std.proofs.Common.{◌≡◌, ◌&&◌, Option, true, false, refl, ap, sym, ◌∙◌, cond, ◌∷◌, [], ◌++◌, arith}
 use Rattle.std.proofs.lemmas.Grind.{common_steps}
-use Rattle.iol_app.specs.Abstract.Steps.{Reset, book_said}
+use Rattle.iol_app.specs.Abstract.Steps.{Reset}
+use Rattle.iol_app.specs.Abstract.OfMaster.{book_said}
 use Rattle.iol_app.specs.Due.{is_ready}
 use Rattle.iol_app.specs.StationState.{operates}
 use Rattle.iol_app.specs.Core.{CoreState}
