@@ -424,7 +424,7 @@ impl Core {
         } else {
             let rate = wire.wake();
             self.take_wake(rate);
-            *said = Said::Idle;
+            said.set_idle();
             WireResult::of_wake(rate)
         }
     }
@@ -464,9 +464,9 @@ fn settled(state: &State, attempt: &AttemptView<'_>, session: &mut PortSession, 
             if let Some(read) = startup.read() {
                 session.take_page(read);
             }
-            *said = Said::Idle;
+            said.set_idle();
         }
-        State::Preoperate(_) => *said = Said::Idle,
+        State::Preoperate(_) => said.set_idle(),
         State::Operate(_) => match attempt {
             AttemptView::Got(first) => session.hear(first, said),
             AttemptView::Again | AttemptView::Lost => session.quiet(said),

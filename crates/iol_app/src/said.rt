@@ -1,4 +1,7 @@
 //! What a turn says.
+ghost use Rattle.std.specs.Prelude.{◌≡◌};
+ghost use Rattle.iol_app.specs.declared.said.Said.{Said};
+
 use iol_event::EventList;
 use iol_isdu::{Answer, Cause};
 
@@ -15,4 +18,16 @@ pub enum Said {
     Cut(Cause),
     /// The events that the device had frozen were read.
     Reported(EventList),
+}
+
+impl Said {
+    /// Says that no request is under way, and fills nothing where that is said already: most
+    /// turns say so.
+    pub(crate) fn set_idle(&mut self)
+        ensures { self.new ≡ Said.Idle }
+    {
+        if !matches!(self, Said::Idle) {
+            *self = Said::Idle;
+        }
+    }
 }

@@ -460,7 +460,7 @@ impl<A: Allocator + Copy> PortCore<A> {
         self.last_loss = loss_after(mode, self.core.status(), self.last_loss);
         self.counters.turned(brought, &said);
         let reset = resets(began, self.core.is_reset());
-        settle(&mut self.book, &mut self.kept, reset, said);
+        settle(&mut self.book, &mut self.kept, reset, &mut said);
     }
 
     /// Takes what came of a wake-up request: the rate of the device that answered it, or that
@@ -479,7 +479,7 @@ impl<A: Allocator + Copy> PortCore<A> {
         self.last_loss = loss_after(mode, self.core.status(), self.last_loss);
         self.counters.turned(WireResult::of_wake(rate), &Said::Idle);
         let reset = resets(began, self.core.is_reset());
-        settle(&mut self.book, &mut self.kept, reset, Said::Idle);
+        settle(&mut self.book, &mut self.kept, reset, &mut Said::Idle);
     }
 
     /// One turn over this wire, with no call between its pieces.
@@ -507,7 +507,7 @@ impl<A: Allocator + Copy> PortCore<A> {
         self.last_loss = loss_after(mode, self.core.status(), self.last_loss);
         self.counters.turned(brought, &said);
         let reset = resets(began, self.core.is_reset());
-        settle(&mut self.book, &mut self.kept, reset, said);
+        settle(&mut self.book, &mut self.kept, reset, &mut said);
     }
 
     /// A law of each port, without code: at every moment the journal says where each ticket

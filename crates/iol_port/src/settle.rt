@@ -23,6 +23,7 @@ use iol_app::{Core, EventRoom, OutputFault, Said};
 use iol_book::{Book, BookFault, Outcome};
 use iol_event::{Event, EventList};
 use std::alloc::Allocator;
+use std::mem::replace;
 
 /// How many events a port keeps.
 pub(crate) const KEPT: usize = 64;
@@ -113,21 +114,21 @@ fn take_next<A: Allocator + Copy>(core: &mut Core, book: &mut Book<A>)
 }
 
 /// What a turn says goes to the book and to the kept events; in one that reset the device the
-/// book hears of that first.
+/// book hears of that first. What is said is taken out of its place.
 ///
 /// Rule PORT-1.
 pub(crate) fn settle<A: Allocator + Copy>(
     book: &mut Book<A>,
     kept: &mut ArrayVec<Event, KEPT>,
     reset: bool,
-    said: Said,
+    said: &mut Said,
 )
-    requires asked { Asks said book.old.state.standing.taken }
-    requires room { ReportHasRoom said kept.old.items }
+    requires asked { Asks said.old book.old.state.standing.taken }
+    requires room { ReportHasRoom said.old kept.old.items }
     ensures book { book.new.state
-        ≡ through_steps book_after (cond reset (Reset ∷ []) [] ++ book_said said) book.old.state }
+        ≡ through_steps book_after (cond reset (Reset ∷ []) [] ++ book_said said.old) book.old.state }
     ensures memory { book.new.memory ≡ book.old.memory }
-    ensures kept { kept.new.items ≡ through_steps kept_after (reports_said said) kept.old.items }
+    ensures kept { kept.new.items ≡ through_steps kept_after (reports_said said.old) kept.old.items }
 {
     if reset {
         book.reset();
@@ -140,15 +141,15 @@ pub(crate) fn settle<A: Allocator + Copy>(
 
 /// Out of line, since most turns say nothing, and what the others say is large.
 #[inline(never)]
-fn tell<A: Allocator + Copy>(book: &mut Book<A>, kept: &mut ArrayVec<Event, KEPT>, said: Said)
-    requires asked { Asks said book.old.state.standing.taken }
-    requires room { ReportHasRoom said kept.old.items }
+fn tell<A: Allocator + Copy>(book: &mut Book<A>, kept: &mut ArrayVec<Event, KEPT>, said: &mut Said)
+    requires asked { Asks said.old book.old.state.standing.taken }
+    requires room { ReportHasRoom said.old kept.old.items }
     ensures book { book.new.state
-        ≡ through_steps book_after (book_said said) book.old.state }
+        ≡ through_steps book_after (book_said said.old) book.old.state }
     ensures memory { book.new.memory ≡ book.old.memory }
-    ensures kept { kept.new.items ≡ through_steps kept_after (reports_said said) kept.old.items }
+    ensures kept { kept.new.items ≡ through_steps kept_after (reports_said said.old) kept.old.items }
 {
-    match said {
+    match replace(said, Said::Idle) {
         Said::Idle | Said::Busy => {}
         Said::Answered(answer) => book.post(Outcome::Done(answer)),
         Said::Cut(cause) => book.post(Outcome::Unknown(cause)),

@@ -1,6 +1,5 @@
 -- A turn: what goes out, one call of the wire, and what is made of what came.
 use Rattle.std.proofs.Common.{true, false, refl}
-use Rattle.iol_app.specs.declared.said.Said.TheVariants.{Idle}
 use Rattle.iol_app.specs.Asking.{asked_in}
 use Rattle.iol_app.specs.Pieces.{IsOutAsAsked, IsWoken}
 use Rattle.iol_app.proofs.Stepping.{woken_turn, wake_stands, exchange_turn, exchange_stands}
@@ -30,8 +29,8 @@ is_down : (g : given.Over) (c : goal.After-of_wake g)
 is_down g c = rw c.if-put_next.false at c.put_next.ensures.out
 
 woken : (g : given.Over) (c : goal.After-of_wake g)
-    → IsWoken g.W.Wire.facts c.args.wire.now c.wake-rate.new.self c.put_next.new.self Idle
-    c.of_wake.result c.take_wake.new.self
+    → IsWoken g.W.Wire.facts c.args.wire.now c.wake-rate.new.self c.put_next.new.self
+    c.set_idle.new.self c.of_wake.result c.take_wake.new.self
 woken g c = record {
   answer = c.wake-rate.result;
   called = c.wake-rate.ensures.gives;
@@ -40,7 +39,7 @@ woken g c = record {
   quiet = c.wake-rate.ensures.quiet;
   still = c.take_wake.ensures.still;
   stands = c.take_wake.ensures.stands;
-  idle = refl;
+  idle = c.set_idle.ensures;
   is = c.take_wake.ensures.core;
   brought_is = c.of_wake.ensures;
 }
