@@ -330,7 +330,13 @@ typedef struct { uint64_t ticket; uint8_t kind; iol_request request; iol_outcome
  * before stays then. */
 uint8_t iol_port_archive(iol_port *port, uint32_t *count);
 
-/* The next entry of the journal that was archived last, the oldest first. At the end `kind` is 0, and the memory of that
+/* Keeps the journal, of `count` entries, for iol_port_entry at any time, in place of the one that was kept before, and
+ * begins a new one with what is restated: the entries of the tickets that are outstanding or in doubt (a request that was
+ * cut off and may still be carried out). The first `restated` of those that are kept now were so at the last drain. 252,
+ * 24 there is no memory for the list that is kept: both counts are 0 then, and all stays as it was. */
+uint8_t iol_port_drain(iol_port *port, uint32_t *count, uint32_t *restated);
+
+/* The next entry of the journal that was archived or drained last, the oldest first. At the end `kind` is 0, and the memory of that
  * journal is given back. 252. */
 uint8_t iol_port_entry(iol_port *port, iol_entry *out);
 
@@ -445,6 +451,10 @@ IOL_CHECKED(port_counters, (iol_port *port, iol_counters *out), iol_port_misuse(
 
 IOL_CHECKED(port_archive, (iol_port *port, uint32_t *count), iol_port_misuse(port, count != NULL), (port, count))
 #define iol_port_archive iol_checked_port_archive
+
+IOL_CHECKED(port_drain, (iol_port *port, uint32_t *count, uint32_t *restated),
+            iol_port_misuse(port, count != NULL && restated != NULL), (port, count, restated))
+#define iol_port_drain iol_checked_port_drain
 
 IOL_CHECKED(port_entry, (iol_port *port, iol_entry *out), iol_port_misuse(port, out != NULL), (port, out))
 #define iol_port_entry iol_checked_port_entry

@@ -102,12 +102,10 @@ static int cycle_time(void)
 static const char *names[17] = {"none", "submitted", "urgent", "", "", "", "", "", "taken", "answered", "", "",
                                 "withdrawn", "", "", "", "collected"};
 
-static void archive(void)
+/* The journal that is kept, to its end. */
+static void entries(void)
 {
-    uint32_t count = 0;
     iol_entry entry;
-    IS(iol_port_archive(&port, &count), 0);
-    printf("archived %u\n", (unsigned)count);
     do {
         IS(iol_port_entry(&port, &entry), 0);
         printf("  %llu %s", (unsigned long long)entry.ticket, names[entry.kind % 17]);
@@ -117,6 +115,22 @@ static void archive(void)
             printf(" outcome %d cause %d length %d", entry.outcome.kind, entry.outcome.cause, entry.outcome.length);
         printf("\n");
     } while (entry.kind);
+}
+
+static void archive(void)
+{
+    uint32_t count = 0;
+    IS(iol_port_archive(&port, &count), 0);
+    printf("archived %u\n", (unsigned)count);
+    entries();
+}
+
+static void drain(void)
+{
+    uint32_t count = 0, restated = 9;
+    IS(iol_port_drain(&port, &count, &restated), 0);
+    printf("drained %u restated %u\n", (unsigned)count, (unsigned)restated);
+    entries();
 }
 
 static void closed_handles(void)
@@ -152,6 +166,7 @@ static void closed_handles(void)
     IS(iol_port_take_event(&none, &event), IOL_CLOSED);
     IS(iol_port_status(&none, &status), IOL_CLOSED);
     IS(iol_port_archive(&none, &count), IOL_CLOSED);
+    IS(iol_port_drain(&none, &count, &count), IOL_CLOSED);
     IS(iol_port_entry(&none, &entry), IOL_CLOSED);
     IS(iol_device_close(&nothing), IOL_CLOSED);
     IS(iol_device_hear(&nothing, &octet, 1, &reply), IOL_CLOSED);
@@ -363,8 +378,10 @@ static void losses(void)
     IS(iol_port_collect(&port, ticket, &outcome), 0);
     IS(outcome.kind, 8);
     IS(outcome.cause, 1);
+    drain();
     IS(iol_port_archive(&port, &count), 28);
     IS(count, 0);
+    drain();
     turns(15);
     IS(mode(), 4);
     archive();

@@ -30,6 +30,7 @@ struct room {
     iol_loss loss;
     iol_entry entry;
     uint32_t entries;
+    uint32_t restated;
     uint8_t counts;
 };
 
@@ -57,6 +58,7 @@ enum { OUTPUT = 0x5A, OUTPUT_BETWEEN = 0xA5 };
     X(withdraw, BY_STATE, (PORT, given.ticket))                                                                        \
     X(collect, BY_STATE, (PORT, given.ticket, P(&room.outcome)))                                                       \
     X(archive, BY_STATE, (PORT, P(&room.entries)))                                                                     \
+    X(drain, LOOKS, (PORT, P(&room.entries), P(&room.restated)))                                                       \
     X(take_event, ALWAYS(0, OUTPUT, 0), (PORT, P(&room.event)))                                                        \
     X(set_output, ALWAYS(0, OUTPUT_BETWEEN, 1), (PORT, P(&given.output), 1))                                           \
     X(clear_output, ALWAYS(0, 0, 1), (PORT))                                                                           \

@@ -161,6 +161,36 @@ static void full_journal(void)
     printf("a full journal\n");
 }
 
+/* A port with a small journal is never refused where it is drained: one ticket stays outstanding all the time, and its
+ * one entry is what each drain leaves. */
+static void drained(void)
+{
+    iol_port port = {0};
+    iol_outcome outcome;
+    uint64_t number, first = 0, ticket = 0;
+    uint32_t count = 0, restated = 0, all = 0;
+    IS(iol_port_open_for(&port, IOL_DEVICES_OWN, 12, 100, 64, 0), 0);
+    IS(iol_port_read(&port, 16, 0, &first), 0);
+    for (number = 1; number <= WITHDRAWN; number++) {
+        IS(iol_port_read(&port, 16, 0, &ticket), 0);
+        IS(iol_port_withdraw(&port, ticket), 0);
+        IS(iol_port_collect(&port, ticket, &outcome), 0);
+        IS(iol_port_archive(&port, &count), 28);
+        IS(iol_port_drain(&port, &count, &restated), 0);
+        IS(count, 4);
+        IS(restated, number == 1 ? 0 : 1);
+        is_entry(&port, first, 1);
+        is_entry(&port, ticket, 1);
+        is_entry(&port, ticket, 12);
+        is_entry(&port, ticket, 16);
+        is_entry(&port, 0, 0);
+        all += count - restated;
+    }
+    IS(all, 3 * WITHDRAWN + 1);
+    IS(iol_port_close(&port), 0);
+    printf("%u entries drained\n", (unsigned)all);
+}
+
 /* Of so many tickets one more is refused, urgent or not, until one of them is collected. */
 static void full_queue(uint8_t queue)
 {
@@ -197,6 +227,7 @@ int main(void)
         at_once(counts[i]);
     withdrawn();
     full_journal();
+    drained();
     full_queue(1);
     full_queue(2);
     full_queue(64);

@@ -43,6 +43,8 @@ static void port_calls(iol_port *port, bool has_others, uint8_t wanted)
     IS(iol_port_write(port, 16, 0, OTHER(page), 1, &room.ticket), wanted);
     IS(iol_port_write_urgent(port, 16, 0, page, 1, OTHER(&room.ticket)), wanted);
     IS(iol_port_write_urgent(port, 16, 0, OTHER(page), 1, &room.ticket), wanted);
+    IS(iol_port_drain(port, OTHER(&room.entries), &room.restated), wanted);
+    IS(iol_port_drain(port, &room.entries, OTHER(&room.restated)), wanted);
 #define PORT port
 #define P(pointer) OTHER(pointer)
 #define MAKE(name, end, arguments)                                                                                     \

@@ -144,7 +144,8 @@ static void outcomes(void)
 static void journal(void)
 {
     iol_entry entry;
-    uint32_t count;
+    uint32_t count, restated;
+    CALL(iol_port_drain, &port, &count, &restated);
     CALL(iol_port_archive, &port, &count);
     do
         CALL(iol_port_entry, &port, &entry);

@@ -602,7 +602,7 @@ def check_odd_lines(room):
     room.open_page()
     lines = ["5 > A2 00: refused 4 WrongLength", "5 <: refused 4 WrongLength", "image none", "archived 3"]
     lines += ["6 > 20 36 9A: write page 00 od 9A", "6 < 2D: ack event 0 pd valid"]
-    lines += ["status down UnsupportedCode eventform"]
+    lines += ["status down UnsupportedCode eventform", "drained 3 restated 1"]
     lines += ["ticket 7", "ticket 7 noisdu", "ticket 8", "ticket 8 withdrawn", "record 0"]
     text = "\n".join(lines) + "\n"
     room.open_text(text)

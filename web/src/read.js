@@ -433,6 +433,7 @@ const CALLS = new Map([
   ['counters', shown('counters', /^\w+ \d+(?: \w+ \d+)*$/, 'counters NAME N ..')],
   ['last', shown('last', /^(?:\w+|WrongDevice [0-9A-F]{4} [0-9A-F]{6})$/, 'last NAME|none')],
   ['archived', shown('archived', /^\d+$/, 'archived N')],
+  ['drained', shown('drained', /^\d+ restated \d+$/, 'drained N restated N')],
   ['refused', shown('refused', /^\d+ \w+$/, 'refused N NAME')],
   ['record', readRecord],
   ['carried', readCarried],

@@ -28,6 +28,7 @@ use Rattle.iol_port.specs.declared.call.Counting.{Counting}
 use Rattle.iol_port.specs.declared.call.Counting.TheVariants.{Now, Later}
 use Rattle.iol_port.specs.declared.call.Answered.{Answered}
 use Rattle.iol_port.specs.declared.call.Answered.TheVariants as answered
+use Rattle.iol_port.specs.declared.call.Drained.{Drained}
 use Rattle.iol_port.specs.declared.fault.PortFault.{PortFault}
 use Rattle.iol_port.specs.declared.fault.PortFault.TheVariants.{Book, Output, NoEvent}
 use Rattle.iol_commands.specs.Printed.{hexadecimal, octets_text, number_text}
@@ -185,6 +186,11 @@ abbrev pub nothing_text : Call → List ℕ
 nothing_text call.Turn = []
 nothing_text other = codes "ok\n"
 
+-- the line of a drain: how many entries it handed out, and how many of these are restated
+abbrev pub drained_text : Drained → List ℕ
+drained_text drained = codes "drained " ++ decimal drained.entries ++ codes " restated "
+    ++ decimal drained.restated ++ codes "\n"
+
 -- what is printed for a call that was answered so
 abbrev pub printed_answer : Call → Answered → List ℕ
 printed_answer call (answered.Ticket ticket) = ticket_text ticket ++ codes "\n"
@@ -194,6 +200,7 @@ printed_answer call (answered.Image image) = image_text image
 printed_answer call (answered.Event event) = event_text event ++ codes "\n"
 printed_answer call (answered.Status status) = state_text status
 printed_answer call (answered.Archived count) = number_text (codes "archived ") count ++ codes "\n"
+printed_answer call (answered.Drained drained) = drained_text drained
 printed_answer call (answered.Counts counting) = counting_text counting
 printed_answer call (answered.Page page) = page_text page
 printed_answer call (answered.Counters counters) = counters_text counters

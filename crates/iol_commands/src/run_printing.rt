@@ -11,7 +11,7 @@ ghost use Rattle.iol_commands.specs.RunPrinted.{link_text, state_text};
 ghost use Rattle.iol_commands.specs.RunPrinted.{book_fault_name, output_fault_name};
 ghost use Rattle.iol_commands.specs.RunPrinted.{port_fault_name, refused_text};
 ghost use Rattle.iol_commands.specs.RunPrinted.{counting_text, page_text};
-ghost use Rattle.iol_commands.specs.RunPrinted.{nothing_text, printed_answer};
+ghost use Rattle.iol_commands.specs.RunPrinted.{drained_text, nothing_text, printed_answer};
 ghost use Rattle.iol_commands.specs.RunPrinted.{carried_text, entries_text, record_text, away_text};
 ghost use Rattle.iol_commands.specs.RunPlayed.{records_text};
 
@@ -25,7 +25,7 @@ use iol_image::Image;
 use iol_isdu::{Answer, Place, Request};
 use iol_mode::Why;
 use iol_page::Page;
-use iol_port::{Answered, Call, Counting, PortFault};
+use iol_port::{Answered, Call, Counting, Drained, PortFault};
 use iol_sim::{Params, Sim};
 use std::alloc::{AllocError, Allocator};
 
@@ -334,6 +334,14 @@ fn print_page<A: Allocator>(output: &mut String<A>, page: Option<&Page>) -> Resu
     output.push_str("\n")
 }
 
+/// How many entries a drain handed out.
+fn print_drained<A: Allocator>(output: &mut String<A>, drained: Drained) -> Result<(), AllocError>
+    ensures { Prints result output.old output.new (drained_text drained) }
+{
+    let Drained { entries, restated } = drained;
+    writeln!(output, "drained {entries} restated {restated}")
+}
+
 /// What a call answered.
 pub(crate) fn print_answer<A: Allocator>(
     output: &mut String<A>,
@@ -356,6 +364,7 @@ pub(crate) fn print_answer<A: Allocator>(
         }
         Answered::Status(status) => print_state(output, *status),
         Answered::Archived(count) => writeln!(output, "archived {count}"),
+        Answered::Drained(drained) => print_drained(output, *drained),
         Answered::Counts(counting) => output.push_str(counting_line(*counting)),
         Answered::Page(page) => print_page(output, page.as_ref()),
         Answered::Counters(counters) => print_counters(output, counters),

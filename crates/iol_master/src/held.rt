@@ -1,10 +1,11 @@
 //! What lies under a port's lock: the port, and its share of the tickets.
-ghost use Rattle.std.specs.Prelude.{◌≡◌, ◌≤◌, None, Some, IfOk, [], length};
+ghost use Rattle.std.specs.Prelude.{◌≡◌, ◌<◌, ◌≤◌, ◌+◌, None, Some, IfOk, OnErr, [], length};
+ghost use Rattle.std.specs.Vec.{vec_len, vec_capacity};
 ghost use Rattle.std.specs.Option.{option_copied};
 ghost use Rattle.iol_book.specs.BookModel.{IsReplayed};
 ghost use Rattle.iol_port.specs.View.{IsRun, OpensWell, KeepsRecordOver, over};
 ghost use Rattle.iol_port.specs.Called.{Collects, Withdraws, Cancels, Restarts, SetsOutput, ClearsOutput};
-ghost use Rattle.iol_port.specs.Called.{Expects, SetsCycle, TakesEvent, Archives, Turns, PublishesAfter};
+ghost use Rattle.iol_port.specs.Called.{Expects, SetsCycle, TakesEvent, Archives, Drains, DrainsInto, Turns, PublishesAfter};
 ghost use Rattle.iol_port.specs.Called.{ShowsPage, ShowsCounters, ShowsLastLoss, ShowsImage, ShowsStatus, CoreCalled, MakesCall};
 ghost use Rattle.iol_port.specs.Claim.{Claim};
 ghost use Rattle.iol_port.specs.WireCalls.{ComesFrom};
@@ -260,6 +261,33 @@ impl<W: Wire, K: Ledger, A: Handle> Held<W, K, A> {
         ensures within { IfOk result (λ entries. length entries.items ≤ 1000000) }
     {
         self.port.archive()
+    }
+
+    /// As [`PortCore::drain`](iol_port::PortCore::drain).
+    pub fn drain(&mut self) -> Result<Vec<Entry, A>, PortFault>
+        ensures is { Drains (MakesCall self.old self.new) self.old.parts self.new.parts
+            (λ entries. entries.items) result }
+        ensures within { IfOk result (λ entries. length entries.items ≤ 1000000) }
+    {
+        self.port.drain()
+    }
+
+    /// As [`PortCore::drain_into`](iol_port::PortCore::drain_into).
+    pub fn drain_into(&mut self, list: &mut Vec<Entry, A>) -> Result<usize, PortFault>
+        ensures is { DrainsInto (MakesCall self.old self.new) self.old.parts self.new.parts
+            list.old.items list.new.items result }
+        ensures full { OnErr result (vec_capacity list.old
+            < vec_len list.old + length self.old.parts.book.state.journal) }
+    {
+        self.port.drain_into(list)
+    }
+
+    /// As [`PortCore::restated`](iol_port::PortCore::restated).
+    pub fn restated(&self) -> usize
+        ensures value { result ≡ self.now.parts.book.state.restated }
+        ensures within { result ≤ length self.now.parts.book.state.journal }
+    {
+        self.port.restated()
     }
 
     /// As [`Port::turn_shown`].

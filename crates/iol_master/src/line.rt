@@ -1,6 +1,7 @@
 //! A line whose clients wait for no exchange: its port lies under a lock, and a worker owns its
 //! wire.
-ghost use Rattle.std.specs.Prelude.{◌≡◌, ◌≤◌, None, Some, false, IfOk, IfErr, IsTrue, is_some, length};
+ghost use Rattle.std.specs.Prelude.{◌≡◌, ◌<◌, ◌≤◌, ◌+◌, None, Some, false, IfOk, IfErr, OnErr, IsTrue, is_some, length};
+ghost use Rattle.std.specs.Vec.{vec_len, vec_capacity};
 ghost use Rattle.std.specs.Option.{option_copied};
 ghost use Rattle.std.specs.Result.{result_map_both};
 ghost use Rattle.iol_far.specs.Octets.{octets_in};
@@ -10,7 +11,7 @@ ghost use Rattle.iol_app.specs.Asking.{IsCall};
 ghost use Rattle.iol_port.specs.declared.fault.PortFault.TheVariants as fault;
 ghost use Rattle.iol_port.specs.declared.call.Answered.TheVariants as answered;
 ghost use Rattle.iol_port.specs.Called.{Submits, SubmitsUrgent, Collects, Withdraws, Cancels, SetsOutput, ClearsOutput};
-ghost use Rattle.iol_port.specs.Called.{Expects, SetsCycle, TakesEvent, Archives, CoreCalled};
+ghost use Rattle.iol_port.specs.Called.{Expects, SetsCycle, TakesEvent, Archives, Drains, DrainsInto, CoreCalled};
 ghost use Rattle.iol_port.specs.Called.{ShowsPage, ShowsCounters, ShowsLastLoss, ShowsImage, ShowsStatus};
 ghost use Rattle.iol_port.specs.declared.awaited.AwaitedAnswer.TheVariants as AwaitedAnswer;
 ghost use Rattle.iol_port.specs.CorePort.{awaited_answer};
@@ -269,6 +270,33 @@ impl<K: Ledger, A: Allocator + Copy> LinePort<K, A> {
         ensures within { IfOk result (λ entries. length entries.items ≤ 1000000) }
     {
         self.port.archive()
+    }
+
+    /// As [`PortCore::drain`].
+    pub fn drain(&mut self) -> Result<Vec<Entry, A>, PortFault>
+        ensures is { Drains (LineCalled self.old self.new) self.old.parts self.new.parts
+            (λ entries. entries.items) result }
+        ensures within { IfOk result (λ entries. length entries.items ≤ 1000000) }
+    {
+        self.port.drain()
+    }
+
+    /// As [`PortCore::drain_into`].
+    pub fn drain_into(&mut self, list: &mut Vec<Entry, A>) -> Result<usize, PortFault>
+        ensures is { DrainsInto (LineCalled self.old self.new) self.old.parts self.new.parts
+            list.old.items list.new.items result }
+        ensures full { OnErr result (vec_capacity list.old
+            < vec_len list.old + length self.old.parts.book.state.journal) }
+    {
+        self.port.drain_into(list)
+    }
+
+    /// As [`PortCore::restated`].
+    pub fn restated(&self) -> usize
+        ensures value { result ≡ self.now.parts.book.state.restated }
+        ensures within { result ≤ length self.now.parts.book.state.journal }
+    {
+        self.port.restated()
     }
 
     /// What goes out, which the worker's hand knows from then on.

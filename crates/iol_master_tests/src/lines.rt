@@ -76,7 +76,21 @@ fn archives<K: Ledger>(port: &mut LinePort<K>) -> bool {
         Err(_) => false,
     };
     port.clear_output();
-    is_whole && port.submit(read()) == Ok(Ticket(3))
+    is_whole && port.submit(read()) == Ok(Ticket(3)) && drains(port)
+}
+
+/// The one entry of the request that waits is handed out, and stays.
+fn drains<K: Ledger>(port: &mut LinePort<K>) -> bool {
+    let is_new = port.restated() == 0;
+    let is_one = match port.drain() {
+        Ok(drained) => drained.len() == 1,
+        Err(_) => false,
+    };
+    let is_again = match port.drain() {
+        Ok(drained) => drained.len() == 1,
+        Err(_) => false,
+    };
+    is_new && is_one && is_again && port.restated() == 1
 }
 
 fn is_cancelled<K: Ledger>(port: &mut LinePort<K>) -> bool {

@@ -1,4 +1,5 @@
 pub mod Replaying
+pub mod Joining
 pub mod PieceLemmas
 pub mod OwnerSteps
 pub mod OwnerRuns

@@ -16,6 +16,8 @@ use Rattle.iol_book.specs.declared.entries.Outcome.TheVariants as outcome
 use Rattle.iol_book.specs.Replay.{Standing, same_ticket, request_waiting, without, others_without}
 use Rattle.iol_book.specs.BookModel.{BookState, book_with_entry, next_ticket, next_taken, book_after_post}
 use Rattle.iol_book.specs.Takings.{takings, takings_after, first_with}
+use Rattle.iol_book.specs.Drained.{last_taken}
+use Rattle.iol_book.specs.OneJournal.{entries_since}
 use Rattle.iol_app.specs.Abstract.Steps.{PortStep, Take, Deny, Carry, Done, Unknown, LateCarry, Moment, through_steps}
 use Rattle.iol_app.specs.Abstract.Session.{Job, Session, MaySession, session_after}
 use Rattle.iol_app.specs.Abstract.OfMaster.{restart_steps}
@@ -29,9 +31,10 @@ use Rattle.iol_port.specs.Sound.{Each, IsOutcome, PortIsSound, times_ever}
 use Rattle.iol_port.specs.CarriesOut.{CarriesOut, IsSubmitted, IsCutOff, Happens, EachDoneHasItsPair, LeavesOut, IsBelow, LateEnds, CutForGoodStaysOut}
 use Rattle.iol_port.specs.Denials.{CarriesNone, IsDeniedWithoutIsdu}
 use Rattle.iol_port.specs.Promises.{OpensSound, PiecesSound, RunsSound}
-use Rattle.iol_port.proofs.PieceLemmas.{Did, Stays, Submits, Urges, Collects, Withdraws, Cancels, Restarts, Archives, Moves, piece_did, told_outcome, pieces_join}
-use Rattle.iol_port.proofs.Replaying.{entered_replayed, entered_takings, free_archive, next_is, next_ticket_is, steps_keep}
-use Rattle.iol_port.proofs.OwnerSteps.{each_removed, each_push, each_inserted, each_looked, waiting_push, waiting_left, counted, go_on_then, go_on_each, outcome_on, closed, closed_of, closed_has, Goes, goes_then, goes_itself, goes_book, marked_goes, restart_goes, archive_goes, step_goes}
+use Rattle.iol_port.proofs.PieceLemmas.{Did, Stays, Submits, Urges, Collects, Withdraws, Cancels, Restarts, Archives, Drains, Moves, piece_did, told_outcome, pieces_join}
+use Rattle.iol_port.proofs.Replaying.{entered_replayed, free_archive, next_is, next_ticket_is, steps_keep}
+use Rattle.iol_port.proofs.Joining.{grown_says, grown_takings, last_pushed}
+use Rattle.iol_port.proofs.OwnerSteps.{each_removed, each_push, each_inserted, each_looked, waiting_push, waiting_left, counted, go_on_then, go_on_each, outcome_on, closed, closed_of, closed_has, Goes, goes_then, goes_itself, goes_book, marked_goes, restart_goes, archive_goes, drain_goes, step_goes}
 
 -- The pieces
 
@@ -51,7 +54,9 @@ leads_sound leads = rw leads.terms_are leads.goes.sound
 
 -- one more entry, which takes none
 entry_goes : (a : PortState) (e : Entry) {last : ℕ}
-    → takings_after a.book.standing e (takings a.book.journal) ≡ takings a.book.journal
+    → takings_after a.book.standing e (takings (a.owners.drained ++ entries_since a.book))
+    ≡ takings (a.owners.drained ++ entries_since a.book)
+    → last_taken (last_taken None a.book.journal) (e ∷ []) ≡ last_taken None a.book.journal
     → (book_with_entry a.book e).standing.taken ≡ a.book.standing.taken
     → ((n : ℕ) → times_ever n (record (book_with_entry a.book e) { last = last }) a.owners
     ≤ times_ever n a.book a.owners)
@@ -60,9 +65,12 @@ entry_goes : (a : PortState) (e : Entry) {last : ℕ}
     → Goes (allowance_of a.terms) a.session a.owners
     (record (book_with_entry a.book e) { last = last })
     a.session a.owners
-entry_goes a e none taken fewer outcomes sound =
-    goes_book (entered_replayed a.book e sound.replayed) taken refl
-    (entered_takings a.book e sound.replayed ∙ none) fewer outcomes sound
+entry_goes a e {last} none same taken fewer outcomes sound =
+    let next : BookState = record (book_with_entry a.book e) { last = last } in
+    let replayed = entered_replayed a.book e sound.says.replayed in
+    goes_book {l = a.owners} (grown_says next e refl refl replayed sound.says) taken refl
+    (grown_takings next e refl refl replayed sound.says ∙ none)
+    (last_pushed None a.book.journal e ∙ same) fewer outcomes sound
 
 piece_leads : (a b : PortState) (c : Piece) (reply : Answered) → PieceOf a c reply b → PortIsSound a
     → Leads a b
@@ -76,22 +84,22 @@ piece_leads a b c reply is sound = by b (piece_did a b c reply is)
     by : (b : PortState) → Did a c reply b → Leads a b
     by _ (Submits q e told) = let t : Ticket = next_ticket a.book in record {
       terms_are = refl;
-      goes = entry_goes a (Submitted t q) refl refl
+      goes = entry_goes a (Submitted t q) refl refl refl
           (λ n. grind (arith, nat_tests, waiting_push n waiting (t, q))) sound.outcomes sound;
     }
     by _ (Urges q e told) = let t : Ticket = next_ticket a.book in record {
       terms_are = refl;
-      goes = entry_goes a (Urgent t q) refl refl
+      goes = entry_goes a (Urgent t q) refl refl refl
           (λ n. grind (arith, nat_tests, waiting_push n urgent (t, q))) sound.outcomes sound;
     }
     by _ (Collects t is) = rw is record {
       terms_are = refl;
-      goes = entry_goes a (Collected t) refl refl (λ n. omega arith)
+      goes = entry_goes a (Collected t) refl refl refl (λ n. omega arith)
           (each_removed Stands (same_ticket t) outcomes sound.outcomes) sound;
     }
     by _ (Withdraws t is) = rw is record {
       terms_are = refl;
-      goes = entry_goes a (Withdrawn t) refl refl
+      goes = entry_goes a (Withdrawn t) refl refl refl
           (λ n. omega (arith, waiting_left n t a.book.standing))
           (each_inserted Stands outcomes t outcome.Withdrawn tt sound.outcomes) sound;
     }
@@ -107,6 +115,11 @@ piece_leads a b c reply is sound = by b (piece_did a b c reply is)
       terms_are = refl;
       goes = archive_goes a.session a.session.job a.session.late a.owners a.owners.current
           (free_archive a.book may) sound;
+    }
+    by _ (Drains replayed) = record {
+      terms_are = refl;
+      goes = drain_goes a.session a.session.job a.session.late a.owners a.owners.current replayed
+          sound;
     }
     by _ (Moves m steps w) = rw (← w.book.1, ← w.session.1, ← w.owners) record {
       terms_are = ap allowance_of w.terms;
@@ -148,7 +161,7 @@ runs_sound a b calls replies run sound = pieces_sound a b _ replies run sound
 
 pub opened_sound : OpensSound
 opened_sound devices limits far silence = record {
-  replayed = refl;
+  says = record { replayed = refl; whole = refl; head = omega arith };
   fits = record {
     takings_are = refl;
     record_is = sym (append-nil far.carried);
@@ -156,6 +169,7 @@ opened_sound devices limits far silence = record {
     ended = λ owner i. absurd i;
   };
   opens = refl;
+  last = tt;
   sure = λ _. refl;
   once = λ n. grind (arith, nat_tests);
   above = λ n low. grind (arith, nat_tests);

@@ -10,24 +10,29 @@ use Rattle.iol_isdu.specs.declared.values.Cause.{Cause}
 use Rattle.iol_isdu.specs.declared.values.Cause.TheVariants.{LinkLost, Restarted}
 use Rattle.iol_far.specs.Level.{grown_by}
 use Rattle.iol_book.specs.declared.entries.Ticket.{Ticket}
+use Rattle.iol_book.specs.declared.entries.Entry.{Entry}
+use Rattle.iol_book.specs.declared.entries.Entry.TheVariants.{Taken, Answered}
 use Rattle.iol_book.specs.declared.entries.Outcome.{Outcome}
 use Rattle.iol_book.specs.declared.entries.Outcome.TheVariants as outcome
 use Rattle.iol_book.specs.Numbers.{times_in}
-use Rattle.iol_book.specs.Replay.{Standing, nothing, same_ticket, without, without_waiting}
-use Rattle.iol_book.specs.BookModel.{BookState, IsReplayed, next_taken, book_after_take, book_after_post, leaves_unsure}
+use Rattle.iol_book.specs.Replay.{Standing, nothing, same_ticket, without, without_waiting, replay}
+use Rattle.iol_book.specs.BookModel.{BookState, IsReplayed, next_taken, book_after_take, book_after_post, leaves_unsure, is_taken}
 use Rattle.iol_book.specs.Takings.{takings, taking_of, first_with, taking_with_outcome}
+use Rattle.iol_book.specs.Drained.{last_taken, in_doubt, is_still_open, book_after_drain}
+use Rattle.iol_book.specs.OneJournal.{entries_since}
 use Rattle.iol_app.specs.Abstract.Steps.{PortStep, Take, Deny, Carry, Again, Done, Unknown, LateCarry, Start, Reset, Busy, Move, Moment, may_repeat, may_misread, through_steps}
 use Rattle.iol_app.specs.Abstract.Session.{Job, Session, MaySession, session_after, cut_for, unanswered_request, job_to_cancel}
 use Rattle.iol_app.specs.Abstract.OfMaster.{restart_steps}
 use Rattle.iol_app.specs.declared.mode.Mode.{Mode}
 use Rattle.iol_app.specs.declared.mode.Mode.TheVariants.{Down, Startup}
 use Rattle.iol_mode.specs.declared.why.Why.{Why}
-use Rattle.iol_port.specs.Owners.{Owner, Owners, all, pairs_of, owner_with_answer, owner_with_outcome, owners_after, owners_after_archive, Allowance, IsOneOf, IsToldAs, EndsAs, Fits, HasEnded, allowance_of}
+use Rattle.iol_port.specs.Owners.{Owner, Owners, all, pairs_of, owner_with_answer, owner_with_outcome, owners_after, owners_after_archive, owners_after_drain, Allowance, IsOneOf, IsToldAs, EndsAs, Fits, HasEnded, allowance_of}
 use Rattle.iol_port.specs.Steps.{ticket_of, MayBook, book_after}
 use Rattle.iol_port.specs.Run.{job_request}
-use Rattle.iol_port.specs.Sound.{not_under_way, Each, AnswersFitJob, LastTakenIsOpen, IsOutcome, times_ever, Sound}
+use Rattle.iol_port.specs.Sound.{not_under_way, Each, AnswersFitJob, LastTakenIsOpen, IsToldLast, SaysWhere, IsOutcome, times_ever, Sound}
 use Rattle.iol_port.specs.CarriesOut.{OwnerGoesOn, LastGoesOn, GoOn}
-use Rattle.iol_port.proofs.Replaying.{told_for, LeavesWaiting, next_is, next_ticket_is, took_replayed, took_takings, denied_replayed, denied_takings, posted_replayed, posted_takings}
+use Rattle.iol_port.proofs.Replaying.{told_for, LeavesWaiting, next_is, next_ticket_is}
+use Rattle.iol_port.proofs.Joining.{took_says, took_takings, denied_says, denied_takings, posted_says, posted_takings, last_pushed, posted_last, last_stays, drained_says, drained_whole}
 
 -- What is said of each pair of a list
 
@@ -210,6 +215,13 @@ closed_of s l x i = by s.job s.late l.current i
     by None (Some q) [] i = i
     by None (Some q) (y ∷ xs) i = inr i
 
+-- whatever drains handed out
+closed_same : (job : Option Job) (late : Option Request) (l : Owners) (es : List Entry)
+    (z : Owner) → IsOneOf z (closed_by job late l)
+    → IsOneOf z (closed_by job late (record l { drained = es }))
+closed_same None None l es z i = i
+closed_same _ _ l es z i = i
+
 -- one that ended is closed, unless it is late
 pub closed_has : (repeats : Request → Bool) (job : Option Job) (late : Option Request)
     (taken : Option (Ticket × Request)) (l : Owners) (xs : List Owner)
@@ -268,13 +280,14 @@ goes_itself sound =
 
 -- another book, of the same takings
 pub goes_book : {allowance : Allowance} {b next : BookState} {s : Session} {l : Owners}
-    → IsReplayed next → next.standing.taken ≡ b.standing.taken → next.unsure ≡ b.unsure
-    → takings next.journal ≡ takings b.journal
+    → SaysWhere l.drained next → next.standing.taken ≡ b.standing.taken → next.unsure ≡ b.unsure
+    → takings (l.drained ++ entries_since next) ≡ takings (l.drained ++ entries_since b)
+    → last_taken None next.journal ≡ last_taken None b.journal
     → ((n : ℕ) → times_ever n next l ≤ times_ever n b l)
     → Each (IsOutcome allowance.isdu (all l)) next.standing.outcomes
     → Sound allowance b s l → Goes allowance s l next s l
-goes_book {allowance} replayed taken unsure same fewer outcomes sound = goes_itself (record {
-  replayed = replayed;
+goes_book {allowance} says taken unsure same last fewer outcomes sound = goes_itself (record {
+  says = says;
   fits = record {
     takings_are = same ∙ sound.fits.takings_are;
     record_is = sound.fits.record_is;
@@ -282,6 +295,7 @@ goes_book {allowance} replayed taken unsure same fewer outcomes sound = goes_its
     ended = sound.fits.ended;
   };
   opens = rw taken sound.opens;
+  last = rw last sound.last;
   sure = λ sure. sound.sure (sym unsure ∙ sure);
   once = λ n. omega (arith, fewer n, sound.once n);
   above = λ n low. omega (arith, fewer n, sound.above n low);
@@ -290,14 +304,24 @@ goes_book {allowance} replayed taken unsure same fewer outcomes sound = goes_its
 
 -- The step ends or answers the request that was taken last, or takes one
 
+-- where the journal says that one of them was taken last
+told_last : (job : Option Job) (late : Option Request) (last : Option Ticket) (y : Owner)
+    (xs : List Owner) → last ≡ Some y.taking.ticket → IsToldLast job late last (y ∷ xs)
+told_last None None last y xs is = tt
+told_last None (Some q) last y xs is = is
+told_last (Some job) late last y xs is = is
+
 module _ {allowance : Allowance} {b : BookState} {s : Session} (l : Owners) (x : Owner)
-    (xs : List Owner) (sound : Sound allowance b s (record l { current = x ∷ xs })) where
+    (xs : List Owner) (sound : Sound allowance b s (record l { current = x ∷ xs }))
+    (last : last_taken None b.journal ≡ Some x.taking.ticket) where
   fits_x : Fits allowance x
   fits_x = sound.fits.fit x (inl refl)
 
   -- the owner goes on as another
   first_goes : {next : BookState} {t : Session} {y : Owner} → OwnerGoesOn x y
-      → IsReplayed next → takings next.journal ≡ y.taking ∷ map (λ a. a.taking) xs
+      → SaysWhere l.drained next
+      → takings (l.drained ++ entries_since next) ≡ y.taking ∷ map (λ a. a.taking) xs
+      → last_taken None next.journal ≡ last_taken None b.journal
       → t.carried ≡ l.before ++ pairs_of (y ∷ xs ++ l.archived) → Fits allowance y
       → ((z : Owner) → IsOneOf z (not_under_way t.job (y ∷ xs ++ l.archived))
       → IsSome z.taking.outcome)
@@ -309,12 +333,14 @@ module _ {allowance : Allowance} {b : BookState} {s : Session} (l : Owners) (x :
       → ((z : Owner) → IsOneOf z (closed s (record l { current = x ∷ xs }))
       → IsOneOf z (closed t (record l { current = y ∷ xs })))
       → Goes allowance s (record l { current = x ∷ xs }) next t (record l { current = y ∷ xs })
-  first_goes {y = y} goes replayed same record_is fits ended_are opens sure fewer outcomes
-      stays = record {
+  first_goes {t = t} {y = y} goes says same same_last record_is fits ended_are opens sure fewer
+      outcomes stays = record {
         sound = record {
-          replayed = replayed;
+          says = says;
           fits = record { takings_are = same; record_is = record_is; fit = by; ended = ended_are };
           opens = opens;
+          last = told_last t.job t.late _ y xs
+              (same_last ∙ (last ∙ ap (λ k. Some k) (sym goes.ticket_is)));
           sure = sure;
           once = λ n. omega (arith, fewer n, sound.once n);
           above = λ n low. omega (arith, fewer n, sound.above n low);
@@ -344,7 +370,7 @@ module _ {allowance : Allowance} {b : BookState} {s : Session} (l : Owners) (x :
       → Goes allowance s (record l { current = x ∷ xs }) b t
       (record l { current = owner_with_answer a x ∷ xs })
   answers_goes a may out is none never grown ended_are opens sure stays =
-      first_goes goes sound.replayed sound.fits.takings_are
+      first_goes goes sound.says sound.fits.takings_are refl
       (grown ∙ simp (sound.fits.record_is, append_assoc))
       (record { once = once may; ends = rw is (ends out none never); isdu = fits_x.isdu }) ended_are
       opens sure (λ n. omega arith)
@@ -386,9 +412,10 @@ module _ {allowance : Allowance} {b : BookState} {s : Session} (l : Owners) (x :
       → Goes allowance s (record l { current = x ∷ xs }) (book_after_post b out) t
       (record l { current = owner_with_outcome out x ∷ xs })
   ends_goes out {q} {t} taken none leaves ends new same opens sure stays =
-      first_goes goes (posted_replayed b out leaves sound.replayed)
-      (posted_takings b (x.taking.ticket, q) out sound.replayed taken
+      first_goes goes (posted_says b sound.says (x.taking.ticket, q) out leaves taken)
+      (posted_takings b sound.says (x.taking.ticket, q) out leaves taken
       ∙ ap (first_with (taking_with_outcome out)) sound.fits.takings_are)
+      (posted_last b (x.taking.ticket, q) out taken)
       (same ∙ sound.fits.record_is) (record
       { once = fits_x.once; ends = ends; isdu = fits_x.isdu })
       (λ z i. ended_are z (others_all t.job _ z i)) (rw taken opens) sure
@@ -416,12 +443,17 @@ session_goes : {allowance : Allowance} {b : BookState} {s t : Session} {l : Owne
     → Sound allowance b s l → t.carried ≡ s.carried
     → ((z : Owner) → IsOneOf z (not_under_way t.job (all l)) → IsSome z.taking.outcome)
     → LastTakenIsOpen allowance.repeats t.job t.late b.standing.taken l.current
+    → IsToldLast t.job t.late (last_taken None b.journal) l.current
     → (unsure ≡ false → t.late ≡ None)
     → ((z : Owner) → IsOneOf z (closed s l) → IsOneOf z (closed t l))
     → Goes allowance s l (record b { unsure = unsure }) t l
-session_goes sound same ended_are opens sure stays = record {
+session_goes sound same ended_are opens last sure stays = record {
   sound = record {
-    replayed = sound.replayed;
+    says = record {
+      replayed = sound.says.replayed;
+      whole = sound.says.whole;
+      head = sound.says.head;
+    };
     fits = record {
       takings_are = sound.fits.takings_are;
       record_is = same ∙ sound.fits.record_is;
@@ -429,6 +461,7 @@ session_goes sound same ended_are opens sure stays = record {
       ended = ended_are;
     };
     opens = opens;
+    last = last;
     sure = sure;
     once = sound.once;
     above = sound.above;
@@ -452,19 +485,19 @@ job_goes s l x xs job next same answers sound = session_goes sound refl sound.fi
   request_is = sound.opens.request_is ∙ sym same;
   none = sound.opens.none;
   answers = rw same (answers sound.opens.answers);
-}) (λ _. refl) (λ z i. i)
+}) sound.last (λ _. refl) (λ z i. i)
 
 module _ {allowance : Allowance} {b : BookState} (s : Session) (l : Owners) (x : Owner)
     (xs : List Owner) (job : Job) (sound : Sound allowance b
     (record s { job = Some job; late = None }) (record l { current = x ∷ xs })) where
-  open sound use {opens}
+  open sound use {opens, last}
 
   -- a request that is cut off, of which nothing is late
   cut_goes : (cause : Cause) → Goes allowance (record s { job = Some job; late = None })
       (record l { current = x ∷ xs }) (book_after_post b (outcome.Unknown cause))
       (record s { job = None; late = None })
       (record l { current = owner_with_outcome (outcome.Unknown cause) x ∷ xs })
-  cut_goes cause = ends_goes l x xs sound (outcome.Unknown cause) opens.taken_is opens.none
+  cut_goes cause = ends_goes l x xs sound last (outcome.Unknown cause) opens.taken_is opens.none
       (λ t standing. refl) tt (
         owner_with_outcome (outcome.Unknown cause) x,
         inl refl,
@@ -482,7 +515,7 @@ module _ {allowance : Allowance} {b : BookState} (s : Session) (l : Owners) (x :
       (record l { current = owner_with_outcome (outcome.Unknown cause) x ∷ xs })
   lost_goes cause (Some a) is unsure = cut_goes cause
   lost_goes cause None is unsure =
-      ends_goes l x xs sound (outcome.Unknown cause) opens.taken_is opens.none
+      ends_goes l x xs sound last (outcome.Unknown cause) opens.taken_is opens.none
       (λ t standing. refl) tt (
         owner_with_outcome (outcome.Unknown cause) x,
         inl refl,
@@ -516,8 +549,8 @@ module _ {allowance : Allowance} {b : BookState} (s : Session) (l : Owners) (x :
 pub moved_goes : {allowance : Allowance} {b : BookState} {s : Session} {l : Owners} (mode : Mode)
     (why : Option Why) → Sound allowance b s l
     → Goes allowance s l b (record s { mode = mode; why = why }) l
-moved_goes mode why sound = session_goes sound refl sound.fits.ended sound.opens sound.sure
-    (λ z i. i)
+moved_goes mode why sound = session_goes sound refl sound.fits.ended sound.opens sound.last
+    sound.sure (λ z i. i)
 
 pub marked_goes : {allowance : Allowance} {b : BookState} (s : Session) (job : Option Job)
     (late : Option Request) (l : Owners) (xs : List Owner)
@@ -555,7 +588,7 @@ pub archive_goes : {allowance : Allowance} {b : BookState} (s : Session) (job : 
     (owners_after_archive (record l { current = xs }))
 archive_goes s None None l xs (free, sure) sound = record {
   sound = record {
-    replayed = free;
+    says = record { replayed = free; whole = free; head = omega arith };
     fits = record {
       takings_are = refl;
       record_is = sound.fits.record_is;
@@ -563,6 +596,7 @@ archive_goes s None None l xs (free, sure) sound = record {
       ended = sound.fits.ended;
     };
     opens = sound.opens;
+    last = tt;
     sure = sound.sure;
     once = sound.once;
     above = sound.above;
@@ -579,6 +613,67 @@ archive_goes s (Some job) None l (x ∷ xs) (free, sure) sound = absurd (let tak
 archive_goes s (Some job) None l [] free sound = absurd sound.opens
 archive_goes s (Some job) (Some q) l xs free sound = absurd sound.opens
 
+-- whether a drain leaves the entries of a ticket
+abbrev is_left : BookState → Ticket → Bool
+is_left b ticket = is_still_open (replay b.journal) (in_doubt b.unsure b.journal) ticket
+
+-- a drain leaves those of the request under way, and of the late one
+pub drain_goes : {allowance : Allowance} {b : BookState} (s : Session) (job : Option Job)
+    (late : Option Request) (l : Owners) (xs : List Owner) → IsReplayed (book_after_drain b)
+    → Sound allowance b (record s { job = job; late = late }) (record l { current = xs })
+    → Goes allowance (record s { job = job; late = late }) (record l { current = xs })
+    (book_after_drain b) (record s { job = job; late = late })
+    (owners_after_drain b (record l { current = xs }))
+drain_goes {allowance} {b} s job late l xs replayed sound = record {
+  sound = record {
+    says = drained_says l.drained b replayed sound.says;
+    fits = record {
+      takings_are = rw (drained_whole l.drained b) sound.fits.takings_are;
+      record_is = sound.fits.record_is;
+      fit = sound.fits.fit;
+      ended = sound.fits.ended;
+    };
+    opens = sound.opens;
+    last = by job late xs sound.opens sound.last sound.sure;
+    sure = sound.sure;
+    once = sound.once;
+    above = sound.above;
+    outcomes = sound.outcomes;
+  };
+  same = (refl, refl);
+  on = go_on_itself;
+  stays = λ z i. closed_same job late (record l { current = xs }) (l.drained ++ entries_since b)
+      z i;
+}
+  where
+    open sound.says use {replayed as stands}
+
+    -- the ticket of the one, and of the other, is open
+    taken_open : (x : Owner) (q : Request) → b.standing.taken ≡ Some (x.taking.ticket, q)
+        → last_taken None b.journal ≡ Some x.taking.ticket
+        → last_taken None (book_after_drain b).journal ≡ Some x.taking.ticket
+    taken_open x q taken last = last_stays (is_left b) x.taking.ticket
+        (rw (← stands) (grind (arith, common_steps))) None None b.journal last (λ e. e)
+
+    doubt_open : (x : Owner) → b.unsure ≡ true
+        → last_taken None b.journal ≡ Some x.taking.ticket
+        → last_taken None (book_after_drain b).journal ≡ Some x.taking.ticket
+    doubt_open x unsure last = last_stays (is_left b) x.taking.ticket
+        (rw (unsure, last) (grind (arith, common_steps))) None None b.journal last (λ e. e)
+
+    by : (job : Option Job) (late : Option Request) (xs : List Owner)
+        → LastTakenIsOpen allowance.repeats job late b.standing.taken xs
+        → IsToldLast job late (last_taken None b.journal) xs
+        → (b.unsure ≡ false → late ≡ None)
+        → IsToldLast job late (last_taken None (book_after_drain b).journal) xs
+    by None None xs opens last sure = tt
+    by (Some job) None (x ∷ xs) opens last sure = taken_open x job.request opens.taken_is last
+    by None (Some q) (x ∷ xs) opens last sure =
+        doubt_open x (grind (arith, common_steps, sure)) last
+    by (Some job) None [] opens last sure = absurd opens
+    by None (Some q) [] opens last sure = absurd opens
+    by (Some job) (Some q) xs opens last sure = absurd opens
+
 -- one more is taken
 take_goes : {allowance : Allowance} {b : BookState} (s : Session) (l : Owners) (t : Ticket)
     (q : Request) → next_taken b.standing ≡ Some (t, q) → allowance.isdu ≡ true
@@ -589,15 +684,16 @@ take_goes : {allowance : Allowance} {b : BookState} (s : Session) (l : Owners) (
     }) (record l { current = record { taking = taking_of t q; answers = [] } ∷ l.current })
 take_goes {allowance} {b} s l t q next isdu sound = record {
   sound = record {
-    replayed = took_replayed b t q next sound.replayed;
+    says = took_says b sound.says t q next;
     fits = record {
-      takings_are = took_takings b t q sound.replayed next
+      takings_are = took_takings b sound.says t q next
           ∙ ap (λ ts. taking_of t q ∷ ts) sound.fits.takings_are;
       record_is = sound.fits.record_is ∙ ap (λ c. l.before ++ c) (sym (append-nil _));
       fit = fit;
       ended = sound.fits.ended;
     };
     opens = record { taken_is = refl; request_is = refl; none = refl; answers = inl refl };
+    last = last_pushed None b.journal (Taken t);
     sure = λ _. refl;
     once = λ n. omega (arith, fewer n, sound.once n);
     above = λ n low. omega (arith, fewer n, sound.above n low);
@@ -638,12 +734,14 @@ step_goes m (Take t q) b s None None l xs next may sound =
 step_goes m (Deny t) b s job late l xs head may sound =
     let (q, next) = next_ticket_is (next_taken b.standing) (ticket_of t) head in
     let is = next_is b.standing (ticket_of t) q next in
-    goes_book (denied_replayed b (ticket_of t) q next sound.replayed) refl refl
-    (denied_takings b (ticket_of t) sound.replayed is.free)
+    goes_book (denied_says b sound.says (ticket_of t) q next) refl refl
+    (denied_takings b sound.says (ticket_of t) q next)
+    (last_pushed None b.journal (Answered (ticket_of t) outcome.NoIsdu))
     (λ n. rw (is.urgent, is.others) (omega (arith, waiting_left n (ticket_of t) b.standing)))
     (each_inserted _ b.standing.outcomes (ticket_of t) outcome.NoIsdu may.0 sound.outcomes) sound
 step_goes m (Carry a) b s (Some job) None l (x ∷ xs) next none sound =
-    answers_goes l x xs sound a (rw (sound.opens.request_is) (rw none at sound.opens.answers)) None
+    answers_goes l x xs sound sound.last a
+    (rw (sound.opens.request_is) (rw none at sound.opens.answers)) None
     sound.opens.none (λ answer is. cc) (λ is. cc)
     (ap (λ q. grown_by s.carried q a) (sym sound.opens.request_is)) sound.fits.ended (record {
       taken_is = sound.opens.taken_is;
@@ -657,7 +755,7 @@ step_goes m Again b s (Some job) None l (x ∷ xs) next may sound =
     (λ _. inr may.1) sound
 step_goes m (Done a) b s (Some job) None l (x ∷ xs) next may sound =
     let (carried, given, told) = told_for m.terms a job.answer may in
-    ends_goes l x xs sound (outcome.Done a) sound.opens.taken_is sound.opens.none
+    ends_goes l x xs sound sound.last (outcome.Done a) sound.opens.taken_is sound.opens.none
     (λ t standing. refl)
     (told_by x.answers carried (rw given at sound.opens.answers) told)
     (owner_with_outcome (outcome.Done a) x, inl refl, refl, refl) refl refl (λ _. refl)
@@ -673,7 +771,7 @@ step_goes m (Unknown cause) b s (Some job) None l (x ∷ xs) next may sound =
     unknown_goes s l x xs job sound cause
 step_goes m (LateCarry a) b s None (Some q) l (x ∷ xs) next may sound =
     let late = sound.opens.1 in
-    answers_goes l x xs sound a (rw late.request_is late.answers)
+    answers_goes l x xs sound sound.last a (rw late.request_is late.answers)
     (Some (outcome.Unknown late.cause))
     late.cut (λ answer is. cc) (λ is. cc)
     (ap (λ r. grown_by s.carried r a) (sym late.request_is)) ended_are sound.opens.0 (λ _. refl)
@@ -684,9 +782,9 @@ step_goes m (LateCarry a) b s None (Some q) l (x ∷ xs) next may sound =
     ended_are z (inl is) = subst (λ y. IsSome y.taking.outcome) is (sound.fits.ended x (inl refl))
     ended_are z (inr i) = sound.fits.ended z (inr i)
 step_goes m Reset b s job None l xs next may sound =
-    session_goes sound refl sound.fits.ended sound.opens (λ _. refl) (λ z i. i)
+    session_goes sound refl sound.fits.ended sound.opens sound.last (λ _. refl) (λ z i. i)
 step_goes m Reset b s None (Some q) l (x ∷ xs) next may sound =
-    session_goes sound refl sound.fits.ended sound.opens.0 (λ _. refl) (λ z i. inr i)
+    session_goes sound refl sound.fits.ended sound.opens.0 tt (λ _. refl) (λ z i. inr i)
 step_goes m Busy b s (Some job) None l (x ∷ xs) next may sound =
     job_goes s l x xs job (record job { busy = job.busy + 1 }) refl (λ is. is) sound
 step_goes m Start b s job late l xs next may sound = moved_goes Startup None sound

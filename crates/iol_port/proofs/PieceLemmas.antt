@@ -9,14 +9,15 @@ use Rattle.iol_book.specs.declared.entries.Ticket.{Ticket}
 use Rattle.iol_book.specs.declared.entries.Outcome.{Outcome}
 use Rattle.iol_book.specs.declared.entries.Entry.TheVariants.{Collected, Withdrawn}
 use Rattle.iol_book.specs.Replay.{same_ticket}
-use Rattle.iol_book.specs.BookModel.{book_with_entry, book_after_submit, next_ticket, book_after_collect, book_after_withdrawal, may_archive, book_after_urgent, flight_refusal}
+use Rattle.iol_book.specs.BookModel.{book_with_entry, book_after_submit, next_ticket, book_after_collect, book_after_withdrawal, may_archive, book_after_urgent, flight_refusal, IsReplayed}
+use Rattle.iol_book.specs.Drained.{book_after_drain}
 use Rattle.iol_app.specs.Abstract.Session.{Session, session_after, session_cancelling, MaySession}
 use Rattle.iol_app.specs.Abstract.Images.{Images}
 use Rattle.iol_app.specs.Abstract.Steps.{PortStep, Moment, Exchanged, through_steps, TakesSteps}
 use Rattle.iol_event.specs.declared.event.Event.{Event}
 use Rattle.iol_page.specs.declared.identity.Identity.{Identity}
 use Rattle.iol_port.specs.Steps.{book_after, MayBook}
-use Rattle.iol_port.specs.Owners.{owners_after, owners_after_archive}
+use Rattle.iol_port.specs.Owners.{owners_after, owners_after_archive, owners_after_drain}
 use Rattle.iol_port.specs.declared.call.Call.TheVariants as call
 use Rattle.iol_port.specs.declared.call.Answered.{Answered}
 use Rattle.iol_port.specs.declared.call.Answered.TheVariants as answered
@@ -80,6 +81,11 @@ pub data Did (a : PortState) (c : Piece) (reply : Answered) : PortState → Type
         book = record a.book { journal = []; restated = 0 };
         owners = owners_after_archive a.owners;
       })
+  Drains : IsReplayed (book_after_drain a.book) → Did a c reply
+      (record a {
+        book = book_after_drain a.book;
+        owners = owners_after_drain a.book a.owners;
+      })
   Moves : (m : Moment) (steps : List PortStep) {b : PortState} → IsMoved m steps a b
       → Did a c reply b
 
@@ -111,6 +117,9 @@ module _ (a b : PortState) where
   piece_did (Whole (call.Withdraw t)) reply e = may_do (Withdraws t) (grind (arith, common_steps))
   piece_did (Whole (call.Cancel t)) reply e = may_do (Cancels t refl) (grind (arith, common_steps))
   piece_did (Whole call.Archive) reply e = may_do Archives (grind (arith, common_steps))
+  piece_did (Whole call.Drain) reply (inl (is, replayed)) =
+      did (Drains (rw is.1 at replayed)) is.1
+  piece_did (Whole call.Drain) reply (inr (_, e)) = stayed e
   piece_did (Whole call.Restart) reply e = did Restarts e.1.1
   piece_did (Whole (call.SetOutput image)) reply e =
       did (Stays a.kept b.images a.terms.expected) (grind (arith, common_steps))

@@ -1,4 +1,4 @@
--- each change of a book keeps it the replay of its journal, and what it does to the takings
+-- each change of a book keeps it the replay of its journal
 use Rattle.std.proofs.Common.{◌≡◌, Bool, true, List, [], ◌∷◌, ◌++◌, Option, None, Some, drop, refl, ap, arith, ◌||◌, ◌⊎◌, inl, inr}
 use Rattle.std.proofs.lemmas.Bool.{eq-eqb}
 use Rattle.std.proofs.lemmas.Grind.{common_steps}
@@ -13,13 +13,12 @@ use Rattle.iol_book.specs.declared.entries.Entry.{Entry}
 use Rattle.iol_book.specs.declared.entries.Entry.TheVariants.{Taken, Answered}
 use Rattle.iol_book.specs.Replay.{Standing, nothing, same_ticket, request_waiting, without, others_without, waiting_after, standing_after, replay_from}
 use Rattle.iol_book.specs.BookModel.{BookState, IsReplayed, book_with_entry, leaves_unsure, book_after_take, book_after_denial, ended_with, book_after_post, next_taken, may_archive, others_behind, waits}
-use Rattle.iol_book.specs.Takings.{Taking, taking_of, taking_with_outcome, first_with, takings, takings_after, takings_from}
 use Rattle.iol_app.specs.Abstract.Steps.{PortStep, Moment, Terms, may_misread, through_steps, MayAll}
 use Rattle.iol_app.specs.Abstract.Session.{Session, MayTell, MaySession, session_after}
 use Rattle.iol_port.specs.Owners.{Owners, owners_after, IsToldAs}
 use Rattle.iol_port.specs.Steps.{MayBook, book_after}
 
-replay_from-push : (s : Standing) (entries : List Entry) (entry : Entry)
+pub replay_from-push : (s : Standing) (entries : List Entry) (entry : Entry)
     → replay_from s (entries ++ entry ∷ []) ≡ standing_after (replay_from s entries) entry
 replay_from-push s [] entry = refl
 replay_from-push s (e ∷ entries) entry = replay_from-push (standing_after s e) entries entry
@@ -86,33 +85,6 @@ denied_replayed book t q next h =
 pub free_archive : (book : BookState) → may_archive book ≡ true
     → (book.standing ≡ nothing) × (book.unsure ≡ false)
 free_archive book may = grind (arith, common_steps)
-
--- The takings of a journal, by each entry and by each change
-
-takings_from-push : (s : Standing) (ts : List Taking) (es : List Entry) (e : Entry)
-    → takings_from s ts (es ++ e ∷ []) ≡ takings_after (replay_from s es) e (takings_from s ts es)
-takings_from-push s ts [] e = refl
-takings_from-push s ts (x ∷ es) e =
-    takings_from-push (standing_after s x) (takings_after s x ts) es e
-
-pub entered_takings : (b : BookState) (e : Entry) → IsReplayed b
-    → takings (b.journal ++ e ∷ []) ≡ takings_after b.standing e (takings b.journal)
-entered_takings b e is = rw is (takings_from-push nothing [] b.journal e)
-
-pub took_takings : (b : BookState) (t : Ticket) (q : Request) → IsReplayed b
-    → next_taken b.standing ≡ Some (t, q)
-    → takings (book_after_take b (t, q)).journal ≡ taking_of t q ∷ takings b.journal
-took_takings b t q is next =
-    rw (next_is b.standing t q next).found at (entered_takings b (Taken t) is)
-
-pub denied_takings : (b : BookState) (t : Ticket) → IsReplayed b → b.standing.taken ≡ None
-    → takings (book_after_denial b t).journal ≡ takings b.journal
-denied_takings b t is free = rw free at (entered_takings b (Answered t NoIsdu) is)
-
-pub posted_takings : (b : BookState) (p : Ticket × Request) (o : Outcome) → IsReplayed b
-    → b.standing.taken ≡ Some p
-    → takings (book_after_post b o).journal ≡ first_with (taking_with_outcome o) (takings b.journal)
-posted_takings b p o is taken = rw taken (rw taken at (entered_takings b (Answered p.0 o) is))
 
 told_as : (misreads : Bool) (told a : Answer) → IsTrue misreads ⊎ (a ≡ told)
     → IsToldAs misreads told a

@@ -23,11 +23,11 @@ use Rattle.iol_port.specs.declared.call.Counting.{Counting}
 use Rattle.iol_port.specs.declared.counters.Counters.{Counters}
 use Rattle.iol_port.specs.declared.fault.PortFault.{PortFault}
 use Rattle.iol_port.specs.Asks.{asks_of}
-use Rattle.iol_port.specs.Replies.{ticket_reply, outcome_reply, nothing_reply, event_reply, result_reply}
+use Rattle.iol_port.specs.Replies.{ticket_reply, outcome_reply, nothing_reply, event_reply, result_reply, drained_answer}
 use Rattle.iol_port.specs.View.{PortParts, PortValue, Does, over, writer_after_publish, status_of}
 use Rattle.iol_port.specs.Clean.{CleanTurn}
 use Rattle.iol_port.specs.CorePort.{CoreDoes}
-use Rattle.iol_port.specs.EveryWire.{SubmitGives, CollectGives, WithdrawGives, CancelGives, ArchiveGives, TakeEventGives, SetOutputGives, ClearOutputGives, ExpectGives, SetCycleGives, RestartGives, PortTurnGives, page_shown}
+use Rattle.iol_port.specs.EveryWire.{SubmitGives, CollectGives, WithdrawGives, CancelGives, ArchiveGives, DrainGives, DrainIntoGives, TakeEventGives, SetOutputGives, ClearOutputGives, ExpectGives, SetCycleGives, RestartGives, PortTurnGives, page_shown}
 
 -- what is said of a call with its reply, and of what else it gives, at who has the parts
 abbrev pub Carrier : Type 1
@@ -81,6 +81,17 @@ module _ (Carries : Carrier) (p next : PortParts) where
   Archives entries result = Carries call.Archive
       (result_reply (λ x. answered.Archived (length (entries x))) result)
       (ArchiveGives p (result_map_both entries (λ why. why) result) next)
+
+  abbrev pub Drains : {X : Type 0} → (X → List Entry) → Result X PortFault → Type 0
+  Drains entries result = Carries call.Drain
+      (result_reply (λ x. drained_answer (length (entries x)) p.book.state.restated) result)
+      (DrainGives p (result_map_both entries (λ why. why) result) next)
+
+  -- the same at the end of a list, which becomes the other
+  abbrev pub DrainsInto : List Entry → List Entry → Result ℕ PortFault → Type 0
+  DrainsInto list list_new result = Carries call.Drain
+      (result_reply (λ count. drained_answer (length p.book.state.journal) count) result)
+      (DrainIntoGives p list list_new result next)
 
 -- and those that only look
 module _ (Carries : Carrier) (p : PortParts) where

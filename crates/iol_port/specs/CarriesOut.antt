@@ -53,7 +53,7 @@ pub record CarriesOut (from : PortState) (pieces : List Piece) (replies : List A
       → Happens pieces replies (Whole (call.Collect ticket)) (answered.Outcome (Done answer))
       → HasEnded (all a.owners) ticket (Done answer)
 
--- So it is in every run of a port that is opened, across losses, restarts and archives
+-- So it is in every run of a port that is opened, across losses, restarts, drains and archives
 abbrev pub EachDoneHasItsPair : Type 0
 EachDoneHasItsPair =
     (devices : Devices) (limits : Limits) (far : Far) (silence : ℕ) (pieces : List Piece)

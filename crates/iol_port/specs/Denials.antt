@@ -13,7 +13,7 @@ use Rattle.iol_port.specs.Run.{PortState, Piece, Whole, Pieces, port_at_opening}
 use Rattle.iol_port.specs.CarriesOut.{Happens}
 use Rattle.iol_mode.specs.declared.configuration.Devices.{Devices}
 
--- in no run of a port that is opened, across losses, restarts and archives, does a
+-- in no run of a port that is opened, across losses, restarts, drains and archives, does a
 -- device without ISDU carry anything out
 abbrev pub CarriesNone : Type 0
 CarriesNone =

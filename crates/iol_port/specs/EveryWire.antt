@@ -13,10 +13,11 @@ use Rattle.iol_link.specs.WireFacts.{WireFacts}
 use Rattle.iol_book.specs.declared.entries.Entry.{Entry}
 use Rattle.iol_book.specs.declared.entries.Outcome.{Outcome}
 use Rattle.iol_book.specs.declared.entries.Ticket.{Ticket}
-use Rattle.iol_book.specs.declared.fault.BookFault.TheVariants.{Outstanding}
+use Rattle.iol_book.specs.declared.fault.BookFault.TheVariants.{Outstanding, OutOfMemory}
 use Rattle.iol_book.specs.declared.entries.Outcome.TheVariants.{NoIsdu}
 use Rattle.iol_book.specs.Replay.{same_ticket}
 use Rattle.iol_book.specs.BookModel.{BookState, BookValue, MemoryGrows, memory_archived, RefusesFor, submit_refusal, book_after_submit, book_after_urgent, next_ticket, next_taken, book_after_take, book_after_denial, waits, collect_answer, book_after_collect, withdraw_refusal, book_after_withdrawal, flight_refusal, may_archive, book_after_archive}
+use Rattle.iol_book.specs.Drained.{book_after_drain}
 use Rattle.iol_mode.specs.States.{is_reset}
 use Rattle.iol_mode.specs.declared.why.Why.{Why}
 use Rattle.iol_app.specs.declared.mode.Mode.TheVariants.{Down}
@@ -38,7 +39,7 @@ use Rattle.iol_port.specs.declared.call.Answered.{Answered}
 use Rattle.iol_port.specs.declared.call.Answered.TheVariants as answered
 use Rattle.iol_port.specs.declared.call.Counting.{Counting}
 use Rattle.iol_port.specs.Asks.{event_room, asks_of, lacks_isdu, begun_next}
-use Rattle.iol_port.specs.Replies.{by_book, ticket_reply, outcome_reply, nothing_reply, event_reply, archive_reply}
+use Rattle.iol_port.specs.Replies.{by_book, ticket_reply, outcome_reply, nothing_reply, event_reply, archive_reply, drain_reply}
 use Rattle.iol_port.specs.Run.{counting_of}
 use Rattle.iol_port.specs.Sound.{request_taken}
 use Rattle.iol_port.specs.Counters.{call_counted, said_counted, restart_counted}
@@ -123,6 +124,30 @@ pub record ArchiveGives (old : PortParts) (result : Result (List Entry) PortFaul
   pub book : new.book.state ≡ book_after_archive old.book.state
   pub memory : new.book.memory ≡ memory_archived old.book
   pub rest : IsBookCall old new
+
+-- What a drain leaves: a journal of what is restated; refused for want of memory alone, and then as
+-- it was
+pub record DrainLeaves {X : Type 0} (old : PortParts) (result : Result X PortFault)
+    (new : PortParts) : Type 0 where
+  pub refused : IfErr result (λ why. why ≡ fault.Book OutOfMemory)
+  pub book : OnOk result (new.book.state ≡ book_after_drain old.book.state)
+  pub unchanged : OnErr result (new.book.state ≡ old.book.state)
+  pub memory : KeepsMemory old new
+  pub rest : IsBookCall old new
+
+-- these entries are the journal as it was
+pub record DrainGives (old : PortParts) (result : Result (List Entry) PortFault)
+    (new : PortParts) : Type 0 where
+  pub journal : IfOk result (λ entries. entries ≡ old.book.state.journal)
+  pub leaves : DrainLeaves old result new
+
+-- they stand behind what the list had, and the answer is how many of them are restated
+pub record DrainIntoGives (old : PortParts) (list list_new : List Entry)
+    (result : Result ℕ PortFault) (new : PortParts) : Type 0 where
+  pub journal : OnOk result (list_new ≡ list ++ old.book.state.journal)
+  pub restated : IfOk result (λ count. count ≡ old.book.state.restated)
+  pub kept : OnErr result (list_new ≡ list)
+  pub leaves : DrainLeaves old result new
 
 -- the event kept longest
 -- PORT-5
@@ -264,6 +289,10 @@ CoreCallGives old call.Status reply new = (reply ≡ answered.Status (status_of 
 CoreCallGives old call.Archive reply new =
     (result : Result (List Entry) PortFault) × (reply ≡ archive_reply result)
     × ArchiveGives old result new
+CoreCallGives old call.Drain reply new =
+    (result : Result (List Entry) PortFault)
+    × (reply ≡ drain_reply old.book.state.restated result)
+    × DrainGives old result new
 CoreCallGives old call.Turn reply new = ⊥
 
 module _ {W : Type 0} (facts : WireFacts W) where

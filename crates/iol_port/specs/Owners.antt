@@ -10,6 +10,9 @@ use Rattle.iol_book.specs.declared.entries.Outcome.{Outcome}
 use Rattle.iol_book.specs.declared.entries.Outcome.TheVariants as outcome
 use Rattle.iol_book.specs.declared.entries.Outcome.TheVariants.{NoIsdu}
 use Rattle.iol_book.specs.declared.entries.Ticket.{Ticket}
+use Rattle.iol_book.specs.declared.entries.Entry.{Entry}
+use Rattle.iol_book.specs.BookModel.{BookState}
+use Rattle.iol_book.specs.OneJournal.{entries_since}
 use Rattle.iol_book.specs.Takings.{Taking, taking_of, taking_with_outcome, first_with}
 use Rattle.iol_app.specs.Abstract.Steps.{PortStep, Take, Carry, Done, Unknown, LateCarry, Terms, may_repeat, may_misread}
 use Rattle.iol_port.specs.Steps.{ticket_of}
@@ -20,11 +23,12 @@ pub record Owner : Type 0 where
   pub taking : Taking
   pub answers : List Answer
 
--- the last ticket and the record at the opening; and the owners since, the one taken last first:
--- those of the journal, and those of archived ones
+-- The last ticket and the record at the opening. What drains handed out since the last archive,
+-- each entry once. And the owners, the one taken last first: those since it, and those before
 pub record Owners : Type 0 where
   pub given : ℕ
   pub before : List Carried
+  pub drained : List Entry
   pub current : List Owner
   pub archived : List Owner
 
@@ -67,7 +71,13 @@ owners_after step owners = owners
 
 -- an archive begins a new journal
 abbrev pub owners_after_archive : Owners → Owners
-owners_after_archive owners = record owners { current = []; archived = all owners }
+owners_after_archive owners =
+    record owners { drained = []; current = []; archived = all owners }
+
+-- a drain hands out the entries of this book that none did
+abbrev pub owners_after_drain : BookState → Owners → Owners
+owners_after_drain book owners =
+    record owners { drained = owners.drained ++ entries_since book }
 
 -- What is said of owners
 

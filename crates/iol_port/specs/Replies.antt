@@ -1,5 +1,5 @@
 -- What a call answers, as the list of a run's answers has it.
-use Rattle.std.specs.Prelude.{List, length, Result, Ok, Err}
+use Rattle.std.specs.Prelude.{ℕ, List, length, Result, Ok, Err}
 use Rattle.iol_event.specs.declared.event.Event.{Event}
 use Rattle.iol_book.specs.declared.entries.Entry.{Entry}
 use Rattle.iol_book.specs.declared.entries.Outcome.{Outcome}
@@ -31,6 +31,15 @@ event_reply result = result_reply (λ event. answered.Event event) result
 -- of an archive, how many entries were handed out
 abbrev pub archive_reply : Result (List Entry) PortFault → Answered
 archive_reply result = result_reply (λ entries. answered.Archived (length entries)) result
+
+-- of a drain, how many of them, and how many of these are restated
+abbrev pub drained_answer : ℕ → ℕ → Answered
+drained_answer entries restated =
+    answered.Drained (record { entries = entries; restated = restated })
+
+abbrev pub drain_reply : ℕ → Result (List Entry) PortFault → Answered
+drain_reply restated result =
+    result_reply (λ entries. drained_answer (length entries) restated) result
 
 -- the book's refusals are the port's
 abbrev pub by_book : {X : Type 0} → Result X BookFault → Result X PortFault

@@ -1,15 +1,18 @@
 -- What every call of the abstract port keeps: the journal says where each ticket stands, and the
 -- device's record is that of the owners, who fit what the journal says.
-use Rattle.std.specs.Prelude.{IsSome, drop, ◌≡◌, ◌≤◌, ◌+◌, ◌⊎◌, ℕ, Bool, true, false, List, [], ◌∷◌, ◌++◌, map, Option, Some, None, IsTrue, cond, nat_lt}
+use Rattle.std.specs.Prelude.{length, IsSome, drop, ◌≡◌, ◌≤◌, ◌+◌, ◌⊎◌, ℕ, Bool, true, false, List, [], ◌∷◌, ◌++◌, map, Option, Some, None, IsTrue, cond, nat_lt}
 use Rattle.iol_isdu.specs.declared.values.Request.{Request}
 use Rattle.iol_isdu.specs.declared.values.Answer.{Answer}
 use Rattle.iol_isdu.specs.declared.values.Cause.{Cause}
 use Rattle.iol_book.specs.declared.entries.Outcome.{Outcome}
 use Rattle.iol_book.specs.declared.entries.Outcome.TheVariants.{Unknown, Withdrawn, NoIsdu}
 use Rattle.iol_book.specs.declared.entries.Ticket.{Ticket}
+use Rattle.iol_book.specs.declared.entries.Entry.{Entry}
 use Rattle.iol_book.specs.Numbers.{times_in}
 use Rattle.iol_book.specs.BookModel.{BookState, IsReplayed, leaves_unsure}
 use Rattle.iol_book.specs.Takings.{takings}
+use Rattle.iol_book.specs.Drained.{last_taken}
+use Rattle.iol_book.specs.OneJournal.{entries_since, whole_book}
 use Rattle.iol_app.specs.Abstract.Session.{Job, Session}
 use Rattle.iol_port.specs.Owners.{Owner, Owners, Allowance, IsOneOf, HasEnded, Fits, all, allowance_of, pairs_of, times_of}
 use Rattle.iol_port.specs.Run.{PortState}
@@ -24,14 +27,15 @@ abbrev pub not_under_way : Option Job → List Owner → List Owner
 not_under_way None owners = owners
 not_under_way (Some job) owners = drop 1 owners
 
--- The journal has the takings of the owners, and the device's record their pairs, in the order
--- taken: at most one for each request, and exactly one, with its answer, for each that is done;
--- but for
--- what the allowance is. All have ended but the one under way
+-- The journal, behind what drains handed out before, has the takings of the owners. The device's
+-- record has their pairs, in the order taken: at most one for each request, and exactly one, with
+-- its answer, for each that is done; but for what the allowance is. All but the one under way have
+-- ended
 -- BOOK-10
 pub record RecordFits (allowance : Allowance) (book : BookState) (session : Session)
     (owners : Owners) : Type 0 where
-  pub takings_are : takings book.journal ≡ map (λ owner. owner.taking) owners.current
+  pub takings_are : takings (owners.drained ++ entries_since book)
+      ≡ map (λ owner. owner.taking) owners.current
   pub record_is : session.carried ≡ owners.before ++ pairs_of (all owners)
   pub fit : (owner : Owner) → IsOneOf owner (all owners) → Fits allowance owner
   pub ended : (owner : Owner) → IsOneOf owner (not_under_way session.job (all owners))
@@ -73,6 +77,19 @@ LastTakenIsOpen repeats None (Some request) taken (last ∷ owners) =
     (taken ≡ None) × IsLate repeats request last
 LastTakenIsOpen repeats job late taken owners = ⊥
 
+-- of the request under way, or of the late one, the journal says that it was taken last
+abbrev pub IsToldLast : Option Job → Option Request → Option Ticket → List Owner → Type 0
+IsToldLast None None last owners = Unit {0}
+IsToldLast job late last [] = Unit {0}
+IsToldLast job late last (owner ∷ owners) = last ≡ Some owner.taking.ticket
+
+-- The journal alone says where each ticket stands, and so does the one journal that it makes with
+-- what drains handed out before
+pub record SaysWhere (drained : List Entry) (book : BookState) : Type 0 where
+  pub replayed : IsReplayed book
+  pub whole : IsReplayed (whole_book drained book)
+  pub head : book.restated ≤ length book.journal
+
 -- an outcome is that of a request that was taken, or of one that never was: withdrawn, or denied at
 -- a device without ISDU
 abbrev pub IsOutcome : Bool → List Owner → Ticket → Outcome → Type 0
@@ -89,9 +106,11 @@ times_ever number book owners =
 
 pub record Sound (allowance : Allowance) (book : BookState) (s : Session) (owners : Owners) :
     Type 0 where
-  pub replayed : IsReplayed book
+  pub says : SaysWhere owners.drained book
   pub fits : RecordFits allowance book s owners
   pub opens : LastTakenIsOpen allowance.repeats s.job s.late book.standing.taken owners.current
+  -- so a late request is the one in doubt
+  pub last : IsToldLast s.job s.late (last_taken None book.journal) owners.current
   -- a request may be late only while that isn't sure
   pub sure : book.unsure ≡ false → s.late ≡ None
   -- each ticket is that of one request, and above those that were given before

@@ -1,7 +1,8 @@
 //! A port without a wire, whose line is claimed to be honest.
 #![tactic(auto, using(crate::proofs::HonestRuns::called))]
 
-ghost use Rattle.std.specs.Prelude.{◌≡◌, ◌≤◌, None, Some, IfOk, IfErr, IsTrue, length, is_some};
+ghost use Rattle.std.specs.Prelude.{◌≡◌, ◌<◌, ◌≤◌, ◌+◌, None, Some, IfOk, IfErr, OnErr, IsTrue, length, is_some};
+ghost use Rattle.std.specs.Vec.{vec_len, vec_capacity};
 ghost use Rattle.std.specs.Result.{result_map_both};
 ghost use Rattle.iol_far.specs.Octets.{octets_in};
 ghost use Rattle.iol_far.specs.Far.{Far};
@@ -17,7 +18,7 @@ ghost use Rattle.iol_port.specs.View.{IsNew, IsNewFor};
 ghost use Rattle.iol_port.specs.CorePort.{CoreOpens, CoreOpensFor, awaited_answer, PortSendGives, SendDoes};
 ghost use Rattle.iol_port.specs.CorePort.{PortReceiveGives, ReceiveDoes, WakeGives, WakeDoes};
 ghost use Rattle.iol_port.specs.Called.{Submits, SubmitsUrgent, Collects, Withdraws, Cancels, Restarts, SetsOutput};
-ghost use Rattle.iol_port.specs.Called.{ClearsOutput, Expects, SetsCycle, TakesEvent, Archives};
+ghost use Rattle.iol_port.specs.Called.{ClearsOutput, Expects, SetsCycle, TakesEvent, Archives, Drains, DrainsInto};
 ghost use Rattle.iol_port.specs.Standing.{LinePosition};
 
 use crate::laws::record_fits_journal;
@@ -268,6 +269,33 @@ impl<A: Allocator + Copy> HonestPort<A> {
         ensures within { IfOk result (λ entries. length entries.items ≤ 1000000) }
     {
         self.core.archive()
+    }
+
+    /// As [`PortCore::drain`].
+    pub fn drain(&mut self) -> Result<Vec<Entry, A>, PortFault>
+        ensures is { Drains (Calls self.old self.new) self.old.parts self.new.parts
+            (λ entries. entries.items) result }
+        ensures within { IfOk result (λ entries. length entries.items ≤ 1000000) }
+    {
+        self.core.drain()
+    }
+
+    /// As [`PortCore::drain_into`].
+    pub fn drain_into(&mut self, list: &mut Vec<Entry, A>) -> Result<usize, PortFault>
+        ensures is { DrainsInto (Calls self.old self.new) self.old.parts self.new.parts
+            list.old.items list.new.items result }
+        ensures full { OnErr result (vec_capacity list.old
+            < vec_len list.old + length self.old.parts.book.state.journal) }
+    {
+        self.core.drain_into(list)
+    }
+
+    /// As [`PortCore::restated`].
+    pub fn restated(&self) -> usize
+        ensures value { result ≡ self.now.parts.book.state.restated }
+        ensures within { result ≤ length self.now.parts.book.state.journal }
+    {
+        self.core.restated()
     }
 
     /// What goes out, as [`PortCore::send`] gives it.

@@ -17,12 +17,14 @@ use iol_segment::{cut_is_whole, segments_join, texts_join};
 ///
 /// A port is sound when it is opened, and each run keeps it so, whatever calls and
 /// turns it has, whole or in two pieces with calls between them. Of a sound port the
-/// journal says where each ticket stands, and the record's pairs have their owners, which are the
-/// requests that the journal says were taken: in the order taken, at most one pair for each, and
-/// exactly one, with that answer, for each that is done. Of a request that the device may carry
-/// out more than once, it may have more. At a port for our own devices whose device forgets its
-/// answer once the last segment was sent, the answer that is told may be another than that of the
-/// pair.
+/// journal says where each ticket stands. Joined with what drains handed out since the last
+/// archive it is one journal. The record's pairs have their owners, which are the requests that
+/// this one says were taken: in the order taken, at most one pair for each, and exactly one, with
+/// that answer, for each that is done. A request that was cut off, and that the device may still
+/// carry out, is in doubt by the journal alone: it is the one taken last. Of a request that the
+/// device may carry out more than once, the record may have more pairs. At a port for our own
+/// devices whose device forgets its answer once the last segment was sent, the answer that is told
+/// may be another than that of the pair.
 ///
 /// Rule BOOK-10.
 #[tactic(auto, using(crate::proofs::OwnerRuns::opened_sound, crate::proofs::OwnerRuns::runs_sound, crate::proofs::OwnerRuns::pieces_sound))]
@@ -87,8 +89,8 @@ pub fn runs_join()
 /// that answer.
 ///
 /// The pairs stand behind what the record had at the opening, and no two owners have one ticket,
-/// nor one of them two pairs, across losses, restarts and archives: so each request is carried out
-/// once at most, one that was cut off as well.
+/// nor one of them two pairs, across losses, restarts, drains and archives: so each request is
+/// carried out once at most, one that was cut off as well.
 ///
 /// It is otherwise only at a port for our own devices whose device hands a request over with its
 /// last segment. There a request whose text fits in one START write may have several pairs, next

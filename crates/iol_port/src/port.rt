@@ -1,8 +1,8 @@
 //! One port.
 #![tactic(auto, using(crate::proofs::WireLemmas::call_kept, crate::proofs::WireLemmas::stays, crate::proofs::WireLemmas::stays_by, crate::proofs::WireLemmas::stays_down,))]
 
-ghost use Rattle.std.specs.Prelude.{◌≡◌, ◌≤◌, None, Some, IfOk, IfErr, OnErr, [], length};
-ghost use Rattle.std.specs.Vec.{vec_capacity};
+ghost use Rattle.std.specs.Prelude.{◌≡◌, ◌<◌, ◌≤◌, ◌+◌, None, Some, IfOk, IfErr, OnErr, [], length};
+ghost use Rattle.std.specs.Vec.{vec_len, vec_capacity};
 ghost use Rattle.std.specs.Option.{option_copied};
 ghost use Rattle.std.specs.Result.{result_map_both};
 ghost use Rattle.iol_book.specs.declared.fault.BookFault.TheVariants.{OutOfMemory};
@@ -14,7 +14,7 @@ ghost use Rattle.iol_port.specs.declared.call.Answered.TheVariants as answered;
 ghost use Rattle.iol_port.specs.Run.{port_at_opening};
 ghost use Rattle.iol_port.specs.Asks.{asks_of, IsWireCall};
 ghost use Rattle.iol_port.specs.Called.{Submits, SubmitsUrgent, Collects, Withdraws, Cancels, Restarts, SetsOutput};
-ghost use Rattle.iol_port.specs.Called.{ClearsOutput, Expects, SetsCycle, TakesEvent, Archives, Turns, PublishesAfter};
+ghost use Rattle.iol_port.specs.Called.{ClearsOutput, Expects, SetsCycle, TakesEvent, Archives, Drains, DrainsInto, Turns, PublishesAfter};
 ghost use Rattle.iol_port.specs.Called.{ShowsPage, ShowsCounters, ShowsLastLoss, ShowsImage, ShowsStatus, CoreCalled, MakesCall};
 ghost use Rattle.iol_port.specs.Claim.{Claim};
 ghost use Rattle.iol_port.specs.EveryWire.{PortCallGives, RunGives};
@@ -28,7 +28,7 @@ ghost use Rattle.iol_port.specs.Replies.{ticket_reply, nothing_reply};
 use crate::copies::{copy_of_image, copy_of_request};
 use crate::laws::clean_laws;
 use crate::port_core::PortCore;
-use crate::{Answered, Call, Counters, Counting, PortFault};
+use crate::{Answered, Call, Counters, Counting, Drained, PortFault};
 use iol_app::{Asked, Status};
 use iol_book::{BookFault, Entry, Limits, Outcome, Ticket};
 use iol_cell::{Handle, ImageWriter};
@@ -284,6 +284,33 @@ impl<W: Wire, A: Handle> Port<W, A> {
         self.core.archive()
     }
 
+    /// As [`PortCore::drain`].
+    pub fn drain(&mut self) -> Result<Vec<Entry, A>, PortFault>
+        ensures is { Drains (MakesCall self.old self.new) self.old.parts self.new.parts
+            (λ entries. entries.items) result }
+        ensures within { IfOk result (λ entries. length entries.items ≤ 1000000) }
+    {
+        self.core.drain()
+    }
+
+    /// As [`PortCore::drain_into`].
+    pub fn drain_into(&mut self, list: &mut Vec<Entry, A>) -> Result<usize, PortFault>
+        ensures is { DrainsInto (MakesCall self.old self.new) self.old.parts self.new.parts
+            list.old.items list.new.items result }
+        ensures full { OnErr result (vec_capacity list.old
+            < vec_len list.old + length self.old.parts.book.state.journal) }
+    {
+        self.core.drain_into(list)
+    }
+
+    /// As [`PortCore::restated`].
+    pub fn restated(&self) -> usize
+        ensures value { result ≡ self.now.parts.book.state.restated }
+        ensures within { result ≤ length self.now.parts.book.state.journal }
+    {
+        self.core.restated()
+    }
+
     /// As [`PortCore::asks`].
     pub fn asks(&self) -> Asked
         ensures { result ≡ asks_of self.now.parts }
@@ -353,6 +380,16 @@ impl<W: Wire, A: Handle> Port<W, A> {
                 Ok(entries) => Answered::Archived(entries.len() as u32),
                 Err(fault) => Answered::Refused(fault),
             },
+            Call::Drain => {
+                let restated = self.restated();
+                match self.drain() {
+                    Ok(entries) => Answered::Drained(Drained {
+                        entries: entries.len() as u32,
+                        restated: restated as u32,
+                    }),
+                    Err(fault) => Answered::Refused(fault),
+                }
+            }
             Call::Turn => {
                 self.turn();
                 Answered::Nothing

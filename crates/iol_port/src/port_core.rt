@@ -1,5 +1,6 @@
 //! A port without the wire: it gives the octets to send, and takes what came.
-ghost use Rattle.std.specs.Prelude.{◌≡◌, ◌<◌, ◌≤◌, None, true, false, IfOk, IfErr, IsTrue, length, is_some};
+ghost use Rattle.std.specs.Prelude.{◌≡◌, ◌<◌, ◌≤◌, ◌+◌, None, true, false, IfOk, IfErr, OnErr, IsTrue, length, is_some};
+ghost use Rattle.std.specs.Vec.{vec_len, vec_capacity};
 ghost use Rattle.std.specs.Option.{option_copied};
 ghost use Rattle.std.specs.Result.{result_map_both};
 ghost use Rattle.iol_far.specs.Octets.{octets_in};
@@ -21,7 +22,7 @@ ghost use Rattle.iol_port.specs.Run.{counting_of};
 ghost use Rattle.iol_port.specs.Clean.{CleanTurn};
 ghost use Rattle.iol_port.specs.CorePort.{CoreOpens, CoreOpensFor, CoreKeeps, awaited_answer, PortSendGives, SendDoes, PortReceiveGives, ReceiveDoes, WakeGives, WakeDoes};
 ghost use Rattle.iol_port.specs.Called.{Submits, SubmitsUrgent, Collects, Withdraws, Cancels, Restarts, SetsOutput};
-ghost use Rattle.iol_port.specs.Called.{ClearsOutput, Expects, SetsCycle, TakesEvent, Archives, CoreCalled};
+ghost use Rattle.iol_port.specs.Called.{ClearsOutput, Expects, SetsCycle, TakesEvent, Archives, Drains, DrainsInto, CoreCalled};
 ghost use Rattle.iol_port.specs.Called.{ShowsPage, ShowsCounters, ShowsLastLoss, ShowsImage, ShowsStatus};
 
 use crate::PortFault;
@@ -383,6 +384,48 @@ impl<A: Allocator + Copy> PortCore<A> {
         ensures within { IfOk result (λ entries. length entries.items ≤ 1000000) }
     {
         by_book(self.book.archive())
+    }
+
+    /// Hands the journal out at any time and begins a new one, with what is restated: the entries
+    /// of the tickets that are outstanding or in doubt, in their order. So the journal still says
+    /// alone where each ticket stands, and no client has to stop for it.
+    ///
+    /// The first entries that are handed out, [`restated`](PortCore::restated) of them before this
+    /// call, were handed out by the drain before already. Without these, the journals of all drains
+    /// are one journal. In doubt is a request that was cut off by a lost link or a restart, until
+    /// the device is reset.
+    ///
+    /// The list that is answered takes memory. Refused, with nothing changed, by 24 where there is
+    /// none for it.
+    pub fn drain(&mut self) -> Result<Vec<Entry, A>, PortFault>
+        ensures is { Drains (CoreCalled self.old self.new) self.old self.new
+            (λ entries. entries.items) result }
+        ensures within { IfOk result (λ entries. length entries.items ≤ 1000000) }
+    {
+        by_book(self.book.drain())
+    }
+
+    /// As [`drain`](PortCore::drain), at the end of a list of the caller. Answers how many of the
+    /// entries that were handed out are restated ones.
+    ///
+    /// The list takes memory if it has too little room for the journal, and nothing else does.
+    /// Refused by 24 where there is none for it; port and list are then as they were.
+    pub fn drain_into(&mut self, list: &mut Vec<Entry, A>) -> Result<usize, PortFault>
+        ensures is { DrainsInto (CoreCalled self.old self.new) self.old self.new
+            list.old.items list.new.items result }
+        ensures full { OnErr result (vec_capacity list.old
+            < vec_len list.old + length self.old.book.state.journal) }
+    {
+        by_book(self.book.drain_into(list))
+    }
+
+    /// How many entries at the beginning of the journal are restated: the last drain left them
+    /// there, and handed them out before.
+    pub fn restated(&self) -> usize
+        ensures value { result ≡ self.now.book.state.restated }
+        ensures within { result ≤ length self.now.book.state.journal }
+    {
+        self.book.restated()
     }
 
     /// What the one call of the wire in the next turn will be.

@@ -29,6 +29,8 @@ mod cell;
 #[cfg(test)]
 mod device;
 #[cfg(test)]
+mod drains;
+#[cfg(test)]
 mod honest;
 #[cfg(test)]
 mod links;

@@ -1,12 +1,15 @@
 -- What the calls of C on the journal answer and leave, where the handle is open.
-use Rattle.std.specs.Prelude.{◌≡◌, ℕ, [], length}
+use Rattle.std.specs.Prelude.{◌≡◌, ℕ, [], length, Result, IfOk, OnOk, OnErr}
 use Rattle.std.specs.Vec.{vec_capacity}
 use Rattle.iol_book.specs.declared.fault.BookFault.TheVariants.{Outstanding}
 use Rattle.iol_port.specs.declared.call.Call.TheVariants as call
 use Rattle.iol_port.specs.declared.call.Answered.TheVariants as answered
 use Rattle.iol_port.specs.declared.fault.PortFault.TheVariants as fault
+use Rattle.iol_port.specs.declared.fault.PortFault.{PortFault}
+use Rattle.iol_port.specs.View.{PortParts}
+use Rattle.iol_port.specs.Called.{Drains, CoreCalled}
 use Rattle.iolink_port_c.specs.declared.held.IolPort.{IolPort}
-use Rattle.iolink_port_c.specs.Calls.{held_parts, Stays, CallDoes}
+use Rattle.iolink_port_c.specs.Calls.{held_parts, Stays, CallDoes, answer_number}
 
 -- the journal goes to the handle, which has read none of it
 pub record HandleArchives (old : IolPort) (number count : ℕ) (new : IolPort) : Type 0 where
@@ -23,6 +26,25 @@ pub record RefusesArchive (old : IolPort) (number count : ℕ) (new : IolPort) :
   pub book : (held_parts new).book.state ≡ (held_parts old).book.state
   pub rest : Stays old new
   pub does : CallDoes old call.Archive (answered.Refused (fault.Book Outstanding)) new
+
+-- the port is drained, or there is no memory for it
+abbrev pub PortDrains : PortParts → PortParts → Result (ℕ × ℕ) PortFault → Type 0
+PortDrains old new answer =
+    Drains (CoreCalled old new) old new (λ counts. old.book.state.journal) answer
+
+-- what was drained goes to the handle, which has read none of it, with how many entries it has, and
+-- how many of these are restated; else the journal that the handle keeps stays
+pub record HandleDrains (old : IolPort) (number count restated : ℕ) (new : IolPort) : Type 0 where
+  pub answer : Result (ℕ × ℕ) PortFault
+  pub number_is : number ≡ answer_number answer
+  pub drains : PortDrains (held_parts old) (held_parts new) answer
+  pub counts : IfOk answer (λ counts. (counts.0 ≡ length (held_parts old).book.state.journal)
+      × (counts.1 ≡ (held_parts old).book.state.restated))
+  pub shown : IfOk answer (λ counts. (count ≡ counts.0) × (restated ≡ counts.1))
+  pub kept : OnOk answer (new.held.value.journal.items ≡ (held_parts old).book.state.journal)
+  pub read : OnOk answer (new.held.value.read ≡ 0)
+  pub none : OnErr answer ((count ≡ 0) × (restated ≡ 0))
+  pub stays : OnErr answer (Stays old new)
 
 -- the journal that the handle kept is given back, with its memory
 abbrev pub KeepsNone : IolPort → Type 0

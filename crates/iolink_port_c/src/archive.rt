@@ -1,15 +1,17 @@
 //! The journal, entry by entry.
-ghost use Rattle.std.specs.Prelude.{◌≡◌, ◌+◌, slice_get, IsSome, IsNone, [], IsTrue, IsFalse};
+ghost use Rattle.std.specs.Prelude.{◌≡◌, ◌≤◌, ◌+◌, length, slice_get, IfOk, OnOk, OnErr, IsSome, IsNone, [], IsTrue, IsFalse};
 ghost use Rattle.std.specs.Vec.{vec_capacity};
+ghost use Rattle.iol_book.specs.Limits.{most_entries};
 ghost use Rattle.iol_book.specs.BookModel.{may_archive, book_after_archive, memory_archived};
 ghost use Rattle.iol_port.specs.EveryWire.{IsBookCall};
 ghost use Rattle.iolink_port_c.specs.Calls.{held_parts, LeavesClosed};
-ghost use Rattle.iolink_port_c.specs.JournalCalls.{HandleArchives, RefusesArchive, KeepsNone};
+ghost use Rattle.iolink_port_c.specs.JournalCalls.{HandleArchives, RefusesArchive, HandleDrains, PortDrains, KeepsNone};
 ghost use Rattle.iolink_port_c.specs.Shown.{IsEntry, IsNext, HasNoRequest, HasNoOutcome};
 
 use crate::held::{IolPort, PortWithJournal};
 use crate::outcome::{IolOutcome, show_outcome};
 use iol_book::{Entry, Ticket};
+use iol_port::PortFault;
 use iolink_handle::{CLOSED, IolRequest, show_request};
 use std::alloc::Global;
 
@@ -61,12 +63,7 @@ pub extern "C" fn iol_port_archive(alloc: Global, handle: &mut IolPort, count: &
         → IsBookCall (held_parts handle.old) (held_parts handle.new) }
 {
     let answer = handle.with(alloc, |master| match master.port.archive() {
-        Ok(entries) => {
-            let count = entries.len() as u32;
-            master.journal = entries;
-            master.read = 0;
-            (0, count)
-        }
+        Ok(entries) => (0, keep(master, entries)),
         Err(fault) => (fault.code(), 0),
     });
     match answer {
@@ -78,7 +75,53 @@ pub extern "C" fn iol_port_archive(alloc: Global, handle: &mut IolPort, count: &
     }
 }
 
-/// Hands out the next entry of the journal that was archived last, the oldest
+/// Keeps the journal for `iol_port_entry` at any time, in place of the one that was kept before,
+/// and begins a new one with what is restated: the entries of the tickets that are outstanding or
+/// in doubt.
+///
+/// 0, how many entries it has, and how many of these, the first ones, the drain before kept
+/// already; or the first of 252 where the handle is closed, which leaves `count` and `restated` as
+/// they are, and 24 where there is no memory for the list that is kept: both are 0 then, and the
+/// journal and the one that was kept before stay.
+#[unsafe(no_mangle)]
+pub extern "C" fn iol_port_drain(
+    alloc: Global,
+    handle: &mut IolPort,
+    count: &mut u32,
+    restated: &mut u32,
+) -> u8
+    ensures closed { LeavesClosed result handle.old handle.new count.old count.new }
+    ensures unwritten { LeavesClosed result handle.old handle.new restated.old restated.new }
+    ensures stays { handle.new.is_open ≡ handle.old.is_open }
+    ensures drains { IsTrue handle.old.is_open →
+        HandleDrains handle.old result count.new restated.new handle.new }
+{
+    let (code, entries, head) = match handle.with(alloc, |master| keep_drained(master)) {
+        Some(Ok((entries, head))) => (0, entries, head),
+        Some(Err(fault)) => (fault.code(), 0, 0),
+        None => return CLOSED,
+    };
+    *count = entries;
+    *restated = head;
+    code
+}
+
+// Drains the port, and answers how many entries are kept, and how many of these are restated.
+fn keep_drained(master: &mut PortWithJournal) -> Result<(u32, u32), PortFault>
+    ensures drains { PortDrains master.old.port master.new.port result }
+    ensures counts { IfOk result (λ counts.
+        (counts.0 ≡ length master.old.port.book.state.journal)
+        × (counts.1 ≡ master.old.port.book.state.restated)) }
+    ensures kept { OnOk result (master.new.journal.items ≡ master.old.port.book.state.journal) }
+    ensures read { OnOk result (master.new.read ≡ 0) }
+    ensures stays { OnErr result (master.new ≡ record master.old { port = master.new.port }) }
+{
+    let restated = master.port.restated();
+    let entries = master.port.drain()?;
+    Ok((keep(master, entries), restated as u32))
+}
+
+/// Hands out the next entry of the journal that was archived or drained last, the oldest
 /// first: 0, or 252 where the handle is closed, which leaves `out` as it is. At the
 /// end the kind is 0, and the memory of that journal is given back.
 #[unsafe(no_mangle)]
@@ -103,6 +146,20 @@ pub extern "C" fn iol_port_entry(alloc: Global, handle: &mut IolPort, out: &mut 
         None => return CLOSED,
     }
     0
+}
+
+// Keeps a journal in place of the one that was kept before, and answers how many entries it has.
+fn keep(master: &mut PortWithJournal, entries: Vec<Entry>) -> u32
+    requires { length entries.items ≤ most_entries }
+    ensures count { result ≡ length entries.items }
+    ensures port { master.new.port ≡ master.old.port }
+    ensures journal { master.new.journal ≡ entries }
+    ensures read { master.new.read ≡ 0 }
+{
+    let count = entries.len() as u32;
+    master.journal = entries;
+    master.read = 0;
+    count
 }
 
 fn next_entry(alloc: Global, master: &mut PortWithJournal) -> Option<Entry>
