@@ -16,14 +16,14 @@ use iol_book::{Limits, Ticket};
 use iol_isdu::{Place, Request};
 use iol_port::PortCore;
 
-/// The temperature in tenths of a degree.
-const TEMPERATURE: Place = Place { index: 40, sub: 0 };
+/// By how much it has to get colder until it is no longer hot, in tenths of a degree.
+const HYSTERESIS: Place = Place { index: 40, sub: 0 };
 
 /// The temperature above which there is an event, in tenths of a degree.
-const LIMIT: Place = Place { index: 41, sub: 0 };
+const SWITCHING_POINT: Place = Place { index: 41, sub: 0 };
 
 /// 24 degrees, in tenths.
-const NEW_LIMIT: u16 = 240;
+const NEW_POINT: u16 = 240;
 
 const TURNS: u32 = 60;
 
@@ -58,9 +58,9 @@ fn report(rt: &impl Eprint, port: &mut PortCore, tickets: &[Ticket]) -> Result<(
 fn main(rt: HostRuntime) -> Result<()> {
     let mut port = PortCore::open(rt.alloc(), &Limits::default())?;
     let tickets = [
-        port.submit(Request::read(TEMPERATURE))?,
-        port.submit(Request::write(LIMIT, &NEW_LIMIT.to_be_bytes())?)?,
-        port.submit(Request::read(LIMIT))?,
+        port.submit(Request::read(HYSTERESIS))?,
+        port.submit(Request::write(SWITCHING_POINT, &NEW_POINT.to_be_bytes())?)?,
+        port.submit(Request::read(SWITCHING_POINT))?,
     ];
     for _ in 0..TURNS {
         turn(&rt, &mut port)?;

@@ -1,15 +1,19 @@
 //! The device: what it measures becomes its process data and its events.
-use crate::thermometer::Thermometer;
+use crate::parameters::{HYSTERESIS, SWITCHING_POINT};
 use anyhow::Result;
-use iol_device::{Device, Unkept};
 use iol_event::Event;
 use iol_image::Image;
+use iol_isdu::{Answer, Place};
 use iol_mseq::Message;
-use iol_page::Page;
-use std::cell::Cell;
+use iol_param_device::ParamDevice;
+use iol_params::ErrorType;
+use iol_slots::RamSlots;
 
-/// V1.1, with ISDU, 8 octets of on-request data, 16 bits of process data in, none out.
-const PAGE: [u8; 10] = [0x17, 0x2D, 0x11, 0x10, 0x00, 0x12, 0x34, 0x00, 0x01, 0x07];
+/// 20 degrees, in tenths.
+const FIRST: u16 = 200;
+
+/// Half a degree, in tenths: what a press of a button makes of the switching point.
+const PRESS: u16 = 5;
 
 /// The process variable is out of its range: a warning of the application, with the
 /// two modes that it has.
@@ -19,20 +23,32 @@ const APPEARS: u8 = 0xE4;
 
 const DISAPPEARS: u8 = 0xA4;
 
-/// A device with a thermometer, and whether its last event said that it is hot.
+/// A button of the sensor.
+#[derive(Clone, Copy, Debug, PartialEq, Eq)]
+pub enum Button {
+    /// The switching point is half a degree higher.
+    Up,
+    /// It is half a degree lower.
+    Down,
+    /// Everything is as the sensor left the factory.
+    Reset,
+}
+
+/// A device with a table of parameters, the temperature that it measures, and whether its last
+/// event said that it is hot.
 #[derive(Drop)]
 pub struct Sensor<'a> {
-    device: Device<Thermometer<'a>, Unkept>,
-    temperature: &'a Cell<u16>,
+    device: ParamDevice<'a, RamSlots>,
+    tenths: u16,
     is_hot: bool,
 }
 
 impl<'a> Sensor<'a> {
-    /// A sensor whose record is not kept, so it takes no memory, however long it runs.
-    pub fn new(temperature: &'a Cell<u16>, application: Thermometer<'a>) -> Sensor<'a> {
+    /// A sensor of this device, which needs no more memory, however long it runs.
+    pub fn new(device: ParamDevice<'a, RamSlots>) -> Sensor<'a> {
         Sensor {
-            device: Device::new(application, Page::from_octets(&PAGE)),
-            temperature,
+            device,
+            tenths: FIRST,
             is_hot: false,
         }
     }
@@ -40,10 +56,10 @@ impl<'a> Sensor<'a> {
     /// It is a tenth of a degree warmer than before: the process data follows, and
     /// the events where they are due.
     pub fn measure(&mut self) -> Result<()> {
-        let tenths = self.temperature.get().saturating_add(1);
-        self.temperature.set(tenths);
-        self.device.set_input(&Image::new(&tenths.to_be_bytes())?)?;
-        let is_hot = self.device.app().is_hot();
+        self.tenths = self.tenths.saturating_add(1);
+        self.device
+            .set_input(&Image::new(&self.tenths.to_be_bytes())?)?;
+        let is_hot = self.is_hot_now();
         if is_hot != self.is_hot {
             let qualifier = if is_hot { APPEARS } else { DISAPPEARS };
             self.device.raise(Event {
@@ -53,6 +69,47 @@ impl<'a> Sensor<'a> {
             self.is_hot = is_hot;
         }
         Ok(())
+    }
+
+    /// Whether it is hot: once it was above the switching point, until it is below that by more
+    /// than the hysteresis.
+    fn is_hot_now(&self) -> bool {
+        let point = self.number(SWITCHING_POINT);
+        let width = if self.is_hot {
+            self.number(HYSTERESIS)
+        } else {
+            0
+        };
+        self.tenths > point.saturating_sub(width)
+    }
+
+    /// The number in force at a place.
+    fn number(&self, place: Place) -> u16 {
+        match self.device.manager().read(place) {
+            Answer::Read(octets) => match octets.as_slice() {
+                [high, low] => u16::from_be_bytes([*high, *low]),
+                _ => 0,
+            },
+            Answer::Written | Answer::Refused(..) => 0,
+        }
+    }
+
+    /// A button is pressed. Refused while the master reads or writes what belongs together, or
+    /// has locked local changes.
+    pub fn press(&mut self, button: Button) -> Result<(), ErrorType> {
+        let point = self.number(SWITCHING_POINT);
+        let new = match button {
+            Button::Up => point.saturating_add(PRESS),
+            Button::Down => point.saturating_sub(PRESS),
+            Button::Reset => return self.device.reset(),
+        };
+        self.device.set(SWITCHING_POINT, &new.to_be_bytes())
+    }
+
+    /// The power fails and comes back.
+    pub fn power_cycle(&mut self) {
+        self.device.power_cycle();
+        self.is_hot = false;
     }
 
     pub fn wake(&mut self) {

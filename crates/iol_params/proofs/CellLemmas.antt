@@ -1,6 +1,5 @@
 -- How values lie in their cells.
-use Rattle.std.proofs.Common.{true, false, get_or, ◌&&◌, ◌≡◌, ℕ, ◌+◌, ◌-◌, ◌≤◌, ◌<◌, refl, List, [], ◌∷◌, ◌++◌, ap, arith, drop, take, length, ◌∙◌, sym, min}
-use Rattle.std.specs.Prelude.{slice_index, if◌then◌else◌}
+use Rattle.std.proofs.Common.{true, false, get_or, ◌≡◌, ℕ, ◌+◌, ◌-◌, ◌≤◌, ◌<◌, refl, List, [], ◌∷◌, ◌++◌, ap, arith, drop, take, length, ◌∙◌, sym, min}
 use Rattle.std.proofs.lemmas.Grind.{common_steps}
 use Rattle.std.proofs.lemmas.List.{append_assoc, drop-drop, drop-take, drop_at, take_at, take-take, length-append, length-drop, length-take, length-take-le, take_more, drop_more}
 use Rattle.std.proofs.Math.Seq.{take-append_seam}
@@ -9,7 +8,7 @@ use Rattle.iol_isdu.specs.declared.values.Place.{Place}
 use Rattle.iol_params.specs.declared.member.DataType.TheVariants.{UInteger}
 use Rattle.iol_params.specs.declared.member.IntegerWidth.TheVariants.{One}
 use Rattle.iol_params.specs.declared.member.Access.TheVariants.{ReadOnly}
-use Rattle.iol_params.specs.Members.{fits_type, longest, selects}
+use Rattle.iol_params.specs.Members.{selects}
 use Rattle.iol_params.specs.Values.{room_for, values_in, cell_value, most_of, all_fit, defaults, reset_values, overlay, is_writable, value_at}
 
 -- what indexing answers beyond the members

@@ -1,7 +1,7 @@
 -- Values fit and order rules hold, whatever happens.
 use Rattle.std.specs.Prelude.{if◌then◌else◌, ◌&&◌, ◌||◌, ◌==◌, not, nat_le, nat_lt, length, count_by, ◌+◌}
 use Rattle.std.specs.List.{list_all, list_any}
-use Rattle.std.proofs.Common.{◌≡◌, ℕ, ◌≤◌, Bool, true, false, refl, List, [], ◌∷◌, ◌++◌, Option, Some, None, ap, arith, ◌∙◌, sym, drop, take}
+use Rattle.std.proofs.Common.{◌≡◌, ℕ, ◌≤◌, Bool, true, false, refl, List, [], ◌∷◌, ◌++◌, Option, Some, None, ap, arith, ◌∙◌, drop}
 use Rattle.std.proofs.lemmas.Grind.{common_steps}
 use Rattle.iol_isdu.specs.declared.values.Place.{Place}
 use Rattle.iol_params.specs.declared.error_type.ErrorType.{ErrorType}
@@ -10,7 +10,7 @@ use Rattle.iol_params.specs.declared.table.OrderRule.{OrderRule}
 use Rattle.iol_params.specs.declared.table.Flaw.{Flaw}
 use Rattle.iol_params.specs.declared.table.TableFault.{TableFault}
 use Rattle.iol_params.specs.Members.{fits_type, selects}
-use Rattle.iol_params.specs.Values.{all_fit, overlay, defaults, reset_values, fits_place, value_at, most_of, most_at, least_at, has_stored_number, is_writable, is_stored, holds_rule}
+use Rattle.iol_params.specs.Values.{all_fit, overlay, defaults, reset_values, fits_place, value_at, most_of, most_at, least_at, has_stored_number, is_writable, holds_rule}
 use Rattle.iol_params.specs.declared.state.Scope.{Scope}
 use Rattle.iol_params.specs.declared.state.Scope.TheVariants.{Block, Storage}
 use Rattle.iol_params.specs.declared.state.WritesSoFar.TheVariants.{AllTaken, OneRefused}
@@ -22,9 +22,9 @@ use Rattle.iol_params.specs.declared.error_type.ErrorType.TheVariants.{AccessDen
 use Rattle.iol_params.specs.declared.table.Flaw.TheVariants.{TooManyMembers, ManagedIndex, SubindexOutOfTurn, MixedAccess, BadLength, BadDefault, NoStoredNumber, BrokenAtFirst}
 use Rattle.iol_params.specs.Members.{big_endian}
 use Rattle.iol_params.specs.State.{ParamState, is_at_rest, is_uploading, is_downloading, is_foreign, after_end, with_flag_cleared, with_flag_set}
-use Rattle.iol_params.specs.Table.{ParamTable, table_fault, whole, is_managed, sub_in_turn, is_of_index, differs, has_length, fault_or, first_fault, storage_fault, member_flaw, members_fault, rules_fault, rule_flaw, is_stored_number, are_stored_numbers}
-use Rattle.iol_params.specs.Carry.{local_access_refusal, local_refusal, local_settled, is_stored_at, with_flag_if, first_refusal, place_refusal, access_refusal, content_refusal, alone_refusal, write_refusal, with_write, write_settled, after_refused_write, download_settled, upload_settled, own_command, unless_foreign, command, is_consistent, rules_hold, with_reset}
-use Rattle.iol_params.specs.Laws.{IsConsistent, StaysConsistent, ParamChange, Writing, Setting, Commanding, Over}
+use Rattle.iol_params.specs.Table.{ParamTable, table_fault, whole, is_managed, sub_in_turn, is_of_index, differs, has_length, fault_or, first_fault, storage_fault, member_flaw, members_fault, rules_fault, rule_flaw, is_stored_number}
+use Rattle.iol_params.specs.Carry.{local_access_refusal, local_refusal, local_settled, is_stored_at, with_flag_if, first_refusal, place_refusal, access_refusal, content_refusal, alone_refusal, write_refusal, with_write, write_settled, after_refused_write, download_settled, upload_settled, own_command, unless_foreign, is_consistent, rules_hold, with_reset}
+use Rattle.iol_params.specs.Laws.{IsConsistent, StaysConsistent, Writing, Setting, Commanding, Over}
 
 pub overlay-fits : (ms : List Member) (values : List (List ℕ)) (place : Place) (octets : List ℕ)
     → all_fit ms values ≡ true → fits_place ms place octets ≡ true

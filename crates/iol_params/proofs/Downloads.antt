@@ -1,7 +1,6 @@
 -- What writes do to a download, and what its end makes of it.
 use Rattle.std.specs.Prelude.{is_none, ◌&&◌}
-use Rattle.std.proofs.Common.{◌≡◌, ℕ, Bool, true, false, refl, List, [], ◌∷◌, Option, Some, None, ap, arith, ◌∙◌, sym}
-use Rattle.std.proofs.lemmas.Grind.{common_steps}
+use Rattle.std.proofs.Common.{◌≡◌, ℕ, Bool, true, false, refl, List, [], ◌∷◌, Option, Some, None, ap, ◌∙◌, sym}
 use Rattle.iol_isdu.specs.declared.values.Place.{Place}
 use Rattle.iol_params.specs.declared.error_type.ErrorType.{ErrorType}
 use Rattle.iol_params.specs.declared.state.Activity.{Activity}
@@ -9,15 +8,15 @@ use Rattle.iol_params.specs.declared.state.Scope.{Scope}
 use Rattle.iol_params.specs.declared.state.Scope.TheVariants.{Block, Storage}
 use Rattle.iol_params.specs.declared.state.WritesSoFar.{WritesSoFar}
 use Rattle.iol_params.specs.declared.state.WritesSoFar.TheVariants.{AllTaken, OneRefused}
-use Rattle.iol_params.specs.declared.state.Activity.TheVariants.{Idle, Upload, Download}
+use Rattle.iol_params.specs.declared.state.Activity.TheVariants.{Upload, Download}
 use Rattle.iol_params.specs.declared.state.Locks.{Locks}
 use Rattle.iol_params.specs.declared.state.Command.{Command}
-use Rattle.iol_params.specs.declared.state.Command.TheVariants.{UploadStart, UploadEnd, DownloadStart, DownloadEnd, DownloadStore, Break, ApplicationReset, FactoryReset}
+use Rattle.iol_params.specs.declared.state.Command.TheVariants.{DownloadStart, DownloadEnd, DownloadStore}
 use Rattle.iol_params.specs.Values.{overlay}
 use Rattle.iol_params.specs.Table.{ParamTable}
-use Rattle.iol_params.specs.State.{ParamState, is_foreign, after_end, with_flag_cleared, with_flag_set}
+use Rattle.iol_params.specs.State.{ParamState, after_end, with_flag_cleared, with_flag_set}
 use Rattle.iol_params.specs.Carry.{write, download_settled, write_settled, write_refusal, own_command, unless_foreign, command, is_consistent}
-use Rattle.iol_params.specs.Laws.{after_writes, all_written, with_writes, WholeOrNot, DownloadsAreWhole, is_download_end, UploadsAreOneMoment}
+use Rattle.iol_params.specs.Laws.{after_writes, all_written, with_writes, DownloadsAreWhole, is_download_end, UploadsAreOneMoment}
 
 -- a state in a download
 pub record Kept : Type 0 where

@@ -1,6 +1,5 @@
 -- What clears the flag.
-use Rattle.std.proofs.Common.{◌≡◌, ℕ, Bool, true, false, refl, List, Option, Some, None, ap, arith, ◌∙◌, sym}
-use Rattle.std.proofs.lemmas.Grind.{common_steps}
+use Rattle.std.proofs.Common.{◌≡◌, ℕ, Bool, true, false, refl, List, Option, Some, None, ◌∙◌}
 use Rattle.iol_isdu.specs.declared.values.Place.{Place}
 use Rattle.iol_params.specs.declared.error_type.ErrorType.{ErrorType}
 use Rattle.iol_params.specs.declared.state.Scope.{Scope}
@@ -14,7 +13,7 @@ use Rattle.std.specs.List.{list_any}
 use Rattle.iol_params.specs.Values.{overlay}
 use Rattle.iol_params.specs.Table.{ParamTable}
 use Rattle.iol_params.specs.State.{ParamState, is_foreign, is_uploading, after_end, with_flag_cleared, with_flag_set}
-use Rattle.iol_params.specs.Carry.{local_settled, local_refusal, is_stored_at, with_flag_if, write, write_settled, write_refusal, with_write, download_settled, upload_settled, own_command, unless_foreign, command, is_consistent}
+use Rattle.iol_params.specs.Carry.{local_settled, local_refusal, is_stored_at, with_flag_if, write_settled, write_refusal, with_write, download_settled, upload_settled, own_command, unless_foreign, is_consistent}
 use Rattle.iol_params.specs.Laws.{Writing, Setting, Commanding, Over, FlagStays, may_clear}
 
 pub with_write-flag : (a : Activity) (table : ParamTable) (s : ParamState) (place : Place)

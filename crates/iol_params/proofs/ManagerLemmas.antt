@@ -1,14 +1,13 @@
 -- What a manager does with a write and the end of a download.
-use Rattle.std.specs.Prelude.{◌&&◌, not, nat_lt, length}
-use Rattle.std.proofs.Common.{◌≡◌, ℕ, Bool, true, false, refl, List, Option, Some, None, ap, ◌∙◌, sym}
+use Rattle.std.specs.Prelude.{nat_lt, length}
+use Rattle.std.proofs.Common.{◌≡◌, ℕ, Bool, true, false, refl, List, Some, None}
 use Rattle.iol_isdu.specs.declared.values.Place.{Place}
-use Rattle.iol_params.specs.declared.error_type.ErrorType.{ErrorType}
 use Rattle.iol_params.specs.declared.error_type.ErrorType.TheVariants.{AccessDenied, TooLong, TooShort, ValueOutOfRange, InvalidSet, FunctionUnavailable, InconsistentSet}
 use Rattle.iol_params.specs.declared.member.Member.{Member}
 use Rattle.iol_params.specs.declared.state.WritesSoFar.TheVariants.{AllTaken, OneRefused}
 use Rattle.iol_params.specs.declared.state.Activity.{Activity}
 use Rattle.iol_params.specs.declared.state.Activity.TheVariants.{Idle, Upload, Download}
-use Rattle.iol_params.specs.Values.{all_fit, overlay, fits_place, most_at, least_at}
+use Rattle.iol_params.specs.Values.{overlay, fits_place, most_at, least_at}
 use Rattle.iol_params.specs.Table.{ParamTable}
 use Rattle.iol_params.specs.State.{ParamState, is_at_rest, is_downloading, took_each_write, after_end}
 use Rattle.iol_params.specs.Carry.{is_consistent, first_refusal, place_refusal, access_refusal, content_refusal, alone_refusal, write_refusal, local_access_refusal, local_refusal, download_settled}

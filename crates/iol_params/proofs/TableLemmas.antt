@@ -1,17 +1,16 @@
 -- What a table without a fault is.
-use Rattle.std.specs.Prelude.{if◌then◌else◌, ◌&&◌, ◌||◌, ◌==◌, not, nat_le, length}
+use Rattle.std.specs.Prelude.{if◌then◌else◌, ◌&&◌, not, nat_le, length}
 use Rattle.std.specs.List.{list_any}
-use Rattle.std.proofs.Common.{◌≡◌, ℕ, ◌+◌, ◌≤◌, Bool, true, false, refl, List, [], ◌∷◌, ◌++◌, Option, Some, None, ap, arith, ◌∙◌, sym, length-append}
+use Rattle.std.proofs.Common.{◌≡◌, ℕ, ◌+◌, ◌≤◌, Bool, true, false, refl, List, [], ◌∷◌, Option, Some, None, arith, length-append}
 use Rattle.std.proofs.lemmas.Grind.{common_steps}
 use Rattle.iol_isdu.specs.declared.values.Place.{Place}
 use Rattle.iol_params.specs.declared.member.Member.{Member}
 use Rattle.iol_params.specs.declared.table.OrderRule.{OrderRule}
 use Rattle.iol_params.specs.declared.table.TableFault.{TableFault}
 use Rattle.iol_params.specs.declared.table.Flaw.TheVariants.{TooManyMembers, TooMuchStored, NoStoredNumber, BrokenAtFirst}
-use Rattle.iol_params.specs.Members.{selects, fits_type}
-use Rattle.iol_params.specs.Values.{all_fit, defaults, most_at, most_of, value_at, holds_rule}
-use Rattle.iol_params.specs.Table.{ParamTable, table_fault, members_fault, rules_fault, rule_flaw, member_flaw, is_of_index, whole, is_stored_number, index_list, set_size, storage_fault}
-use Rattle.iol_params.specs.Carry.{is_consistent, rules_hold}
+use Rattle.iol_params.specs.Values.{all_fit, defaults, most_at, value_at, holds_rule}
+use Rattle.iol_params.specs.Table.{table_fault, members_fault, rules_fault, rule_flaw, is_of_index, whole, is_stored_number, index_list, set_size}
+use Rattle.iol_params.specs.Carry.{rules_hold}
 use Rattle.iol_params.specs.SoundTable.{IsSoundTable}
 use Rattle.iol_params.proofs.Consistency.{members-fit, members-length, reset-rules, table-none, storage-none, fault_or-none, rule-none, and-both}
 

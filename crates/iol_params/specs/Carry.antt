@@ -1,27 +1,22 @@
 -- What a manager answers, and what it becomes.
-use Rattle.std.specs.Prelude.{ℕ, Bool, true, false, ◌==◌, ◌&&◌, ◌||◌, not, nat_le, nat_lt, if◌then◌else◌, List, [], ◌∷◌, length, Option, Some, None}
+use Rattle.std.specs.Prelude.{ℕ, Bool, true, false, ◌&&◌, ◌||◌, not, nat_lt, if◌then◌else◌, List, [], ◌∷◌, length, Option, Some, None}
 use Rattle.std.specs.List.{list_any}
 use Rattle.iol_isdu.specs.declared.values.Place.{Place}
-use Rattle.iol_isdu.specs.declared.values.Request.{Request}
-use Rattle.iol_isdu.specs.declared.values.Request.TheVariants as request
-use Rattle.iol_isdu.specs.declared.values.Answer.{Answer}
-use Rattle.iol_isdu.specs.declared.values.Answer.TheVariants as answer
 use Rattle.iol_params.specs.declared.error_type.ErrorType.{ErrorType}
-use Rattle.iol_params.specs.declared.error_type.ErrorType.TheVariants.{IndexNotAvailable, SubindexNotAvailable, AccessDenied, ValueOutOfRange, TooLong, TooShort, FunctionNotAvailable, FunctionUnavailable, InvalidSet, InconsistentSet}
+use Rattle.iol_params.specs.declared.error_type.ErrorType.TheVariants.{IndexNotAvailable, SubindexNotAvailable, AccessDenied, ValueOutOfRange, TooLong, TooShort, FunctionUnavailable, InvalidSet, InconsistentSet}
 use Rattle.iol_params.specs.declared.member.Member.{Member}
 use Rattle.iol_params.specs.declared.table.OrderRule.{OrderRule}
 use Rattle.iol_params.specs.declared.state.Scope.{Scope}
-use Rattle.iol_params.specs.declared.state.Scope.TheVariants.{Block, Storage}
+use Rattle.iol_params.specs.declared.state.Scope.TheVariants.{Storage}
 use Rattle.iol_params.specs.declared.state.WritesSoFar.TheVariants.{AllTaken, OneRefused}
 use Rattle.iol_params.specs.declared.state.Activity.{Activity}
 use Rattle.iol_params.specs.declared.state.Activity.TheVariants.{Idle, Upload, Download}
 use Rattle.iol_params.specs.declared.state.Command.{Command}
 use Rattle.iol_params.specs.declared.state.Command.TheVariants.{UploadStart, UploadEnd, DownloadStart, DownloadEnd, DownloadStore, Break, ApplicationReset, FactoryReset}
-use Rattle.iol_params.specs.Errors.{refusal_answer}
 use Rattle.iol_params.specs.Members.{selects}
-use Rattle.iol_params.specs.Values.{most_at, least_at, value_at, fits_place, overlay, holds_rule, is_writable, is_stored, reset_values}
+use Rattle.iol_params.specs.Values.{most_at, least_at, fits_place, overlay, holds_rule, is_writable, is_stored, reset_values}
 use Rattle.iol_params.specs.Table.{ParamTable, is_of_index}
-use Rattle.iol_params.specs.State.{ParamState, is_at_rest, is_uploading, is_in, is_foreign, after_end, with_flag_cleared, with_flag_set, no_locks}
+use Rattle.iol_params.specs.State.{ParamState, is_at_rest, is_uploading, is_foreign, after_end, with_flag_cleared, with_flag_set, no_locks}
 
 -- whether each order rule holds
 -- PAR-6

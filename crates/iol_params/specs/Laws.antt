@@ -4,10 +4,10 @@ use Rattle.iol_isdu.specs.declared.values.Place.{Place}
 use Rattle.iol_params.specs.declared.error_type.ErrorType.{ErrorType}
 use Rattle.iol_params.specs.declared.member.Member.{Member}
 use Rattle.iol_params.specs.declared.state.Scope.{Scope}
-use Rattle.iol_params.specs.declared.state.Scope.TheVariants.{Block, Storage}
-use Rattle.iol_params.specs.declared.state.Activity.TheVariants.{Idle, Upload, Download}
+use Rattle.iol_params.specs.declared.state.Scope.TheVariants.{Storage}
+use Rattle.iol_params.specs.declared.state.Activity.TheVariants.{Upload}
 use Rattle.iol_params.specs.declared.state.Command.{Command}
-use Rattle.iol_params.specs.declared.state.Command.TheVariants.{UploadStart, UploadEnd, DownloadStart, DownloadEnd, DownloadStore, Break, ApplicationReset, FactoryReset}
+use Rattle.iol_params.specs.declared.state.Command.TheVariants.{UploadEnd, DownloadStart, DownloadEnd, DownloadStore, FactoryReset}
 use Rattle.iol_params.specs.Values.{all_fit, overlay}
 use Rattle.iol_params.specs.Table.{ParamTable, table_fault}
 use Rattle.iol_params.specs.State.{ParamState, is_foreign, is_downloading, after_end}

@@ -6,6 +6,7 @@ pub mod State
 pub mod Commands
 pub mod Carry
 pub mod Manager
+pub mod Image
 pub mod Laws
 pub mod SoundTable
 pub mod Storage

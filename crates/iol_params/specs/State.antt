@@ -1,8 +1,7 @@
 -- What a manager keeps.
-use Rattle.std.specs.Prelude.{ℕ, ◌+◌, ◌*◌, ◌/◌, ◌%◌, Bool, true, false, ◌==◌, ◌&&◌, ◌||◌, not, if◌then◌else◌, List, []}
+use Rattle.std.specs.Prelude.{ℕ, ◌+◌, ◌*◌, ◌/◌, ◌%◌, Bool, true, false, ◌==◌, ◌&&◌, ◌||◌, not, List, []}
 use Rattle.iol_params.specs.declared.state.Scope.{Scope}
 use Rattle.iol_params.specs.declared.state.Scope.TheVariants.{Block, Storage}
-use Rattle.iol_params.specs.declared.state.WritesSoFar.{WritesSoFar}
 use Rattle.iol_params.specs.declared.state.WritesSoFar.TheVariants.{AllTaken, OneRefused}
 use Rattle.iol_params.specs.declared.state.Activity.{Activity}
 use Rattle.iol_params.specs.declared.state.Activity.TheVariants.{Idle, Upload, Download}

@@ -1,10 +1,10 @@
 -- What Data Storage reads of a device (B.2.3).
-use Rattle.std.specs.Prelude.{ℕ, zero, suc, ◌+◌, ◌*◌, ◌/◌, ◌%◌, Bool, true, false, ◌==◌, ◌&&◌, nat_le, if◌then◌else◌, List, [], ◌∷◌, ◌++◌, fold, length, bit_xor}
+use Rattle.std.specs.Prelude.{ℕ, zero, suc, ◌+◌, ◌*◌, ◌/◌, ◌%◌, ◌==◌, if◌then◌else◌, List, [], ◌∷◌, ◌++◌, fold, length, bit_xor}
 use Rattle.iol_params.specs.declared.member.Member.{Member}
 use Rattle.iol_params.specs.declared.state.Scope.TheVariants.{Block, Storage}
 use Rattle.iol_params.specs.declared.state.Activity.{Activity}
 use Rattle.iol_params.specs.declared.state.Activity.TheVariants.{Idle, Upload, Download}
-use Rattle.iol_params.specs.Values.{most_at, value_at, is_stored}
+use Rattle.iol_params.specs.Values.{value_at}
 use Rattle.iol_params.specs.Table.{ParamTable, whole, begins_stored, two_octets, set_size, index_list}
 use Rattle.iol_params.specs.State.{ParamState, bit_of}
 

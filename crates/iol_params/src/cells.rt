@@ -137,7 +137,8 @@ pub(crate) fn set_defaults(members: &[Member], cells: &mut [u8])
 /// How many octets the cells of the members have.
 pub(crate) fn room_for(members: &[Member]) -> usize
     requires { length members.now ≤ 1000 }
-    ensures { result ≡ room_for members.now }
+    ensures value { result ≡ room_for members.now }
+    ensures bound { result ≤ 256000 }
 {
     let mut room = 0;
     for member in members {

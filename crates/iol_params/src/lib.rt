@@ -5,12 +5,14 @@
 //! Storage, access locks and resets (IEC 61131-9, 10.3, 10.4 and B.2, cited from memory). It
 //! stands wholly above a device: `carry` of `specs/Carry` says what it answers and becomes.
 //!
-//! Definitions: `specs/Members`, `Values`, `Table`, `State`, `Carry`; the theorems in `Laws`.
+//! Definitions: `specs/Members`, `Values`, `Table`, `State`, `Carry`, `Image`; the theorems in
+//! `Laws`.
 #![tactic(auto)]
 
 mod carry;
 mod cells;
 mod error_type;
+mod image;
 mod laws;
 mod manager;
 mod member;

@@ -1,11 +1,12 @@
 //! The parameters of a device, and what becomes of them.
 ghost use Rattle.std.specs.Prelude.{◌≡◌, ◌≤◌, ◌++◌, ◌∷◌, [], Option, Some, None, IfOk, IfErr, length, true, false};
 ghost use Rattle.std.specs.Result.{result_err};
-ghost use Rattle.iol_params.specs.Values.{values_in, room_for, defaults, overlay};
+ghost use Rattle.iol_params.specs.Values.{values_in, room_for, defaults, overlay, all_fit};
 ghost use Rattle.iol_params.specs.Table.{is_of_index};
 ghost use Rattle.iol_params.specs.State.{is_uploading, after_end, with_flag_cleared, with_flag_set};
 ghost use Rattle.iol_params.specs.Carry.{write, command, upload_settled, place_refusal, access_refusal, content_refusal, alone_refusal, write_refusal, local_change, local_refusal, download_end, with_reset, rules_hold, is_consistent};
 ghost use Rattle.iol_params.specs.Storage.{storage_value, state_octet};
+ghost use Rattle.iol_params.specs.Image.{with_kept};
 ghost use Rattle.iol_params.specs.Manager.{new_manager, read_answer, IsFitting};
 
 use crate::error_type::ErrorType;
@@ -195,6 +196,46 @@ impl<'a, A: Allocator + Copy> Manager<'a, A> {
         ensures { self.new ≡ record self.old { state = record self.old.state { locks = locks } } }
     {
         self.locks = locks;
+    }
+
+    /// Its table.
+    pub fn table(&self) -> &'a Table<'a>
+        ensures { result.now ≡ self.now.table }
+    {
+        self.table
+    }
+
+    /// The cells of the values in force.
+    pub(crate) fn cells(&self) -> &[u8]
+        ensures values { values_in self.now.table.members result.now ≡ self.now.state.values }
+        ensures room { length result.now ≡ room_for self.now.table.members }
+        ensures fit { all_fit self.now.table.members self.now.state.values ≡ true }
+        ensures rules { is_consistent self.now.table self.now.state.values ≡ true }
+    {
+        &self.values
+    }
+
+    /// The values in these cells are in force, with these locks and this flag; nothing is under
+    /// way, and a flag that is set asks for its event again.
+    pub(crate) fn set_kept(&mut self, cells: &[u8], locks: Locks, flag: bool)
+        requires room { length cells.now ≡ room_for self.old.table.members }
+        requires fit { all_fit self.old.table.members
+            (values_in self.old.table.members cells.now) ≡ true }
+        requires rules { is_consistent self.old.table
+            (values_in self.old.table.members cells.now) ≡ true }
+        ensures { self.new ≡ record self.old {
+          state = with_kept self.old.state (Some (record {
+            values = values_in self.old.table.members cells.now;
+            locks = locks;
+            flag = flag;
+          }));
+        } }
+    {
+        self.values.copy_from_slice(cells);
+        self.activity = Activity::Idle;
+        self.locks = locks;
+        self.flag = flag;
+        self.event_due = flag;
     }
 
     /// The locks.

@@ -1,4 +1,4 @@
-use Rattle.std.proofs.Common.{◌≡◌, ◌≤◌, ◌+◌, ◌∙◌, ◌∷◌, ◌++◌, ℕ, List, ap, sym, arith, get_or, length, take, drop}
+use Rattle.std.proofs.Common.{◌≤◌, ◌+◌, ◌∙◌, ◌++◌, ℕ, List, ap, sym, arith, get_or, length, drop}
 use Rattle.iol_params.specs.Values.{most_of, values_in, value_at, cell_value}
 use Rattle.iol_params.proofs.CellLemmas.{no_member, within-whole, read-here}
 use Rattle.iol_params.proofs.TableLemmas.{value-length}

@@ -1,6 +1,5 @@
-use Rattle.std.proofs.Common.{◌≡◌, ◌≤◌, ◌+◌, ◌∙◌, ap, sym, arith, length, take, drop}
-use Rattle.iol_params.specs.Values.{most_of}
-use Rattle.iol_params.proofs.CellLemmas.{no_member, cells_with, room-more, front-more, length-put, defaults-fit, reset-put, reset-keep}
+use Rattle.std.proofs.Common.{◌∙◌, sym}
+use Rattle.iol_params.proofs.CellLemmas.{no_member, room-more, front-more, length-put, defaults-fit, reset-put, reset-keep}
 use Rattle.iol_params.proofs.cells.reset.Goals as goal
 use Rattle.iol_params.proofs.cells.reset.Goals.{then-is_writable, else-is_writable}
 

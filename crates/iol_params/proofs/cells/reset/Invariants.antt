@@ -1,5 +1,5 @@
-use Rattle.std.proofs.Common.{◌≡◌, ◌<◌, ◌≤◌, ◌+◌, ◌++◌, ◌∷◌, [], true, length, take, drop, ℕ}
-use Rattle.iol_params.specs.Values.{value_at, fits_place, overlay, all_fit, reset_values, room_for, values_in}
+use Rattle.std.proofs.Common.{◌≡◌, ◌+◌, ◌++◌, true, length, take, drop}
+use Rattle.iol_params.specs.Values.{all_fit, reset_values, room_for, values_in}
 use Rattle.iol_params.specs.Values.{defaults}
 use Rattle.iol_params.proofs.cells.reset.Given as goal
 

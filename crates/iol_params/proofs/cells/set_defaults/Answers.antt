@@ -1,7 +1,5 @@
-use Rattle.std.proofs.Common.{◌≡◌, ◌≤◌, ◌+◌, ◌∙◌, ap, sym, arith, length, take, drop}
-use Rattle.std.proofs.lemmas.Grind.{common_steps}
-use Rattle.iol_params.specs.Values.{most_of}
-use Rattle.iol_params.proofs.CellLemmas.{no_member, cells_with, room-more, front-more, length-put, defaults-fit, defaults-more}
+use Rattle.std.proofs.Common.{◌∙◌, sym}
+use Rattle.iol_params.proofs.CellLemmas.{no_member, room-more, front-more, length-put, defaults-fit, defaults-more}
 use Rattle.iol_params.proofs.cells.set_defaults.Goals as goal
 
 pub loop-member-preserved : goal.loop-member-preserved

@@ -1,4 +1,4 @@
-use Rattle.std.proofs.Common.{◌≡◌, ◌≤◌, ◌+◌, ◌∙◌, ℕ, List, ap, sym, arith, get_or, length, take, drop, min}
+use Rattle.std.proofs.Common.{◌≡◌, ◌∙◌, ℕ, List, ap, sym, get_or, length, take, drop, min}
 use Rattle.std.proofs.lemmas.List.{take_min, drop_min}
 use Rattle.iol_params.specs.Values.{most_of}
 use Rattle.iol_params.proofs.CellLemmas.{no_member, cells_with, room-more, front-more, length-put, write-put, write-keep, take-most}

@@ -1,11 +1,10 @@
-use Rattle.std.proofs.Common.{◌≡◌, ◌∙◌, ℕ, List, None, true, sym, ap, arith, length, take, drop}
+use Rattle.std.proofs.Common.{◌∙◌, ap, arith}
 use Rattle.std.proofs.lemmas.Grind.{common_steps}
-use Rattle.iol_params.specs.Values.{all_fit, fits_place, overlay, values_in, defaults, reset_values}
-use Rattle.iol_params.specs.Carry.{is_consistent, write_refusal, local_refusal, content_refusal}
-use Rattle.iol_params.specs.State.{is_at_rest}
-use Rattle.iol_params.specs.Manager.{ManagerValue, manager_view}
-use Rattle.iol_params.proofs.Consistency.{overlay-fits, reset-fits}
-use Rattle.iol_params.proofs.ManagerLemmas.{write-taken, local-taken, content-fits}
+use Rattle.iol_params.specs.Values.{values_in}
+use Rattle.iol_params.specs.Carry.{content_refusal}
+use Rattle.iol_params.specs.Manager.{ManagerValue}
+use Rattle.iol_params.proofs.Consistency.{overlay-fits}
+use Rattle.iol_params.proofs.ManagerLemmas.{content-fits}
 use Rattle.iol_params.proofs.manager.Manager.alone_refusal.Goals as goal
 
 pub are_consistent-requires-clause-fit : goal.are_consistent-requires-clause-fit

@@ -1,0 +1,123 @@
+-- What outlives the power, by what a manager does.
+use Rattle.std.proofs.Common.{◌≡◌, ◌∙◌, ℕ, List, Bool, true, false, Option, Some, None, refl, sym, ap, subst, []}
+use Rattle.iol_isdu.specs.declared.values.Place.{Place}
+use Rattle.iol_slots.specs.declared.slots.Store.{Store}
+use Rattle.iol_slots.specs.Memory.{Memory, AreStored}
+use Rattle.iol_slots.specs.Laws.{EachSaveIsWholeOrNothing}
+use Rattle.iol_slots.specs.Images.{keeping, newest_content}
+use Rattle.iol_params.specs.declared.error_type.ErrorType.{ErrorType}
+use Rattle.iol_params.specs.declared.state.Scope.TheVariants.{Block}
+use Rattle.iol_params.specs.declared.state.Command.TheVariants.{FactoryReset}
+use Rattle.iol_params.specs.declared.state.Activity.TheVariants.{Idle}
+use Rattle.iol_params.specs.Table.{ParamTable}
+use Rattle.iol_params.specs.State.{ParamState, is_foreign}
+use Rattle.iol_params.specs.Carry.{local_change, local_refusal, local_settled, command, own_command, unless_foreign}
+use Rattle.iol_params.specs.Manager.{ManagerValue}
+use Rattle.iol_params.specs.Image.{LastingState, kept_of, kept_in, with_kept, power_up}
+use Rattle.iol_param_device.specs.Saved.{SavedValue, SavesUnless, IsSaved, IsSavedIn, opened_manager}
+use Rattle.iol_param_device.specs.Device.{Both, event_told}
+use Rattle.iol_param_device.specs.Laws.{CutChangesAreWhole}
+
+-- a change that is refused changes nothing
+pub local_refused : (table : ParamTable) (s : ParamState) (place : Place) (octets : List ℕ)
+    (why : ErrorType) → Some why ≡ (local_change table s place octets).0
+    → (local_change table s place octets).1 ≡ s
+local_refused table s place octets why e = by (local_refusal table s place octets) (sym e)
+  where
+    by : (r : Option ErrorType) → (local_settled r table s place octets).0 ≡ Some why
+        → (local_settled r table s place octets).1 ≡ s
+    by (Some other) k = refl
+    by None k = absurd (cc)
+
+pub reset_refused : (table : ParamTable) (s : ParamState) (why : ErrorType)
+    → (command table s Block FactoryReset).0 ≡ Some why
+    → (command table s Block FactoryReset).1 ≡ s
+reset_refused table s why e = by (is_foreign Block s.activity) e
+  where
+    by : (foreign : Bool)
+        → (unless_foreign foreign s (own_command table s Block FactoryReset)).0 ≡ Some why
+        → (unless_foreign foreign s (own_command table s Block FactoryReset)).1 ≡ s
+    by true k = refl
+    by false k = absurd (cc)
+
+-- a state that is what was kept
+abbrev fresh : LastingState → ParamState
+fresh kept = record {
+  values = kept.values;
+  copy = [];
+  activity = Idle;
+  locks = kept.locks;
+  flag = kept.flag;
+  event_due = kept.flag;
+}
+
+power-up-fresh : (table : ParamTable) (l : Option (List ℕ))
+    → power_up table l ≡ fresh (kept_of (power_up table l))
+power-up-fresh table None = refl
+power-up-fresh table (Some octets) = by (kept_in table octets)
+  where
+    by : (k : Option LastingState) → with_kept (power_up table None) k
+        ≡ fresh (kept_of (with_kept (power_up table None) k))
+    by None = refl
+    by (Some kept) = refl
+
+-- the power fails and comes back: what is newest_content is what was kept
+pub power_same : (table : ParamTable) (s : ParamState) (l : Option (List ℕ))
+    → kept_of s ≡ kept_of (power_up table l)
+    → with_kept s (Some (kept_of s)) ≡ power_up table l
+power_same table s l e = ap fresh e ∙ sym (power-up-fresh table l)
+
+-- wherever the power fails, a change is whole or it isn't there
+pub cut-whole : EachSaveIsWholeOrNothing → CutChangesAreWhole
+cut-whole law table memory old new image count fits says saved =
+    let again : Option (List ℕ) → LastingState = λ l. kept_of (power_up table l) in
+    let first : Option LastingState → LastingState =
+    λ k. kept_of (with_kept (power_up table None) k) in (
+      λ part. ap again ((law memory image count fits).0 part) ∙ sym saved,
+      λ all. ap again ((law memory image count fits).1 all) ∙ ap first says,
+    )
+
+-- a manager that is as it was is saved as it was
+pub same-saved : {S : Type 0} (memory : S → Memory) (old new : ManagerValue) (slots : S)
+    (image : List ℕ) → IsSavedIn memory old slots image → new ≡ old
+    → IsSavedIn memory new slots image
+same-saved memory old new slots image saved same =
+    subst (λ m. IsSavedIn memory m slots image) (sym same) saved
+
+-- what a power cycle makes of a saved manager, by what it is seen as
+pub cycled : {S : Type 0} (memory : S → Memory) (old new : ManagerValue) (slots : S)
+    (seen : SavedValue S) → record { manager = old; slots = slots } ≡ seen
+    → IsSaved memory (record { manager = old; slots = slots })
+    → new ≡ record old { state = with_kept old.state (Some (kept_of old.state)) }
+    → record { manager = new; slots = slots }
+    ≡ record seen { manager = opened_manager seen.manager.table (memory seen.slots) }
+cycled {S} memory old new slots seen view saved restarted =
+    let made : ManagerValue → SavedValue S = λ m. record { manager = m; slots = slots } in
+    let state : with_kept old.state (Some (kept_of old.state))
+    ≡ power_up old.table (newest_content (memory slots)) =
+    power_same old.table old.state (newest_content (memory slots)) saved in
+    let opened : SavedValue S → SavedValue S =
+    λ v. record v { manager = opened_manager v.manager.table (memory v.slots) } in
+    ap made (restarted ∙ ap (λ s. record old { state = s }) state) ∙ ap opened view
+
+-- an event that was told changes nothing that outlives the power
+pub told_kept : (told : Bool) (b : Both)
+    → kept_of (event_told told b).state ≡ kept_of b.state
+told_kept true b = refl
+told_kept false b = refl
+
+module _ {S : Type 0} (memory : S → Memory) (gives : S → Store → S → Type 0) where
+  -- saved is what outlives the power, whatever else a manager has
+  pub saves_kept : (unless : Bool) (old : S) (mid new : SavedValue S)
+      → SavesUnless memory unless gives old mid
+      → new.slots ≡ mid.slots → new.manager.table ≡ mid.manager.table
+      → kept_of new.manager.state ≡ kept_of mid.manager.state
+      → SavesUnless memory unless gives old new
+  saves_kept true old mid new done slots table kept = slots ∙ done
+  saves_kept false old mid new done slots table kept = record {
+    image = done.image;
+    says = ap (λ t. kept_in t done.image) table ∙ (done.says ∙ ap Some (sym kept));
+    fits = done.fits;
+    stores = subst (λ s. AreStored gives old (keeping (memory old) done.image) s) (sym slots)
+        done.stores;
+  }

@@ -1,0 +1,4 @@
+pub mod Faults
+pub mod Saved
+pub mod Device
+pub mod Laws

@@ -1,0 +1,3 @@
+pub mod PowerCuts
+pub mod Saves
+pub mod Stores

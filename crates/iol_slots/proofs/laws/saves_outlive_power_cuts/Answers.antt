@@ -1,0 +1,5 @@
+use Rattle.iol_slots.proofs.PowerCuts.{outlive}
+use Rattle.iol_slots.proofs.laws.saves_outlive_power_cuts.Goals as goal
+
+pub returns : goal.returns
+returns c = outlive
