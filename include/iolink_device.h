@@ -22,7 +22,8 @@
  *   251  the handle is a copy of the one that was opened
  *   252  the handle is closed
  *   253  the handle is open already
- *   255  a pointer is null
+ *   254  a number is out of its range
+ *   255  nothing came yet, of which a trace could tell, or a pointer is null
  * Beside each call stand its refusals, in the order in which they are tested: the first that holds is answered. Every
  * call but the openings tests 252 first. What is refused changed nothing, and what a call hands out is written only
  * where it answers 0, so that what `out` points to is as it was.
@@ -62,6 +63,12 @@ typedef struct { uint8_t kind; uint8_t sub; uint16_t index; uint8_t length; uint
 
 /* Process data: `length` octets, none where that is 0. */
 typedef struct { uint8_t length; uint8_t octets[32]; } iol_image;
+
+/* What `iolink trace` prints for one call of a line: `length` bytes of text, with no 0 behind them. A wake-up request has
+ * one line, a message two, that of what was sent and that of what came back; each ends with a line feed. No call has
+ * more bytes than the room here, which is proved. */
+#define IOL_MOST_TRACE_LINE 896
+typedef struct { uint16_t length; char text[IOL_MOST_TRACE_LINE]; } iol_trace_line;
 
 /* What is checked before a call, at the end of each header. */
 #if defined(__cplusplus) || (defined(__STDC_VERSION__) && __STDC_VERSION__ >= 199901L)
@@ -142,6 +149,15 @@ uint8_t iol_device_wake(iol_device *device);
 
 /* The power failed and came back: asleep, with no request, no event and no process data. 252. */
 uint8_t iol_device_power_cycle(iol_device *device);
+
+/* What `iolink trace` prints for the last call of the line: for the wake-up request of iol_device_wake, or for what
+ * iol_device_hear took, with what it sent back. Write it to your log after each of them, and give `iolink judge` or
+ * web/line.html the log. `number` is that of the call: 1 for the first one of a log, for each further one the next.
+ * `rate` is that of the device, 1 to 3 for COM1 to COM3, or 0 if it doesn't answer the wake-up request. Of more than 66
+ * octets the first 66 are shown. It changes nothing. 252, 254 `rate` is above 3, 255 nothing came yet.
+ *
+ * What is lost on its way isn't in a device's log. What came damaged is, and a judge takes it for the master's. */
+uint8_t iol_device_trace_line(iol_device *device, uint64_t number, uint8_t rate, iol_trace_line *out);
 
 /* No message came for longer than you allow: the master counts as silent, and iol_device_output hands out no octet. The
  * MasterCommand ProcessDataOutputOperate ends this, once it is accepted in operate. All else stays, and a request goes
@@ -227,6 +243,10 @@ IOL_CHECKED(device_expects, (iol_device *device, const uint8_t *octets, size_t c
 IOL_CHECKED(device_checksum, (const uint8_t *octets, size_t count), iol_null_refusal(octets != NULL || count == 0),
     (iol_octets_at(octets), count))
 #define iol_device_checksum iol_checked_device_checksum
+
+IOL_CHECKED(device_trace_line, (iol_device *device, uint64_t number, uint8_t rate, iol_trace_line *out),
+    iol_device_misuse(device, out != NULL), (device, number, rate, out))
+#define iol_device_trace_line iol_checked_device_trace_line
 
 IOL_CHECKED(device_wake, (iol_device *device), iol_device_misuse(device, true), (device))
 #define iol_device_wake iol_checked_device_wake

@@ -64,6 +64,12 @@ typedef struct { uint8_t kind; uint8_t sub; uint16_t index; uint8_t length; uint
 /* Process data: `length` octets, none where that is 0. */
 typedef struct { uint8_t length; uint8_t octets[32]; } iol_image;
 
+/* What `iolink trace` prints for one call of a line: `length` bytes of text, with no 0 behind them. A wake-up request has
+ * one line, a message two, that of what was sent and that of what came back; each ends with a line feed. No call has
+ * more bytes than the room here, which is proved. */
+#define IOL_MOST_TRACE_LINE 896
+typedef struct { uint16_t length; char text[IOL_MOST_TRACE_LINE]; } iol_trace_line;
+
 /* What is checked before a call, at the end of each header. */
 #if defined(__cplusplus) || (defined(__STDC_VERSION__) && __STDC_VERSION__ >= 199901L)
 #define IOL_INLINE static inline
@@ -178,6 +184,12 @@ uint8_t iol_port_turn_woken(iol_port *port, uint8_t rate);
  * the next message: an event that no device raised may be handed out, and a read may end with wrong octets though CHKPDU
  * is right, as two equal segments cancel each other in it. */
 uint8_t iol_port_turn_answered(iol_port *port, const uint8_t *octets, size_t count);
+
+/* What `iolink trace` prints for the last call of the line: for what iol_port_turn_woken or iol_port_turn_answered took
+ * last. Write it to your log after each of them that answers 0, and give `iolink judge` or web/line.html the log.
+ * `number` is that of the call: 1 for the first one of a log, for each further one the next. It changes nothing. 252,
+ * 255 nothing was taken yet. */
+uint8_t iol_port_trace_line(iol_port *port, uint64_t number, iol_trace_line *out);
 
 /* The checksum, 0 to 63, of a message or a reply of `count` octets, whose own six bits of it are 0. This is the
  * answer, in place of a refusal; 255 where `octets` is null and `count` isn't 0. */
@@ -372,6 +384,10 @@ IOL_CHECKED(port_turn_woken, (iol_port *port, uint8_t rate), iol_port_misuse(por
 IOL_CHECKED(port_turn_answered, (iol_port *port, const uint8_t *octets, size_t count),
     iol_port_misuse(port, octets != NULL || count == 0), (port, iol_octets_at(octets), count))
 #define iol_port_turn_answered iol_checked_port_turn_answered
+
+IOL_CHECKED(port_trace_line, (iol_port *port, uint64_t number, iol_trace_line *out),
+    iol_port_misuse(port, out != NULL), (port, number, out))
+#define iol_port_trace_line iol_checked_port_trace_line
 
 IOL_CHECKED(port_checksum, (const uint8_t *octets, size_t count), iol_null_refusal(octets != NULL || count == 0),
     (iol_octets_at(octets), count))

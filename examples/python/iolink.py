@@ -1,4 +1,4 @@
-"""IO-Link for Python: a port of a master, a device, a serial line and a trace, over the library `iolink`.
+"""IO-Link for Python: a port of a master with its log, a device and a serial line, over the library `iolink`.
 
 The library is the one that IOLINK_LIBRARY names, or `libiolink.so` where the system finds it (include/install).
 
@@ -28,17 +28,16 @@ What a device refuses, and what isn't known to have been done, are exceptions:
 Traceback (most recent call last):
 iolink.DeviceRefused: ErrorCode 80, AdditionalCode 11
 
-A trace keeps what goes over a line, for `iolink judge` and the page of traces, in the lines of `iolink trace`, which says
-the same in words behind the octets:
+A port keeps a log of its line, for `iolink judge` and the page of traces, in the lines of `iolink trace`:
 
->>> trace = Trace(device)
->>> with Port() as port:
-...     port.read(trace, 24)
+>>> log = []
+>>> with Port(log=log) as port:
+...     port.read(device, 24)
 b'B'
->>> print("\\n".join(trace.lines[:3]))
+>>> print("\\n".join(log[:3]))
 1 wake COM2
-2 > 20 17 97
-2 < 2D
+2 > 20 17 97: write page 00 od 97
+2 < 2D: ack event 0 pd valid
 """
 import ctypes
 import os
@@ -47,7 +46,7 @@ import termios
 import time
 import tty
 from collections import namedtuple
-from ctypes import Structure, byref, c_bool, c_size_t, c_uint8, c_uint16, c_uint32, c_uint64, c_void_p
+from ctypes import Structure, byref, c_bool, c_char, c_size_t, c_uint8, c_uint16, c_uint32, c_uint64, c_void_p
 
 library = ctypes.CDLL(os.environ.get("IOLINK_LIBRARY", "libiolink.so"))
 
@@ -101,6 +100,7 @@ Image = struct("Image", length=c_uint8, octets=c_uint8 * 32)
 Message = struct(
     "Message", length=c_uint8, octets=c_uint8 * 66, reply=c_uint8, kind=c_uint8, od=c_uint8, pd_in=c_uint8, pd_out=c_uint8
 )
+TraceLine = struct("TraceLine", length=c_uint16, text=c_char * 896)
 Reply = struct("Reply", length=c_uint8, octets=c_uint8 * 66)
 Outcome = struct("Outcome", kind=c_uint8, cause=c_uint8, length=c_uint8, octets=c_uint8 * 232)
 Page = struct("Page", length=c_uint8, octets=c_uint8 * 10)
@@ -159,10 +159,14 @@ def counted(octets):
 
 
 class Port(Owner):
-    """A port for any device. `line` has `wake() -> 0 to 3` and `exchange(octets, reply) -> octets`."""
+    """A port for any device. `line` has `wake() -> 0 to 3` and `exchange(octets, reply) -> octets`.
 
-    def __init__(self, journal=1000, busy=100, queue=64, given=0):
+    `log` is a list, to which the lines of each turn are added.
+    """
+
+    def __init__(self, journal=1000, busy=100, queue=64, given=0, log=None):
         super().__init__("port")
+        self.log, self.count = log, 0
         limits = (c_uint32(journal), c_uint16(busy), c_uint8(queue), c_uint64(given))
         self.call("open", *limits)
 
@@ -173,6 +177,15 @@ class Port(Owner):
             self.call("turn_woken", c_uint8(line.wake()))
         else:
             self.call("turn_answered", *counted(line.exchange(bytes(sent), sent.reply)))
+        if self.log is not None:
+            self.keep_lines()
+
+    def keep_lines(self):
+        """Adds the lines of the last call of the line to the log."""
+        self.count += 1
+        out = TraceLine()
+        self.call("trace_line", c_uint64(self.count), byref(out))
+        self.log += out.text[: out.length].decode().splitlines()
 
     def ask_read(self, index, sub=0):
         """The ticket of a read, which later turns carry out."""
@@ -308,26 +321,6 @@ class Device(Owner):
 
     def raise_event(self, qualifier, code):
         self.call("raise", c_uint8(qualifier), c_uint16(code))
-
-
-class Trace:
-    """A line that keeps what goes over another."""
-
-    def __init__(self, line):
-        self.line, self.lines, self.count = line, [], 0
-
-    def wake(self):
-        rate = self.line.wake()
-        self.count += 1
-        self.lines.append(f"{self.count} wake {RATES[rate] or 'none'}")
-        return rate
-
-    def exchange(self, octets, reply):
-        came = self.line.exchange(octets, reply)
-        self.count += 1
-        self.lines.append(f"{self.count} > {octets.hex(' ').upper()}")
-        self.lines.append(f"{self.count} < {came.hex(' ').upper() or 'none'}")
-        return came
 
 
 class Serial:

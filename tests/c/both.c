@@ -208,6 +208,17 @@ static void closed_to_last_loss(void)
     IS(loss.device, 5);
 }
 
+static void closed_to_trace_line(void)
+{
+    iol_port none = {0};
+    iol_device nothing = {0};
+    iol_trace_line line = {5, {5}};
+    IS(iol_port_trace_line(&none, 1, &line), IOL_CLOSED);
+    IS(iol_device_trace_line(&nothing, 1, 4, &line), IOL_CLOSED);
+    IS(line.length, 5);
+    IS(line.text[0], 5);
+}
+
 /* Where it is closed, that is tested before the numbers are. */
 static void closed_to_devices(void)
 {
@@ -662,6 +673,7 @@ int main(void)
     closed_to_devices();
     closed_to_counters();
     closed_to_last_loss();
+    closed_to_trace_line();
     opened_for();
     refusals_at_opening();
     open_both(plain);

@@ -29,6 +29,7 @@ struct room {
     iol_counters counters;
     iol_loss loss;
     iol_entry entry;
+    iol_trace_line line;
     uint32_t entries;
     uint32_t restated;
     uint8_t counts;
@@ -71,7 +72,8 @@ enum { OUTPUT = 0x5A, OUTPUT_BETWEEN = 0xA5 };
     X(entry, LOOKS, (PORT, P(&room.entry)))                                                                            \
     X(page, LOOKS, (PORT, P(&room.page)))                                                                              \
     X(counters, LOOKS, (PORT, P(&room.counters)))                                                                      \
-    X(last_loss, LOOKS, (PORT, P(&room.loss)))
+    X(last_loss, LOOKS, (PORT, P(&room.loss)))                                                                         \
+    X(trace_line, LOOKS, (PORT, 1, P(&room.line)))
 
 #define PLACE(name, end, arguments) CALL_##name,
 enum call { NOTHING, EACH_CALL(PLACE) CALLS };

@@ -69,11 +69,14 @@ static void device_calls(iol_device *device, bool has_others, uint8_t wanted)
     iol_reply reply;
     iol_request request;
     iol_image image;
+    iol_trace_line line;
     uint64_t number = 7;
     uint8_t octet = 7;
     memset(&reply, 7, sizeof reply);
+    memset(&line, 7, sizeof line);
     IS(iol_device_hear(device, OTHER(page), 1, &reply), wanted);
     IS(iol_device_hear(device, page, 1, OTHER(&reply)), wanted);
+    IS(iol_device_trace_line(device, 1, 2, OTHER(&line)), wanted);
     IS(iol_device_expects(device, OTHER(page), 1, &octet), wanted);
     IS(iol_device_expects(device, page, 1, OTHER(&octet)), wanted);
     IS(iol_device_mode(device, OTHER(&octet)), wanted);
@@ -84,6 +87,7 @@ static void device_calls(iol_device *device, bool has_others, uint8_t wanted)
     IS(iol_device_set_input(device, OTHER(page), 1), wanted);
     IS(iol_device_output(device, OTHER(&image)), wanted);
     IS(reply.length, 7);
+    IS(line.text[0], 7);
     IS(number, 7);
     IS(octet, 7);
 }

@@ -1,14 +1,14 @@
 /* How much stack each call takes: what lies below it is painted, the call is made, and what it overwrote is counted.
  * Each has to be called, and to stay below the bound of docs/speed.md, in whatever the runs below lead it to; what is
  * printed is compared with stack.stdout. `stack measure` prints the octets of each, which differ from one machine to
- * another; 256 means 256 or less. It is to run with LD_BIND_NOW=1: else the first call of a function of the C library counts what the
- * dynamic linker needs to find it. */
+ * another; 256 means 256 or less. It is to run with LD_BIND_NOW=1: else the first call of a function of the C library
+ * counts what the dynamic linker needs to find it. */
 #include "calls.h"
 #include "iolink_device.h"
 #include <stdio.h>
 #include <string.h>
 
-enum { KB = 1024, OF_OPENING = 8 * KB, OF_CALL = 4 * KB, ROOM = 64 * KB, SKIPPED = 256, LONGEST = 232 };
+enum { KB = 1024, OF_OPENING_OR_LINE = 8 * KB, OF_CALL = 4 * KB, ROOM = 64 * KB, SKIPPED = 256, LONGEST = 232 };
 
 #define PAINT UINT64_C(0xA5C3A5C3A5C3A5C3)
 
@@ -20,7 +20,7 @@ enum { KB = 1024, OF_OPENING = 8 * KB, OF_CALL = 4 * KB, ROOM = 64 * KB, SKIPPED
     X(iol_device_power_cycle) X(iol_device_expects) X(iol_device_checksum) X(iol_device_cycle_micros)                  \
     X(iol_device_handed) X(iol_device_answer_read) X(iol_device_answer_written) X(iol_device_answer_refused)           \
     X(iol_device_raise) X(iol_device_set_input) X(iol_device_clear_input) X(iol_device_output)                         \
-    X(iol_device_silence) X(iol_device_mode) X(iol_device_cycle_time)
+    X(iol_device_silence) X(iol_device_mode) X(iol_device_cycle_time) X(iol_device_trace_line)
 
 #define AT(name) at_##name,
 #define AT_PORT(name, end, arguments) at_iol_port_##name,
@@ -37,7 +37,8 @@ static size_t bound(int call)
 {
     bool opens = call == at_iol_port_open || call == at_iol_port_open_for || call == at_iol_device_open
         || call == at_iol_device_open_from;
-    return opens ? OF_OPENING : OF_CALL;
+    bool tells = call == at_iol_port_trace_line || call == at_iol_device_trace_line;
+    return opens || tells ? OF_OPENING_OR_LINE : OF_CALL;
 }
 
 /* Paints what lies below the caller, but for the little that this function stands on itself. */
@@ -115,6 +116,7 @@ static void turns(int count, int lost)
     iol_message asked;
     iol_reply reply;
     iol_status status;
+    iol_trace_line line;
     uint8_t expected;
     while (count-- > 0) {
         CALL(iol_port_status, &port, &status);
@@ -122,6 +124,8 @@ static void turns(int count, int lost)
         if (asked.length == 0) {
             CALL(iol_device_wake, &device);
             CALL(iol_port_turn_woken, &port, 2);
+            CALL(iol_port_trace_line, &port, UINT64_MAX, &line);
+            CALL(iol_device_trace_line, &device, UINT64_MAX, 2, &line);
             continue;
         }
         CALL(iol_device_expects, &device, asked.octets, 1, &expected);
@@ -130,6 +134,8 @@ static void turns(int count, int lost)
         if (lost && count % lost == 0)
             reply.length = 0;
         CALL(iol_port_turn_answered, &port, reply.octets, reply.length);
+        CALL(iol_port_trace_line, &port, UINT64_MAX, &line);
+        CALL(iol_device_trace_line, &device, UINT64_MAX, 2, &line);
     }
 }
 
@@ -285,6 +291,7 @@ int main(int count, char **words)
             printf("%s is not %s\n", names[call], deepest[call] == 0 ? "called" : "below its bound");
     }
     if (!measures)
-        printf("of %d KB for opening, and %d KB for any other call\n", OF_OPENING / KB, OF_CALL / KB);
+        printf("of %d KB for an opening or a trace line, and %d KB for any other call\n", OF_OPENING_OR_LINE / KB,
+               OF_CALL / KB);
     return 0;
 }

@@ -1,26 +1,9 @@
--- Texts that are printed one behind the other, for clauses that say what a function prints. Begin
--- with `behind`.
+-- Texts that are printed one behind the other, for clauses that say what a function prints.
+pub use Rattle.iol_print.proofs.PrintedLemmas.{behind}
 use Rattle.std.proofs.Common.{◌≡◌, ℕ, ◌+◌, ◌<◌, Result, OnOk, List, ◌++◌, length, get_or, take, arith, append_assoc, rules}
 use Rattle.std.specs.List.{flat_map}
 use Rattle.std.proofs.lemmas.Grind.{common_steps}
-use Rattle.std.proofs.lemmas.Result.{on_ok_weaker, IfOk-equal}
-use Rattle.iol_commands.specs.Printed.{Adds}
-
--- one text behind another
-pub behind : (old mid new first later : List ℕ) → mid ≡ old ++ first → new ≡ mid ++ later
-    → new ≡ old ++ (first ++ later)
-behind old mid new first later before wrote = rw (wrote, before) (append_assoc old first later)
-
--- the same of a text of which only something is known
-pub adds_behind : {T E : Type 0} (r : Result T E) (old mid new front : List ℕ)
-    (P Q : List ℕ → Type 0) → mid ≡ old ++ front → ((said : List ℕ) → P said → Q (front ++ said))
-    → OnOk r (Adds mid new P) → OnOk r (Adds old new Q)
-adds_behind r old mid new front P Q before holds =
-    on_ok_weaker r (λ more. (
-      front ++ more.0,
-      behind old mid new front more.0 before more.1,
-      holds more.0 more.2,
-    ))
+use Rattle.std.proofs.lemmas.Result.{IfOk-equal}
 
 -- four texts
 pub pieces_printed : {T E : Type 0} (r : Result T E) (old one two three new a b c d : List ℕ)

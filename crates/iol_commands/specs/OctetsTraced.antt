@@ -18,7 +18,7 @@ use Rattle.iol_capture.specs.Judging.{Judging}
 use Rattle.iol_commands.specs.declared.judge_command.JudgeFault.{JudgeFault}
 use Rattle.iol_commands.specs.declared.judge_command.JudgeFault.TheVariants.{Capture, OutOfMemory, WriteFailed}
 use Rattle.iol_commands.specs.JudgePrinted.{Judges}
-use Rattle.iol_commands.specs.Passing.{PrintsExchange, wake_text}
+use Rattle.iol_print.specs.Passing.{PrintsExchange, wake_text}
 use Rattle.iol_commands.specs.TracePrinted.{Flows}
 
 -- A call

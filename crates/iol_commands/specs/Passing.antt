@@ -1,56 +1,17 @@
 -- What `trace` prints for one call of the wire.
-use Rattle.std.specs.Prelude.{◌≡◌, ℕ, Bool, nat_le, Option, Some, None, List, ◌++◌, slice_index, codes}
-use Rattle.std.specs.Fmt.{decimal}
+use Rattle.std.specs.Prelude.{ℕ, List}
 use Rattle.iol_mseq.specs.Shape.{Shape}
-use Rattle.iol_far.specs.Octets.{octets_in}
-use Rattle.iol_link.specs.declared.wire.Rate.{Rate}
-use Rattle.iol_link.specs.declared.wire.Rate.TheVariants.{Com1, Com2, Com3}
+use Rattle.iol_print.specs.LineCalls.{PrintsCall}
+use Rattle.iol_print.specs.declared.line_call.LineCall.{LineCall}
+use Rattle.iol_print.specs.declared.line_call.LineCall.TheVariants as call
 use Rattle.iol_sim.specs.declared.tap.TapNote.{TapNote}
 use Rattle.iol_sim.specs.declared.tap.TapNote.TheVariants.{Wake, Exchange}
-use Rattle.iol_commands.specs.Checked.{PrintsMessage, PrintsReply}
-use Rattle.iol_commands.specs.Printed.{octets_text}
 
--- the rate that a wake was answered with
-abbrev pub rate_name : Option Rate → List ℕ
-rate_name None = codes "none"
-rate_name (Some Com1) = codes "COM1"
-rate_name (Some Com2) = codes "COM2"
-rate_name (Some Com3) = codes "COM3"
-
--- the line of a wake
-abbrev pub wake_text : ℕ → Option Rate → List ℕ
-wake_text number rate = decimal number ++ codes " wake " ++ rate_name rate ++ codes "\n"
-
--- the number of a call, the way that octets went, and they themselves
-abbrev pub line_front : ℕ → List ℕ → List ℕ → List ℕ
-line_front number way octets =
-    decimal number ++ codes " " ++ way ++ octets_text octets ++ codes ": "
-
--- whether a message asks to read, by its first octet
-abbrev pub asks_read : List ℕ → Bool
-asks_read octets = nat_le 128 (slice_index octets 0)
-
--- the line of the octets that the master sent: behind them stands what `check` prints of them
-abbrev pub PrintsSent : ℕ → Shape → List ℕ → List ℕ → Type 0
-PrintsSent number layout octets text = (said : List ℕ) × PrintsMessage layout octets said
-    × (text ≡ line_front number (codes ">") octets ++ said)
-
--- the line of what came back: behind the octets stands what `check` prints of them
--- as the reply to a read or to a write
-abbrev pub PrintsCame : ℕ → Shape → Bool → Option (List ℕ) → List ℕ → Type 0
-PrintsCame number layout read None text = text ≡ decimal number ++ codes " < none\n"
-PrintsCame number layout read (Some octets) text = (said : List ℕ)
-    × PrintsReply layout read octets said × (text ≡ line_front number (codes "<") octets ++ said)
-
--- the lines of an exchange, its octets being messages of this layout
-abbrev pub PrintsExchange : ℕ → Shape → List ℕ → Option (List ℕ) → List ℕ → Type 0
-PrintsExchange number layout sent answer text =
-    (first : List ℕ) × (later : List ℕ) × (text ≡ first ++ later)
-    × PrintsSent number layout sent first
-    × PrintsCame number layout (asks_read sent) answer later
+-- the call of the line that is noted, its octets being messages of this layout
+abbrev pub call_noted : Shape → TapNote → LineCall
+call_noted layout (Wake rate) = call.Wake rate
+call_noted layout (Exchange sent answer) = call.Exchange layout sent answer
 
 -- the lines of a call
 abbrev pub PrintsPassed : ℕ → Shape → TapNote → List ℕ → Type 0
-PrintsPassed number layout (Wake rate) text = text ≡ wake_text number rate
-PrintsPassed number layout (Exchange sent answer) text =
-    PrintsExchange number layout sent.items (octets_in answer) text
+PrintsPassed number layout note text = PrintsCall number (call_noted layout note) text

@@ -31,7 +31,8 @@ use Rattle.iol_port.specs.declared.call.Answered.TheVariants as answered
 use Rattle.iol_port.specs.declared.call.Drained.{Drained}
 use Rattle.iol_port.specs.declared.fault.PortFault.{PortFault}
 use Rattle.iol_port.specs.declared.fault.PortFault.TheVariants.{Book, Output, NoEvent}
-use Rattle.iol_commands.specs.Printed.{hexadecimal, octets_text, number_text}
+use Rattle.iol_print.specs.Printed.{hexadecimal, octets_text}
+use Rattle.iol_commands.specs.Printed.{number_text}
 use Rattle.iol_commands.specs.CountersPrinted.{cause_name, counters_text}
 
 -- Requests and answers

@@ -6,14 +6,15 @@ ghost use Rattle.iol_mseq.specs.Shape.{startup_shape};
 ghost use Rattle.iol_commands.specs.declared.fault.ProgramFault.TheVariants.{Line, NoThread, OutOfMemory, WriteFailed};
 ghost use Rattle.iol_script.specs.CheckLines.{first_bad, parsed_form};
 ghost use Rattle.iol_commands.specs.Printed.{PrintsSome};
-ghost use Rattle.iol_commands.specs.Checked.{asked_layout, layout_after, PrintsLine, PrintsMessage, PrintsReply, PrintsAll};
+ghost use Rattle.iol_commands.specs.Checked.{asked_layout, layout_after, PrintsLine, PrintsAll};
 ghost use Rattle.iol_script.specs.Text.{numbered_lines};
 ghost use Rattle.iol_commands.specs.Input.{AnswersInput};
 
 use crate::fault::ProgramFault;
-use crate::printing::{print_layout, print_message, print_refusal, print_reply};
+use crate::printing::print_layout;
 use crate::streams::{read_input, write_output};
-use iol_mseq::{Layout, MseqFault, read_master, read_reply};
+use iol_mseq::{Layout, MseqFault};
+use iol_print::{print_message_of, print_refusal, print_reply_of};
 use iol_script::{CheckLine, LayoutLine, TextLines};
 use std::alloc::{AllocError, Allocator};
 use std::io::{Read, Write};
@@ -81,9 +82,9 @@ fn answer<A: Allocator>(
             }
             Err(fault) => print_refusal(output, &fault),
         },
-        CheckLine::Master(octets) => answer_message(output, layout, octets.as_slice()),
-        CheckLine::ReadReply(octets) => answer_reply(output, layout, true, octets.as_slice()),
-        CheckLine::WriteReply(octets) => answer_reply(output, layout, false, octets.as_slice()),
+        CheckLine::Master(octets) => print_message_of(output, layout, octets.as_slice()),
+        CheckLine::ReadReply(octets) => print_reply_of(output, layout, true, octets.as_slice()),
+        CheckLine::WriteReply(octets) => print_reply_of(output, layout, false, octets.as_slice()),
     }
 }
 
@@ -94,34 +95,5 @@ fn layout_of(line: LayoutLine) -> Result<Layout, MseqFault>
         LayoutLine::Startup => Ok(Layout::startup()),
         LayoutLine::Preoperate(code) => Layout::preoperate(code),
         LayoutLine::Operate(code, input, output) => Layout::operate(code, input, output),
-    }
-}
-
-/// What the octets of a master message spell.
-pub(crate) fn answer_message<A: Allocator>(
-    output: &mut String<A>,
-    layout: &Layout,
-    octets: &[u8],
-) -> Result<(), AllocError>
-    ensures { PrintsSome result output.old output.new (PrintsMessage layout.now octets.now) }
-{
-    match read_master(layout, octets) {
-        Ok(message) => print_message(output, &message),
-        Err(fault) => print_refusal(output, &fault),
-    }
-}
-
-/// What the octets of the reply to a read or to a write spell.
-pub(crate) fn answer_reply<A: Allocator>(
-    output: &mut String<A>,
-    layout: &Layout,
-    read: bool,
-    octets: &[u8],
-) -> Result<(), AllocError>
-    ensures { PrintsSome result output.old output.new (PrintsReply layout.now read octets.now) }
-{
-    match read_reply(layout, read, octets) {
-        Ok(reply) => print_reply(output, read, &reply),
-        Err(fault) => print_refusal(output, &fault),
     }
 }

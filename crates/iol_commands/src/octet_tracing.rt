@@ -11,11 +11,11 @@ ghost use Rattle.iol_commands.specs.Printed.{PrintsSome};
 ghost use Rattle.iol_commands.specs.OctetsTraced.{FlowsCalls, PrintsItem, PrintsTimed, ReadsEnd, ReadsText, TracesReader, fraction_text, octets_place, rate_answered, time_text};
 
 use crate::judge_command::JudgeFault;
-use crate::passing::{print_exchange, print_wake};
 use crate::tracing::pass_on;
 use iol_capture::{CaptureFault, CaptureForm, CaptureReader, Judgement, SplitItem, TimedCall};
 use iol_judge::{Odd, Wake};
 use iol_link::Rate;
+use iol_print::{print_exchange, print_wake};
 use std::alloc::{AllocError, Allocator};
 use std::io::{Read, Write};
 

@@ -16,7 +16,6 @@ ghost use Rattle.iol_commands.specs.RunPrinted.{carried_text, entries_text, reco
 ghost use Rattle.iol_commands.specs.RunPlayed.{records_text};
 
 use crate::counters_printing::{cause_name, print_counters};
-use crate::printing::{print_hexadecimal, print_octets};
 use iol_app::{Mode, OutputFault, Status};
 use iol_book::{BookFault, Outcome, Ticket};
 use iol_device::Carried;
@@ -26,6 +25,7 @@ use iol_isdu::{Answer, Place, Request};
 use iol_mode::Why;
 use iol_page::Page;
 use iol_port::{Answered, Call, Counting, Drained, PortFault};
+use iol_print::{print_hexadecimal, print_octets};
 use iol_sim::{Params, Sim};
 use std::alloc::{AllocError, Allocator};
 

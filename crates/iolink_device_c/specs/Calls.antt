@@ -11,6 +11,7 @@ use Rattle.iol_device.specs.Faults.{device_fault_number}
 use Rattle.iol_device.specs.Number.{answer_refusal}
 use Rattle.iol_device.specs.declared.app.Apart.{Apart}
 use Rattle.iol_device.specs.declared.fault.DeviceFault.{DeviceFault}
+use Rattle.iol_print.specs.declared.line_call.LineCall.{LineCall}
 use Rattle.iolink_device_c.specs.declared.held.IolDevice.{IolDevice}
 
 -- the device that a handle holds
@@ -29,6 +30,10 @@ number_of handle = (device_of handle).number
 abbrev pub silent_of : IolDevice → Bool
 silent_of handle = (device_of handle).silent
 
+-- the last call of the line, none before the first
+abbrev pub call_heard : IolDevice → Option LineCall
+call_heard handle = handle.held.value.passed
+
 -- a call of a closed handle: refused, with nothing changed
 abbrev pub IsRefused : ℕ → IolDevice → IolDevice → Type 0
 IsRefused result old new = (result ≡ 252) × (new ≡ old)
@@ -43,6 +48,7 @@ pub record GuardsFar (result : ℕ) (old new : IolDevice) : Type 0 where
   pub guards : Guards result old new
   pub number : number_of new ≡ number_of old
   pub silent : silent_of new ≡ silent_of old
+  pub passed : call_heard new ≡ call_heard old
 
 -- What an opening answers and leaves: 253 where the handle is open, the refusal of the page, 24
 -- where there is no memory, else 0 and a device that is new but for its number
@@ -54,6 +60,7 @@ pub record HandleOpensDevice (page : List ℕ) (given : ℕ) (old : IolDevice) (
   pub memory : IsFalse old.is_open → IsOk (layouts_of page) → ¬ (result ≡ 0) → result ≡ 24
   pub kept : ¬ (result ≡ 0) → new ≡ old
   pub opened : result ≡ 0 → new.is_open ≡ true
+  pub passed : result ≡ 0 → call_heard new ≡ None
   pub far : result ≡ 0 → far_of new ≡ new_far page None
   pub number : result ≡ 0 → number_of new ≡ given
   pub silent : result ≡ 0 → silent_of new ≡ false

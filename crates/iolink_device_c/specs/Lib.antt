@@ -1,2 +1,3 @@
 pub mod Calls
 pub mod Shown
+pub mod LineCalls

@@ -1,14 +1,16 @@
 //! Opening and closing, and what comes to pass at a device by itself.
-ghost use Rattle.std.specs.Prelude.{◌≡◌, true, false, IsTrue, IsFalse};
+ghost use Rattle.std.specs.Prelude.{◌≡◌, true, false, Some, None, IsTrue, IsFalse};
 ghost use Rattle.iol_event.specs.Memory.{is_full};
 ghost use Rattle.iol_far.specs.Local.{local, far_after_wake, LocalStep};
-ghost use Rattle.iolink_device_c.specs.Calls.{device_of, far_of, IsRefused, Guards, GuardsFar, HandleOpensDevice};
+ghost use Rattle.iol_print.specs.declared.line_call.LineCall.TheVariants as line;
+ghost use Rattle.iolink_device_c.specs.Calls.{device_of, far_of, number_of, silent_of, call_heard, IsRefused, Guards, GuardsFar, HandleOpensDevice};
 
 use crate::held::{IolDevice, Sensor};
 use core::mem::replace_with;
 use iol_device::{Apart, Device};
 use iol_event::Event;
 use iol_page::Page;
+use iol_print::LineCall;
 use iolink_handle::{CLOSED, IS_OPEN, OUT_OF_MEMORY};
 use std::alloc::Global;
 
@@ -43,7 +45,13 @@ pub extern "C" fn iol_device_open_from(
         return fault.code();
     }
     let device = Device::new_from(Apart, page, given);
-    match Box::new(alloc, Sensor { device }) {
+    match Box::new(
+        alloc,
+        Sensor {
+            device,
+            passed: None,
+        },
+    ) {
         Ok(sensor) => {
             *handle = IolDevice::of(sensor);
             0
@@ -73,9 +81,12 @@ pub extern "C" fn iol_device_close(alloc: Global, handle: &mut IolDevice) -> u8
 /// A wake-up request came: 0, or 252 where the handle is closed.
 #[unsafe(no_mangle)]
 pub extern "C" fn iol_device_wake(alloc: Global, handle: &mut IolDevice) -> u8
-    ensures guards { GuardsFar result handle.old handle.new }
+    ensures guards { Guards result handle.old handle.new }
+    ensures number { number_of handle.new ≡ number_of handle.old }
+    ensures silent { silent_of handle.new ≡ silent_of handle.old }
     ensures far { IsTrue handle.old.is_open → (result ≡ 0)
         × (far_of handle.new ≡ far_after_wake (far_of handle.old)) }
+    ensures passed { IsTrue handle.old.is_open → call_heard handle.new ≡ Some (line.Wake None) }
 {
     if !handle.is_open {
         return CLOSED;
@@ -83,6 +94,7 @@ pub extern "C" fn iol_device_wake(alloc: Global, handle: &mut IolDevice) -> u8
     replace_with(handle, alloc, |handle, alloc| {
         let mut sensor = handle.into_box(alloc);
         sensor.device.wake();
+        sensor.passed = Some(LineCall::Wake(None));
         (IolDevice::of(sensor), ())
     });
     0
@@ -113,6 +125,7 @@ pub extern "C" fn iol_device_silence(alloc: Global, handle: &mut IolDevice) -> u
     ensures guards { Guards result handle.old handle.new }
     ensures silent { IsTrue handle.old.is_open → (result ≡ 0)
         × (device_of handle.new ≡ record (device_of handle.old) { silent = true }) }
+    ensures passed { call_heard handle.new ≡ call_heard handle.old }
 {
     if !handle.is_open {
         return CLOSED;

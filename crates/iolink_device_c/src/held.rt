@@ -3,15 +3,17 @@ ghost use Rattle.std.specs.Prelude.{◌≡◌, Bool, true, false};
 ghost use Rattle.iolink_device_c.specs.declared.held.Sensor.{Sensor};
 
 use iol_device::{Apart, Device, Unkept};
+use iol_print::LineCall;
 use iolink_handle::Loose;
 use std::alloc::Global;
 use std::marker::Model;
 use std::ptr::null_mut;
 
-/// What lies behind the pointer: the device, whose answers C brings.
+/// What lies behind the pointer: the device, whose answers C brings, and the last call of the line.
 #[derive(Drop)]
 pub struct Sensor {
     pub device: Device<Apart, Unkept>,
+    pub passed: Option<LineCall>,
 }
 
 /// A pointer, with the box behind it where it holds one.

@@ -7,10 +7,10 @@
 //! of a device that keeps no record, so that it takes no memory once it is open.
 //!
 //! Each export answers the number of a refusal, or 0. The numbers are those of the
-//! library, 1 to 40, and two of its own ([`iolink_handle`]).
+//! library, 1 to 40, and four of its own ([`iolink_handle`]).
 //!
-//! Definitions stand in `specs/Calls` and `specs/Shown`. Each export says of the handle what the
-//! call of its name says of the device, with numbers for answers.
+//! Definitions stand in `specs/Calls`, `specs/LineCalls` and `specs/Shown`. Each export says of
+//! the handle what the call of its name says of the device, with numbers for answers.
 #![tactic(auto)]
 
 mod device;
@@ -20,3 +20,4 @@ mod message;
 mod process;
 mod request;
 mod state;
+mod trace_line;

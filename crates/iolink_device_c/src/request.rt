@@ -3,7 +3,7 @@ ghost use Rattle.std.specs.Prelude.{◌≡◌, ◌≤◌, ◌<◌, length, unwra
 ghost use Rattle.iol_far.specs.Isdu.{handed_request};
 ghost use Rattle.iol_isdu.specs.declared.values.Answer.TheVariants as answer;
 ghost use Rattle.iol_device.specs.Number.{handed_number};
-ghost use Rattle.iolink_device_c.specs.Calls.{device_of, far_of, number_of, silent_of, Answers, read_of, Guards};
+ghost use Rattle.iolink_device_c.specs.Calls.{device_of, far_of, number_of, silent_of, call_heard, Answers, read_of, Guards};
 ghost use Rattle.iolink_device_c.specs.Shown.{IsShown};
 
 use crate::held::IolDevice;
@@ -62,6 +62,7 @@ fn answered(alloc: Global, handle: &mut IolDevice, number: u64, answer: Answer) 
     ensures answer { Answers number answer handle.old result handle.new }
     ensures number { number_of handle.new ≡ number_of handle.old }
     ensures silent { silent_of handle.new ≡ silent_of handle.old }
+    ensures passed { call_heard handle.new ≡ call_heard handle.old }
 {
     replace_with(
         handle,
@@ -95,6 +96,7 @@ pub extern "C" fn iol_device_answer_read(
         Answers number (read_of octets.now) handle.old result handle.new }
     ensures number { number_of handle.new ≡ number_of handle.old }
     ensures silent { silent_of handle.new ≡ silent_of handle.old }
+    ensures passed { call_heard handle.new ≡ call_heard handle.old }
 {
     if !handle.is_open {
         return CLOSED;
@@ -120,6 +122,7 @@ pub extern "C" fn iol_device_answer_written(
         → Answers number answer.Written handle.old result handle.new }
     ensures number { number_of handle.new ≡ number_of handle.old }
     ensures silent { silent_of handle.new ≡ silent_of handle.old }
+    ensures passed { call_heard handle.new ≡ call_heard handle.old }
 {
     if !handle.is_open {
         return CLOSED;
@@ -145,6 +148,7 @@ pub extern "C" fn iol_device_answer_refused(
         Answers number (answer.Refused code additional) handle.old result handle.new }
     ensures number { number_of handle.new ≡ number_of handle.old }
     ensures silent { silent_of handle.new ≡ silent_of handle.old }
+    ensures passed { call_heard handle.new ≡ call_heard handle.old }
 {
     if !handle.is_open {
         return CLOSED;

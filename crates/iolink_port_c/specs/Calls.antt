@@ -1,18 +1,21 @@
 -- The calls of a port, as C sees them: by a handle, and with numbers in place of answers.
 use Rattle.std.specs.Prelude.{◌≡◌, ℕ, IsFalse, nat_eq, if◌then◌else◌, List, length, Option, Some, None, Result, Ok, Err}
-use Rattle.iol_link.specs.declared.wire.Rate.{Rate}
-use Rattle.iol_link.specs.declared.wire.Rate.TheVariants.{Com1, Com2, Com3}
 use Rattle.iol_port.specs.declared.call.Call.{Call}
 use Rattle.iol_port.specs.declared.call.Answered.{Answered}
 use Rattle.iol_port.specs.declared.fault.PortFault.{PortFault}
 use Rattle.iol_port.specs.Faults.{port_fault_number}
 use Rattle.iol_port.specs.View.{PortParts}
 use Rattle.iol_port.specs.CorePort.{CoreDoes}
+use Rattle.iol_print.specs.declared.line_call.LineCall.{LineCall}
 use Rattle.iolink_port_c.specs.declared.held.IolPort.{IolPort}
 
 -- the parts of the port that a handle holds
 abbrev pub held_parts : IolPort → PortParts
 held_parts handle = handle.held.value.port
+
+-- the last call of the line, none before the first
+abbrev pub call_taken : IolPort → Option LineCall
+call_taken handle = handle.held.value.passed
 
 -- a call of a closed handle: refused, with nothing changed
 abbrev pub ClosedPortIsRefused : ℕ → IolPort → IolPort → Type 0
@@ -26,6 +29,7 @@ LeavesClosed result old new out after =
 -- a call that doesn't fit what waits for its answer: refused, with nothing of the port changed
 abbrev pub IsNotAsked : ℕ → IolPort → IolPort → Type 0
 IsNotAsked result old new = (result ≡ 255) × (held_parts new ≡ held_parts old)
+    × (call_taken new ≡ call_taken old)
 
 -- all stays but the port's parts: the handle is as open as it was, and the archived
 -- journal is what it was
@@ -38,6 +42,13 @@ Stays old new =
 pub record GuardsPort (result : ℕ) (old new : IolPort) : Type 0 where
   pub closed : IsFalse old.is_open → ClosedPortIsRefused result old new
   pub stays : Stays old new
+
+-- the same of a call that takes what came: the last call of the line may change
+pub record GuardsLine (result : ℕ) (old new : IolPort) : Type 0 where
+  pub closed : IsFalse old.is_open → ClosedPortIsRefused result old new
+  pub is_open : new.is_open ≡ old.is_open
+  pub stays : new.held.value
+      ≡ record old.held.value { port = held_parts new; passed = call_taken new }
 
 -- and what is written elsewhere stays where it is closed
 pub record GuardsOut {X : Type 0} (result : ℕ) (old new : IolPort) (out after : X) : Type 0 where
@@ -52,12 +63,6 @@ CallDoes old call answered new = CoreDoes (held_parts old) call answered (held_p
 abbrev pub answer_number : {X : Type 0} → Result X PortFault → ℕ
 answer_number (Ok value) = 0
 answer_number (Err why) = port_fault_number why
-
--- a rate by its number: 0 for no answer, 1 to 3 for COM1 to COM3
-abbrev pub rate_of : ℕ → Option Rate
-rate_of number =
-    if nat_eq number 1 then Some Com1 else if nat_eq number 2 then Some Com2 else if nat_eq number 3
-    then Some Com3 else None
 
 -- what came on the line: nothing where there are no octets
 abbrev pub answer_of : List ℕ → Option (List ℕ)

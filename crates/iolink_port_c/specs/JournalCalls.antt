@@ -9,7 +9,7 @@ use Rattle.iol_port.specs.declared.fault.PortFault.{PortFault}
 use Rattle.iol_port.specs.View.{PortParts}
 use Rattle.iol_port.specs.Called.{Drains, CoreCalled}
 use Rattle.iolink_port_c.specs.declared.held.IolPort.{IolPort}
-use Rattle.iolink_port_c.specs.Calls.{held_parts, Stays, CallDoes, answer_number}
+use Rattle.iolink_port_c.specs.Calls.{held_parts, call_taken, Stays, CallDoes, answer_number}
 
 -- the journal goes to the handle, which has read none of it
 pub record HandleArchives (old : IolPort) (number count : ℕ) (new : IolPort) : Type 0 where
@@ -17,6 +17,7 @@ pub record HandleArchives (old : IolPort) (number count : ℕ) (new : IolPort) :
   pub count_is : count ≡ length (held_parts old).book.state.journal
   pub kept : new.held.value.journal.items ≡ (held_parts old).book.state.journal
   pub read : new.held.value.read ≡ 0
+  pub passed : call_taken new ≡ call_taken old
   pub does : CallDoes old call.Archive (answered.Archived count) new
 
 -- it doesn't: the book, and the journal that the handle keeps, stay as they are
@@ -43,6 +44,7 @@ pub record HandleDrains (old : IolPort) (number count restated : ℕ) (new : Iol
   pub shown : IfOk answer (λ counts. (count ≡ counts.0) × (restated ≡ counts.1))
   pub kept : OnOk answer (new.held.value.journal.items ≡ (held_parts old).book.state.journal)
   pub read : OnOk answer (new.held.value.read ≡ 0)
+  pub passed : call_taken new ≡ call_taken old
   pub none : OnErr answer ((count ≡ 0) × (restated ≡ 0))
   pub stays : OnErr answer (Stays old new)
 

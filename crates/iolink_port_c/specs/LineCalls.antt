@@ -1,5 +1,5 @@
 -- What the calls of C on the line answer and leave, where the handle is open.
-use Rattle.std.specs.Prelude.{◌≡◌, ℕ, List, Option, IsTrue, is_some}
+use Rattle.std.specs.Prelude.{◌≡◌, ℕ, List, Option, Some, None, IsTrue, is_some}
 use Rattle.iol_octets.specs.CheckOctets.{type_bits}
 use Rattle.iol_mseq.specs.Shape.{Shape}
 use Rattle.iol_link.specs.declared.wire.Rate.{Rate}
@@ -8,10 +8,13 @@ use Rattle.iol_app.specs.declared.asked.Asked.TheVariants.{Wake, Exchange}
 use Rattle.iol_app.specs.Pieces.{IsAskedOut}
 use Rattle.iol_port.specs.Asks.{asks_of}
 use Rattle.iol_port.specs.CorePort.{PortSendGives, SendDoes, PortReceiveGives, ReceiveDoes, WakeGives, WakeDoes}
+use Rattle.iol_far.specs.Octets.{octets_in}
+use Rattle.iol_print.specs.declared.line_call.LineCall.{LineCall}
+use Rattle.iol_print.specs.declared.line_call.LineCall.TheVariants as call
 use Rattle.iolink_handle.specs.Shown.{AreShown}
 use Rattle.iolink_port_c.specs.declared.held.IolPort.{IolPort}
 use Rattle.iolink_port_c.specs.declared.line.IolMessage.{IolMessage}
-use Rattle.iolink_port_c.specs.Calls.{held_parts}
+use Rattle.iolink_port_c.specs.Calls.{call_taken, held_parts}
 
 -- the layout of the mode as C is shown it
 abbrev pub IsLaidOut : Shape → IolMessage → Type 0
@@ -36,12 +39,20 @@ pub record HandleSends (old : IolPort) (number : ℕ) (out : IolMessage) (new : 
     pub gives : PortSendGives (held_parts old) (held_parts new)
     pub does : SendDoes (held_parts old) (held_parts new)
 
+-- what was asked for is noted as a message in the layout of the mode, with what came back
+abbrev pub NotesExchange : Asked → Option (List ℕ) → Option LineCall → Type 0
+NotesExchange (Exchange sent) came (Some (call.Exchange layout octets answer)) =
+    (layout ≡ sent.layout) × (octets.items ≡ sent.octets.items) × (octets_in answer ≡ came)
+NotesExchange Wake came noted = noted ≡ None
+NotesExchange asked came noted = ⊥
+
 -- what came back to the message that is out is taken
 pub record HandleReceives (came : Option (List ℕ)) (old : IolPort) (number : ℕ) (new : IolPort) :
     Type 0 where
   pub number_is : number ≡ 0
   pub gives : PortReceiveGives (held_parts old) came (held_parts new)
   pub does : ReceiveDoes (held_parts old) came (held_parts new)
+  pub taken : NotesExchange (asks_of (held_parts old)) came (call_taken new)
 
 -- what came of the wake that is out is taken
 pub record HandleWakes (rate : Option Rate) (old : IolPort)
@@ -49,3 +60,4 @@ pub record HandleWakes (rate : Option Rate) (old : IolPort)
   pub number_is : number ≡ 0
   pub gives : WakeGives (held_parts old) (is_some rate) (held_parts new)
   pub does : WakeDoes (held_parts old) (is_some rate) (held_parts new)
+  pub taken : call_taken new ≡ Some (call.Wake rate)

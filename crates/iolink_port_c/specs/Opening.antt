@@ -7,7 +7,7 @@ use Rattle.iol_mode.specs.declared.configuration.Devices.TheVariants.{Own, Any}
 use Rattle.iol_port.specs.CorePort.{CoreOpensFor}
 use Rattle.iol_port.specs.View.{IsNewFor}
 use Rattle.iolink_port_c.specs.declared.held.IolPort.{IolPort}
-use Rattle.iolink_port_c.specs.Calls.{held_parts}
+use Rattle.iolink_port_c.specs.Calls.{held_parts, call_taken}
 use Rattle.iolink_port_c.specs.JournalCalls.{KeepsNone}
 
 -- the entries of the journal, the busy replies, the tickets outstanding, the last ticket given
@@ -39,3 +39,4 @@ pub record HandleOpens (devices : Option Devices) (limits : Limits) (old : IolPo
   pub parts : number ≡ 0 → IfSome devices (λ those. IsNewFor those limits (held_parts new))
   pub opens : number ≡ 0 → IfSome devices (λ those. CoreOpensFor those limits (held_parts new))
   pub journal : number ≡ 0 → KeepsNone new
+  pub passed : number ≡ 0 → call_taken new ≡ None

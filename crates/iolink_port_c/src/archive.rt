@@ -4,7 +4,7 @@ ghost use Rattle.std.specs.Vec.{vec_capacity};
 ghost use Rattle.iol_book.specs.Limits.{most_entries};
 ghost use Rattle.iol_book.specs.BookModel.{may_archive, book_after_archive, memory_archived};
 ghost use Rattle.iol_port.specs.EveryWire.{IsBookCall};
-ghost use Rattle.iolink_port_c.specs.Calls.{held_parts, LeavesClosed};
+ghost use Rattle.iolink_port_c.specs.Calls.{held_parts, call_taken, LeavesClosed};
 ghost use Rattle.iolink_port_c.specs.JournalCalls.{HandleArchives, RefusesArchive, HandleDrains, PortDrains, KeepsNone};
 ghost use Rattle.iolink_port_c.specs.Shown.{IsEntry, IsNext, HasNoRequest, HasNoOutcome};
 
@@ -114,6 +114,7 @@ fn keep_drained(master: &mut PortWithJournal) -> Result<(u32, u32), PortFault>
         × (counts.1 ≡ master.old.port.book.state.restated)) }
     ensures kept { OnOk result (master.new.journal.items ≡ master.old.port.book.state.journal) }
     ensures read { OnOk result (master.new.read ≡ 0) }
+    ensures passed { master.new.passed ≡ master.old.passed }
     ensures stays { OnErr result (master.new ≡ record master.old { port = master.new.port }) }
 {
     let restated = master.port.restated();
@@ -130,6 +131,7 @@ pub extern "C" fn iol_port_entry(alloc: Global, handle: &mut IolPort, out: &mut 
     ensures stays { handle.new.is_open ≡ handle.old.is_open }
     ensures done { IsTrue handle.old.is_open → result ≡ 0 }
     ensures port { handle.new.held.value.port ≡ handle.old.held.value.port }
+    ensures passed { call_taken handle.new ≡ call_taken handle.old }
     ensures shown { IsTrue handle.old.is_open →
         IsNext (slice_get handle.old.held.value.journal.items handle.old.held.value.read) out.new }
     ensures next { IsTrue handle.old.is_open →
@@ -153,6 +155,7 @@ fn keep(master: &mut PortWithJournal, entries: Vec<Entry>) -> u32
     requires { length entries.items ≤ most_entries }
     ensures count { result ≡ length entries.items }
     ensures port { master.new.port ≡ master.old.port }
+    ensures passed { master.new.passed ≡ master.old.passed }
     ensures journal { master.new.journal ≡ entries }
     ensures read { master.new.read ≡ 0 }
 {
@@ -164,6 +167,7 @@ fn keep(master: &mut PortWithJournal, entries: Vec<Entry>) -> u32
 
 fn next_entry(alloc: Global, master: &mut PortWithJournal) -> Option<Entry>
     ensures port { master.new.port ≡ master.old.port }
+    ensures passed { master.new.passed ≡ master.old.passed }
     ensures entry { result ≡ slice_get master.old.journal.items master.old.read }
     ensures next { IsSome result → master.new ≡ record master.old { read = master.old.read + 1 } }
     ensures end { IsNone result → (master.new.journal.items ≡ [])

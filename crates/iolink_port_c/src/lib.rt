@@ -20,3 +20,4 @@ mod outcome;
 mod port;
 mod request;
 mod state;
+mod trace_line;

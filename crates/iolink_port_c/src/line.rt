@@ -3,17 +3,20 @@ ghost use Rattle.std.specs.Prelude.{◌≡◌, ◌≤◌, ◌<◌, length, IsTru
 ghost use Rattle.iol_port.specs.declared.awaited.AwaitedAnswer.{AwaitedAnswer};
 ghost use Rattle.iol_port.specs.CorePort.{awaited_answer};
 ghost use Rattle.iol_octets.specs.Checksum.{checksum_of};
-ghost use Rattle.iolink_port_c.specs.Calls.{held_parts, IsNotAsked, GuardsPort, GuardsOut};
-ghost use Rattle.iolink_port_c.specs.Calls.{rate_of, answer_of};
-ghost use Rattle.iolink_port_c.specs.LineCalls.{HandleSends, HandleReceives, HandleWakes};
+ghost use Rattle.iolink_port_c.specs.Calls.{held_parts, IsNotAsked, GuardsLine, GuardsOut};
+ghost use Rattle.iol_far.specs.Octets.{octets_in};
+ghost use Rattle.iol_port.specs.Asks.{asks_of};
+ghost use Rattle.iol_print.specs.LineCalls.{rate_of};
+ghost use Rattle.iolink_port_c.specs.Calls.{answer_of};
+ghost use Rattle.iolink_port_c.specs.LineCalls.{HandleSends, HandleReceives, HandleWakes, NotesExchange};
 
 use crate::held::IolPort;
 use iol_app::Asked;
-use iol_link::Rate;
 use iol_mseq::Message;
 use iol_octets::checksum6;
-use iol_port::AwaitedAnswer;
-use iolink_handle::{CLOSED, NOT_ASKED, OUT_OF_RANGE, put};
+use iol_port::{AwaitedAnswer, PortCore};
+use iol_print::{LineCall, rate_numbered};
+use iolink_handle::{CLOSED, NOT_ASKED, OUT_OF_RANGE, copy_of, put};
 use std::alloc::Global;
 
 /// What goes out: `length` octets, or a wake-up request where that is 0, which leaves the rest.
@@ -63,7 +66,7 @@ pub extern "C" fn iol_port_asks(alloc: Global, handle: &mut IolPort, out: &mut I
 /// wake waits for its answer; nothing changed then.
 #[unsafe(no_mangle)]
 pub extern "C" fn iol_port_turn_woken(alloc: Global, handle: &mut IolPort, rate: u8) -> u8
-    ensures guards { GuardsPort result handle.old handle.new }
+    ensures guards { GuardsLine result handle.old handle.new }
     ensures range { IsTrue handle.old.is_open → 3 < rate →
         (result ≡ 254) × (handle.new ≡ handle.old) }
     ensures refused { IsTrue handle.old.is_open → rate ≤ 3 →
@@ -79,26 +82,16 @@ pub extern "C" fn iol_port_turn_woken(alloc: Global, handle: &mut IolPort, rate:
     if rate > 3 {
         return OUT_OF_RANGE;
     }
-    let rate = rate_named(rate);
+    let rate = rate_numbered(rate);
     let code = handle.with(alloc, |master| match master.port.awaits() {
         AwaitedAnswer::Wake => {
             master.port.receive_wake(rate);
+            master.passed = Some(LineCall::Wake(rate));
             0
         }
         AwaitedAnswer::Nothing | AwaitedAnswer::Reply => NOT_ASKED,
     });
     code.unwrap_or(CLOSED)
-}
-
-fn rate_named(number: u8) -> Option<Rate>
-    ensures { result ≡ rate_of number }
-{
-    match number {
-        1 => Some(Rate::Com1),
-        2 => Some(Rate::Com2),
-        3 => Some(Rate::Com3),
-        _ => None,
-    }
 }
 
 /// Takes what came back, in the time of a reply, to the octets that were asked for; nothing did
@@ -109,7 +102,7 @@ fn rate_named(number: u8) -> Option<Rate>
 /// no message waits for its answer; nothing changed then.
 #[unsafe(no_mangle)]
 pub extern "C" fn iol_port_turn_answered(alloc: Global, handle: &mut IolPort, octets: &[u8]) -> u8
-    ensures guards { GuardsPort result handle.old handle.new }
+    ensures guards { GuardsLine result handle.old handle.new }
     ensures long { IsTrue handle.old.is_open → 66 < length octets.now →
         (result ≡ 254) × (handle.new ≡ handle.old) }
     ensures refused { IsTrue handle.old.is_open → length octets.now ≤ 66 →
@@ -128,12 +121,27 @@ pub extern "C" fn iol_port_turn_answered(alloc: Global, handle: &mut IolPort, oc
     let answer = if came.is_empty() { None } else { Some(came) };
     let code = handle.with(alloc, |master| match master.port.awaits() {
         AwaitedAnswer::Reply => {
+            master.passed = exchange_noted(&mut master.port, &answer);
             master.port.receive(&answer);
             0
         }
         AwaitedAnswer::Nothing | AwaitedAnswer::Wake => NOT_ASKED,
     });
     code.unwrap_or(CLOSED)
+}
+
+/// The message that is out, with what came back.
+fn exchange_noted(port: &mut PortCore<Global>, came: &Option<Message>) -> Option<LineCall>
+    requires { awaited_answer port.old ≡ AwaitedAnswer.Reply }
+    ensures same { port.new ≡ port.old }
+    ensures noted { NotesExchange (asks_of port.old) (octets_in came.now) result }
+{
+    match port.send() {
+        Asked::Exchange(sent) => {
+            Some(LineCall::Exchange(sent.layout, sent.octets, copy_of(came)))
+        }
+        Asked::Wake => None,
+    }
 }
 
 /// The checksum, 0 to 63, of a message or a reply whose own six bits of it are 0. It answers that

@@ -91,6 +91,7 @@ fn open_for(
         port,
         journal: Vec::new(alloc),
         read: 0,
+        passed: None,
     };
     match Box::new(alloc, master) {
         Ok(master) => {

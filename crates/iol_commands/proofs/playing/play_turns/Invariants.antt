@@ -2,7 +2,7 @@ use Rattle.std.proofs.Common.{◌-◌, ◌≤◌, replicate}
 use Rattle.std.specs.String.{string_bytes}
 use Rattle.iol_port.specs.View.{over}
 use Rattle.iol_port.specs.declared.call.Call.TheVariants.{Turn}
-use Rattle.iol_commands.specs.Printed.{Adds}
+use Rattle.iol_print.specs.Sink.{Adds}
 use Rattle.iol_commands.specs.RunPlayed.{PortPlays}
 use Rattle.iol_commands.proofs.playing.play_turns.Given as goal
 

@@ -25,4 +25,5 @@ returns-in-Ok-new c =
           held (subst (λ (those : Limits). CoreOpensFor c.args.devices those c.in-Ok.port)
           c.in-Some.ensures.value c.in-Ok.ensures.opens);
       journal = search rules;
+      passed = search rules;
     }
