@@ -1,15 +1,15 @@
 -- A judge that is told what octets are split into blames no device by the rules, for the law
 -- `octets_are_never_blamed`. Begin at the end, with `items_unblamed`.
 use Rattle.std.proofs.Common.{ℕ, zero, suc, List, [], ◌∷◌, length, refl}
-use Rattle.std.specs.Prelude.{map}
+use Rattle.std.specs.Prelude.{fold}
 use Rattle.iol_far.specs.Far.{Far}
 use Rattle.iol_judge.specs.declared.verdict.Wake.{Wake}
 use Rattle.iol_judge.specs.declared.verdict.Wake.TheVariants.{Answered, Unanswered}
 use Rattle.iol_judge.specs.Judged.{JudgeState, judge_after_wake}
-use Rattle.iol_judge.specs.Admitted.{AreUnanswered, IsFair, IsHonestRun, IsWake, NeverBlamed, Passing, is_answered, judge_after_passing, told_all}
+use Rattle.iol_judge.specs.Admitted.{AreUnanswered, IsFair, IsHonestRun, IsWake, NeverBlamed, Passing, is_answered, judge_after_passing}
 use Rattle.iol_judge.specs.Admitted as admitted
-use Rattle.iol_capture.specs.FairSplits.{SaysNothing, items_passed, passing_of, unanswered_before}
-use Rattle.iol_capture.specs.Written.{Fails, Item, Lapses, Passes, Reads, Tests, Wakes, exchange_written, items_told}
+use Rattle.iol_capture.specs.FairSplits.{SaysNothing, exchange_passed, items_passed, judge_after_item, unanswered_before}
+use Rattle.iol_capture.specs.Written.{Fails, Item, Lapses, Passes, Reads, Tests, Wakes, items_told}
 
 -- a row of wake-up requests, and what goes over the line behind the last of them
 record Row (count : ℕ) (wake : Wake) (far : Far) (later : List Passing) : Type 0 where
@@ -46,13 +46,13 @@ module _ (never : NeverBlamed) where
   abbrev Unblamed : List Item → Type 0
   Unblamed items = (judged : JudgeState) (far : Far) (silence : ℕ) → IsFair judged far
       → IsHonestRun far silence (items_passed items)
-      → SaysNothing (told_all judged (map passing_of (items_told items)))
+      → SaysNothing (fold judge_after_item judged (items_told items))
 
   -- of a row the last is told
   row_unblamed : (items : List Item) → Unblamed items → (wake : Wake) (count : ℕ)
       (judged : JudgeState) (far : Far) → IsFair judged far
       → Row count wake far (items_passed items)
-      → SaysNothing (told_all (judge_after_wake judged wake) (map passing_of (items_told items)))
+      → SaysNothing (fold judge_after_item (judge_after_wake judged wake) (items_told items))
   row_unblamed items rest wake count judged far fair row =
       rest (judge_after_wake judged wake) row.new row.silence
       (never.unseen judged far count row.between wake row.new row.row row.last fair) row.rest
@@ -61,13 +61,13 @@ module _ (never : NeverBlamed) where
   items_unblamed [] judged far silence fair run =
       record { unblamed = λ exchange reason e. rw e at fair.state; none_odd = fair.odd }
   items_unblamed (Passes w ∷ items) judged far silence fair (new, silence_new, h, rest) =
-      items_unblamed items (judge_after_passing judged (passing_of (exchange_written w))) new
+      items_unblamed items (judge_after_passing judged (exchange_passed w)) new
       silence_new (never.exchanges judged far silence _ _ new silence_new h fair) rest
   items_unblamed (Reads w ∷ items) judged far silence fair
       (woken, silence_woken, h, (new, silence_new, passed, rest)) =
       let fair_woken = never.wakes_any judged far Unanswered woken h.0 fair in
       items_unblamed items
-      (judge_after_passing (judge_after_wake judged Unanswered) (passing_of (exchange_written w)))
+      (judge_after_passing (judge_after_wake judged Unanswered) (exchange_passed w))
       new silence_new (never.exchanges _ woken silence_woken _ _ new silence_new passed fair_woken)
       rest
   items_unblamed (Wakes time tries t ∷ items) judged far silence fair run =

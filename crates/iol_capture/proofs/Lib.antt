@@ -6,3 +6,4 @@ pub mod FairLemmas
 pub mod ReadLemmas
 pub mod CallLemmas
 pub mod OctetLemmas
+pub mod Cutting

@@ -1,32 +1,34 @@
 -- A judge that is told the octets of a device by the rules, for `honest_octets_are_never_blamed`.
 -- Begin at the end, with `octet_texts`.
 use Rattle.std.proofs.Common.{◌≡◌, ℕ, Option, Some, None, Result, Ok, Err, List, [], ◌∷◌, sym, ap, ◌∙◌, subst, arith}
-use Rattle.std.specs.Prelude.{IfOk, map, option_and_then}
+use Rattle.std.specs.Prelude.{IfOk, fold, option_and_then}
 use Rattle.std.specs.List.{cons_option}
 use Rattle.std.specs.Option.{option_map_or}
 use Rattle.std.specs.Result.{result_map_both}
 use Rattle.iol_judge.specs.Judged.{JudgeState, new_judge, one_more}
-use Rattle.iol_judge.specs.Admitted.{told_all}
 use Rattle.iol_script.specs.Text.{lines_of}
 use Rattle.iol_capture.specs.declared.split_fault.SplitFault.{SplitFault}
 use Rattle.iol_capture.specs.declared.octet_line.OctetLine.{OctetLine}
 use Rattle.iol_capture.specs.declared.octet_line.OctetLine.TheVariants as line
+use Rattle.iol_capture.specs.declared.export.ExportForm.{ExportForm}
 use Rattle.iol_capture.specs.declared.passed.SplitItem.{SplitItem}
-use Rattle.iol_capture.specs.FairSplits.{OctetsNeverBlamed, SaysNothing, judge_after_item, passing_of}
+use Rattle.iol_capture.specs.FairSplits.{OctetsNeverBlamed, SaysNothing, judge_after_item}
 use Rattle.iol_capture.specs.Splitting.{octet_split, wake_split}
 use Rattle.iol_capture.specs.SplitterState.{Splitting, new_splitter}
 use Rattle.iol_capture.specs.SplitSteps.{SplitStep}
+use Rattle.iol_capture.specs.Damage.{damage_split, damaged_before}
+use Rattle.iol_capture.specs.Timed.{begun_untold}
 use Rattle.iol_capture.specs.Written.{all_split, stream_of, with_told}
 use Rattle.iol_capture.specs.declared.telling.Telling.TheVariants.{Octets}
-use Rattle.iol_capture.specs.Judging.{Judging, or_bad_form}
+use Rattle.iol_capture.specs.Judging.{Judging, line_skipped, or_bad_form}
 use Rattle.iol_capture.specs.declared.timed_call.Beginnings.{Beginnings}
 use Rattle.iol_capture.specs.Octets.{Hearing, begun_by_octet, begun_by_request, new_hearing, octet_line_form, passed_by_octet, passed_by_request, hearing_after_line, step_heard}
-use Rattle.iol_capture.specs.HonestCapture.{OctetTextsNeverBlamed, stream_item_of, shown_stream}
+use Rattle.iol_capture.specs.HonestCapture.{OctetTextsNeverBlamed, form_behind, stream_item_of, shown_stream}
 use Rattle.iol_capture.proofs.ReadLemmas.{judged_from, stays_bad}
 
 -- the judge is told what was split
 abbrev split_told : JudgeState → Result (List SplitItem) SplitFault → Result JudgeState SplitFault
-split_told judged = result_map_both (λ what. told_all judged (map passing_of what)) (λ fault. fault)
+split_told judged = result_map_both (λ what. fold judge_after_item judged what) (λ fault. fault)
 
 -- What one step tells
 
@@ -40,20 +42,20 @@ module _ (judging : Judging) where
   abbrev Later : List (List ℕ) → Type 0
   Later lines = (number : ℕ) (old : Hearing)
       → judged_from Octets (Ok old) number lines ≡ Ok judging
-      → split_told old.judging.judged (all_split old.splitting (shown_stream lines))
+      → split_told old.judging.judged (all_split old.splitting (shown_stream old.form lines))
       ≡ Ok judging.judged
 
   -- the judge is told so all that a step tells
-  step_splits : (old : Judging) (new : Option SplitItem → Judging)
+  step_splits : (form : ExportForm) (old : Judging) (new : Option SplitItem → Judging)
       (begun : Option SplitItem → Beginnings)
       → ((passed : Option SplitItem) → told_of old.judged passed ≡ (new passed).judged)
       → (state : Splitting) (result : Result (Option SplitItem) SplitFault) (number : ℕ)
       (lines : List (List ℕ)) → Later lines
-      → judged_from Octets (step_heard new begun (record { state = state; told = result })) number
-      lines ≡ Ok judging
-      → split_told old.judged (with_told result (all_split state (shown_stream lines)))
+      → judged_from Octets (step_heard form new begun (record { state = state; told = result }))
+      number lines ≡ Ok judging
+      → split_told old.judged (with_told result (all_split state (shown_stream form lines)))
       ≡ Ok judging.judged
-  step_splits old new begun told state result number lines later e =
+  step_splits form old new begun told state result number lines later e =
       grind (arith, stays_bad)
 
   form_splits : (form : Option OctetLine) (old : Hearing) (number : ℕ) (lines : List (List ℕ))
@@ -61,33 +63,46 @@ module _ (judging : Judging) where
       lines ≡ Ok judging
       → split_told old.judging.judged
       (all_split old.splitting (cons_option (option_and_then stream_item_of form)
-      (shown_stream lines)))
+      (shown_stream (form_behind old.form form) lines)))
       ≡ Ok judging.judged
   form_splits None old number lines later e = absurd (grind (arith, stays_bad))
   form_splits (Some line.Other) old number lines later e = later number old e
+  form_splits (Some line.Skipped) old number lines later e =
+      later number (record old { judging = line_skipped old.judging }) e
+  form_splits (Some (line.Form form)) old number lines later e =
+      later number (record old { form = form }) e
+  form_splits (Some (line.Damaged time)) old number lines later e =
+      let step : SplitStep = damage_split old.splitting time in
+      step_splits old.form old.judging (passed_by_octet old.judging) (begun_untold old.begun)
+      (λ passed. grind arith) step.state step.told number lines later e
+  form_splits (Some line.DamagedBefore) old number lines later e =
+      let step : SplitStep = damaged_before old.splitting in
+      step_splits old.form old.judging (passed_by_octet old.judging) (begun_untold old.begun)
+      (λ passed. grind arith) step.state step.told number lines later e
   form_splits (Some (line.Octet time octet)) old number lines later e =
       let step : SplitStep = octet_split old.splitting time octet in
-      step_splits old.judging (passed_by_octet old.judging)
+      step_splits old.form old.judging (passed_by_octet old.judging)
       (begun_by_octet old.begun step.state time) (λ passed. grind arith)
       step.state step.told number lines later e
   form_splits (Some (line.Wake time)) old number lines later e =
       let step : SplitStep = wake_split old.splitting time in
-      step_splits old.judging (passed_by_request old.judging) (begun_by_request old.begun time)
+      step_splits old.form old.judging (passed_by_request old.judging)
+      (begun_by_request old.begun time)
       (λ passed. grind arith)
       step.state step.told number lines later e
 
   lines_split : (lines : List (List ℕ)) → Later lines
   lines_split [] number old e = grind arith
   lines_split (line ∷ lines) number old e =
-      form_splits (octet_line_form line) old (one_more number) lines (lines_split lines) e
+      form_splits (octet_line_form old.form line) old (one_more number) lines (lines_split lines) e
 
 -- The law
 
 says_nothing : (old end : JudgeState) (result : Result (List SplitItem) SplitFault)
-    → IfOk result (λ what. SaysNothing (told_all old (map passing_of what)))
+    → IfOk result (λ what. SaysNothing (fold judge_after_item old what))
     → split_told old result ≡ Ok end → SaysNothing end
 says_nothing old end (Ok what) never is =
-    let same : told_all old (map passing_of what) ≡ end = cc in
+    let same : fold judge_after_item old what ≡ end = cc in
     subst SaysNothing same never
 says_nothing old end (Err fault) never is = absurd (cc)
 

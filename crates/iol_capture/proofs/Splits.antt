@@ -14,7 +14,8 @@ use Rattle.iol_capture.specs.declared.splitter.Phase.TheVariants.{Asleep, Waking
 use Rattle.iol_capture.specs.Lengths.{meaning_in, reply_length}
 use Rattle.iol_capture.specs.SplitterState.{Splitting, new_splitter}
 use Rattle.iol_capture.specs.SplitSteps.{SplitStep, good_step}
-use Rattle.iol_capture.specs.Splitting.{answered_with, untold_at_end, exchange_of, is_in_message, layout_begun, looked_as, octet_split, line_after_request, wake_split}
+use Rattle.iol_capture.specs.Splitting.{answered_with, untold_at_end, is_unheard, looked_as, octet_split, line_after_request, wake_split}
+use Rattle.iol_capture.specs.Damage.{exchange_of, layout_begun}
 use Rattle.iol_capture.specs.Waking.{is_test_reply, line_in_startup}
 use Rattle.iol_capture.specs.Written.{AreAnswered, AreTried, AreWritten, Fails, Follow, IsAnswerBehind, TestMayBegin, IsBehind, IsBehindPause, IsNoTestReply, IsSentBehind, IsSpeaking, IsTested, IsVainTest, IsWholeMessage, IsWellWritten, Item, Lapses, Means, NoneWaits, Octet, Passes, Reads, StreamItem, TimedTestRead, TimedTry, Tests, TimedOctet, Wakes, TimedExchange, WrittenIsSplit, all_split, answer_behind, exchange_written, line_after_exchange, exchanged_with, items_told, last_of, line_after_tries, line_after_try, line_awaiting_answer, octets_of_timed, phase_in_test, sent_behind, shown_before, stream_of, test_before, line_after_test, tries_before, try_before, with_told}
 use Rattle.iol_capture.specs.declared.passed.SplitItem.TheVariants as passed
@@ -180,11 +181,11 @@ Splits state items = all_split state (stream_of items)
     ≡ with_told (Ok (untold_at_end state)) (Ok (items_told items))
 
 abbrev AllSplit : List Item → Type 0
-AllSplit items = (state : Splitting) → is_in_message state.phase ≡ false
+AllSplit items = (state : Splitting) → is_unheard state.phase ≡ false
     → AreWritten state items → Splits state items
 
 -- behind the reply to a message, as far as it came
-exchange_split : (over : Splitting) (items : List Item) → is_in_message over.phase ≡ false
+exchange_split : (over : Splitting) (items : List Item) → is_unheard over.phase ≡ false
     → AllSplit items → AreWritten (exchanged_with over) items
     → untold_at_end over ≡ Some (exchange_of over)
     → behind (answered_with over) (stream_of items) ≡ told_of (exchange_of over) items
@@ -212,7 +213,7 @@ exchange_told state layout w meaning items ends now all later =
 
 -- Test reads
 
-request_told : (state : Splitting) (time : ℕ) → is_in_message state.phase ≡ false
+request_told : (state : Splitting) (time : ℕ) → is_unheard state.phase ≡ false
     → state.last ≤ time → wake_split state time
     ≡ good_step (line_after_request state time) (untold_at_end state)
 request_told state time free h = grind (arith, nat_tests)
@@ -406,7 +407,7 @@ row_lapsed : (state : Splitting) (items : List Item) → AllSplit items → stat
     → AreWritten state items
     → all_split state (stream_of items) ≡ told_of (passed.Wake Unanswered) items
 row_lapsed state items all is written =
-    all state (ap is_in_message is) written
+    all state (ap is_unheard is) written
     ∙ ap (λ phase. with_told (Ok (untold_at_end (record state { phase = phase })))
     (Ok (items_told items))) is
 

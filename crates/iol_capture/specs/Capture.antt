@@ -1,5 +1,5 @@
 -- A whole text, told to a judge line by line.
-use Rattle.std.specs.Prelude.{◌≡◌, ℕ, false, ◌==◌, Option, None, is_some, option_and_then, Result, Ok, Err, List, [], ◌∷◌, ◌++◌, fold, if◌then◌else◌}
+use Rattle.std.specs.Prelude.{◌≡◌, ℕ, Bool, false, ◌==◌, Option, None, is_some, option_and_then, Result, Ok, Err, List, [], ◌∷◌, ◌++◌, fold, if◌then◌else◌}
 use Rattle.std.specs.List.{cons_option, list_any}
 use Rattle.std.specs.Result.{result_map_both}
 use Rattle.iol_judge.specs.Judged.{one_more}
@@ -8,7 +8,7 @@ use Rattle.iol_script.specs.Text.{lines_of}
 use Rattle.iol_capture.specs.declared.fault.LineFault.{LineFault}
 use Rattle.iol_capture.specs.declared.fault.LineFault.TheVariants.{ReplyMissing}
 use Rattle.iol_capture.specs.declared.fault.CaptureFault.{CaptureFault}
-use Rattle.iol_capture.specs.declared.fault.CaptureFault.TheVariants.{Line}
+use Rattle.iol_capture.specs.declared.fault.CaptureFault.TheVariants.{Line, NothingTold}
 use Rattle.iol_capture.specs.declared.telling.CaptureForm.{CaptureForm}
 use Rattle.iol_capture.specs.declared.telling.CaptureForm.TheVariants as form
 use Rattle.iol_capture.specs.declared.telling.Telling.{Telling}
@@ -31,7 +31,7 @@ line_told (Trace judging) line =
     (or_bad_form (judging_after_line judging) (trace_form line))
 line_told (Octets hearing) line =
     result_map_both Octets (λ fault. fault)
-    (or_bad_form (hearing_after_line hearing) (octet_line_form line))
+    (or_bad_form (hearing_after_line hearing) (octet_line_form hearing.form line))
 
 -- the capture has ended: no message of a trace waits for what came back
 abbrev pub judging_if_whole : Telling → Result Judging LineFault
@@ -58,9 +58,16 @@ capture_after_line (Err fault) line = Err fault
 
 -- A text
 
+-- a trace told no call
+abbrev pub is_untold : Telling → Bool
+is_untold (Trace judging) = judging.call == 0
+is_untold (Octets hearing) = false
+
 -- the end stands for a line
 abbrev pub judging_at_end : Result ReadPart CaptureFault → Result Judging CaptureFault
-judging_at_end (Ok reading) = result_map_both (λ judging. judging) (Line (one_more reading.lines))
+judging_at_end (Ok reading) =
+    if is_untold reading.telling then Err (NothingTold reading.lines) else result_map_both
+    (λ judging. judging) (Line (one_more reading.lines))
     (judging_if_whole reading.telling)
 judging_at_end (Err fault) = Err fault
 
@@ -92,7 +99,8 @@ capture_judged form odd text = judging_after_rest (new_opened form odd) text
 -- that which one more line tells
 abbrev pub line_call : Telling → List ℕ → Option TimedCall
 line_call (Trace judging) line = None
-line_call (Octets hearing) line = option_and_then (call_of_line hearing) (octet_line_form line)
+line_call (Octets hearing) line =
+    option_and_then (call_of_line hearing) (octet_line_form hearing.form line)
 
 -- that which the end of the capture tells
 abbrev pub last_call : Telling → Option TimedCall

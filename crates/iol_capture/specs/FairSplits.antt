@@ -1,25 +1,30 @@
 -- What a judge makes of what a splitter tells, and the law: no device by the rules is blamed.
-use Rattle.std.specs.Prelude.{◌≡◌, ◌≢◌, ℕ, zero, suc, List, [], ◌∷◌, length, map, IfOk}
+use Rattle.std.specs.Prelude.{◌≡◌, ◌≢◌, ℕ, zero, suc, List, [], ◌∷◌, length, fold, IfOk}
 use Rattle.iol_far.specs.Far.{Far}
 use Rattle.iol_link.specs.declared.wire.Rate.{Rate}
 use Rattle.iol_judge.specs.declared.reason.Reason.{Reason}
 use Rattle.iol_judge.specs.declared.verdict.Verdict.TheVariants.{NotHonest}
 use Rattle.iol_judge.specs.declared.verdict.Odd.{Odd}
 use Rattle.iol_judge.specs.declared.verdict.Wake.TheVariants.{Answered, Unanswered}
-use Rattle.iol_judge.specs.Judged.{JudgeState, new_judge}
-use Rattle.iol_judge.specs.Admitted.{IsHonestRun, Passes, Passing, Wakes, judge_after_passing, told_all}
+use Rattle.iol_judge.specs.Judged.{JudgeState, new_judge, judge_after_exchange, judge_after_wake, judge_resumed}
+use Rattle.iol_judge.specs.Admitted.{IsHonestRun, Passes, Passing, Wakes}
 use Rattle.iol_capture.specs.declared.passed.SplitItem.{SplitItem}
 use Rattle.iol_capture.specs.declared.passed.SplitItem.TheVariants as passed
 use Rattle.iol_capture.specs.SplitterState.{new_splitter}
-use Rattle.iol_capture.specs.Written.{AreWritten, Item, all_split, exchange_written, stream_of}
+use Rattle.iol_capture.specs.Written.{AreWritten, Item, TimedExchange, all_split, octets_of_timed, stream_of}
+use Rattle.iol_capture.specs.Damage.{some_octets}
 use Rattle.iol_capture.specs.Written as written
 
-abbrev pub passing_of : SplitItem → Passing
-passing_of (passed.Exchange exchange) = Passes exchange.sent exchange.answer
-passing_of (passed.Wake answer) = Wakes answer
-
 abbrev pub judge_after_item : JudgeState → SplitItem → JudgeState
-judge_after_item judged what = judge_after_passing judged (passing_of what)
+judge_after_item judged (passed.Exchange exchange) =
+    judge_after_exchange judged exchange.sent exchange.answer
+judge_after_item judged (passed.Wake answer) = judge_after_wake judged answer
+judge_after_item judged (passed.Resumed mode) = judge_resumed judged mode
+
+-- an exchange, as it went over the line
+abbrev pub exchange_passed : TimedExchange → Passing
+exchange_passed w =
+    Passes (octets_of_timed w.sent) (some_octets (octets_of_timed w.answer))
 
 -- so many wake-up requests that aren't answered
 abbrev pub unanswered_before : ℕ → List Passing → List Passing
@@ -29,9 +34,9 @@ unanswered_before (suc count) passings = Wakes Unanswered ∷ unanswered_before 
 -- what went over the line: each request that isn't shown, too
 abbrev pub items_passed : List Item → List Passing
 items_passed [] = []
-items_passed (written.Passes w ∷ items) = passing_of (exchange_written w) ∷ items_passed items
+items_passed (written.Passes w ∷ items) = exchange_passed w ∷ items_passed items
 items_passed (written.Reads w ∷ items) =
-    Wakes Unanswered ∷ passing_of (exchange_written w) ∷ items_passed items
+    Wakes Unanswered ∷ exchange_passed w ∷ items_passed items
 items_passed (written.Wakes time tries t ∷ items) = Wakes Answered ∷ items_passed items
 items_passed (written.Fails time tries ∷ items) = Wakes Unanswered ∷ items_passed items
 items_passed (written.Tests tries t ∷ items) =
@@ -51,4 +56,4 @@ OctetsNeverBlamed = (odd : Odd) (rate : Rate) (items : List Item)
     → AreWritten (new_splitter rate) items
     → (far : Far) (silence : ℕ) → IsHonestRun far silence (items_passed items)
     → IfOk (all_split (new_splitter rate) (stream_of items))
-    (λ what. SaysNothing (told_all (new_judge odd) (map passing_of what)))
+    (λ what. SaysNothing (fold judge_after_item (new_judge odd) what))

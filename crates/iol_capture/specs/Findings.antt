@@ -1,5 +1,5 @@
 -- What is printed of a judged capture.
-use Rattle.std.specs.Prelude.{ℕ, Bool, false, not, ◌&&◌, ◌||◌, ◌==◌, Option, Some, None, List, [], ◌++◌, if◌then◌else◌, codes, flat_map}
+use Rattle.std.specs.Prelude.{ℕ, Bool, false, not, ◌&&◌, ◌||◌, ◌==◌, Option, Some, None, is_some, List, [], ◌++◌, if◌then◌else◌, codes, flat_map}
 use Rattle.std.specs.Fmt.{decimal}
 use Rattle.iol_judge.specs.declared.open.Open.{Open}
 use Rattle.iol_judge.specs.declared.open.Open.TheVariants as «open»
@@ -19,7 +19,7 @@ use Rattle.iol_judge.specs.declared.blame.Blame.TheVariants as fault
 use Rattle.iol_judge.specs.declared.master_verdict.MasterVerdict.TheVariants as master
 use Rattle.iol_judge.specs.BlameNumbers.{blame_number}
 use Rattle.iol_capture.specs.Judging.{Judging}
-use Rattle.iol_capture.specs.Watching.{Watching}
+use Rattle.iol_capture.specs.Watching.{Watching, is_blamed}
 
 -- the name of a reason, what a device by the rules doesn't send, and the rule
 abbrev pub reason_text : Reason → List ℕ
@@ -121,18 +121,21 @@ abbrev pub unsure_text : ℕ → List ℕ → List ℕ
 unsure_text from why = codes "master can't be judged from " ++ from_text from why
 
 -- the master's first fault, in this call, where its mode is known
-abbrev pub blamed_text : Blame → ℕ → Option ℕ → List ℕ
-blamed_text fault call None = codes "master not by the rules at "
+abbrev pub blamed_text : Blame → ℕ → Option ℕ → Option ℕ → List ℕ
+blamed_text fault call None None = codes "master not by the rules at "
     ++ because_text call (codes ": ") (blame_number fault) (fault_text fault)
-blamed_text fault call (Some from) =
+blamed_text fault call (Some from) unheard =
     unsure_text from (codes "the read there may be behind a wake-up request that isn't shown")
+blamed_text fault call None (Some from) =
+    unsure_text from (codes "octets before it were passed over")
 
 -- what is said of the master
 abbrev pub master_verdict_text : Watching → List ℕ
 master_verdict_text watching = elim watching.watched.verdict [
   | master.Unjudged ↦ codes "master can't be judged: no wake-up request was made\n"
   | master.ByTheRules ↦ codes "master by the rules\n"
-  | master.NotByTheRules exchange fault ↦ blamed_text fault watching.call watching.unsure
+  | master.NotByTheRules exchange fault ↦
+      blamed_text fault watching.call watching.unsure watching.unheard
 ]
 
 -- The kinds that a device may be of, where it may be of some, and not of all four
@@ -168,14 +171,23 @@ odd_texts = flat_map (λ (odd : OddExchange). because_text odd.call (codes " odd
 abbrev pub finding_text : Judging → List ℕ
 finding_text judging = odd_texts judging.odd
     ++ count_text (codes "unjudged ") judging.counts.unjudged
+    ++ count_text (codes "lines skipped ") judging.skipped
+    ++ count_text (codes "octets passed over ") judging.passed_over
     ++ master_verdict_text judging.watching
     ++ kinds_text (kinds_left judging.judged)
     ++ verdict_text judging.judged.verdict judging.decided judging.counts
     ++ count_text (codes "odd ") judging.judged.oddities
 
+-- the master is blamed, and no doubt is left of its mode
+abbrev pub is_surely_blamed : Watching → Bool
+is_surely_blamed watching = is_blamed watching.watched.verdict
+    && not (is_some watching.unsure) && not (is_some watching.unheard)
+
 -- what was found
-abbrev pub finding_of : Verdict → Finding
-finding_of Unjudged = found.CantSay
-finding_of Honest = found.Honest
-finding_of (NotHonest exchange reason) = found.NotHonest
-finding_of (CantSay exchange why) = found.CantSay
+abbrev pub finding_of : Judging → Finding
+finding_of judging = elim judging.judged.verdict [
+  | Unjudged ↦ found.CantSay
+  | Honest ↦ if is_surely_blamed judging.watching then found.MasterAtFault else found.Honest
+  | NotHonest exchange reason ↦ found.NotHonest
+  | CantSay exchange why ↦ found.CantSay
+]

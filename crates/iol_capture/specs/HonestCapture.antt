@@ -1,6 +1,6 @@
 -- Captures of devices by the rules, and the laws: none of them is called not honest.
 use Rattle.std.specs.Prelude.{◌≡◌, ◌≢◌, ℕ, Option, Some, None, IfSome, option_and_then, Ok, List, [], ◌∷◌}
-use Rattle.std.specs.List.{filter_map}
+use Rattle.std.specs.List.{cons_option, filter_map}
 use Rattle.iol_far.specs.Far.{Far}
 use Rattle.iol_far.specs.Octets.{octets_in}
 use Rattle.iol_link.specs.Honest.{HonestExchange}
@@ -13,9 +13,11 @@ use Rattle.iol_judge.specs.Judged.{JudgeState}
 use Rattle.iol_script.specs.Text.{lines_of}
 use Rattle.iol_capture.specs.declared.octet_line.OctetLine.{OctetLine}
 use Rattle.iol_capture.specs.declared.octet_line.OctetLine.TheVariants as line
+use Rattle.iol_capture.specs.declared.export.ExportForm.{ExportForm}
+use Rattle.iol_capture.specs.declared.export.ExportForm.TheVariants.{Timed}
 use Rattle.iol_capture.specs.FairSplits.{SaysNothing, items_passed}
 use Rattle.iol_capture.specs.SplitterState.{new_splitter}
-use Rattle.iol_capture.specs.Written.{AreWritten, Item, Octet, Request, StreamItem, stream_of}
+use Rattle.iol_capture.specs.Written.{AreWritten, Damage, DamageBefore, Item, Octet, Request, StreamItem, stream_of}
 use Rattle.iol_capture.specs.declared.trace_line.TraceLine.{TraceLine}
 use Rattle.iol_capture.specs.declared.trace_line.TraceLine.TheVariants.{Other, Page, Wake, Sent, Came}
 use Rattle.iol_capture.specs.declared.telling.CaptureForm.TheVariants as form
@@ -64,13 +66,23 @@ pub record CapturesNeverBlamed : Type 0 where
 -- Octets
 
 abbrev pub stream_item_of : OctetLine → Option StreamItem
-stream_item_of line.Other = None
 stream_item_of (line.Octet time octet) = Some (Octet (record { time = time; octet = octet }))
 stream_item_of (line.Wake time) = Some (Request time)
+stream_item_of (line.Damaged time) = Some (Damage time)
+stream_item_of line.DamagedBefore = Some DamageBefore
+stream_item_of line = None
+
+-- how the lines behind one are written
+abbrev pub form_behind : ExportForm → Option OctetLine → ExportForm
+form_behind form (Some (line.Form other)) = other
+form_behind form line = form
 
 -- what lines show, where each fits a form
-abbrev pub shown_stream : List (List ℕ) → List StreamItem
-shown_stream = filter_map (λ line. option_and_then stream_item_of (octet_line_form line))
+abbrev pub shown_stream : ExportForm → List (List ℕ) → List StreamItem
+shown_stream form [] = []
+shown_stream form (line ∷ lines) =
+    let said = octet_line_form form line in
+    cons_option (option_and_then stream_item_of said) (shown_stream (form_behind form said) lines)
 
 -- The judge is told a text, and this is what it makes of it: octets that are written by the rules,
 -- of what a device by the rules brings
@@ -79,7 +91,7 @@ pub record AreFromHonest (odd : Odd) (rate : Rate) (text : List ℕ)
   pub judged : capture_judged (form.Octets rate) odd text ≡ Ok judging
   pub items : List Item
   pub written : AreWritten (new_splitter rate) items
-  pub shown : shown_stream (lines_of text) ≡ stream_of items
+  pub shown : shown_stream Timed (lines_of text) ≡ stream_of items
   pub far : Far
   pub silence : ℕ
   pub honest : IsHonestRun far silence (items_passed items)

@@ -2,6 +2,7 @@
 use Rattle.std.specs.Prelude.{ℕ, ◌+◌, Bool, true, false, ◌==◌, ◌||◌, nat_lt, Option, Some, None, is_some, Result, Ok, Err, List, [], ◌∷◌, ◌++◌, length, if◌then◌else◌}
 use Rattle.std.specs.Option.{option_map_or}
 use Rattle.std.specs.Result.{result_map_both}
+use Rattle.iol_far.specs.declared.mode.DeviceMode.{DeviceMode}
 use Rattle.iol_far.specs.Octets.{octets_in}
 use Rattle.iol_judge.specs.declared.reason.Reason.{Reason}
 use Rattle.iol_judge.specs.declared.verdict.Odd.{Odd}
@@ -10,7 +11,7 @@ use Rattle.iol_judge.specs.declared.verdict.Verdict.TheVariants.{Unjudged, Hones
 use Rattle.iol_judge.specs.declared.verdict.Wake.{Wake as WakeAnswer}
 use Rattle.iol_judge.specs.declared.verdict.Wake.TheVariants.{Unanswered}
 use Rattle.iol_judge.specs.Seen.{whole_page}
-use Rattle.iol_judge.specs.Judged.{JudgeState, new_judge, judge_after_exchange, judge_after_wake, one_more}
+use Rattle.iol_judge.specs.Judged.{JudgeState, new_judge, judge_after_exchange, judge_after_wake, judge_resumed, one_more}
 use Rattle.iol_capture.specs.declared.passed.SplitItem.{SplitItem}
 use Rattle.iol_capture.specs.declared.passed.SplitItem.TheVariants as passed
 use Rattle.iol_capture.specs.declared.fault.LineFault.{LineFault}
@@ -20,7 +21,7 @@ use Rattle.iol_capture.specs.declared.judgement.OddExchange.{OddExchange}
 use Rattle.iol_capture.specs.declared.judgement.TheConstants.{ODD_SHOWN}
 use Rattle.iol_capture.specs.declared.trace_line.TraceLine.{TraceLine}
 use Rattle.iol_capture.specs.declared.trace_line.TraceLine.TheVariants.{Other, Page, Wake, Sent, Came}
-use Rattle.iol_capture.specs.Watching.{Watching, exchange_watched, new_watching, page_watched, wake_watched}
+use Rattle.iol_capture.specs.Watching.{Watching, exchange_watched, watching_unheard, new_watching, page_watched, wake_watched}
 
 pub record Judging : Type 0 where
   -- what the judge was told
@@ -36,6 +37,10 @@ pub record Judging : Type 0 where
   pub counts : ExchangeCounts
   -- the first exchanges in which something was odd, and passed over
   pub odd : List OddExchange
+  -- how many octets were passed over
+  pub passed_over : ℕ
+  -- how many lines were skipped
+  pub skipped : ℕ
 
 abbrev pub no_counts : ExchangeCounts
 no_counts = record { unjudged = 0; judged = 0; lost = 0 }
@@ -49,6 +54,8 @@ new_judging odd = record {
   decided = 0;
   counts = no_counts;
   odd = [];
+  passed_over = 0;
+  skipped = 0;
 }
 
 -- Counts
@@ -144,6 +151,19 @@ judging_after_line judging (Came number came) = came_to judging.sent judging num
 abbrev pub or_bad_form : {L J : Type 0} → (L → Result J LineFault) → Option L → Result J LineFault
 or_bad_form tell line = option_map_or tell line (Err BadForm)
 
+-- Damage
+
+-- behind octets that were passed over, the device is in this mode
+abbrev pub judging_in_mode : Judging → DeviceMode → Judging
+judging_in_mode judging mode = record judging {
+  judged = judge_resumed judging.judged mode;
+  watching = watching_unheard judging.watching (one_more judging.call);
+}
+
+-- a line was skipped
+abbrev pub line_skipped : Judging → Judging
+line_skipped judging = record judging { skipped = one_more judging.skipped }
+
 -- What a splitter tells
 
 -- it went over the line in the call that began last
@@ -151,6 +171,7 @@ abbrev pub passed_on : Judging → SplitItem → Judging
 passed_on judging (passed.Exchange exchange) =
     judging_after_exchange judging exchange.sent exchange.answer
 passed_on judging (passed.Wake answer) = wake_told judging answer
+passed_on judging (passed.Resumed mode) = judging_in_mode judging mode
 
 -- in the next call
 abbrev pub passed_next : Judging → SplitItem → Judging

@@ -6,9 +6,12 @@ pub mod Exchanged
 pub mod SplitterState
 pub mod SplitSteps
 pub mod Waking
+pub mod Damage
 pub mod Splitting
 pub mod Written
 pub mod OctetLines
+pub mod Cells
+pub mod Exports
 pub mod FairSplits
 pub mod SplitExample
 pub mod TraceLines

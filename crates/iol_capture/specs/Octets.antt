@@ -8,16 +8,19 @@ use Rattle.iol_link.specs.declared.wire.Rate.{Rate}
 use Rattle.iol_capture.specs.declared.octet_line.OctetLine.{OctetLine}
 use Rattle.iol_capture.specs.declared.octet_line.OctetLine.TheVariants as line
 use Rattle.iol_capture.specs.declared.passed.SplitItem.{SplitItem}
-use Rattle.iol_capture.specs.declared.passed.SplitItem.TheVariants.{Wake}
-use Rattle.iol_capture.specs.OctetLines.{line_form}
+use Rattle.iol_capture.specs.declared.passed.SplitItem.TheVariants.{Resumed, Wake}
+use Rattle.iol_capture.specs.declared.export.ExportForm.{ExportForm}
+use Rattle.iol_capture.specs.declared.export.ExportForm.TheVariants.{Timed}
+use Rattle.iol_capture.specs.Exports.{export_form}
 use Rattle.iol_capture.specs.SplitterState.{Splitting, begins_call, new_splitter}
 use Rattle.iol_capture.specs.Splitting.{untold_at_end, octet_split, wake_split}
+use Rattle.iol_capture.specs.Damage.{damage_split, damaged_before}
 use Rattle.iol_capture.specs.SplitSteps.{SplitStep}
 use Rattle.iol_capture.specs.declared.fault.LineFault.{LineFault}
 use Rattle.iol_capture.specs.declared.fault.LineFault.TheVariants.{Split}
 use Rattle.iol_capture.specs.declared.timed_call.Beginnings.{Beginnings}
 use Rattle.iol_capture.specs.declared.timed_call.TimedCall.{TimedCall}
-use Rattle.iol_capture.specs.Judging.{Judging, maybe_woken, new_judging, passed_next}
+use Rattle.iol_capture.specs.Judging.{Judging, maybe_woken, line_skipped, new_judging, passed_next, judging_in_mode}
 use Rattle.iol_capture.specs.Timed.{begun_untold, call_told, number_of_next, none_begun, number_by_octet}
 
 -- the octets that are split, and what the judge makes of what they are split into
@@ -26,17 +29,25 @@ pub record Hearing : Type 0 where
   pub judging : Judging
   -- when what isn't told yet began
   pub begun : Beginnings
+  -- how the lines to come are written
+  pub form : ExportForm
 
 abbrev pub new_hearing : Rate → Odd → Hearing
 new_hearing rate odd =
-    record { splitting = new_splitter rate; judging = new_judging odd; begun = none_begun }
+    record {
+      splitting = new_splitter rate;
+      judging = new_judging odd;
+      begun = none_begun;
+      form = Timed;
+    }
 
 -- what a line of at most 1,024 bytes shows, where it fits a form
-abbrev pub octet_line_form : List ℕ → Option OctetLine
-octet_line_form line = if nat_le (length line) 1024 then line_form line else None
+abbrev pub octet_line_form : ExportForm → List ℕ → Option OctetLine
+octet_line_form form line = if nat_le (length line) 1024 then export_form form line else None
 
 -- what went over the line, told by a wake-up request that is shown, or by the end
 abbrev pub passed_by_request : Judging → Option SplitItem → Judging
+passed_by_request judging (Some (Resumed mode)) = judging_in_mode judging mode
 passed_by_request judging passed = option_map_or (passed_next judging) passed judging
 
 -- What went over the line, told by an octet. An unanswered wake-up request that isn't shown may be
@@ -58,27 +69,42 @@ abbrev pub begun_by_request : Beginnings → ℕ → Option SplitItem → Beginn
 begun_by_request begun time passed = record (begun_untold begun passed) { request = Some time }
 
 -- the judge is told so what a step tells, and so what isn't told began
-abbrev pub step_heard : (Option SplitItem → Judging) → (Option SplitItem → Beginnings) → SplitStep
-    → Result Hearing LineFault
-step_heard judged begun step = result_map_both (λ passed. record {
+abbrev pub step_heard : ExportForm → (Option SplitItem → Judging) → (Option SplitItem → Beginnings)
+    → SplitStep → Result Hearing LineFault
+step_heard form judged begun step = result_map_both (λ passed. record {
   splitting = step.state;
   judging = judged passed;
   begun = begun passed;
+  form = form;
 }) Split step.told
 
 -- what a line shows
 abbrev pub hearing_after_line : Hearing → OctetLine → Result Hearing LineFault
 hearing_after_line hearing line.Other = Ok hearing
+hearing_after_line hearing line.Skipped =
+    Ok (record hearing { judging = line_skipped hearing.judging })
+hearing_after_line hearing (line.Form form) = Ok (record hearing { form = form })
+hearing_after_line hearing (line.Damaged time) =
+    step_heard hearing.form (passed_by_octet hearing.judging) (begun_untold hearing.begun)
+    (damage_split hearing.splitting time)
+hearing_after_line hearing line.DamagedBefore =
+    step_heard hearing.form (passed_by_octet hearing.judging) (begun_untold hearing.begun)
+    (damaged_before hearing.splitting)
 hearing_after_line hearing (line.Octet time octet) =
     let step = octet_split hearing.splitting time octet in
-    step_heard (passed_by_octet hearing.judging) (begun_by_octet hearing.begun step.state time) step
+    step_heard hearing.form (passed_by_octet hearing.judging)
+    (begun_by_octet hearing.begun step.state time) step
 hearing_after_line hearing (line.Wake time) =
-    step_heard (passed_by_request hearing.judging) (begun_by_request hearing.begun time)
+    step_heard hearing.form (passed_by_request hearing.judging)
+    (begun_by_request hearing.begun time)
     (wake_split hearing.splitting time)
 
 -- the stream has ended
 abbrev pub heard_whole : Hearing → Judging
-heard_whole hearing = passed_by_request hearing.judging (untold_at_end hearing.splitting)
+heard_whole hearing =
+    record (passed_by_request hearing.judging (untold_at_end hearing.splitting)) {
+      passed_over = hearing.splitting.passed_over;
+    }
 
 -- Calls, each with its time
 
@@ -91,6 +117,13 @@ call_of_step begun number step =
 -- that which a line tells
 abbrev pub call_of_line : Hearing → OctetLine → Option TimedCall
 call_of_line hearing line.Other = None
+call_of_line hearing line.Skipped = None
+call_of_line hearing (line.Form form) = None
+call_of_line hearing (line.Damaged time) =
+    call_of_step hearing.begun (number_by_octet hearing.judging)
+    (damage_split hearing.splitting time)
+call_of_line hearing line.DamagedBefore =
+    call_of_step hearing.begun (number_by_octet hearing.judging) (damaged_before hearing.splitting)
 call_of_line hearing (line.Octet time octet) =
     call_of_step hearing.begun (number_by_octet hearing.judging)
     (octet_split hearing.splitting time octet)

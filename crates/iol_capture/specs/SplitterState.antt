@@ -25,6 +25,8 @@ pub record Splitting : Type 0 where
   pub answer : List ℕ
   -- when the last octet or wake-up request began
   pub last : ℕ
+  -- how many octets were passed over
+  pub passed_over : ℕ
 
 abbrev pub new_splitter : Rate → Splitting
 new_splitter rate = record {
@@ -37,6 +39,7 @@ new_splitter rate = record {
   sent = [];
   answer = [];
   last = 0;
+  passed_over = 0;
 }
 
 -- the octet told last begins a message, or a test read

@@ -16,38 +16,17 @@ use Rattle.iol_capture.specs.declared.message.Meaning.TheVariants.{Part, Whole, 
 use Rattle.iol_capture.specs.declared.passed.SplitItem.{SplitItem}
 use Rattle.iol_capture.specs.declared.passed.SplitItem.TheVariants as passed
 use Rattle.iol_capture.specs.declared.splitter.Phase.{Phase}
-use Rattle.iol_capture.specs.declared.splitter.Phase.TheVariants.{Waking, Message, Reply, Rest}
+use Rattle.iol_capture.specs.declared.splitter.Phase.TheVariants.{Waking, Message, Reply, Rest, Damaged, Trial, Spoiled}
 use Rattle.iol_capture.specs.declared.splitter.Requests.TheVariants.{Shown}
 use Rattle.iol_capture.specs.Times.{gap_of}
 use Rattle.iol_capture.specs.Linking.{mode_begun, link_after}
 use Rattle.iol_capture.specs.Lengths.{meaning_in, reply_length}
 use Rattle.iol_capture.specs.SplitterState.{Splitting}
 use Rattle.iol_capture.specs.SplitSteps.{SplitStep, split_step, good_step}
+use Rattle.iol_capture.specs.Damage.{cleared_line, damaged_heard, damaged_line, exchange_of, layout_begun, line_awaiting_reply, line_in_message, line_on_trial, spoiled_heard, spoiled_step, trial_heard}
 use Rattle.iol_capture.specs.Waking.{waking_heard}
 
--- An exchange
-
-abbrev pub some_octets : List ℕ → Option (List ℕ)
-some_octets [] = None
-some_octets (octet ∷ octets) = Some (octet ∷ octets)
-
--- the message and the reply under way
-abbrev pub exchange_of : Splitting → SplitItem
-exchange_of state =
-    passed.Exchange (record { sent = state.sent; answer = some_octets state.answer })
-
-abbrev pub cleared_line : Splitting → Splitting
-cleared_line state = record state { sent = []; answer = [] }
-
 -- A message
-
--- one begins
-abbrev pub line_in_message : Splitting → ℕ → Splitting
-line_in_message state octet = record state { phase = Message; sent = octet ∷ []; answer = [] }
-
--- it is whole, in this layout
-abbrev pub line_awaiting_reply : Splitting → Shape → Splitting
-line_awaiting_reply state layout = record state { layout = layout; phase = Reply }
 
 abbrev pub looked_as : Meaning → Splitting → Shape → SplitStep
 looked_as Part state layout = good_step state None
@@ -64,14 +43,10 @@ abbrev pub looked_in : Splitting → Result Shape Open → SplitStep
 looked_in state (Ok layout) = step_in_layout state layout
 looked_in state (Err why) = split_step state (Err (fault.NoLayout why))
 
--- the layout of a message that begins with these octets, where it is known
-abbrev pub layout_begun : Splitting → Result Shape Open
-layout_begun state = mode_layout (layouts_seen state.seen) (mode_begun state.link state.sent)
-
 -- it goes on with this octet
 abbrev pub sent_more : Splitting → ℕ → SplitStep
 sent_more state octet =
-    if length state.sent == 66 then split_step state (Err fault.LongMessage) else
+    if length state.sent == 66 then good_step (damaged_line state 1) None else
     let more = record state { sent = state.sent ++ octet ∷ [] } in
     looked_in more (layout_begun more)
 
@@ -79,7 +54,8 @@ abbrev pub message_heard : Gap → Splitting → ℕ → SplitStep
 message_heard gap.Overlap state octet = split_step state (Err fault.Overlap)
 message_heard gap.Close state octet = sent_more state octet
 message_heard gap.Message state octet = sent_more state octet
-message_heard other state octet = split_step state (Err fault.GapInMessage)
+message_heard gap.Pause state octet = good_step (line_on_trial (damaged_line state 0) octet) None
+message_heard other state octet = good_step (damaged_line state 1) None
 
 -- A reply
 
@@ -110,7 +86,7 @@ answered_with state =
 -- it goes on with this octet
 abbrev pub answered_more : Splitting → ℕ → SplitStep
 answered_more state octet =
-    if length state.answer == 66 then split_step state (Err fault.LongReply) else
+    if length state.answer == 66 then good_step (damaged_line state 1) None else
     answered_with (record state { answer = state.answer ++ octet ∷ [] })
 
 -- it didn't come, or not all of it, and the next message begins
@@ -120,14 +96,14 @@ pause_heard state octet = good_step (line_in_message state octet) (Some (exchang
 -- no octet of it came yet
 abbrev pub first_heard : Gap → Splitting → ℕ → SplitStep
 first_heard gap.Overlap state octet = split_step state (Err fault.Overlap)
-first_heard gap.Close state octet = split_step state (Err fault.LongMessage)
+first_heard gap.Close state octet = good_step (damaged_line state 1) None
 first_heard gap.Pause state octet = pause_heard state octet
 first_heard other state octet = answered_more state octet
 
 -- some came
 abbrev pub further_heard : Gap → Splitting → ℕ → SplitStep
 further_heard gap.Overlap state octet = split_step state (Err fault.Overlap)
-further_heard gap.Response state octet = split_step state (Err fault.GapInReply)
+further_heard gap.Response state octet = spoiled_step state 1
 further_heard gap.Pause state octet = pause_heard state octet
 further_heard other state octet = answered_more state octet
 
@@ -141,7 +117,7 @@ abbrev pub rest_heard : Gap → Splitting → ℕ → SplitStep
 rest_heard gap.Overlap state octet = split_step state (Err fault.Overlap)
 rest_heard gap.Response state octet = good_step (line_in_message state octet) None
 rest_heard gap.Pause state octet = good_step (line_in_message state octet) None
-rest_heard other state octet = split_step state (Err fault.LongReply)
+rest_heard other state octet = good_step (damaged_line state 1) None
 
 -- Calls
 
@@ -152,6 +128,9 @@ octet_heard state elapsed octet =
       | Message ↦ message_heard gap state octet
       | Reply ↦ reply_heard gap state octet
       | Rest ↦ rest_heard gap state octet
+      | Damaged ↦ damaged_heard gap state octet
+      | Trial ↦ trial_heard gap state octet
+      | Spoiled ↦ spoiled_heard gap state octet
       | phase ↦ waking_heard gap state octet
     ]
 
@@ -169,9 +148,19 @@ untold_at_end state = elim state.phase [
   | phase ↦ None
 ]
 
-abbrev pub is_in_message : Phase → Bool
-is_in_message Message = true
-is_in_message phase = false
+-- what goes over the line isn't known
+abbrev pub is_unheard : Phase → Bool
+is_unheard Message = true
+is_unheard Damaged = true
+is_unheard Trial = true
+is_unheard phase = false
+
+-- what a wake-up request tells that cuts off what is under way
+abbrev pub cut_by_wake : Splitting → SplitStep
+cut_by_wake state =
+    if is_unheard state.phase
+    then good_step (damaged_line state 0) (Some (passed.Resumed (mode_begun state.link [])))
+    else good_step (cleared_line state) (untold_at_end state)
 
 -- an answer to a wake-up request is awaited
 abbrev pub line_after_request : Splitting → ℕ → Splitting
@@ -182,5 +171,5 @@ line_after_request state time =
 abbrev pub wake_split : Splitting → ℕ → SplitStep
 wake_split state time =
     if nat_lt time state.last then split_step state (Err fault.TimeBack) else
-    if is_in_message state.phase then split_step state (Err fault.GapInMessage) else
-    good_step (line_after_request state time) (untold_at_end state)
+    let cut = cut_by_wake state in
+    split_step (line_after_request cut.state time) cut.told

@@ -4,7 +4,7 @@ use Rattle.iol_mseq.specs.Shape.{Shape}
 use Rattle.iol_judge.specs.declared.verdict.Wake.TheVariants.{Unanswered}
 use Rattle.iol_judge.specs.Judged.{one_more}
 use Rattle.iol_capture.specs.declared.passed.SplitItem.{SplitItem}
-use Rattle.iol_capture.specs.declared.passed.SplitItem.TheVariants.{Exchange, Wake}
+use Rattle.iol_capture.specs.declared.passed.SplitItem.TheVariants.{Resumed, Wake}
 use Rattle.iol_capture.specs.declared.timed_call.Beginnings.{Beginnings}
 use Rattle.iol_capture.specs.declared.timed_call.TimedCall.{TimedCall}
 use Rattle.iol_capture.specs.Judging.{Judging}
@@ -17,7 +17,7 @@ none_begun = record { octet = 0; request = None }
 -- when this began, which is told now: a wake-up request where it's shown, or at its test read
 abbrev pub time_of : Beginnings → SplitItem → ℕ
 time_of begun (Wake woken) = unwrap_or begun.request begun.octet
-time_of begun (Exchange exchange) = begun.octet
+time_of begun passed = begun.octet
 
 -- a wake-up request that was told is over
 abbrev pub begun_untold : Beginnings → Option SplitItem → Beginnings
@@ -28,6 +28,7 @@ begun_untold begun passed = begun
 
 -- that of a call which a wake-up request or the end tells, where they tell one
 abbrev pub number_of_next : Judging → Option SplitItem → Option ℕ
+number_of_next judging (Some (Resumed mode)) = None
 number_of_next judging passed = option_map (λ item. one_more judging.call) passed
 
 -- that of a call which an octet tells: an unanswered wake-up request has none, and may be none
@@ -37,8 +38,9 @@ number_by_octet judging passed = number_of_next judging passed
 
 -- Calls
 
--- that of this number which is told, where one is, with this layout
+-- That of this number which is told, where one is, with this layout. Damage is none
 abbrev pub call_told : Beginnings → Option ℕ → Shape → Option SplitItem → Option TimedCall
+call_told begun number layout (Some (Resumed mode)) = None
 call_told begun number layout passed = option_map (λ item. record {
   time = time_of begun item;
   number = number;

@@ -1,5 +1,5 @@
 -- A watch of the master's side, told the calls that a judge is told.
-use Rattle.std.specs.Prelude.{◌≡◌, ℕ, Bool, true, false, ◌&&◌, ◌||◌, ◌==◌, if◌then◌else◌, List, ◌∷◌, Option, Some, None, is_none}
+use Rattle.std.specs.Prelude.{◌≡◌, ℕ, Bool, true, false, ◌&&◌, ◌||◌, ◌==◌, if◌then◌else◌, List, ◌∷◌, Option, Some, None, is_none, unwrap_or}
 use Rattle.iol_link.specs.Honest.{test_read}
 use Rattle.iol_judge.specs.declared.verdict.Wake.{Wake}
 use Rattle.iol_judge.specs.declared.verdict.Wake.TheVariants.{Answered}
@@ -20,10 +20,18 @@ pub record Watching : Type 0 where
   -- The first call since then that may be one, though the device had left STARTUP: from here on
   -- its mode isn't known
   pub unsure : Option ℕ
+  -- the first call since then behind octets that were passed over
+  pub unheard : Option ℕ
 
 abbrev pub new_watching : Watching
-new_watching =
-    record { watched = new_watch; call = 0; asked = false; tests = false; unsure = None }
+new_watching = record {
+  watched = new_watch;
+  call = 0;
+  asked = false;
+  tests = false;
+  unsure = None;
+  unheard = None;
+}
 
 abbrev pub is_blamed : MasterVerdict → Bool
 is_blamed (NotByTheRules number fault) = true
@@ -38,6 +46,12 @@ page_watched watching octets =
 abbrev pub wake_watched : Watching → Wake → Watching
 wake_watched watching answer = if is_blamed watching.watched.verdict then watching else
     record new_watching { watched = watch_after_wake watching.watched answer; call = watching.call }
+
+-- behind octets that were passed over this call is next
+abbrev pub watching_unheard : Watching → ℕ → Watching
+watching_unheard watching call =
+    if is_blamed watching.watched.verdict then watching else
+    record watching { unheard = Some (unwrap_or watching.unheard call) }
 
 -- octets of a write of DeviceOperate or DevicePreoperate to page address 0x00 in STARTUP
 abbrev pub asks_mode : List ℕ → Bool

@@ -16,7 +16,8 @@ use Rattle.iol_capture.specs.Lengths.{meaning_in, reply_length}
 use Rattle.iol_capture.specs.SplitterState.{Splitting, new_splitter}
 use Rattle.iol_capture.specs.SplitSteps.{SplitStep}
 use Rattle.iol_capture.specs.Waking.{is_test_reply, line_in_startup}
-use Rattle.iol_capture.specs.Splitting.{untold_at_end, layout_begun, octet_split, line_after_request, line_at_rest, some_octets, wake_split}
+use Rattle.iol_capture.specs.Splitting.{untold_at_end, octet_split, line_after_request, line_at_rest, wake_split}
+use Rattle.iol_capture.specs.Damage.{damage_split, damaged_before, layout_begun, some_octets}
 
 -- an octet, and when it begins
 pub record TimedOctet : Type 0 where
@@ -33,10 +34,16 @@ pub data StreamItem : Type 0 where
   Octet : TimedOctet → StreamItem
   -- a wake-up request, and when it begins
   Request : ℕ → StreamItem
+  -- an octet with an error, and when it begins
+  Damage : ℕ → StreamItem
+  -- that the octet before has one
+  DamageBefore : StreamItem
 
 abbrev pub split : Splitting → StreamItem → SplitStep
 split state (Octet t) = octet_split state t.time t.octet
 split state (Request time) = wake_split state time
+split state (Damage time) = damage_split state time
+split state DamageBefore = damaged_before state
 
 abbrev pub with_told : Result (Option SplitItem) SplitFault → Result (List SplitItem) SplitFault
     → Result (List SplitItem) SplitFault

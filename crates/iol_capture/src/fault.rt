@@ -28,6 +28,9 @@ pub enum CaptureFault {
     /// The line of this number, counted from 1. Lines past 2^64 - 1 have that number.
     #[error("line {0}: {1}")]
     Line(u64, LineFault),
+    /// A trace of so many lines has no call of the wire.
+    #[error("no wake-up request, message or reply in {0} lines: is this what trace prints?")]
+    NothingTold(u64),
     /// A read failed.
     #[error("read failed")]
     ReadFailed,

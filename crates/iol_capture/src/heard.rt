@@ -1,6 +1,8 @@
 //! What a splitter makes of an octet.
 ghost use Rattle.std.specs.Prelude.{◌≡◌, Some, None, Ok};
-ghost use Rattle.iol_capture.specs.Splitting.{answered_more, line_awaiting_reply, line_in_message, cleared_line, concluding_step, exchange_of, first_heard, further_heard, octet_heard, line_after_reply, step_in_layout, looked_in, message_heard, pause_heard, reply_heard, rest_heard, sent_more};
+ghost use Rattle.iol_capture.specs.Splitting.{answered_more, concluding_step, first_heard, further_heard, octet_heard, line_after_reply, step_in_layout, looked_in, message_heard, pause_heard, reply_heard, rest_heard, sent_more};
+ghost use Rattle.iol_capture.specs.Linking.{mode_begun};
+ghost use Rattle.iol_capture.specs.Damage.{damaged_line, line_on_trial, layout_begun, line_awaiting_reply, line_in_message, cleared_line, exchange_of};
 ghost use Rattle.iol_capture.specs.SplitSteps.{split_step, good_step};
 
 use crate::gap::Gap;
@@ -8,6 +10,7 @@ use crate::message::{LONGEST, Meaning, meaning_in, reply_length};
 use crate::passed::{Exchange, SplitItem};
 use crate::split_fault::SplitFault;
 use crate::splitter::{Phase, Splitter};
+use iol_far::DeviceMode;
 use iol_judge::{Open, Wake, layout_in};
 use iol_mseq::{Layout, Message, view_master, view_reply};
 use std::mem::replace;
@@ -24,6 +27,9 @@ impl Splitter {
             Phase::Message => self.hear_message(gap, octet),
             Phase::Reply => self.hear_reply(gap, octet),
             Phase::Rest => self.hear_at_rest(gap, octet),
+            Phase::Damaged => self.hear_damaged(gap, octet),
+            Phase::Trial => self.hear_on_trial(gap, octet),
+            Phase::Spoiled => self.hear_spoiled(gap, octet),
         }
     }
 
@@ -33,16 +39,16 @@ impl Splitter {
     {
         match gap {
             Gap::Overlap => Err(SplitFault::Overlap),
-            Gap::Close => Err(SplitFault::LongReply),
-            Gap::Message => Err(SplitFault::LongReply),
-            Gap::Reply => Err(SplitFault::LongReply),
+            Gap::Close => Ok(self.lose_item(1)),
+            Gap::Message => Ok(self.lose_item(1)),
+            Gap::Reply => Ok(self.lose_item(1)),
             Gap::Response => Ok(self.begin(octet)),
             Gap::Pause => Ok(self.begin(octet)),
         }
     }
 
     /// A message begins.
-    fn begin(&mut self, octet: u8) -> Option<SplitItem>
+    pub(crate) fn begin(&mut self, octet: u8) -> Option<SplitItem>
         ensures { good_step self.new result ≡ good_step (line_in_message self.old octet) None }
     {
         self.phase = Phase::Message;
@@ -60,9 +66,9 @@ impl Splitter {
             Gap::Overlap => Err(SplitFault::Overlap),
             Gap::Close => self.send_more(octet),
             Gap::Message => self.send_more(octet),
-            Gap::Reply => Err(SplitFault::GapInMessage),
-            Gap::Response => Err(SplitFault::GapInMessage),
-            Gap::Pause => Err(SplitFault::GapInMessage),
+            Gap::Reply => Ok(self.lose_item(1)),
+            Gap::Response => Ok(self.lose_item(1)),
+            Gap::Pause => Ok(self.try_anew(octet)),
         }
     }
 
@@ -71,12 +77,25 @@ impl Splitter {
         ensures { split_step self.new result ≡ sent_more self.old octet }
     {
         if self.sent.len() == LONGEST {
-            return Err(SplitFault::LongMessage);
+            return Ok(self.lose_item(1));
         }
         self.sent.push(octet);
-        let mode = self.link.mode_of(self.sent.as_slice());
-        let found = layout_in(&self.seen.layouts(), mode);
+        let found = self.layout_begun();
         self.look_in(found)
+    }
+
+    /// The layout of a message that begins with the octets so far, where it is known.
+    pub(crate) fn layout_begun(&self) -> Result<Layout, Open>
+        ensures { result ≡ layout_begun self.now }
+    {
+        layout_in(&self.seen.layouts(), self.mode_begun())
+    }
+
+    /// The mode in whose layout it is.
+    pub(crate) fn mode_begun(&self) -> DeviceMode
+        ensures { result ≡ mode_begun self.now.link self.now.sent }
+    {
+        self.link.mode_of(self.sent.as_slice())
     }
 
     /// What the octets so far are in this layout, where it is known.
@@ -110,7 +129,7 @@ impl Splitter {
         }
     }
 
-    fn await_reply(&mut self, layout: Layout)
+    pub(crate) fn await_reply(&mut self, layout: Layout)
         ensures { self.new ≡ line_awaiting_reply self.old layout }
     {
         self.layout = layout;
@@ -134,7 +153,7 @@ impl Splitter {
     {
         match gap {
             Gap::Overlap => Err(SplitFault::Overlap),
-            Gap::Close => Err(SplitFault::LongMessage),
+            Gap::Close => Ok(self.lose_item(1)),
             Gap::Message => self.answer_more(octet),
             Gap::Reply => self.answer_more(octet),
             Gap::Response => self.answer_more(octet),
@@ -151,13 +170,13 @@ impl Splitter {
             Gap::Close => self.answer_more(octet),
             Gap::Message => self.answer_more(octet),
             Gap::Reply => self.answer_more(octet),
-            Gap::Response => Err(SplitFault::GapInReply),
+            Gap::Response => Ok(Some(self.spoil(1))),
             Gap::Pause => Ok(Some(self.hear_behind_pause(octet))),
         }
     }
 
     /// No reply came, or not all of it, and the next message begins.
-    fn hear_behind_pause(&mut self, octet: u8) -> SplitItem
+    pub(crate) fn hear_behind_pause(&mut self, octet: u8) -> SplitItem
         ensures { split_step self.new (Ok (Some result)) ≡ pause_heard self.old octet }
     {
         let passed = self.exchange();
@@ -170,7 +189,7 @@ impl Splitter {
         ensures { split_step self.new result ≡ answered_more self.old octet }
     {
         if self.answer.len() == LONGEST {
-            return Err(SplitFault::LongReply);
+            return Ok(self.lose_item(1));
         }
         self.answer.push(octet);
         if self.answer.len() == reply_length(&self.layout, self.sent.as_slice()) {

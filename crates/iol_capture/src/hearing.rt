@@ -5,6 +5,7 @@ ghost use Rattle.iol_capture.specs.Judging.{or_bad_form};
 ghost use Rattle.iol_capture.specs.Octets.{call_at_end, call_of_line, hearing_after_line, heard_whole, new_hearing, octet_line_form, passed_by_octet, passed_by_request};
 ghost use Rattle.iol_capture.specs.Timed.{number_of_next, number_by_octet};
 
+use crate::export::ExportForm;
 use crate::fault::LineFault;
 use crate::judgement::Judgement;
 use crate::octet_line::OctetLine;
@@ -22,6 +23,8 @@ pub(crate) struct OctetJudgement {
     splitter: Splitter,
     judgement: Judgement,
     begun: Beginnings,
+    /// How the lines to come are written.
+    form: ExportForm,
 }
 
 impl Model for OctetJudgement {
@@ -29,7 +32,12 @@ impl Model for OctetJudgement {
 
     ghost Value = { Hearing };
 
-    ghost view = { λ h. record { splitting = h.splitter; judging = h.judgement; begun = h.begun } };
+    ghost view = { λ h. record {
+      splitting = h.splitter;
+      judging = h.judgement;
+      begun = h.begun;
+      form = h.form;
+    } };
 }
 
 impl OctetJudgement {
@@ -41,17 +49,18 @@ impl OctetJudgement {
             splitter: Splitter::new(rate),
             judgement: Judgement::new(odd),
             begun: Beginnings::none(),
+            form: ExportForm::Timed,
         }
     }
 
     /// One more line, and the call of the wire that it tells.
     pub fn tell_line(&mut self, line: &[u8]) -> Result<Option<TimedCall>, LineFault>
         ensures heard { result_and result (Ok self.new)
-            ≡ or_bad_form (hearing_after_line self.old) (octet_line_form line.now) }
+            ≡ or_bad_form (hearing_after_line self.old) (octet_line_form self.old.form line.now) }
         ensures told { result_unwrap_or result None
-            ≡ option_and_then (call_of_line self.old) (octet_line_form line.now) }
+            ≡ option_and_then (call_of_line self.old) (octet_line_form self.old.form line.now) }
     {
-        match parse(line) {
+        match parse(self.form, line) {
             Some(line) => self.tell(line),
             None => Err(LineFault::BadForm),
         }
@@ -64,6 +73,16 @@ impl OctetJudgement {
     {
         match line {
             OctetLine::Other => Ok(None),
+            OctetLine::Skipped => {
+                self.judgement.skip();
+                Ok(None)
+            }
+            OctetLine::Form(form) => {
+                self.form = form;
+                Ok(None)
+            }
+            OctetLine::Damaged(time) => self.tell_damaged(time),
+            OctetLine::DamagedBefore => Ok(self.tell_damaged_before()),
             OctetLine::Octet(time, octet) => self.tell_octet(time, octet),
             OctetLine::Wake(time) => self.tell_request(time),
         }
@@ -91,6 +110,31 @@ impl OctetJudgement {
         }
     }
 
+    /// An octet with an error that begins at this time.
+    fn tell_damaged(&mut self, time: u64) -> Result<Option<TimedCall>, LineFault>
+        ensures heard { result_and result (Ok self.new)
+            ≡ hearing_after_line self.old (line.Damaged time) }
+        ensures told { result_unwrap_or result None ≡ call_of_line self.old (line.Damaged time) }
+    {
+        match self.splitter.damaged(time) {
+            Ok(passed) => {
+                let number = pass_octet(&mut self.judgement, &passed);
+                Ok(self.begun.tell(number, self.splitter.layout(), passed))
+            }
+            Err(fault) => Err(LineFault::Split(fault)),
+        }
+    }
+
+    /// The octet before has an error.
+    fn tell_damaged_before(&mut self) -> Option<TimedCall>
+        ensures heard { Ok self.new ≡ hearing_after_line self.old line.DamagedBefore }
+        ensures told { result ≡ call_of_line self.old line.DamagedBefore }
+    {
+        let passed = self.splitter.damaged_before();
+        let number = pass_octet(&mut self.judgement, &passed);
+        self.begun.tell(number, self.splitter.layout(), passed)
+    }
+
     /// A wake-up request at this time.
     fn tell_request(&mut self, time: u64) -> Result<Option<TimedCall>, LineFault>
         ensures heard { result_and result (Ok self.new)
@@ -116,6 +160,7 @@ impl OctetJudgement {
         let mut judgement = self.judgement;
         let mut begun = self.begun;
         let layout = self.splitter.layout();
+        judgement.passed_over = self.splitter.passed_over();
         let passed = self.splitter.end();
         let number = pass_request(&mut judgement, &passed);
         let call = begun.tell(number, layout, passed);
@@ -124,13 +169,13 @@ impl OctetJudgement {
 }
 
 /// What a line of at most 1,024 bytes shows, where it fits a form.
-fn parse(line: &[u8]) -> Option<OctetLine>
-    ensures { result ≡ octet_line_form line.now }
+fn parse(form: ExportForm, line: &[u8]) -> Option<OctetLine>
+    ensures { result ≡ octet_line_form form line.now }
 {
     if line.len() > LONGEST {
         return None;
     }
-    OctetLine::parse(line)
+    OctetLine::parse_in(form, line)
 }
 
 /// What went over the line, told by an octet, and the number of the call. An unanswered wake-up
@@ -146,6 +191,10 @@ fn pass_octet(judgement: &mut Judgement, passed: &Option<SplitItem>) -> Option<u
             judgement.maybe_wake();
             None
         }
+        Some(SplitItem::Resumed(mode)) => {
+            judgement.resume(*mode);
+            None
+        }
         Some(item) => Some(judgement.pass_next(item)),
     }
 }
@@ -157,6 +206,10 @@ fn pass_request(judgement: &mut Judgement, passed: &Option<SplitItem>) -> Option
 {
     match passed {
         None => None,
+        Some(SplitItem::Resumed(mode)) => {
+            judgement.resume(*mode);
+            None
+        }
         Some(item) => Some(judgement.pass_next(item)),
     }
 }

@@ -1,15 +1,16 @@
 //! A judge, told the lines of a trace.
-ghost use Rattle.std.specs.Prelude.{◌≡◌, ◌<◌, Ok, is_some, option_copied};
+ghost use Rattle.std.specs.Prelude.{◌≡◌, ◌<◌, ◌==◌, Ok, is_some, option_copied};
 ghost use Rattle.std.specs.Result.{result_and};
 ghost use Rattle.iol_far.specs.Octets.{octets_in};
 ghost use Rattle.iol_judge.specs.Judged.{one_more};
-ghost use Rattle.iol_capture.specs.Judging.{judging_after_exchange, judging_at_next_call, judging_in_call, came_to, counts_after_exchange, is_call_number, is_verdict_open, maybe_woken, new_judging, no_counts, judging_with_page, passed_next, passed_on, judging_after_line, wake_told, with_odd};
+ghost use Rattle.iol_capture.specs.Judging.{judging_after_exchange, judging_at_next_call, judging_in_call, came_to, counts_after_exchange, is_call_number, is_verdict_open, maybe_woken, new_judging, no_counts, judging_with_page, passed_next, line_skipped, passed_on, judging_in_mode, judging_after_line, wake_told, with_odd};
 
 use crate::fault::LineFault;
 use crate::passed::SplitItem;
 use crate::trace_line::TraceLine;
 use crate::watching::CallWatch;
 use arrayvec::ArrayVec;
+use iol_far::DeviceMode;
 use iol_judge::{Judge, Odd, Reason, Verdict, Wake};
 use iol_script::LineOctets;
 use std::marker::Model;
@@ -99,6 +100,10 @@ pub struct Judgement {
     pub(crate) decided: u64,
     pub(crate) counts: ExchangeCounts,
     pub(crate) odd: OddExchanges,
+    /// How many octets were passed over.
+    pub(crate) passed_over: u64,
+    /// How many lines were skipped.
+    pub(crate) skipped: u64,
 }
 
 impl Model for Judgement {
@@ -115,6 +120,8 @@ impl Model for Judgement {
       decided = j.decided;
       counts = j.counts;
       odd = j.odd.items;
+      passed_over = j.passed_over;
+      skipped = j.skipped;
     } };
 }
 
@@ -131,6 +138,8 @@ impl Judgement {
             decided: 0,
             counts: ExchangeCounts::none(),
             odd: OddExchanges::new(),
+            passed_over: 0,
+            skipped: 0,
         }
     }
 
@@ -189,6 +198,28 @@ impl Judgement {
     {
         self.judge.wake(Wake::Unanswered);
         self.watching.expect_test_read();
+    }
+
+    /// A line was skipped.
+    pub(crate) fn skip(&mut self)
+        ensures { self.new ≡ line_skipped self.old }
+    {
+        self.skipped = one_more(self.skipped);
+    }
+
+    /// Whether no call was told.
+    pub(crate) fn is_untold(&self) -> bool
+        ensures { result ≡ (self.now.call == 0) }
+    {
+        self.call == 0
+    }
+
+    /// Behind octets that were passed over, the device is in this mode.
+    pub(crate) fn resume(&mut self, mode: DeviceMode)
+        ensures { self.new ≡ judging_in_mode self.old mode }
+    {
+        self.judge.resume(mode);
+        self.watching.miss(one_more(self.call));
     }
 
     /// A call of the wire begins.
@@ -261,6 +292,7 @@ impl Judgement {
     {
         match passed {
             SplitItem::Wake(answer) => self.wake(*answer),
+            SplitItem::Resumed(mode) => self.resume(*mode),
             SplitItem::Exchange(exchange) => self.exchange(
                 exchange.sent.as_slice(),
                 exchange.answer.as_ref().map(|octets| octets.as_slice()),

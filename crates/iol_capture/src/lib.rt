@@ -27,6 +27,9 @@
 #![tactic(auto)]
 
 mod capture;
+mod cells;
+mod damage;
+mod export;
 mod fault;
 mod gap;
 mod heard;
@@ -49,6 +52,7 @@ mod trace_line;
 mod watching;
 
 pub use capture::judge_capture;
+pub use export::ExportForm;
 pub use fault::{CaptureFault, LineFault};
 pub use gap::bit_time;
 pub use judgement::Judgement;

@@ -3,8 +3,10 @@ ghost use Rattle.std.specs.Prelude.{◌≡◌, ◌==◌, Some};
 ghost use Rattle.std.specs.List.{position};
 ghost use Rattle.iol_capture.specs.OctetLines.{digit_behind, digits_behind, nanoseconds, octet_form, octet_of, parts_form, time_form, word_form};
 
+use crate::export::ExportForm;
+
 /// The digits behind the point down to nanoseconds.
-const PLACES: usize = 9;
+pub(crate) const PLACES: usize = 9;
 
 const ZEROS: [u8; PLACES] = [b'0'; PLACES];
 
@@ -13,8 +15,16 @@ const ZEROS: [u8; PLACES] = [b'0'; PLACES];
 pub enum OctetLine {
     /// Nothing: it is blank, or a comment, which begins with `#`.
     Other,
+    /// Something else than octets.
+    Skipped,
+    /// How the lines behind it are written.
+    Form(ExportForm),
     /// An octet, and the time in nanoseconds at which it begins.
     Octet(u64, u8),
+    /// An octet with a framing or parity error that begins at this time.
+    Damaged(u64),
+    /// The octet before has such an error.
+    DamagedBefore,
     /// A wake-up request, and its time in nanoseconds.
     Wake(u64),
 }
@@ -35,14 +45,14 @@ impl OctetLine {
 }
 
 /// Where an octet stands first.
-fn place_of(text: &[u8], mark: u8) -> Option<usize>
+pub(crate) fn place_of(text: &[u8], mark: u8) -> Option<usize>
     ensures { result ≡ position (λ b. b == mark) text.now }
 {
     text.iter().position(|octet| *octet == mark)
 }
 
 /// The parts before and behind the first space.
-fn parse_parts(line: &[u8]) -> Option<OctetLine>
+pub(crate) fn parse_parts(line: &[u8]) -> Option<OctetLine>
     ensures { result ≡ parts_form line.now (position (λ b. b == 32) line.now) }
 {
     match place_of(line, b' ') {
@@ -63,7 +73,7 @@ fn parse_word(word: &[u8], time: u64) -> Option<OctetLine>
 }
 
 /// Two hexadecimal digits, in both cases, with or without `0x`.
-fn parse_octet(word: &[u8]) -> Option<u8>
+pub(crate) fn parse_octet(word: &[u8]) -> Option<u8>
     ensures { result ≡ octet_form word.now }
 {
     match word {
@@ -73,7 +83,7 @@ fn parse_octet(word: &[u8]) -> Option<u8>
     }
 }
 
-fn octet_of(high: u8, low: u8) -> Option<u8>
+pub(crate) fn octet_of(high: u8, low: u8) -> Option<u8>
     ensures { result ≡ octet_of high low }
 {
     let high = char::from(high).to_digit(16)?;
@@ -82,7 +92,7 @@ fn octet_of(high: u8, low: u8) -> Option<u8>
 }
 
 /// Seconds, with up to nine digits behind the point, as nanoseconds.
-fn parse_time(word: &[u8]) -> Option<u64>
+pub(crate) fn parse_time(word: &[u8]) -> Option<u64>
     ensures { result ≡ time_form word.now (position (λ b. b == 46) word.now) }
 {
     match place_of(word, b'.') {
@@ -106,7 +116,7 @@ fn nanoseconds(whole: &[u8], fraction: &[u8]) -> Option<u64>
 
 /// The number with more decimal digits behind its own, below 2^64.
 #[tactic(auto, using(crate::proofs::Digits::bad_ends))]
-fn digits_behind(number: u64, digits: &[u8]) -> Option<u64>
+pub(crate) fn digits_behind(number: u64, digits: &[u8]) -> Option<u64>
     ensures { result ≡ digits_behind (Some number) digits.now }
 {
     let mut number = number;

@@ -151,6 +151,9 @@ impl CaptureReader {
         ensures told { MatchResult result (λ whole. last_call self.reading.telling ≡ whole.1)
             (λ fault. last_call self.reading.telling ≡ None) }
     {
+        if self.telling.is_untold() {
+            return Err(CaptureFault::NothingTold(self.lines));
+        }
         let number = one_more(self.lines);
         match self.telling.finish() {
             Ok(whole) => Ok(whole),

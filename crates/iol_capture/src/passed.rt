@@ -1,5 +1,6 @@
 //! What went over a line.
 
+use iol_far::DeviceMode;
 use iol_judge::{Judge, Wake};
 use iol_mseq::Message;
 use std::marker::Model;
@@ -27,6 +28,9 @@ pub enum SplitItem {
     Exchange(Exchange),
     /// A wake-up request, with its test read. One that isn't answered may have been none.
     Wake(Wake),
+    /// Octets were passed over, and with them whatever they were. The next message is in the layout
+    /// of this mode, or a wake-up request is next.
+    Resumed(DeviceMode),
 }
 
 impl SplitItem {
@@ -43,6 +47,7 @@ impl SplitItem {
                 judge.exchange(exchange.sent.as_slice(), answer);
             }
             SplitItem::Wake(answer) => judge.wake(*answer),
+            SplitItem::Resumed(mode) => judge.resume(*mode),
         }
     }
 }

@@ -12,11 +12,16 @@ use std::alloc::{AllocError, Allocator};
 /// Why the master's mode isn't known.
 const UNSEEN_WAKE: &str = "the read there may be behind a wake-up request that isn't shown";
 
+/// The same, behind damage.
+const UNHEARD: &str = "octets before it were passed over";
+
 /// What a judge found in a capture.
 #[derive(Clone, Copy, Debug, PartialEq, Eq)]
 pub enum Finding {
     /// Nothing speaks against a device by the rules.
     Honest,
+    /// The same, but the master isn't by the rules.
+    MasterAtFault,
     /// No device by the rules could have brought it.
     NotHonest,
     /// From some call on nothing can be said, or nothing was judged.
@@ -26,9 +31,10 @@ pub enum Finding {
 impl Judgement {
     /// What was found.
     pub fn finding(&self) -> Finding
-        ensures { result ≡ finding_of self.now.judged.verdict }
+        ensures { result ≡ finding_of self.now }
     {
         match self.judge.verdict() {
+            Verdict::Honest if self.watching.is_surely_blamed() => Finding::MasterAtFault,
             Verdict::Honest => Finding::Honest,
             Verdict::NotHonest(..) => Finding::NotHonest,
             Verdict::Unjudged | Verdict::CantSay(..) => Finding::CantSay,
@@ -36,15 +42,18 @@ impl Judgement {
     }
 
     /// What was found, in a line of text. Before it the first 100 odd exchanges; how many exchanges
-    /// aren't judged, where some aren't; of the master the first fault in the whole capture,
-    /// whatever was found of the device; and of which kinds the device may be, where it may be of
-    /// some, and not of all four. Behind it how many are odd, where some are.
+    /// aren't judged, lines were skipped and octets passed over, where some are; of the master the
+    /// first fault in the whole capture, whatever was found of the device; and of which kinds the
+    /// device may be, where it may be of some, and not of all four. Behind it how many are odd,
+    /// where some are.
     pub fn text<A: Allocator>(&self, alloc: A) -> Result<String<A>, AllocError>
         ensures { IfOk result (λ text. string_bytes text ≡ finding_text self.now) }
     {
         let mut output = String::new(alloc);
         print_odd(&mut output, &self.odd)?;
-        print_unjudged(&mut output, self.counts.unjudged)?;
+        print_count(&mut output, "unjudged ", self.counts.unjudged)?;
+        print_count(&mut output, "lines skipped ", self.skipped)?;
+        print_count(&mut output, "octets passed over ", self.passed_over)?;
         print_master(&mut output, &self.watching)?;
         print_kinds(&mut output, &self.judge.kinds())?;
         print_verdict(
@@ -53,7 +62,7 @@ impl Judgement {
             self.decided,
             &self.counts,
         )?;
-        print_odd_count(&mut output, self.judge.oddities())?;
+        print_count(&mut output, "odd ", self.judge.oddities())?;
         Ok(output)
     }
 }
@@ -77,24 +86,18 @@ fn print_odd<A: Allocator>(
     Ok(())
 }
 
-/// How many exchanges are odd, where some are.
-fn print_odd_count<A: Allocator>(output: &mut String<A>, count: u64) -> Result<(), AllocError>
-    ensures { Prints result output.old output.new (count_text (codes "odd ") count) }
+/// A count behind its name, where it isn't 0.
+fn print_count<A: Allocator>(
+    output: &mut String<A>,
+    name: &str,
+    count: u64,
+) -> Result<(), AllocError>
+    ensures { Prints result output.old output.new (count_text name.now count) }
 {
     if count == 0 {
         return Ok(());
     }
-    writeln!(output, "odd {count}")
-}
-
-/// The exchanges before the first answered wake-up request, where there are any.
-fn print_unjudged<A: Allocator>(output: &mut String<A>, count: u64) -> Result<(), AllocError>
-    ensures { Prints result output.old output.new (count_text (codes "unjudged ") count) }
-{
-    if count == 0 {
-        return Ok(());
-    }
-    writeln!(output, "unjudged {count}")
+    writeln!(output, "{name}{count}")
 }
 
 /// What is said of the master.
@@ -110,7 +113,7 @@ fn print_master<A: Allocator>(
         }
         MasterVerdict::ByTheRules => output.push_str("master by the rules\n"),
         MasterVerdict::NotByTheRules(_, fault) => {
-            print_blamed(output, fault, watching.call, watching.unsure)
+            print_blamed(output, fault, watching.call, watching)
         }
     }
 }
@@ -120,12 +123,16 @@ fn print_blamed<A: Allocator>(
     output: &mut String<A>,
     fault: Blame,
     call: u64,
-    unsure: Option<u64>,
+    watching: &CallWatch,
 ) -> Result<(), AllocError>
-    ensures { Prints result output.old output.new (blamed_text fault call unsure) }
+    ensures { Prints result output.old output.new
+        (blamed_text fault call watching.now.unsure watching.now.unheard) }
 {
-    if let Some(from) = unsure {
+    if let Some(from) = watching.unsure {
         return print_unsure(output, from, UNSEEN_WAKE);
+    }
+    if let Some(from) = watching.unheard {
+        return print_unsure(output, from, UNHEARD);
     }
     output.push_str("master not by the rules at ")?;
     print_because(output, call, ": ", fault.code(), fault_text(fault))

@@ -13,18 +13,6 @@ pub enum SplitFault {
     /// 2: it begins before the frame of the octet before has ended. The rate may be another.
     #[error("Overlap: it begins before the octet before has ended, or the rate is another")]
     Overlap,
-    /// 3: it follows a whole message sooner than a reply does.
-    #[error("LongMessage: it follows a whole message too soon for a reply")]
-    LongMessage,
-    /// 4: the message before isn't whole, and has ended.
-    #[error("GapInMessage: the message before isn't whole, and has ended")]
-    GapInMessage,
-    /// 5: it follows a whole reply as one more octet of it.
-    #[error("LongReply: it follows a whole reply too soon for a message")]
-    LongReply,
-    /// 6: the reply before isn't whole, and it follows too late for that, too soon for a message.
-    #[error("GapInReply: the reply before isn't whole, and it follows too late for that")]
-    GapInReply,
     /// 7: the layout of the device's mode isn't known.
     #[error("NoLayout: the layout of the device's mode isn't known ({0})")]
     NoLayout(Open),
@@ -40,10 +28,6 @@ impl SplitFault {
         match self {
             SplitFault::TimeBack => 1,
             SplitFault::Overlap => 2,
-            SplitFault::LongMessage => 3,
-            SplitFault::GapInMessage => 4,
-            SplitFault::LongReply => 5,
-            SplitFault::GapInReply => 6,
             SplitFault::NoLayout(_) => 7,
         }
     }

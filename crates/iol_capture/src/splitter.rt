@@ -1,7 +1,7 @@
 //! The splitter.
 ghost use Rattle.std.specs.Prelude.{◌≡◌};
 ghost use Rattle.iol_judge.specs.Seen.{whole_page};
-ghost use Rattle.iol_capture.specs.Splitting.{untold_at_end, octet_split, wake_split};
+ghost use Rattle.iol_capture.specs.Splitting.{is_unheard, untold_at_end, octet_split, wake_split};
 ghost use Rattle.iol_capture.specs.SplitSteps.{split_step, good_step};
 ghost use Rattle.iol_capture.specs.SplitterState.{begins_call, new_splitter};
 
@@ -26,6 +26,21 @@ pub(crate) enum Phase {
     Reply,
     /// A message.
     Rest,
+    /// Behind damage: octets are passed over up to a pause.
+    Damaged,
+    /// Behind a pause there: the octets of a message, if they are one.
+    Trial,
+    /// Behind a message whose reply is damaged: octets are passed over up to the next message.
+    Spoiled,
+}
+
+impl Phase {
+    /// Whether what goes over the line isn't known.
+    pub(crate) fn is_unheard(self) -> bool
+        ensures { result ≡ is_unheard self }
+    {
+        matches!(self, Phase::Message | Phase::Damaged | Phase::Trial)
+    }
 }
 
 /// Whether the decoder shows wake-up requests.
@@ -57,6 +72,8 @@ pub struct Splitter {
     pub(crate) answer: Message,
     /// When the last octet, or the last wake-up request, began.
     pub(crate) last: u64,
+    /// How many octets were passed over.
+    pub(crate) passed_over: u64,
 }
 
 impl Model for Splitter {
@@ -74,6 +91,7 @@ impl Model for Splitter {
       sent = s.sent.items;
       answer = s.answer.items;
       last = s.last;
+      passed_over = s.passed_over;
     } };
 }
 
@@ -92,6 +110,7 @@ impl Splitter {
             sent: Message::new(),
             answer: Message::new(),
             last: 0,
+            passed_over: 0,
         }
     }
 
@@ -116,21 +135,26 @@ impl Splitter {
     }
 
     /// The decoder shows a wake-up request at this time. None: nothing is known that went over the
-    /// line before. Refusals, the first that holds: 1 TimeBack; 4 GapInMessage.
+    /// line before. Refusal: 1 TimeBack.
     pub fn wake(&mut self, time: u64) -> Result<Option<SplitItem>, SplitFault>
         ensures { split_step self.new result ≡ wake_split self.old time }
     {
         if time < self.last {
             return Err(SplitFault::TimeBack);
         }
-        if self.phase == Phase::Message {
-            return Err(SplitFault::GapInMessage);
-        }
-        let passed = self.finish();
+        let passed = self.cut();
         self.last = time;
         self.requests = Requests::Shown;
         self.phase = Phase::Waking;
         Ok(passed)
+    }
+
+    /// How many octets were passed over, for they or those about them are damaged. The count stops
+    /// at 2^64 - 1.
+    pub fn passed_over(&self) -> u64
+        ensures { result ≡ self.now.passed_over }
+    {
+        self.passed_over
     }
 
     /// Whether the octet told last begins a message, or a test read behind a wake-up request.
@@ -156,7 +180,20 @@ impl Splitter {
 }
 
 impl Splitter {
-    ghost use Rattle.iol_capture.specs.Splitting.{cleared_line};
+    ghost use Rattle.iol_capture.specs.Splitting.{cut_by_wake};
+    ghost use Rattle.iol_capture.specs.Damage.{cleared_line};
+
+    /// What a wake-up request tells that cuts off what is under way.
+    fn cut(&mut self) -> Option<SplitItem>
+        ensures { good_step self.new result ≡ cut_by_wake self.old }
+    {
+        if !self.phase.is_unheard() {
+            return self.finish();
+        }
+        let mode = self.link.mode_of(&[]);
+        self.lose(0);
+        Some(SplitItem::Resumed(mode))
+    }
 
     /// What isn't told yet. No octet is under way any more.
     fn finish(&mut self) -> Option<SplitItem>
@@ -169,6 +206,7 @@ impl Splitter {
             Phase::Message => None,
             Phase::Reply => Some(self.exchange()),
             Phase::Rest => None,
+            Phase::Damaged | Phase::Trial | Phase::Spoiled => None,
         };
         self.sent.clear();
         self.answer.clear();

@@ -3,7 +3,7 @@ ghost use Rattle.std.specs.Prelude.{◌≡◌, MatchResult, Ok};
 ghost use Rattle.std.specs.Result.{result_and, result_unwrap_or};
 ghost use Rattle.iol_capture.specs.Judging.{or_bad_form, judging_after_line};
 ghost use Rattle.iol_capture.specs.TraceLines.{trace_form};
-ghost use Rattle.iol_capture.specs.Capture.{judging_if_whole, last_call, line_call, line_told, new_telling};
+ghost use Rattle.iol_capture.specs.Capture.{is_untold, judging_if_whole, last_call, line_call, line_told, new_telling};
 
 use crate::fault::LineFault;
 use crate::hearing::OctetJudgement;
@@ -51,6 +51,16 @@ impl Telling {
                 Ok(None)
             }
             Telling::Octets(hearing) => hearing.tell_line(line),
+        }
+    }
+
+    /// Whether a trace told no call.
+    pub fn is_untold(&self) -> bool
+        ensures { result ≡ is_untold self.now }
+    {
+        match self {
+            Telling::Trace(judgement) => judgement.is_untold(),
+            Telling::Octets(_) => false,
         }
     }
 

@@ -50,6 +50,9 @@ impl Beginnings {
         ensures call { result ≡ call_told self.old number layout passed }
     {
         let item = passed?;
+        if let SplitItem::Resumed(_) = item {
+            return None;
+        }
         let time = self.time_of(&item);
         if let SplitItem::Wake(_) = item {
             self.request = None;

@@ -1,6 +1,6 @@
 //! A watch of the master's side, told the calls that a judge is told.
 ghost use Rattle.std.specs.Prelude.{◌≡◌, true, option_copied};
-ghost use Rattle.iol_capture.specs.Watching.{asks_mode, exchange_watched, watching_after_exchange, is_blamed, new_watching, page_watched, read_or_woken, wake_watched};
+ghost use Rattle.iol_capture.specs.Watching.{asks_mode, exchange_watched, watching_after_exchange, is_blamed, watching_unheard, new_watching, page_watched, read_or_woken, wake_watched};
 
 use iol_judge::{MasterVerdict, Wake, Watch};
 use std::marker::Model;
@@ -24,6 +24,8 @@ pub(crate) struct CallWatch {
     tests: bool,
     /// The first call since then that may be one, though the device had left STARTUP.
     pub(crate) unsure: Option<u64>,
+    /// The first call since then behind octets that were passed over.
+    pub(crate) unheard: Option<u64>,
 }
 
 impl Model for CallWatch {
@@ -37,6 +39,7 @@ impl Model for CallWatch {
       asked = w.asked;
       tests = w.tests;
       unsure = w.unsure;
+      unheard = w.unheard;
     } };
 }
 
@@ -51,6 +54,7 @@ impl CallWatch {
             asked: false,
             tests: false,
             unsure: None,
+            unheard: None,
         }
     }
 
@@ -60,6 +64,15 @@ impl CallWatch {
     {
         self.watch.verdict()
     }
+
+    /// Whether the master is blamed, and no doubt is left of its mode.
+    pub fn is_surely_blamed(&self) -> bool
+        ensures { result ≡ is_surely_blamed self.now }
+    {
+        self.is_blamed() && self.unsure.is_none() && self.unheard.is_none()
+    }
+
+    ghost use Rattle.iol_capture.specs.Findings.{is_surely_blamed};
 
     /// Whether the master's first fault was met.
     fn is_blamed(&self) -> bool
@@ -86,6 +99,16 @@ impl CallWatch {
         self.asked = false;
         self.tests = false;
         self.unsure = None;
+        self.unheard = None;
+    }
+
+    /// Behind octets that were passed over this call is next.
+    pub fn miss(&mut self, call: u64)
+        ensures { self.new ≡ watching_unheard self.old call }
+    {
+        if !self.is_blamed() && self.unheard.is_none() {
+            self.unheard = Some(call);
+        }
     }
 
     /// The next exchange may be the test read of a wake-up request that isn't shown.

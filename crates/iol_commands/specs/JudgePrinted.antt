@@ -12,5 +12,5 @@ pub record Judges (form : CaptureForm) (odd : Odd) (capture : List ℕ) (finding
     (text : List ℕ) : Type 0 where
   pub judging : Judging
   pub judged : capture_judged form odd capture ≡ Ok judging
-  pub finds : finding ≡ finding_of judging.judged.verdict
+  pub finds : finding ≡ finding_of judging
   pub text_is : text ≡ finding_text judging

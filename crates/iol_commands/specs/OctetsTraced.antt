@@ -8,7 +8,7 @@ use Rattle.iol_judge.specs.declared.verdict.Odd.{Odd}
 use Rattle.iol_judge.specs.declared.verdict.Wake.{Wake as WakeAnswer}
 use Rattle.iol_judge.specs.declared.verdict.Wake.TheVariants.{Answered, Unanswered}
 use Rattle.iol_capture.specs.declared.passed.SplitItem.{SplitItem}
-use Rattle.iol_capture.specs.declared.passed.SplitItem.TheVariants.{Exchange, Wake}
+use Rattle.iol_capture.specs.declared.passed.SplitItem.TheVariants.{Exchange, Resumed, Wake}
 use Rattle.iol_capture.specs.declared.fault.CaptureFault.{CaptureFault}
 use Rattle.iol_capture.specs.declared.printing.Finding.{Finding}
 use Rattle.iol_capture.specs.declared.telling.CaptureForm.TheVariants.{Octets}
@@ -45,6 +45,7 @@ PrintsItem rate (Some number) layout (Wake answer) text =
     text ≡ wake_text number (rate_answered rate answer)
 PrintsItem rate (Some number) layout (Exchange exchange) text =
     PrintsExchange number layout exchange.sent exchange.answer text
+PrintsItem rate (Some number) layout (Resumed mode) text = text ≡ []
 
 -- its time stands before them
 abbrev pub PrintsTimed : Rate → TimedCall → List ℕ → Type 0

@@ -57,10 +57,10 @@ impl From<CaptureFault> for JudgeFault {
 /// shows. Odd replies are blamed, or passed over.
 ///
 /// The capture is read line by line, to its end or to its first bad line; then what was found is
-/// written: the first 100 exchanges in which something was passed over, each in a line; what is
-/// said of the master, by its first fault in the whole capture; of which kinds the device may be,
-/// where it can't be of each; the verdict. What is said of the master doesn't count as found. Where
-/// any fault is met but that of a write, nothing is written.
+/// written: the first 100 exchanges in which something was passed over, each in a line; how
+/// many lines were skipped and octets passed over; what is said of the master, by its first fault
+/// in the whole capture; of which kinds the device may be, where it can't be of each; the verdict.
+/// Where any fault is met but that of a write, nothing is written.
 pub fn judge<A: Allocator, R: Read, W: Write>(
     alloc: A,
     form: CaptureForm,

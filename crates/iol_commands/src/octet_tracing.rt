@@ -184,6 +184,8 @@ fn print_item<A: Allocator>(
             exchange.sent.as_slice(),
             &exchange.answer,
         ),
+        // Damage is no call.
+        SplitItem::Resumed(_) => Ok(()),
     }
 }
 

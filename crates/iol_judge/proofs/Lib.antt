@@ -6,3 +6,4 @@ mod Hearing
 mod Answering
 pub mod Fairness
 mod WatchFair
+pub mod Resuming

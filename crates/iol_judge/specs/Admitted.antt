@@ -13,6 +13,7 @@ use Rattle.iol_judge.specs.declared.reason.Reason.{Reason}
 use Rattle.iol_judge.specs.declared.transfer.Transfer.TheVariants.{Quiet}
 use Rattle.iol_judge.specs.declared.verdict.Verdict.{Verdict}
 use Rattle.iol_judge.specs.declared.verdict.Verdict.TheVariants.{Honest, NotHonest}
+use Rattle.iol_far.specs.declared.mode.DeviceMode.{DeviceMode}
 use Rattle.iol_judge.specs.declared.verdict.Odd.{Odd}
 use Rattle.iol_judge.specs.declared.verdict.Wake.{Wake}
 use Rattle.iol_judge.specs.declared.verdict.Wake.TheVariants.{Answered, Unanswered}
@@ -21,7 +22,7 @@ use Rattle.iol_judge.specs.Seen.{whole_page}
 use Rattle.iol_judge.specs.State.{KnownState}
 use Rattle.iol_judge.specs.Family.{admits_kind}
 use Rattle.iol_judge.specs.UnderWay.{HasUnderWay}
-use Rattle.iol_judge.specs.Judged.{JudgeState, new_judge, judge_after_exchange, kinds_left, judge_after_wake}
+use Rattle.iol_judge.specs.Judged.{JudgeState, new_judge, judge_after_exchange, judge_resumed, kinds_left, judge_after_wake}
 
 -- the hold is over, and only during it events wait while none is frozen
 pub record IsReleased (memory : Events) : Type 0 where
@@ -151,3 +152,14 @@ pub record NeverBlamed : Type 0 where
   pub kinds : (judged : JudgeState) (far : Far) → IsFair judged far
       → (silence : ℕ) (capture : List Passing) → IsHonestRun far silence capture
       → admits_kind (kinds_left (told_all judged capture)) far.kind ≡ true
+
+-- its event hold is on, or over
+abbrev pub IsHoldKnown : Events → Type 0
+IsHoldKnown memory = AreAsKnown Held memory ⊎ AreAsKnown Any memory
+
+-- the law of what isn't heard: a judge that was fair to a device is fair to it again once it is
+-- told its mode, whatever went over the line meanwhile
+abbrev pub ResumedIsFair : Type 0
+ResumedIsFair = (judged : JudgeState) (before far : Far) → IsFair judged before
+    → far.page ≡ before.page → far.awake ≡ true → IsHoldKnown far.events → (mode : DeviceMode)
+    → link_of far ≡ record { mode = mode; waits = None } → IsFair (judge_resumed judged mode) far

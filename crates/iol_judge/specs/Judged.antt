@@ -21,11 +21,13 @@ use Rattle.iol_judge.specs.declared.verdict.Verdict.TheVariants.{Unjudged, Hones
 use Rattle.iol_judge.specs.declared.verdict.Odd.{Odd}
 use Rattle.iol_judge.specs.declared.verdict.Wake.{Wake}
 use Rattle.iol_judge.specs.declared.verdict.Wake.TheVariants.{Answered, Unanswered}
+use Rattle.iol_far.specs.declared.mode.DeviceMode.{DeviceMode}
+use Rattle.iol_judge.specs.declared.events.ShownEvents.TheVariants.{Any, Held}
 use Rattle.iol_judge.specs.declared.kinds.Kinds.{Kinds}
 use Rattle.iol_judge.specs.Family.{all_kinds, both_kinds, no_kinds}
 use Rattle.iol_judge.specs.Numbers.{later}
 use Rattle.iol_judge.specs.Seen.{nothing_seen, layouts_seen, page_noted}
-use Rattle.iol_judge.specs.State.{KnownState, are_alike, first_state, parts, woken_state, powered_state, covers}
+use Rattle.iol_judge.specs.State.{KnownState, are_alike, first_state, parts, resumed_state, woken_state, powered_state, covers}
 use Rattle.iol_judge.specs.Taking.{and_then, taken_by_state}
 use Rattle.iol_judge.specs.Replies.{can_be_read, explanation_of}
 
@@ -239,3 +241,21 @@ kinds_left judged = elim judged.verdict [
   | NotHonest exchange reason ↦ no_kinds
   | _ ↦ all_kinds
 ]
+
+-- What isn't heard
+
+-- the device is in this mode, and its event hold may be on or over
+abbrev pub resumed_states : DeviceMode → List KnownState
+resumed_states mode = resumed_state mode Any ∷ resumed_state mode Held ∷ []
+
+-- a verdict that is final stays
+abbrev pub resumed_from : Verdict → JudgeState → DeviceMode → JudgeState
+resumed_from Unjudged judged mode =
+    record judged { states = resumed_states mode; verdict = Honest }
+resumed_from Honest judged mode =
+    record judged { states = resumed_states mode; verdict = Honest }
+resumed_from verdict judged mode = judged
+
+-- the judge, told that some of what went over the line isn't known
+abbrev pub judge_resumed : JudgeState → DeviceMode → JudgeState
+judge_resumed judged mode = resumed_from judged.verdict judged mode

@@ -7,6 +7,7 @@ use Rattle.iol_far.specs.declared.kind.Kind.{Kind}
 use Rattle.iol_far.specs.declared.kind.HandsOver.TheVariants.{FirstRead, LastSegment}
 use Rattle.iol_far.specs.declared.kind.Recalls.TheVariants.{UntilLeft, UntilSent}
 use Rattle.iol_far.specs.Codec.{flow_of}
+use Rattle.iol_far.specs.declared.mode.DeviceMode.{DeviceMode}
 use Rattle.iol_far.specs.declared.mode.DeviceMode.TheVariants.{Startup}
 use Rattle.iol_far.specs.Far.{WaitingCommand, is_mode}
 use Rattle.iol_far.specs.Level.{FarLink}
@@ -14,7 +15,7 @@ use Rattle.iol_judge.specs.declared.events.ShownEvents.{ShownEvents}
 use Rattle.iol_judge.specs.declared.events.ShownEvents.TheVariants.{Any, Fresh}
 use Rattle.iol_judge.specs.declared.kinds.Kinds.{Kinds}
 use Rattle.iol_judge.specs.declared.transfer.Transfer.{Transfer}
-use Rattle.iol_judge.specs.declared.transfer.Transfer.TheVariants.{Quiet}
+use Rattle.iol_judge.specs.declared.transfer.Transfer.TheVariants.{Free, Quiet}
 use Rattle.iol_judge.specs.Octets.{is_known_in}
 use Rattle.iol_judge.specs.Events.{covers_events, shown_after}
 use Rattle.iol_judge.specs.Family.{all_kinds, admits_kind, kinds_within, only_kind}
@@ -51,6 +52,16 @@ powered_state state = startup_state state.kinds state.cycle Fresh
 -- after the first wake-up request that was answered
 abbrev pub first_state : KnownState
 first_state = startup_state all_kinds None Any
+
+-- of a device that is awake in this mode, of which no more is known than that no command waits
+abbrev pub resumed_state : DeviceMode → ShownEvents → KnownState
+resumed_state mode events = record {
+  kinds = all_kinds;
+  link = record { mode = mode; waits = None };
+  cycle = None;
+  events = events;
+  transfer = Free;
+}
 
 -- States for the kinds that a message tells apart
 

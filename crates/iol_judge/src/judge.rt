@@ -2,8 +2,9 @@
 ghost use Rattle.std.specs.Prelude.{◌≡◌, option_copied, [], Ok, Err};
 ghost use Rattle.iol_judge.specs.Seen.{whole_page};
 ghost use Rattle.iol_judge.specs.Family.{no_kinds};
-ghost use Rattle.iol_judge.specs.Judged.{concluded_lost, judge_after_exchange, kinds_left, kinds_with, new_judge, page_after_reply, judge_after_wake};
+ghost use Rattle.iol_judge.specs.Judged.{concluded_lost, judge_after_exchange, judge_resumed, kinds_left, kinds_with, new_judge, page_after_reply, judge_after_wake};
 
+use crate::events::ShownEvents;
 use crate::kept::KeptState;
 use crate::kinds::Kinds;
 use crate::next::{lose, move_states, reply, wake};
@@ -14,6 +15,7 @@ use crate::reason::Reason;
 use crate::seen::SeenPage;
 use crate::taken::{NextStates, States};
 use crate::verdict::{Odd, Verdict, Wake};
+use iol_far::DeviceMode;
 use iol_octets::Mc;
 use std::marker::Model;
 
@@ -101,6 +103,21 @@ impl Judge {
             Some(octets) if is_readable(&layouts, sent, octets) => self.hear_reply(sent, octets),
             _ => self.hear_nothing(sent),
         }
+    }
+
+    /// Some of what went over the line isn't known. Now the device is awake in this mode, and no
+    /// mode command waits there: the judge goes on, or begins. A verdict that is final stays.
+    pub fn resume(&mut self, mode: DeviceMode)
+        ensures { self.new ≡ judge_resumed self.old mode }
+    {
+        if !matches!(self.verdict, Verdict::Unjudged | Verdict::Honest) {
+            return;
+        }
+        self.states.clear();
+        self.states.push(KeptState::resumed(mode, ShownEvents::Any));
+        self.states
+            .push(KeptState::resumed(mode, ShownEvents::Held));
+        self.verdict = Verdict::Honest;
     }
 
     /// What can be said so far.

@@ -2,7 +2,7 @@
 ghost use Rattle.std.specs.Prelude.{◌≡◌, ◌≤◌, ◌+◌, ◌++◌, None, Some, Option, slice_index};
 ghost use Rattle.arrayvec.specs.ArrayVec.{array_vec_len};
 ghost use Rattle.iol_octets.specs.Control.{control_of};
-ghost use Rattle.iol_judge.specs.State.{all_parts, first_state, is_command, parts_of, startup_state, state_of_kind, tells_apart};
+ghost use Rattle.iol_judge.specs.State.{all_parts, first_state, is_command, parts_of, resumed_state, startup_state, state_of_kind, tells_apart};
 
 use crate::events::{ShownEvents, is_known_in};
 use crate::had::HadSegments;
@@ -68,6 +68,21 @@ impl KeptState {
         ensures { result ≡ first_state }
     {
         KeptState::started(Kinds::all(), None, ShownEvents::Any)
+    }
+
+    /// An awake device of any kind in this mode, with these events, of which nothing else is known
+    /// but that no mode command waits.
+    pub fn resumed(mode: DeviceMode, events: ShownEvents) -> KeptState
+        ensures { result ≡ resumed_state mode events }
+    {
+        KeptState {
+            kinds: Kinds::all(),
+            mode,
+            waits: None,
+            cycle: None,
+            events,
+            transfer: Transfer::Free,
+        }
     }
 
     fn started(kinds: Kinds, cycle: Option<u8>, events: ShownEvents) -> KeptState

@@ -1,5 +1,5 @@
 //! The law of the judge, carried by a function that does nothing when it runs.
-ghost use Rattle.iol_judge.specs.Admitted.{NeverBlamed};
+ghost use Rattle.iol_judge.specs.Admitted.{NeverBlamed, ResumedIsFair};
 
 use iol_far::{
     modes_have_layouts, page_and_room_stay, parts_stay_regular, replies_are_read,
@@ -26,3 +26,9 @@ pub fn honest_lines_are_never_blamed()
     page_and_room_stay();
     replies_are_read();
 }
+
+/// Whatever a device did meanwhile, a judge that is told its mode goes on fairly.
+#[tactic(auto, using(crate::proofs::Resuming::resumed_is_fair))]
+pub fn resumed_judges_are_fair()
+    ensures { ResumedIsFair }
+{}

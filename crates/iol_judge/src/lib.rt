@@ -69,7 +69,7 @@ mod watch_laws;
 pub use blame::Blame;
 pub use judge::Judge;
 pub use kinds::Kinds;
-pub use laws::honest_lines_are_never_blamed;
+pub use laws::{honest_lines_are_never_blamed, resumed_judges_are_fair};
 pub use master_verdict::MasterVerdict;
 pub use open::Open;
 pub use reason::Reason;

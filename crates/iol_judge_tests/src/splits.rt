@@ -1,6 +1,7 @@
 //! Cases of what a decoder shows.
 
-use iol_capture::{OctetLine, SplitFault, SplitItem, Splitter, bit_time};
+use iol_capture::{ExportForm, OctetLine, SplitFault, SplitItem, Splitter, bit_time};
+use iol_far::DeviceMode;
 use iol_judge::{Judge, Odd, Open, Reason, Verdict, Wake};
 use iol_link::Rate;
 use std::test::Fail;
@@ -204,23 +205,78 @@ fn a_command_without_a_reply_changes_nothing(rt: HostRuntime) -> Result<(), Fail
     Ok(())
 }
 
+/// Whether the device goes on in OPERATE behind octets that were passed over.
+fn is_resumed(passed: &Option<SplitItem>) -> bool {
+    matches!(passed, Some(SplitItem::Resumed(DeviceMode::Operate)))
+}
+
 #[test]
-fn a_stream_that_cant_be_split_says_why(rt: HostRuntime) -> Result<(), Fail> {
+fn octets_too_many_or_too_few_are_passed_over(rt: HostRuntime) -> Result<(), Fail> {
     let mut line = Line::operating()?;
     let _ = line.hear(PAUSE, &IDLE)?;
-    assert_eq!(rt; line.hear(0, &[0x5A]).err(), Some(SplitFault::LongMessage));
+    assert!(rt; line.hear(0, &[0x5A])?.is_none());
+    assert_eq!(rt; line.splitter.passed_over(), 4);
+    // Octets that are no message are none of the device's mode.
+    assert!(rt; line.hear(PAUSE, &[0xF1, 0x9C, 0x5A])?.is_none());
+    assert_eq!(rt; line.splitter.passed_over(), 7);
+    assert!(rt; is_resumed(&line.hear(PAUSE, &IDLE)?));
+    assert!(rt; is_exchange(&line.hear(RESPONSE, &IDLE_REPLY)?, &IDLE, &IDLE_REPLY));
+    assert_eq!(rt; line.splitter.passed_over(), 7);
 
     let mut line = Line::operating()?;
     let _ = line.hear(PAUSE, &IDLE[..2])?;
-    assert_eq!(rt; line.hear(2, &[0x5A]).err(), Some(SplitFault::GapInMessage));
+    assert!(rt; line.hear(2, &[0x5A])?.is_none());
+    assert_eq!(rt; line.splitter.passed_over(), 3);
+    assert!(rt; is_resumed(&line.hear(PAUSE, &IDLE)?));
+
+    let mut line = Line::operating()?;
+    let _ = line.hear(PAUSE, &IDLE[..2])?;
+    assert!(rt; is_resumed(&line.hear(PAUSE, &IDLE)?));
+    assert_eq!(rt; line.splitter.passed_over(), 2);
 
     let mut line = Line::operating()?;
     let _ = line.exchange(&IDLE, &IDLE_REPLY)?;
-    assert_eq!(rt; line.hear(3, &[0x00]).err(), Some(SplitFault::LongReply));
+    assert!(rt; line.hear(3, &[0x00])?.is_none());
+    assert_eq!(rt; line.splitter.passed_over(), 1);
+    assert!(rt; is_resumed(&line.hear(PAUSE, &IDLE)?));
+    Ok(())
+}
 
+#[test]
+fn a_damaged_reply_is_lost(rt: HostRuntime) -> Result<(), Fail> {
     let mut line = Line::operating()?;
     let _ = line.exchange(&IDLE, &IDLE_REPLY[..9])?;
-    assert_eq!(rt; line.hear(4, &[0x00]).err(), Some(SplitFault::GapInReply));
+    assert!(rt; is_exchange(&line.hear(4, &[0x00])?, &IDLE, &[]));
+    assert_eq!(rt; line.splitter.passed_over(), 10);
+    assert!(rt; line.hear(PAUSE, &IDLE)?.is_none());
+    assert!(rt; is_exchange(&line.hear(RESPONSE, &IDLE_REPLY)?, &IDLE, &IDLE_REPLY));
+
+    let mut line = Line::operating()?;
+    let _ = line.exchange(&IDLE, &IDLE_REPLY[..2])?;
+    assert!(rt; is_exchange(&line.splitter.damaged_before(), &IDLE, &[]));
+    assert_eq!(rt; line.splitter.passed_over(), 2);
+
+    let mut line = Line::operating()?;
+    let _ = line.exchange(&IDLE, &IDLE_REPLY[..2])?;
+    line.time = line.time.saturating_add(behind_frame(0));
+    assert!(rt; is_exchange(&line.splitter.damaged(line.time)?, &IDLE, &[]));
+    assert_eq!(rt; line.splitter.passed_over(), 3);
+    Ok(())
+}
+
+#[test]
+fn a_damaged_message_is_passed_over(rt: HostRuntime) -> Result<(), Fail> {
+    let mut line = Line::operating()?;
+    let _ = line.hear(PAUSE, &IDLE)?;
+    assert!(rt; line.splitter.damaged_before().is_none());
+    assert_eq!(rt; line.splitter.passed_over(), 3);
+    assert!(rt; is_resumed(&line.hear(PAUSE, &IDLE)?));
+
+    let mut line = Line::operating()?;
+    line.time = line.time.saturating_add(behind_frame(PAUSE));
+    assert!(rt; line.splitter.damaged(line.time)?.is_none());
+    assert_eq!(rt; line.splitter.damaged(0).err(), Some(SplitFault::TimeBack));
+    assert!(rt; matches!(line.splitter.wake(line.time)?, Some(SplitItem::Resumed(_))));
     Ok(())
 }
 
@@ -289,6 +345,59 @@ fn bad_lines_are_refused(rt: HostRuntime) {
     assert_eq!(rt; OctetLine::parse(b"1  A2"), None);
     assert_eq!(rt; OctetLine::parse(b"-1 A2"), None);
     assert_eq!(rt; OctetLine::parse(b"1"), None);
+}
+
+#[test]
+fn exports_of_tools_are_read(rt: HostRuntime) {
+    let timed = ExportForm::Timed;
+    assert_eq!(rt;
+        OctetLine::parse_in(timed, b"\xEF\xBB\xBF3 wake\r"),
+        Some(OctetLine::Wake(3_000_000_000))
+    );
+    let sampled = ExportForm::Sampled(1_000_000);
+    assert_eq!(rt;
+        OctetLine::parse_in(timed, b"Samplerate: 1000000"),
+        Some(OctetLine::Form(sampled))
+    );
+    assert_eq!(rt; OctetLine::parse_in(timed, b"2010-2090 uart-1: 00"), None);
+    assert_eq!(rt;
+        OctetLine::parse_in(sampled, b"2010-2090 uart-1: 1B"),
+        Some(OctetLine::Octet(2_010_000, 0x1B))
+    );
+    assert_eq!(rt;
+        OctetLine::parse_in(sampled, b"2010-2090 uart-1: Stop bit"),
+        Some(OctetLine::Skipped)
+    );
+    assert_eq!(rt;
+        OctetLine::parse_in(sampled, b"2010-2090 UART: RX warnings: Frame error"),
+        Some(OctetLine::DamagedBefore)
+    );
+    let logic1 = ExportForm::Logic1;
+    assert_eq!(rt;
+        OctetLine::parse_in(timed, b"Time [s],Value,Parity Error,Framing Error"),
+        Some(OctetLine::Form(logic1))
+    );
+    assert_eq!(rt;
+        OctetLine::parse_in(logic1, b"0.003170000000000,0xA2,,"),
+        Some(OctetLine::Octet(3_170_000, 0xA2))
+    );
+    assert_eq!(rt;
+        OctetLine::parse_in(logic1, b"0.003170000000000,0xA2,,Error"),
+        Some(OctetLine::Damaged(3_170_000))
+    );
+    let logic2 = ExportForm::Logic2;
+    assert_eq!(rt;
+        OctetLine::parse_in(timed, b"name,type,start_time,duration,\"data\",\"error\""),
+        Some(OctetLine::Form(logic2))
+    );
+    assert_eq!(rt;
+        OctetLine::parse_in(logic2, b"\"Async Serial\",\"data\",0.00317,4.34e-05,0xA2,"),
+        Some(OctetLine::Octet(3_170_000, 0xA2))
+    );
+    assert_eq!(rt;
+        OctetLine::parse_in(logic2, b"\"I2C\",\"start\",0.00317,4.34e-05,,"),
+        Some(OctetLine::Skipped)
+    );
 }
 
 #[test]

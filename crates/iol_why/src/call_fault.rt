@@ -55,18 +55,6 @@ fn wanted_in_place_of(fault: &SplitFault) -> &'static str {
         SplitFault::Overlap => {
             "too soon behind the octet above; wanted: a time behind its frame, or the line's rate"
         }
-        SplitFault::LongMessage => {
-            "one octet too many for the message above; wanted: a pause before a reply or a message"
-        }
-        SplitFault::GapInMessage => {
-            "too late for the message above, which lacks octets; wanted: its rest with no pause"
-        }
-        SplitFault::LongReply => {
-            "one octet too many for the reply above; wanted: a pause before the next message"
-        }
-        SplitFault::GapInReply => {
-            "too late for the reply above, which lacks octets; wanted: its rest with no pause"
-        }
         SplitFault::NoLayout(_) => {
             "in a mode whose layout isn't known; wanted above: the reads of page addresses 02 to 06"
         }

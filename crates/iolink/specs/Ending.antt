@@ -5,16 +5,17 @@ use Rattle.clap.specs.declared.error.Error.{Error}
 use Rattle.clap.specs.declared.error.ErrorKind.TheVariants as kind
 use Rattle.iol_commands.specs.declared.fault.ProgramFault.TheVariants as fault
 use Rattle.iolink.specs.declared.ending.Ending.{Ending}
-use Rattle.iolink.specs.declared.ending.Ending.TheVariants.{Failed, NotHonest, NotJudged, Refused, NoText}
+use Rattle.iolink.specs.declared.ending.Ending.TheVariants.{Failed, MasterAtFault, NotHonest, NotJudged, Refused, NoText}
 
 -- the status of an ending: 1 where the command failed, or the capture isn't honest; 2 where the
--- capture isn't judged, or the command line is refused
+-- capture isn't judged, or the command line is refused; 3 where the master alone is at fault
 abbrev pub ending_status : Ending → ℕ
 ending_status (Failed e) = 1
 ending_status NotHonest = 1
 ending_status (NotJudged e) = 2
 ending_status (Refused error) = 2
 ending_status NoText = 2
+ending_status MasterAtFault = 3
 
 -- the exit status: 0, or that of the ending
 abbrev pub status_after : {T : Type 0} → Result T Ending → ℕ

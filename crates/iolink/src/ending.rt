@@ -17,6 +17,8 @@ pub(crate) enum Ending {
     Failed(ProgramFault),
     /// The capture isn't honest, or nothing can be said. What was found is printed.
     NotHonest,
+    /// The capture is honest, and its master isn't by the rules. What was found is printed.
+    MasterAtFault,
     /// The capture isn't judged.
     NotJudged(JudgeFault),
     /// The command line is refused, or asks for help.
@@ -35,6 +37,7 @@ impl Ending {
         match self {
             Ending::Failed(_) | Ending::NotHonest => 1,
             Ending::NotJudged(_) | Ending::Refused(_) | Ending::NoText => 2,
+            Ending::MasterAtFault => 3,
         }
     }
 }
@@ -43,7 +46,7 @@ impl fmt::Display for Ending {
     fn fmt<W: fmt::Write>(&self, f: &mut fmt::Formatter<W>) -> fmt::Result {
         match self {
             Ending::Failed(fault) => writeln!(f, "iolink: {fault}"),
-            Ending::NotHonest => Ok(()),
+            Ending::NotHonest | Ending::MasterAtFault => Ok(()),
             Ending::NotJudged(fault) => writeln!(f, "iolink: {fault}"),
             Ending::Refused(error) => write!(f, "{error}"),
             Ending::NoText => writeln!(f, "error: an argument is no text"),

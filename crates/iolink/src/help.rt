@@ -149,9 +149,12 @@ With --octets standard input is what the UART decoder of a logic analyser export
 /// Behind them.
 const JUDGE_END: &str = "  # ..                    a comment; an empty line is skipped too
 They are split by their times and by the layouts that the page gives: a pause is a missing reply, and where no wake-up
-requests are shown, their test reads tell them. N counts wake-up requests and exchanges, from 1. What can't be split
-ends it, as a bad line does. In PREOPERATE and OPERATE such a read may be none; a fault of the master behind it is
+requests are shown, their test reads tell them. N counts wake-up requests and exchanges, from 1. What fits nothing is
+passed over up to the next message that does, and so are octets with framing or parity errors: 'octets passed over
+COUNT'. In PREOPERATE and OPERATE such a read may be none; a fault of the master behind it, or behind damage, is
   master can't be judged from N on: TEXT
+Read are too: what sigrok-cli prints with --protocol-decoder-samplenum and what PulseView exports, behind a line
+'Samplerate: HZ'; tables of Logic 1 and Logic 2 with their headers. Lines of anything else are 'lines skipped COUNT'.
 
 With --trace it prints what they are split into before all that, as it comes, and up to a bad line. A call has the lines
 of 'iolink trace', and before them 'time SECONDS', when its message or its wake-up request began:
@@ -169,8 +172,8 @@ prints
 
 Limits: 1,024 bytes a line, 128 octets a message. The input may have any length.
 
-Exit status, whatever is printed of the master: 0, honest; 1, not honest, or it can't say; 2, the input is bad, and a
-line on standard error says why, or the words of the command line are wrong, or ask for this help.
+Exit status: 0, honest; 1, not honest, or it can't say; 2, the input is bad, and a line on standard error says why, or
+the words of the command line are wrong, or ask for this help; 3, honest, but the master isn't by the rules.
 
 Every line, and what is printed for it: docs/guide.md.";
 

@@ -1,5 +1,5 @@
 //! A command, carried out over a reader and a writer.
-ghost use Rattle.std.specs.Prelude.{◌≡◌, ◌≢◌, ℕ, Err, OnErr, OnOk};
+ghost use Rattle.std.specs.Prelude.{◌≡◌, ◌≢◌, ◌⊎◌, ℕ, Err, OnErr, OnOk};
 ghost use Rattle.std.specs.Io.KnownBytes.{Keeps};
 ghost use Rattle.iolink.specs.declared.command.PrintingCommand.TheVariants.{Many, Trace};
 ghost use Rattle.iol_commands.specs.declared.fault.ProgramFault.TheVariants.{NoThread, OutOfMemory, WriteFailed};
@@ -48,8 +48,8 @@ ghost use Rattle.iol_capture.specs.Capture.{calls_of_capture, capture_judged};
 ghost use Rattle.iol_capture.specs.declared.fault.CaptureFault.TheVariants as capture_fault;
 ghost use Rattle.iol_capture.specs.declared.fault.LineFault.{LineFault};
 ghost use Rattle.iol_capture.specs.declared.printing.Finding.{Finding};
-ghost use Rattle.iol_capture.specs.declared.printing.Finding.TheVariants.{Honest};
-ghost use Rattle.iolink.specs.declared.ending.Ending.TheVariants.{NotHonest, NotJudged};
+ghost use Rattle.iol_capture.specs.declared.printing.Finding.TheVariants.{Honest, MasterAtFault};
+ghost use Rattle.iolink.specs.declared.ending.Ending.TheVariants.{MasterAtFault as MasterEnding, NotHonest, NotJudged};
 ghost use Rattle.iol_commands.specs.declared.judge_command.JudgeFault.TheVariants as judge_fault;
 ghost use Rattle.iol_capture.specs.declared.telling.CaptureForm.TheVariants.{Octets};
 ghost use Rattle.iol_commands.specs.JudgePrinted.{Judges};
@@ -74,12 +74,17 @@ pub(crate) fn perform_judge<R: Read, W: Write>(
     ensures honest { OnOk result ((text : List ℕ)
         × Appends (W.contents writer.old) (W.contents writer.new) text
         × IfSome (R.remaining reader.old) (λ capture. Judges form odd capture Honest text)) }
-    ensures not_honest { result ≡ Err NotHonest
-        → (finding : Finding) × (text : List ℕ) × (finding ≢ Honest)
+    ensures not_honest { result ≡ Err NotHonest → (finding : Finding) × (text : List ℕ)
+        × (finding ≢ Honest) × (finding ≢ MasterAtFault)
         × Appends (W.contents writer.old) (W.contents writer.new) text
         × IfSome (R.remaining reader.old) (λ capture. Judges form odd capture finding text) }
+    ensures at_fault { result ≡ Err MasterEnding → (text : List ℕ)
+        × Appends (W.contents writer.old) (W.contents writer.new) text
+        × IfSome (R.remaining reader.old)
+        (λ capture. Judges form odd capture MasterAtFault text) }
     ensures nothing { OnErr result
-        (result ≢ Err NotHonest → result ≢ Err (NotJudged judge_fault.WriteFailed)
+        (result ≢ Err NotHonest → result ≢ Err MasterEnding
+        → result ≢ Err (NotJudged judge_fault.WriteFailed)
         → Keeps (W.contents writer.old) (W.contents writer.new)) }
 {
     ended_by(judge(alloc, form, odd, reader, writer)?)
@@ -104,11 +109,15 @@ pub(crate) fn perform_judge_traced<R: Read, W: Write>(
     ensures honest { OnOk result ((text : List ℕ)
         × Appends (W.contents writer.old) (W.contents writer.new) text
         × IfSome (R.remaining reader.old) (λ capture. JudgesTraced rate odd capture Honest text)) }
-    ensures not_honest { result ≡ Err NotHonest
-        → (finding : Finding) × (text : List ℕ) × (finding ≢ Honest)
+    ensures not_honest { result ≡ Err NotHonest → (finding : Finding) × (text : List ℕ)
+        × (finding ≢ Honest) × (finding ≢ MasterAtFault)
         × Appends (W.contents writer.old) (W.contents writer.new) text
         × IfSome (R.remaining reader.old)
         (λ capture. JudgesTraced rate odd capture finding text) }
+    ensures at_fault { result ≡ Err MasterEnding → (text : List ℕ)
+        × Appends (W.contents writer.old) (W.contents writer.new) text
+        × IfSome (R.remaining reader.old)
+        (λ capture. JudgesTraced rate odd capture MasterAtFault text) }
     ensures before { (n : ℕ) → (why : LineFault)
         → result ≡ Err (NotJudged (judge_fault.Capture (capture_fault.Line n why)))
         → (text : List ℕ) × Appends (W.contents writer.old) (W.contents writer.new) text
@@ -123,10 +132,13 @@ pub(crate) fn perform_judge_traced<R: Read, W: Write>(
 /// How the program ends where this was found.
 fn ended_by(finding: Finding) -> Result<(), Ending>
     ensures honest { OnOk result (finding ≡ Honest) }
-    ensures not_honest { IfErr result (λ ending. (ending ≡ NotHonest) × (finding ≢ Honest)) }
+    ensures not_honest { result ≡ Err NotHonest → (finding ≢ Honest) × (finding ≢ MasterAtFault) }
+    ensures at_fault { result ≡ Err MasterEnding → finding ≡ MasterAtFault }
+    ensures others { IfErr result (λ ending. (ending ≡ NotHonest) ⊎ (ending ≡ MasterEnding)) }
 {
     match finding {
         Finding::Honest => Ok(()),
+        Finding::MasterAtFault => Err(Ending::MasterAtFault),
         Finding::NotHonest | Finding::CantSay => Err(Ending::NotHonest),
     }
 }
