@@ -125,10 +125,11 @@ pub(crate) fn settle<A: Allocator + Copy>(
 )
     requires asked { Asks said.old book.old.state.standing.taken }
     requires room { ReportHasRoom said.old kept.old.items }
-    ensures book { book.new.state
-        ≡ through_steps book_after (cond reset (Reset ∷ []) [] ++ book_said said.old) book.old.state }
+    ensures book { book.new.state ≡ through_steps book_after
+        (cond reset (Reset ∷ []) [] ++ book_said said.old) book.old.state }
     ensures memory { book.new.memory ≡ book.old.memory }
-    ensures kept { kept.new.items ≡ through_steps kept_after (reports_said said.old) kept.old.items }
+    ensures kept { kept.new.items
+        ≡ through_steps kept_after (reports_said said.old) kept.old.items }
 {
     if reset {
         book.reset();
@@ -144,10 +145,10 @@ pub(crate) fn settle<A: Allocator + Copy>(
 fn tell<A: Allocator + Copy>(book: &mut Book<A>, kept: &mut ArrayVec<Event, KEPT>, said: &mut Said)
     requires asked { Asks said.old book.old.state.standing.taken }
     requires room { ReportHasRoom said.old kept.old.items }
-    ensures book { book.new.state
-        ≡ through_steps book_after (book_said said.old) book.old.state }
+    ensures book { book.new.state ≡ through_steps book_after (book_said said.old) book.old.state }
     ensures memory { book.new.memory ≡ book.old.memory }
-    ensures kept { kept.new.items ≡ through_steps kept_after (reports_said said.old) kept.old.items }
+    ensures kept { kept.new.items
+        ≡ through_steps kept_after (reports_said said.old) kept.old.items }
 {
     match replace(said, Said::Idle) {
         Said::Idle | Said::Busy => {}
