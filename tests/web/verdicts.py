@@ -19,6 +19,8 @@ COMMAND, PREOPERATE, OPERATE = "20", "9A", "99"
 READ = 0x80
 # The highest number of a call that the page can tell from its neighbours.
 MOST_COUNTED = 9 * 10**15
+# How many exchanges the page lists at first (web/src/lists.js).
+MOST_LISTED = 50
 # `check` takes at least one octet. This is what `trace` prints for none.
 NO_OCTETS = "refused 4 WrongLength"
 # A wake-up, exchanges 2 to 5, and no other line.
@@ -148,7 +150,7 @@ def notes_wrong(room, text):
     for number, note in notes.items():
         kinds = [kind for kind, sign in SIGNS.items() if sign in note]
         said[int(number)] = kinds[0] if len(kinds) == 1 else "judged" if not kinds else kinds
-    return unlike(said, findings(text))
+    return unlike(said, dict(sorted(findings(text).items())[:MOST_LISTED]))
 
 
 def check_judged_rows(room):
