@@ -98,7 +98,7 @@ static long turned(long count)
     iol_message asked;
     uint8_t octets[80];
     long tickets = 0;
-    if (iol_port_open(&port, 1000, 20, 64, 0) != 0)
+    if (iol_port_open(&port, 32, 20, 64, 0) != 0)
         return -1;
     while (count-- > 0) {
         if (iol_port_asks(&port, &asked) != 0)

@@ -8,7 +8,7 @@
 #include <stdio.h>
 #include <string.h>
 
-enum { KB = 1024, OF_OPENING_OR_LINE = 8 * KB, OF_CALL = 4 * KB, ROOM = 64 * KB, SKIPPED = 256, LONGEST = 232 };
+enum { KB = 1024, OF_OPENING = 8 * KB, OF_LINE = 12 * KB, OF_CALL = 4 * KB, ROOM = 64 * KB, SKIPPED = 256, LONGEST = 232 };
 
 #define PAINT UINT64_C(0xA5C3A5C3A5C3A5C3)
 
@@ -38,7 +38,7 @@ static size_t bound(int call)
     bool opens = call == at_iol_port_open || call == at_iol_port_open_for || call == at_iol_device_open
         || call == at_iol_device_open_from;
     bool tells = call == at_iol_port_trace_line || call == at_iol_device_trace_line;
-    return opens || tells ? OF_OPENING_OR_LINE : OF_CALL;
+    return opens ? OF_OPENING : tells ? OF_LINE : OF_CALL;
 }
 
 /* Paints what lies below the caller, but for the little that this function stands on itself. */
@@ -291,7 +291,7 @@ int main(int count, char **words)
             printf("%s is not %s\n", names[call], deepest[call] == 0 ? "called" : "below its bound");
     }
     if (!measures)
-        printf("of %d KB for an opening or a trace line, and %d KB for any other call\n", OF_OPENING_OR_LINE / KB,
-               OF_CALL / KB);
+        printf("of %d KB for an opening, %d KB for a trace line, and %d KB for any other call\n", OF_OPENING / KB,
+               OF_LINE / KB, OF_CALL / KB);
     return 0;
 }
