@@ -138,7 +138,7 @@ module _ (t : SessionState) (old new : Option Current)
       let out = out_same s.layouts s.out t.exchange (reading_in t.events g.events) g.page g.kind
       h.request.link g.sent same h.request.out in
       let request : OperateRequest s (at t.exchange new) (reading_in t.events g.events) after far =
-      search (late, opens, linked, level, out, answer, seen, known) in
+      search (late, opens, linked, h.request.in_operate, level, out, answer, seen, known) in
       let out_for = joined_same t.exchange (message_out s.out) same h.joined.out_for in
       let shown = shown_as {next = operate_core s t new} h.shown h.shown.image refl h.shown.present
       h.shown.no_form in

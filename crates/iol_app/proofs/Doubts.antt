@@ -1,18 +1,18 @@
 -- What is left of an attempt without a good reply in the session, where what is out goes out again.
 use Rattle.std.proofs.lemmas.Grind.{common_steps}
-use Rattle.std.proofs.Common.{◌≡◌, refl, sym, subst, arith, ℕ, Bool, true, List, Option, Some}
+use Rattle.std.proofs.Common.{◌≡◌, refl, sym, subst, arith, ℕ, Bool, true, false, List, Option, Some}
 use Rattle.std.specs.Prelude.{is_some, IsTrue, if◌then◌else◌}
 use Rattle.iol_mseq.specs.declared.master.MasterMsg.{MasterMsg}
 use Rattle.iol_mode.specs.declared.states.Operate.{Operate}
 use Rattle.iol_mode.specs.Next.{message_out}
 use Rattle.iol_mode.specs.Exchanges.{putting_instead}
-use Rattle.iol_app.specs.Messages.{question}
+use Rattle.iol_app.specs.Messages.{question, check}
 use Rattle.iol_app.specs.Outputs.{IsOutput}
 use Rattle.iol_octets.specs.Control.{control_of}
 use Rattle.iol_page.specs.declared.page.Layouts.{Layouts}
 use Rattle.iol_link.specs.declared.handler.Attempt.{Attempt}
 use Rattle.iol_mode.specs.Messages.{stays}
-use Rattle.iol_app.proofs.Sessions.{question_head, question_parts}
+use Rattle.iol_app.proofs.Sessions.{question_head, question_parts, check_head, check_parts}
 use Rattle.iol_link.specs.Attempts.{Sending}
 use Rattle.iol_mode.specs.declared.configuration.Devices.{Devices}
 use Rattle.iol_mode.specs.declared.states.State.{State}
@@ -22,8 +22,8 @@ use Rattle.iol_app.specs.declared.request.Current.{Current}
 use Rattle.iol_app.specs.declared.session.Purpose.{Purpose}
 use Rattle.iol_app.specs.Reports.{has_begun_reading}
 use Rattle.iol_app.specs.Requests.{request_under_way}
-use Rattle.iol_app.specs.State.{SessionState, IsSession, told_output_length, doubts, question_instead, missed_by, missed_in, IsOutBy}
-use Rattle.iol_app.specs.StationState.{SessionFits, missed_state, missed_session, missed_out, settled_session}
+use Rattle.iol_app.specs.State.{SessionState, IsSession, told_output_length, doubts, checks, message_again, question_instead, missed_by, missed_in, IsOutBy}
+use Rattle.iol_app.specs.StationState.{HasTold, SessionFits, missed_state, missed_session, missed_out, settled_session}
 use Rattle.iol_app.specs.Core.{CoreState, after_missed, after_exchange}
 
 pub missed_request_by : (devices : Devices) (exchange : Option Purpose) (current : Option Current)
@@ -34,39 +34,70 @@ pub missed_request : (state : State) (s : SessionState)
     → request_under_way (missed_session state s).current ≡ request_under_way s.current
 missed_request state s = grind (arith, common_steps, missed_request_by)
 
+-- no reading is begun with it
 pub missed_reading : (state : State) (s : SessionState)
-    → has_begun_reading (missed_session state s) ≡ has_begun_reading s
-missed_reading state s = grind (arith, common_steps)
+    → has_begun_reading (missed_session state s) ≡ true → has_begun_reading s ≡ true
+missed_reading state s e = grind (arith, common_steps)
 
--- A question in place of a message that is out, which is one of the session
+-- A question in place of a message that is out, or a check, which is one of the session
 
 -- what the session says of the message stays, where it goes out again as it was
 missed_out_by : (t : SessionState) (exchange : Option Purpose) (out : Option Sending)
     → let s : SessionState = record t { exchange = exchange } in
     IsOutBy exchange s (message_out out)
-    → IsOutBy exchange (missed_in s) (message_out (missed_out s out))
-missed_out_by t exchange out h = grind (arith, common_steps, question_head t.output.carried.items)
+    → IsOutBy (missed_in s).exchange (missed_in s) (message_out (missed_out s out))
+missed_out_by t exchange out h = grind (
+  arith,
+  common_steps,
+  question_head t.output.carried.items,
+  check_head t.output.carried.items,
+)
+
+missed_told : (layouts : Layouts) (s : SessionState) → HasTold layouts s
+    → HasTold layouts (missed_in s)
+missed_told layouts s h = grind (arith, common_steps)
 
 -- so the session fits the mode as before
 missed_joined : (state : Operate) (s : SessionState) → SessionFits (AtOperate state) s
     → SessionFits (missed_state (AtOperate state) s) (missed_in s)
 missed_joined state s h =
-    record { told = h.told; out_for = missed_out_by s s.exchange state.out h.out_for }
+    record {
+      told = missed_told state.layouts s h.told;
+      out_for = missed_out_by s s.exchange state.out h.out_for;
+    }
 
 question_stays : (out : List ℕ) → IsTrue (stays (question out))
 unfolding control_of
 question_stays out = refl
 
+check_stays : (out : List ℕ) → IsTrue (stays (check out))
+unfolding control_of
+check_stays out = refl
+
 -- and the mode is one still
-missed_fits : (layouts : Layouts) (sent : Sending) (s : SessionState) (b : Bool)
+missed_fits : (layouts : Layouts) (sent : Sending) (s : SessionState)
     → IsOutput (told_output_length s.layout) s.output → s.layout ≡ Some layouts.run
     → OperateFits (record { out = Some sent; layouts = layouts })
-    → let message : MasterMsg = if b then question s.output.carried.items else sent.message in
+    → let message : MasterMsg = message_again s sent.message in
     OperateFits (record { out = Some (record sent { message = message }); layouts = layouts })
-missed_fits layouts sent s b output told h =
-    let parts = question_parts s.layout s.output output in
-    let stays = question_stays s.output.carried.items in
-    grind (arith, common_steps)
+missed_fits layouts sent s output told h = by_message (checks s) (doubts s)
+  where
+    out : List ℕ
+    out = s.output.carried.items
+
+    by_message : (checked doubted : Bool)
+        → let message : MasterMsg = if checked then check out else
+        if doubted then question out else sent.message in
+        OperateFits (record { out = Some (record sent { message = message }); layouts = layouts })
+    by_message true doubted =
+        let parts = check_parts s.layout s.output output in
+        let stays = check_stays out in
+        grind (arith, common_steps)
+    by_message false true =
+        let parts = question_parts s.layout s.output output in
+        let stays = question_stays out in
+        grind (arith, common_steps)
+    by_message false false = h
 
 -- what is left of an attempt fits, as what it settled does
 pub after_fits : (sent : Sending) (layouts : Layouts) (attempt : Attempt) (s : SessionState)
@@ -76,7 +107,7 @@ pub after_fits : (sent : Sending) (layouts : Layouts) (attempt : Attempt) (s : S
     → StateFits (after_exchange outcome s).state
     × SessionFits (after_exchange outcome s).state (after_exchange outcome s).session
 after_fits sent layouts attempt s valid told fits joined =
-    let fitting = missed_fits layouts sent s (doubts s) valid.output told in
+    let fitting = missed_fits layouts sent s valid.output told in
     let linked = missed_joined (record { out = Some sent; layouts = layouts }) s in
     grind (arith, common_steps)
 

@@ -40,7 +40,7 @@ use Rattle.iol_app.proofs.Orders.{InFarOrder, AnswersAwake, in_order, free_order
 no_reset : (was : Bool) → [] ≡ resets was false ++ []
 no_reset was = grind (arith, common_steps)
 
-none_rests : (awake : Bool) → false ≡ (awake && false)
+pub none_rests : (awake : Bool) → false ≡ (awake && false)
 none_rests awake = grind (arith, common_steps)
 
 -- a start takes back what was told

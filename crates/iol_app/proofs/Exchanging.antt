@@ -1,7 +1,7 @@
 -- An exchange in OPERATE: what every outcome needs; a miss, and a loss.
-use Rattle.std.proofs.Common.{◌≡◌, ℕ, suc, ◌+◌, ◌≤◌, min, Bool, true, false, List, [], ◌∷◌, ◌++◌, filter, refl, sym, ◌∙◌, ap, subst, arith}
+use Rattle.std.proofs.Common.{◌≡◌, inr, ℕ, suc, ◌+◌, ◌≤◌, min, Bool, true, false, List, [], ◌∷◌, ◌++◌, filter, refl, sym, ◌∙◌, ap, subst, arith}
 use Rattle.std.proofs.lemmas.Grind.{common_steps}
-use Rattle.std.specs.Prelude.{Option, Some, None, IfSome, IsTrue}
+use Rattle.std.specs.Prelude.{Option, Some, None, IfSome, IsTrue, if◌then◌else◌}
 use Rattle.iol_mseq.specs.Shape.{Shape}
 use Rattle.iol_mseq.specs.Texts.{master_text}
 use Rattle.iol_page.specs.Page.{layouts_of}
@@ -16,11 +16,11 @@ use Rattle.iol_far.specs.Far.{Far, output_of}
 use Rattle.iol_far.specs.Local.{LocalStep, locals}
 use Rattle.iol_mseq.specs.Master.{HasMasterParts}
 use Rattle.iol_far.specs.Linked.{TextsAreHeard}
-use Rattle.iol_far.specs.Level.{Progress, Move, Begin, IsLevel, accepting_link}
+use Rattle.iol_far.specs.Level.{Progress, Move, Begin, Other, FarLink, IsSent, IsLevel, accepting_link}
 use Rattle.iol_far.specs.Laws.{confirms as octets_confirm}
 use Rattle.iol_link.specs.Attempts.{Sending}
 use Rattle.iol_link.specs.Honest.{Passage, far_after}
-use Rattle.iol_mode.specs.Stands.{StateStands}
+use Rattle.iol_mode.specs.Stands.{StateStands, operate_link}
 use Rattle.iol_mode.specs.States.{InDown, StateFits}
 use Rattle.iol_mode.specs.declared.why.Why.TheVariants.{Lost}
 use Rattle.iol_app.specs.declared.mode.Mode.TheVariants.{Down as ModeDown, Operate as ModeOperate}
@@ -29,12 +29,12 @@ use Rattle.iol_app.specs.declared.said.Said.TheVariants.{Busy as SaidBusy, Answe
 use Rattle.iol_app.specs.Abstract.Steps.{PortStep, Moment, silence_left, repeats_at, doubts_at, Report, WireCall, Exchanged, silence_by, CallFits, is_report}
 use Rattle.iol_app.specs.Abstract.OfDevice.{Hidden, IsOpen, hidden_through, hidden_again, again_steps, told_through, exchange_steps, told_exchanged}
 use Rattle.iol_app.specs.Abstract.Shown.{MasterFields}
-use Rattle.iol_app.specs.Abstract.OfMaster.{ExchangeResult, Missed, Gone, WasBusy, WasAnswered, WasAborted, WasReported, Had, lost_steps, brought_steps, quiet_said, lost_said, is_for_book, book_said, reports_said}
+use Rattle.iol_app.specs.Abstract.OfMaster.{ExchangeResult, Missed, Unconfirmed, Gone, WasBusy, WasAnswered, WasAborted, WasReported, Had, lost_steps, brought_steps, quiet_said, lost_said, is_for_book, book_said, reports_said}
 use Rattle.iol_app.specs.Abstract.Shown.{images_of}
 use Rattle.iol_app.specs.BothEnds.{ReadingState, AnswerFits, wants_confirm}
 use Rattle.iol_app.specs.Exchange.{hidden_lost, is_output_told}
 use Rattle.iol_app.specs.Abstract.Turn.{ImageIsLast, may_bring, IsInOrder}
-use Rattle.iol_app.proofs.Given.{Laws, page_locals, page_after, kind_after, level_locals, level_after, sees_kept, misses_passed}
+use Rattle.iol_app.proofs.Given.{Laws, page_locals, page_after, kind_after, level_locals, level_after, level_more, sees_kept, misses_passed}
 use Rattle.iol_app.specs.Abstract.Session.{MaySession, session_after}
 use Rattle.iol_app.specs.Abstract.Events.{Frozen, MayFrozen, frozen_after}
 use Rattle.iol_app.specs.Abstract.Images.{Images, MayImages, images_after}
@@ -50,21 +50,26 @@ use Rattle.iol_app.proofs.FirstOctet.{confirms_of}
 use Rattle.iol_app.proofs.Shown.{shown_as}
 use Rattle.iol_app.specs.declared.request.Current.{Current}
 use Rattle.iol_app.specs.declared.session.Purpose.{Purpose}
+use Rattle.iol_app.specs.declared.session.Purpose.TheVariants.{ConfirmEvents, CheckEvents}
 use Rattle.iol_app.specs.Requests.{request_under_way}
 use Rattle.iol_app.specs.Moves.{progress_of, move_for, confirms_events}
-use Rattle.iol_app.specs.Messages.{question}
-use Rattle.iol_app.specs.State.{SessionState, IsSession, doubts, missed_by}
+use Rattle.iol_octets.specs.declared.control.Channel.TheVariants.{Diagnosis}
+use Rattle.iol_app.specs.Messages.{head_of, head_for, write_of, question, check}
+use Rattle.iol_app.specs.EventReading.{new_event_work}
+use Rattle.iol_app.proofs.Effects.{untold_of, none_rests}
+use Rattle.iol_app.specs.State.{SessionState, IsSession, doubts, checks_by, missed_by}
 use Rattle.iol_app.specs.StationState.{SessionFits, mode_in}
 use Rattle.iol_app.proofs.OperateMessages.{exchange_confirms}
 use Rattle.iol_app.proofs.SmallFacts.{confirms_is, more_silence, same_carried}
-use Rattle.iol_app.proofs.Sessions.{question_parts}
+use Rattle.iol_app.proofs.Sessions.{question_parts, check_parts}
 use Rattle.iol_app.proofs.Doubts.{missed_request_by}
-use Rattle.iol_app.proofs.Missing.{stays, busy_missed}
+use Rattle.iol_app.proofs.Missing.{stays, busy_missed, checks_confirm, confirm_vain, check_vain, confirm_stays, replaced, check_out}
 use Rattle.iol_app.proofs.Telling.{told_layout}
 use Rattle.iol_app.specs.Core.{CoreState, Ghost, OfRequest, OfEvents, BothEndsStand, CallGives, work_of, vain_by, after_missed, RequestStands, EventsStand, OutputStands, CalmAt, ShownStands, core_out, reading_in, ordered_by, moment_of, seen_in, shown_in, frozen_in, images_in, settled_core}
 use Rattle.iol_mode.specs.Kinds.{trusted_recalls}
 use Rattle.iol_far.specs.declared.kind.Recalls.{Recalls}
 use Rattle.iol_mode.specs.declared.configuration.Devices.{Devices}
+use Rattle.iol_mode.specs.declared.configuration.Devices.TheVariants.{Any}
 use Rattle.iol_app.proofs.Orders.{AnswersAwake, in_order, exchange_order}
 use Rattle.std.proofs.lemmas.List.{append_assoc}
 
@@ -75,9 +80,15 @@ repeats_missed : (devices : Devices) (hands_over : HandsOver) (size : ℕ) (e : 
     → repeats_at devices hands_over size (move_for e current) ≡ false
 repeats_missed devices hands_over size e current once = grind (arith, common_steps)
 
+-- and what says nothing of a request hands nothing over
+no_repeats : (devices : Devices) (hands_over : HandsOver) (size : ℕ)
+    → repeats_at devices hands_over size Other ≡ false
+no_repeats devices hands_over size = grind (arith, common_steps)
+
 -- what is said of what an exchange brings
 abbrev pub Says : ExchangeResult → Option Request → Said → Type 0
 Says Missed request said = said ≡ quiet_said request
+Says Unconfirmed request said = said ≡ quiet_said request
 Says Gone request said = said ≡ lost_said request
 Says WasBusy request said = said ≡ SaidBusy
 Says (WasAnswered answer) request said = said ≡ Answered answer
@@ -358,28 +369,51 @@ module _ (turn : Turn) (passage : Passage) (e : Purpose) (current : Option Curre
 
     -- No good reply
 
-    abbrev unheard : OfRequest
+    abbrev pub unheard : OfRequest
     unheard = record g.request { hidden = h' }
 
-    abbrev away : OfEvents
+    abbrev pub away : OfEvents
     away = record g.events { told = told }
 
-    -- what is left of it: the message out stays so, or a question goes out in its place
+    -- nothing counts as reported
+    abbrev pub unreported : OfEvents
+    unreported = record g.events { told = false }
+
+    -- what is left of it
     abbrev pub again : Sending
     again = record { message = w.message; tries = w.tries + 1 }
 
+    abbrev carried : List ℕ
+    carried = t.output.carried.items
+
+    -- the message out stays so, or a question goes out in place of a request's
     abbrev pub missed_core : CoreState
-    missed_core = after_missed (core_out layouts again t e current)
+    missed_core = core_out layouts (record again {
+      message = if doubts c.session then question carried else w.message;
+    }) t e (missed_by t.configuration.devices (Some e) current)
+
+    pub missed_is : checks_by t.configuration.devices (Some e) ≡ false
+        → missed_core ≡ after_missed (core_out layouts again t e current)
+    missed_is other = rw other refl
+
+    -- or a check goes out in that of a confirm
+    abbrev pub checked_core : CoreState
+    checked_core = core_out layouts (record again { message = check carried })
+        (record t { events = new_event_work }) CheckEvents current
+
+    pub checked_is : checks_by t.configuration.devices (Some e) ≡ true
+        → checked_core ≡ after_missed (core_out layouts again t e current)
+    checked_is is = rw is refl
 
     module _ (heard : TextsAreHeard) (valid : IsSession c.session) where
-      abbrev carried : List ℕ
-      carried = t.output.carried.items
-
       layout_is : t.layout ≡ Some layouts.run
       layout_is = stands.joined.told.0
 
       parts : HasMasterParts layouts.run (question carried)
       parts = rw layout_is at (question_parts t.layout t.output valid.output)
+
+      checked_parts : HasMasterParts layouts.run (check carried)
+      checked_parts = rw layout_is at (check_parts t.layout t.output valid.output)
 
       sized : IfSome current (λ q. q.cutter.size ≡ layouts.run.od)
       sized = rw layout_is at valid.size
@@ -392,46 +426,137 @@ module _ (turn : Turn) (passage : Passage) (e : Purpose) (current : Option Curre
       same_request = missed_request_by t.configuration.devices (Some e) current
 
       -- the request, once the ends are level with what is out from now on
-      request_out : RequestStands missed_core.state (work_of missed_core.session) t.events
-          (ended unheard away) passed
-      request_out =
-          let k = stays laws heard layouts up.link w R t g at some_od parts carries passed
-          (doubts c.session) devices e current valid.current sized refl up.out up.linked level' in
-          record {
-            late = late';
-            opens = rw same_request p.opens;
-            link = up.link;
-            linked = k.linked;
-            level = k.level;
-            out = k.out;
-            answer = λ once.
-                let still = repeats_missed devices g.kind.hands_over layouts.run.od e current
-                once in
-                rw same_request (rw (p.kept still) (tied' still));
-            busy = busy_missed devices in_doubt t.limit e current g.request.busy g.request.asked
-                up.busy;
-            known = rw same_request up.known;
-          }
+      module _ (other : checks_by t.configuration.devices (Some e) ≡ false) where
+        request_out : RequestStands missed_core.state (work_of missed_core.session) t.events
+            (ended unheard away) passed
+        request_out =
+            let k = stays laws heard layouts up.link w R t g at some_od parts carries passed
+            (doubts c.session) devices e current valid.current sized other refl up.out up.linked
+            level' in
+            record {
+              late = late';
+              opens = rw same_request p.opens;
+              link = up.link;
+              linked = k.linked;
+              in_operate = up.in_operate;
+              level = k.level;
+              out = k.out;
+              answer = λ once.
+                  let still = repeats_missed devices g.kind.hands_over layouts.run.od e current
+                  once in
+                  rw same_request (rw (p.kept still) (tied' still));
+              busy = busy_missed devices in_doubt t.limit e current g.request.busy g.request.asked
+                  up.busy;
+              known = rw same_request up.known;
+            }
 
-      pub misses : {said : Said} → said ≡ quiet_said request
-          → Ends said (Exchanged false) missed_core unheard away Missed
-      misses says = record {
-        terms = (refl, refl);
-        session = (tt, rw same_request refl);
-        frozen = (tt, refl);
-        images = (tt, refl);
-        says = says;
-        was_frozen = rw says (quiet_frozen request (frozen_in g far));
-        brings = refl;
-        last = ((λ k. absurd (more_silence n k.1)), (λ k. absurd (k refl)), (λ k l. refl));
-        wanted = λ k. absurd (more_silence n k);
-        request_is = request_out;
-        events = rw confirms at told';
-        output = p.outputs;
-        sent = stands.sent;
-        shown = shown_as stands.shown (λ k. absurd (k refl)) refl stands.shown.present
-            stands.shown.no_form;
-      }
+        pub misses : {said : Said} → said ≡ quiet_said request
+            → Ends said (Exchanged false) missed_core unheard away Missed
+        misses says = record {
+          terms = (refl, refl);
+          session = (tt, rw same_request refl);
+          frozen = (tt, refl);
+          images = (tt, refl);
+          says = says;
+          was_frozen = rw says (quiet_frozen request (frozen_in g far));
+          brings = refl;
+          last = ((λ k. absurd (more_silence n k.1)), (λ k. absurd (k refl)), (λ k l. refl));
+          wanted = λ k. absurd (more_silence n k);
+          request_is = request_out;
+          events = rw confirms at told';
+          output = p.outputs;
+          sent = stands.sent;
+          shown = shown_as stands.shown (λ k. absurd (k refl)) refl stands.shown.present
+              stands.shown.no_form;
+        }
+
+      -- The check
+
+      module _ (is : checks_by t.configuration.devices (Some e) ≡ true) where
+        any : devices ≡ Any
+        any = (checks_confirm devices e is).0
+
+        confirms_out : e ≡ ConfirmEvents
+        confirms_out = (checks_confirm devices e is).1
+
+        -- it was sent to a device in OPERATE, once
+        there : up.link ≡ operate_link
+        there = up.in_operate (up.out.confirm confirms_out)
+
+        abbrev LevelAs : FarLink → ℕ → Type 0
+        LevelAs l v = IsLevel g.page g.kind layouts.run.od g.request.base l progress o v
+            (locals far steps)
+
+        level_once : LevelAs operate_link 0
+        level_once = subst (LevelAs operate_link) (confirm_vain devices e current w.tries is)
+            (subst (λ (l : FarLink). LevelAs l vain) there level_here)
+
+        abbrev SentAs : FarLink → Move → Type 0
+        SentAs l what = IsSent g.page layouts.run.od l progress o w.message what
+
+        confirm_sent : SentAs operate_link Other
+        confirm_sent = subst (λ (x : Purpose). SentAs operate_link (move_for x current))
+            confirms_out (subst (λ (l : FarLink). SentAs l (move_for e current)) there
+            up.out.goes)
+
+        head : head_of w.message.mc ≡ write_of Diagnosis 0
+        head = subst (λ (x : Purpose). head_of w.message.mc
+            ≡ head_for x t.events.reading current) confirms_out stands.joined.out_for.head
+
+        abbrev check_text : List ℕ
+        check_text = master_text layouts.run (check carried)
+
+        check_level : IsLevel g.page g.kind layouts.run.od g.request.base operate_link progress
+            check_text (vain_by devices CheckEvents current (w.tries + 1)) passed
+        check_level = subst (λ (v : ℕ). IsLevel g.page g.kind layouts.run.od g.request.base
+            operate_link progress check_text v passed)
+            (sym (check_vain devices current (w.tries + 1)))
+            (level_more laws g.page g.kind layouts.run.od some_od g.request.base operate_link
+            progress check_text 0 (w.tries + 1) passed (omega arith)
+            (replaced laws g.page g.kind layouts.run.od some_od g.request.base progress o check_text
+            w.message confirm_sent (confirm_stays g.page o w.message head) passage
+            (locals far steps) level_once))
+
+        unrepeated : repeats ≡ false
+        unrepeated = subst (λ (x : Purpose). repeats_at devices g.kind.hands_over layouts.run.od
+            (move_for x current) ≡ false) (sym confirms_out) (no_repeats devices
+            g.kind.hands_over layouts.run.od)
+
+        check_request : RequestStands checked_core.state (work_of checked_core.session)
+            new_event_work (ended unheard unreported) passed
+        check_request = record {
+          late = late';
+          opens = p.opens;
+          link = operate_link;
+          linked = inr refl;
+          in_operate = λ k. refl;
+          level = check_level;
+          out = check_out laws heard layouts operate_link w R t g at some_od parts carries passed
+              devices e current (w.tries + 1) checked_parts is up.out.again;
+          answer = λ once. rw (p.kept unrepeated) (tied' unrepeated);
+          busy = up.busy;
+          known = up.known;
+        }
+
+        pub unconfirms : {said : Said} → said ≡ quiet_said request
+            → Ends said (Exchanged false) checked_core unheard unreported Unconfirmed
+        unconfirms says = record {
+          terms = (refl, refl);
+          session = (((any, refl, refl), tt), refl);
+          frozen = ((tt, tt), untold_of passed.events.frozen told);
+          images = ((tt, tt), refl);
+          says = says;
+          was_frozen = rw says (quiet_frozen request (frozen_in g far));
+          brings = refl;
+          last = ((λ k. absurd (more_silence n k.1)), (λ k. absurd (k refl)), (λ k l. refl));
+          wanted = λ k. absurd (more_silence n k);
+          request_is = check_request;
+          events = ((λ k. tt), none_rests passed.awake);
+          output = subst (λ (x : Purpose). OutputTold g.sent (output_for x ≡ None) t.output.told
+              passed) confirms_out p.outputs;
+          sent = stands.sent;
+          shown = shown_as stands.shown (λ k. absurd (k refl)) refl stands.shown.present refl;
+        }
 
     pub loses : {said : Said} → said ≡ lost_said request → 3 ≤ min 3 (n + 1)
         → Ends said (Exchanged false) (settled_core (InDown (record { why = Some Lost }))

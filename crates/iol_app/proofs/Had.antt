@@ -372,6 +372,7 @@ module _ {good : Good} {e : Purpose} {current : Option Current} (a : Replied goo
               (request_under_way next) h b.level.stands (progress_fits devices clear next) b.answer;
           link = operate_link;
           linked = inr refl;
+          in_operate = λ k. refl;
           level = b.level;
           out = b.sure;
           answer = λ once. b.answer;

@@ -1,9 +1,9 @@
 -- An attempt without a good reply in OPERATE, where what is out goes out again: that message, or at
--- a port for any device a question in its place.
+-- a port for any device a question in its place, or a check in that of a confirm.
 use Rattle.std.proofs.lemmas.Grind.{common_steps}
 use Rattle.std.proofs.lemmas.Bool.{false≢true}
 use Rattle.std.proofs.lemmas.Bool.Decides.{nat_tests}
-use Rattle.std.proofs.Common.{arith, ◌≡◌, inr, ℕ, suc, ◌+◌, ◌*◌, ◌≤◌, Bool, true, false, List, length, refl, sym, ap, ◌∙◌, Option, Some, None}
+use Rattle.std.proofs.Common.{arith, ◌≡◌, inl, inr, ℕ, suc, ◌+◌, ◌*◌, ◌≤◌, Bool, true, false, List, [], ◌∷◌, length, refl, sym, ap, subst, ◌∙◌, Option, Some, None}
 use Rattle.std.specs.Prelude.{IfSome, if◌then◌else◌, nat_lt, not}
 use Rattle.arrayvec.specs.ArrayVec.{ArrayVec}
 use Rattle.iol_octets.specs.Control.{control_of}
@@ -20,24 +20,28 @@ use Rattle.iol_far.specs.declared.kind.Kind.{Kind}
 use Rattle.iol_far.specs.declared.kind.HandsOver.{HandsOver}
 use Rattle.iol_far.specs.declared.mode.DeviceMode.TheVariants.{Operate as FarOperate}
 use Rattle.iol_far.specs.Codec.{layout_in, flow_of}
-use Rattle.iol_far.specs.Far.{Far}
-use Rattle.iol_far.specs.Level.{Progress, Clear, Perhaps, Ask, FarLink, accepting_link, hands_whole, IsMove, IsLevel, IsOutOnce}
+use Rattle.iol_octets.specs.declared.control.Channel.TheVariants.{Diagnosis}
+use Rattle.iol_far.specs.Far.{Far, accepted_message, hear, heard_as}
+use Rattle.iol_far.specs.Local.{local}
+use Rattle.iol_far.specs.declared.kind.Recalls.TheVariants.{UntilSent}
+use Rattle.iol_link.specs.Honest.{Passage, OutLost, far_after}
+use Rattle.iol_far.specs.Level.{Progress, Clear, Perhaps, Ask, Other, FarLink, accepting_link, turned_link, hands_whole, IsMove, IsSent, IsLevelBefore, Happening, Own, Hears, far_after_all, hearings, IsLevel, IsOutOnce}
 use Rattle.iol_far.specs.Linked.{TextsAreHeard}
 use Rattle.iol_link.specs.Attempts.{Sending}
 use Rattle.iol_mode.specs.declared.configuration.Devices.{Devices}
 use Rattle.iol_mode.specs.declared.configuration.Devices.TheVariants.{Any}
 use Rattle.iol_mode.specs.Stands.{operate_link}
-use Rattle.iol_app.specs.BothEnds.{ReadingState}
+use Rattle.iol_app.specs.BothEnds.{ReadingState, Resting}
 use Rattle.iol_app.specs.declared.request.Current.{Current}
 use Rattle.iol_app.specs.declared.request.RequestProgress.{RequestProgress}
 use Rattle.iol_app.specs.declared.request.RequestProgress.TheVariants.{Sending as Cut}
 use Rattle.iol_app.specs.declared.session.Purpose.{Purpose}
-use Rattle.iol_app.specs.declared.session.Purpose.TheVariants.{ReadEvent, ConfirmEvents, Request as NextMessage}
-use Rattle.iol_app.specs.Messages.{question}
+use Rattle.iol_app.specs.declared.session.Purpose.TheVariants.{ReadEvent, ConfirmEvents, CheckEvents, Request as NextMessage}
+use Rattle.iol_app.specs.Messages.{Head, head_of, write_of, question, check}
 use Rattle.iol_app.specs.Requests.{text_of, is_over, IsCurrent}
 use Rattle.iol_app.specs.Moves.{progress_of, move_for}
 use Rattle.iol_app.specs.Ends.{BusySeen, OperateLink}
-use Rattle.iol_app.specs.State.{SessionState, doubts_by, missed_by}
+use Rattle.iol_app.specs.State.{SessionState, doubts_by, checks_by, missed_by}
 use Rattle.iol_app.specs.Core.{Ghost, Work, vain_by, AgainBy, OutStands}
 use Rattle.iol_app.proofs.Given.{Laws, level_more}
 
@@ -54,8 +58,8 @@ record SentAgain (d : Devices) (e : Purpose) (current : Option Current) : Type 0
       → IfSome (missed_by d (Some e) current) (λ c. is_over c.progress ≡ false)
 
 sent_as_was : (d : Devices) (e : Purpose) (current : Option Current)
-    → doubts_by d (Some e) current ≡ false → SentAgain d e current
-sent_as_was d e current sure = grind (arith, common_steps)
+    → checks_by d (Some e) ≡ false → doubts_by d (Some e) current ≡ false → SentAgain d e current
+sent_as_was d e current other sure = grind (arith, common_steps)
 
 -- busy replies were counted as before
 pub busy_missed : (d : Devices) (doubts : Bool) (limit : ℕ) (e : Purpose)
@@ -85,6 +89,84 @@ question_moves size r out = tt
 
 asks_whole : (h : HandsOver) (size : ℕ) → hands_whole h size Ask ≡ true → ⊥
 asks_whole h size e = grind (arith, common_steps)
+
+-- The check
+
+-- what a check does, and a confirm
+pub checks_confirm : (d : Devices) (e : Purpose) → checks_by d (Some e) ≡ true
+    → (d ≡ Any) × (e ≡ ConfirmEvents)
+checks_confirm d e is = grind (arith, common_steps)
+
+pub confirm_vain : (d : Devices) (e : Purpose) (current : Option Current) (tries : ℕ)
+    → checks_by d (Some e) ≡ true → vain_by d e current tries ≡ 0
+confirm_vain d e current tries is = grind (arith, common_steps)
+
+pub check_vain : (d : Devices) (current : Option Current) (tries : ℕ)
+    → vain_by d CheckEvents current tries ≡ tries
+check_vain d current tries = grind (arith, common_steps)
+
+check_again : (d : Devices) (e : Purpose) (current : Option Current) (tries more : ℕ)
+    → checks_by d (Some e) ≡ true → IfSome current (AgainBy d e tries)
+    → IfSome current (AgainBy d CheckEvents more)
+check_again d e current tries more is h = grind (arith, common_steps)
+
+check_moves : (size : ℕ) (p : Progress) (out : List ℕ)
+    → IsMove size Other p (check out).mc.channel (check out).mc.read
+    (flow_of (check out).mc.address) (check out).od.items
+unfolding control_of flow_of
+check_moves size p out = tt
+
+others_whole : (h : HandsOver) (size : ℕ) → hands_whole h size Other ≡ true → ⊥
+others_whole h size e = grind (arith, common_steps)
+
+pub confirm_stays : (page o : List ℕ) (m : MasterMsg) → head_of m.mc ≡ write_of Diagnosis 0
+    → turned_link page operate_link o m ≡ operate_link
+confirm_stays page o m head =
+    let read = ap (λ (h : Head). h.read) head in
+    let channel = ap (λ (h : Head). h.channel) head in
+    rw (read, channel) refl
+
+-- where nothing was heard, it doesn't matter what was out
+unheard_as : (far : Far) (o other : List ℕ) (rest : List Happening) → hearings rest ≤ 0
+    → far_after_all far o rest ≡ far_after_all far other rest
+unheard_as far o other [] h = refl
+unheard_as far o other (Own step ∷ rest) h = unheard_as (local far step) o other rest h
+unheard_as far o other (Hears ∷ rest) h = absurd (omega (arith, h))
+
+-- another message goes out in place of one that went out once, and says nothing of a request
+module _ (laws : Laws) (page : List ℕ) (kind : Kind) (size : ℕ) (some : 1 ≤ size)
+    (base : List Carried) (p : Progress) (o other : List ℕ) (m : MasterMsg)
+    (sent : IsSent page size operate_link p o m Other)
+    (same : turned_link page operate_link o m ≡ operate_link) where
+  abbrev LevelWith : List ℕ → Far → Type 0
+  LevelWith text far = IsLevel page kind size base operate_link p text 0 far
+
+  still_level : (far : Far) → LevelWith o far → LevelWith other far
+  still_level far (inl h) = inl h
+  still_level far (inr (before, rest, h, few, is)) =
+      inr (before, rest, h, few, is ∙ unheard_as before o other rest few)
+
+  heard_level : (far : Far) → LevelWith o far → LevelWith other (hear far o).far
+  heard_level far h = by_accepted_as (accepted_message far o) refl
+    where
+      by_accepted_as : (q : Option (Far × MasterMsg)) → accepted_message far o ≡ q
+          → LevelWith other (hear far o).far
+      by_accepted_as None e =
+          subst (λ (q : Option (Far × MasterMsg)). LevelWith other (heard_as far o q).far) (sym e)
+          (still_level far h)
+      by_accepted_as (Some (there, message)) e =
+          let says = (laws.level size some).replies page kind base operate_link p o m Other sent
+          0 UntilSent tt far h _
+          (ap (λ (q : Option (Far × MasterMsg)). (heard_as far o q).reply) e) in
+          ((laws.level size some).stays page kind base operate_link p other).begins
+          (hear far o).far
+          (subst (λ (l : FarLink). IsLevelBefore page kind size base l p (hear far o).far) same
+          says.before)
+
+  pub replaced : (passage : Passage) (far : Far) → LevelWith o far
+      → LevelWith other (far_after passage far o)
+  replaced OutLost far h = still_level far h
+  replaced passage far h = heard_level far h
 
 clear_link : (layouts : Layouts) (link : FarLink) → OperateLink layouts Clear link
     → link ≡ operate_link
@@ -133,7 +215,8 @@ module _ (laws : Laws) (heard : TextsAreHeard) (layouts : Layouts) (link : FarLi
   -- so they do where a message stood out that brought no good reply, in doubt or not
   abbrev Leaves : Bool → MasterMsg → Devices → Purpose → Option Current → Type 0
   Leaves doubted m d e current = IfSome current IsCurrent
-      → IfSome current (λ c. c.cutter.size ≡ run.od) → doubts_by d (Some e) current ≡ doubted
+      → IfSome current (λ c. c.cutter.size ≡ run.od) → checks_by d (Some e) ≡ false
+      → doubts_by d (Some e) current ≡ doubted
       → OutStands layouts w e (work d e current) R page kind link sent
       → OperateLink layouts (progress_of d clear current) link
       → LevelAt (progress_of d clear current) w.message (suc (vain_by d e current w.tries))
@@ -141,8 +224,8 @@ module _ (laws : Laws) (heard : TextsAreHeard) (layouts : Layouts) (link : FarLi
 
   sent_again : (d : Devices) (e : Purpose) (current : Option Current)
       → Leaves false w.message d e current
-  sent_again d e current valid same sure out linked level =
-      let is = sent_as_was d e current sure in
+  sent_again d e current valid same other sure out linked level =
+      let is = sent_as_was d e current other sure in
       let next : Option Current = missed_by d (Some e) current in
       let goes = rw (← is.progress clear, ← is.move) at out.goes in
       let once : d ≡ Any → IsOutOnce kind.hands_over run.od (move_for e next)
@@ -160,7 +243,7 @@ module _ (laws : Laws) (heard : TextsAreHeard) (layouts : Layouts) (link : FarLi
   -- the one segment of a request was out: it is asked for
   by_cursor : (c : Current) (p : RequestProgress)
       → Leaves true (question carried) Any NextMessage (Some (record c { progress = p }))
-  by_cursor c (Cut Start piece) valid same whole out linked level =
+  by_cursor c (Cut Start piece) valid same confirms whole out linked level =
       let asked : MasterMsg = question carried in
       let r : Request = c.cutter.source in
       let one : c.cutter.given ≡ 1 =
@@ -193,14 +276,39 @@ module _ (laws : Laws) (heard : TextsAreHeard) (layouts : Layouts) (link : FarLi
         };
         linked = inr link_is;
       })
-  by_cursor c (Cut other piece) valid same whole out linked level = absurd (false≢true whole)
-  by_cursor c other valid same whole out linked level = absurd (false≢true whole)
+  by_cursor c (Cut other piece) valid same confirms whole out linked level =
+      absurd (false≢true whole)
+  by_cursor c other valid same confirms whole out linked level = absurd (false≢true whole)
 
   asked_for : (d : Devices) (e : Purpose) (current : Option Current)
       → Leaves true (question carried) d e current
-  asked_for Any NextMessage (Some c) valid same doubted out linked level =
-      by_cursor c c.progress valid same doubted out linked level
-  asked_for d e current valid same doubted out linked level = absurd (false≢true doubted)
+  asked_for Any NextMessage (Some c) valid same confirms doubted out linked level =
+      by_cursor c c.progress valid same confirms doubted out linked level
+  asked_for d e current valid same confirms doubted out linked level = absurd (false≢true doubted)
+
+  -- the check that is out from now on
+  pub check_out : (d : Devices) (e : Purpose) (current : Option Current) (tries : ℕ)
+      → HasMasterParts layouts.run (check carried) → checks_by d (Some e) ≡ true
+      → IfSome current (AgainBy d e w.tries)
+      → OutStands layouts (record { message = check carried; tries = tries }) CheckEvents
+      (work d CheckEvents current) Resting page kind operate_link sent
+  check_out d e current tries has is again = record {
+    mode = refl;
+    goes = record {
+      spells = rw there (heard run (check carried) has);
+      size_of = rw there refl;
+      move = check_moves run.od (progress_of d clear current) carried;
+      begins = tt;
+      idle = tt;
+    };
+    once = λ any hands. absurd (others_whole kind.hands_over run.od hands);
+    again = check_again d e current w.tries tries is again;
+    goes_on = λ k. absurd (let z : Path Purpose CheckEvents NextMessage = k in cc);
+    confirm = λ k. absurd (let z : Path Purpose CheckEvents ConfirmEvents = k in cc);
+    reads = λ k. absurd (let z : Path Purpose CheckEvents ReadEvent = k in cc);
+    carries = carries;
+    tells = λ k. absurd (let z : Path (Option Bool) None (Some true) = k in cc);
+  }
 
   pub stays : (doubted : Bool) (d : Devices) (e : Purpose) (current : Option Current)
       → Leaves doubted (if doubted then question carried else w.message) d e current

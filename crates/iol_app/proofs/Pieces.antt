@@ -1,6 +1,6 @@
 -- The two pieces of a turn, over the core's own data.
 use Rattle.std.proofs.lemmas.Grind.{common_steps}
-use Rattle.std.proofs.Common.{◌≡◌, inl, inr, ℕ, Bool, true, false, List, refl, ap, Option, Some, None, arith}
+use Rattle.std.proofs.Common.{◌≡◌, ◌⊎◌, ◌||◌, inl, inr, ℕ, Bool, true, false, List, refl, ap, Option, Some, None, arith}
 use Rattle.iol_octets.specs.Control.{control_of}
 use Rattle.iol_mseq.specs.Shape.{startup_shape}
 use Rattle.iol_mseq.specs.Master.{HasMasterParts}
@@ -14,7 +14,7 @@ use Rattle.iol_link.specs.Honest.{HonestExchange}
 use Rattle.iol_mode.specs.declared.configuration.Devices.{Devices}
 use Rattle.iol_mode.specs.declared.states.Operate.{Operate}
 use Rattle.iol_mode.specs.declared.states.State.{State}
-use Rattle.iol_mode.specs.declared.states.State.TheVariants.{Down as AtDown, Operate as AtOperate}
+use Rattle.iol_mode.specs.declared.states.State.TheVariants.{Down as AtDown, Startup as AtStartup, Preoperate as AtPreoperate, Operate as AtOperate}
 use Rattle.iol_mode.specs.Messages.{command_message, new_sending}
 use Rattle.iol_mode.specs.Next.{EnteredFits}
 use Rattle.iol_mode.specs.States.{NextMode, NextModeFits, StateFits, IsDown, next_state, mode_after_wake, operate_by, sending_after_try}
@@ -25,15 +25,18 @@ use Rattle.iol_app.specs.declared.said.Said.TheVariants.{Idle}
 use Rattle.iol_app.specs.declared.event_work.EventRoom.{EventRoom}
 use Rattle.iol_app.specs.declared.session.Purpose.{Purpose}
 use Rattle.iol_app.specs.declared.brought.WireResult.{WireResult}
-use Rattle.iol_app.specs.Due.{due_of}
+use Rattle.iol_app.specs.declared.event_work.EventRoom.TheVariants.{Left}
+use Rattle.iol_app.specs.Due.{due_of, is_under_way}
 use Rattle.iol_app.specs.Outputs.{output_to_carry}
+use Rattle.iol_app.specs.Reports.{is_read_out, has_begun_reading}
 use Rattle.iol_app.specs.State.{SessionState, IsSession, IsMessageFor, session_sending, IsOutBy}
 use Rattle.iol_app.specs.StationState.{SessionFits, IsStill, NextFits, IsSettledSaid}
 use Rattle.iol_app.specs.StationLaws.{StationLaws}
 use Rattle.iol_app.specs.Core.{CoreState, Ghost, BothEndsStand, CallGives, IsAttempted, ordered_output, after_exchange, settled_core, after_wake, core_out, free_core}
+use Rattle.iol_app.proofs.DueFacts.{IsDue, due_is}
 use Rattle.iol_app.proofs.Orderly.{first_parts}
 use Rattle.iol_app.proofs.Doubts.{core_of, after_fits}
-use Rattle.iol_app.specs.Pieces.{SendsMessage, ReadsOn, IsSettledBy, IsTakenUp, SendSteps, TakeUpGives, WakeSteps, ReceiveSteps}
+use Rattle.iol_app.specs.Pieces.{SendsMessage, SentBy, OutAfter, ReadsOn, IsSettledBy, IsTakenUp, SendSteps, TakeUpGives, WakeSteps, ReceiveSteps}
 use Rattle.iol_app.proofs.Turns.{startup_next, preoperate_next, operate_next}
 use Rattle.iol_app.proofs.Settling.{settled_fits}
 
@@ -81,9 +84,37 @@ same_sends old = λ g far n stands.
     wanted_at old.state old.session n far tried stands.link calm in
     inl (assumption asks)
 
+-- a first read goes out only where a reading was begun, or there is room
+read_due : (s : SessionState) (room : EventRoom) (exchange : Purpose) → IsDue s room exchange
+    → is_read_out (Some exchange) ≡ true
+    → (is_under_way s.events.reading ≡ true) ⊎ (room ≡ Left)
+read_due s room exchange due read = grind (arith, common_steps)
+
+out_reads : (s : SessionState) (room : EventRoom) (exchange : Purpose) → IsDue s room exchange
+    → (is_read_out (Some exchange) || is_under_way s.events.reading) ≡ true
+    → (has_begun_reading s ≡ true) ⊎ (room ≡ Left)
+out_reads s room exchange due begun =
+    let read = read_due s room exchange due in
+    grind (arith, common_steps, read)
+
+put_reads : (out : Option Sending) (layouts : Layouts) (room : EventRoom) (old new : CoreState)
+    → OutAfter out layouts old.session room old new → ReadsOn room old new
+put_reads None layouts room old new sent =
+    rw sent.is
+    (out_reads old.session room (due_of old.session room) (due_is old.session room))
+put_reads (Some out) layouts room old new sent = rw sent (λ begun. inl begun)
+
+sent_by_reads : (state : State) (room : EventRoom) (old new : CoreState)
+    → SentBy state room old new → ReadsOn room old new
+sent_by_reads (AtDown d) room old new sent = rw sent (λ begun. inl begun)
+sent_by_reads (AtStartup o) room old new sent = rw sent (λ begun. inl begun)
+sent_by_reads (AtPreoperate o) room old new sent = rw sent (λ begun. inl begun)
+sent_by_reads (AtOperate o) room old new sent =
+    put_reads o.out o.layouts room old new sent
+
 pub sent_reads : (room : EventRoom) (old new : CoreState) → SendsMessage room old new
     → ReadsOn room old new
-sent_reads room old new sent = grind (arith, common_steps)
+sent_reads room old new sent = sent_by_reads old.state room old new sent
 
 -- what is made of what comes back may be taken up
 out_next : (out : Option Sending) (layouts : Layouts) (came : Option (List ℕ))

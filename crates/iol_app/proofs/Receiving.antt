@@ -1,5 +1,5 @@
 -- What comes back in OPERATE: from the wire's own words.
-use Rattle.std.proofs.Common.{◌≡◌, ◌≢◌, ◌⊎◌, inl, inr, ℕ, suc, ◌+◌, ◌≤◌, ◌<◌, min, Bool, true, false, ◌==◌, List, refl, sym, ◌∙◌, arith}
+use Rattle.std.proofs.Common.{◌≡◌, ◌≢◌, ◌⊎◌, inl, inr, ℕ, suc, ◌+◌, ◌≤◌, ◌<◌, min, Bool, true, false, ◌==◌, List, refl, sym, subst, ◌∙◌, arith}
 use Rattle.std.proofs.lemmas.Bool.Decides.{nat_tests}
 use Rattle.std.proofs.lemmas.Grind.{common_steps}
 use Rattle.std.specs.Prelude.{Option, Some, None, IsSome, if◌then◌else◌}
@@ -30,7 +30,8 @@ use Rattle.iol_mode.specs.States.{NextMode, StateFits, next_state, operate_by, s
 use Rattle.iol_mode.specs.Turns.{IsMet}
 use Rattle.iol_app.specs.declared.mode.Mode.TheVariants.{Operate as ModeOperate}
 use Rattle.iol_app.specs.declared.said.Said.{Said}
-use Rattle.iol_app.specs.Abstract.Steps.{repeats_at}
+use Rattle.iol_app.specs.Abstract.Steps.{repeats_at, Exchanged}
+use Rattle.iol_app.specs.Abstract.OfMaster.{ExchangeResult, Missed, Unconfirmed}
 use Rattle.iol_app.specs.Abstract.OfDevice.{Hidden, IsOpen}
 use Rattle.iol_app.specs.BothEnds.{AnswerFits, output_by}
 use Rattle.iol_app.specs.Exchange.{TextNamesAnswer}
@@ -43,15 +44,15 @@ use Rattle.iol_app.specs.Ends.{OutputTold, output_for}
 use Rattle.iol_app.proofs.Outputs.{outputs_locals}
 use Rattle.iol_app.specs.declared.session.Purpose.{Purpose}
 use Rattle.iol_app.specs.Moves.{AnswersAreTakenUp}
-use Rattle.iol_app.specs.State.{SessionState, IsSession}
+use Rattle.iol_app.specs.State.{SessionState, IsSession, checks_by}
 use Rattle.iol_app.specs.StationState.{SessionFits, IsSettledSaid}
 use Rattle.iol_app.proofs.OperateMessages.{exchange_command}
 use Rattle.iol_app.proofs.Turns.{good_parts}
-use Rattle.iol_app.specs.Core.{CoreState, Ghost, BothEndsStand, CallGives, Receives, core_out, after_exchange}
+use Rattle.iol_app.specs.Core.{CoreState, Ghost, OfRequest, OfEvents, BothEndsStand, CallGives, Receives, core_out, after_missed, after_exchange}
 use Rattle.iol_app.proofs.SmallFacts.{operating, third_time, begins_request}
 use Rattle.iol_app.proofs.Stations.{trusts}
 use Rattle.iol_app.proofs.FarSide.{Goes, IsGoing, silent, replied, says_of, outputs_sent, outputs_after, opens_after, replied_told, replied_out}
-use Rattle.iol_app.proofs.Exchanging.{Turn, Passes, words, request_words, gives, misses, loses, at, level_here, tied'}
+use Rattle.iol_app.proofs.Exchanging.{Turn, Passes, Ends, words, request_words, gives, again, unheard, away, unreported, missed_is, checked_is, misses, unconfirms, loses, at, level_here, tied'}
 use Rattle.iol_app.proofs.Had.{Good, Replied, progress_fits, had}
 use Rattle.iol_app.proofs.Cases.{message}
 
@@ -201,9 +202,35 @@ module _ (names : TextNamesAnswer) (taken : AnswersAreTakenUp) (laws : Laws)
         (third_time w.tries n (grind (arith, nat_tests)) stands.link.tries)) (λ k. cc) tt silence
         (left.on far' n' met.stands) left.fits left.joined tt
     by_tries false two silence met left says =
-        gives turn x.passage e t.current stands (passes x.passage) x.far_is
-        (misses turn x.passage e t.current stands (passes x.passage) heard valid says)
-        (λ k. cc) tt silence (left.on far' n' met.stands) left.fits left.joined tt
+        by_checks (checks_by devices (Some e)) refl
+      where
+        p : Passes turn x.passage e t.current
+        p = passes x.passage
+
+        next : CoreState
+        next = after_missed (core_out layouts (again turn x.passage e t.current stands p) t e
+            t.current)
+
+        missed_gives : {of_request : OfRequest} {of_events : OfEvents} {kind : ExchangeResult}
+            → Ends turn x.passage e t.current stands said (Exchanged false) next of_request
+            of_events kind → CallGives c g far n said next far' n'
+        missed_gives ends = gives turn x.passage e t.current stands p x.far_is ends
+            (λ k. cc) tt silence (left.on far' n' met.stands) left.fits left.joined tt
+
+        by_checks : (b : Bool) → checks_by devices (Some e) ≡ b
+            → CallGives c g far n said next far' n'
+        by_checks true is = missed_gives
+            (subst (λ (core : CoreState). Ends turn x.passage e t.current stands said
+            (Exchanged false) core (unheard turn x.passage e t.current stands p)
+            (unreported turn x.passage e t.current stands p) Unconfirmed)
+            (checked_is turn x.passage e t.current stands p is)
+            (unconfirms turn x.passage e t.current stands p heard valid is says))
+        by_checks false other = missed_gives
+            (subst (λ (core : CoreState). Ends turn x.passage e t.current stands said
+            (Exchanged false) core (unheard turn x.passage e t.current stands p)
+            (away turn x.passage e t.current stands p) Missed)
+            (missed_is turn x.passage e t.current stands p other)
+            (misses turn x.passage e t.current stands p heard valid other says))
 
     by_reply : (reply : Option Reply) → good_reply layouts.run w.message came ≡ reply
         → IsMet (after_by reply) n' far' → Left (after_by reply)

@@ -208,6 +208,7 @@ module _ (levels : (size : ℕ) → 1 ≤ size → LevelLaws size) (modes : Mode
           opens = stands.request.opens;
           link = link;
           linked = stands.request.linked;
+          in_operate = stands.request.in_operate;
           level = rw first (((levels layouts.run.od (rw (at) at (modes g.page FarOperate).1)).stays
               g.page g.kind g.request.base link progress o).begins far stands.request.level);
           out = record {

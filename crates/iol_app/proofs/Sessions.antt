@@ -33,7 +33,8 @@ use Rattle.iol_app.specs.declared.said.Said.{Said}
 use Rattle.iol_app.specs.Outputs.{output_to_carry, IsOutput}
 use Rattle.iol_app.specs.Requests.{text_of, ReplyEffect, GoesOn, effect_of_start_read, effect_of_question, sent_anew, effect_of_text, effect_of_segment, forgotten_by, current_after_refusal, segment_progress, is_doubting, replied_at, effect_of_reply, current_of_effect, current_after, request_under_way, request_after, IsEffectSaid, IsSaid, Suits, CutAndJoinFit, IsAllGiven, IsCurrent, IsSure}
 use Rattle.iol_app.specs.State.{SessionState, IsSession, od_size, told_output_length, session_after_exchange}
-use Rattle.iol_app.specs.Messages.{Head, ask_of, question, head_of, head_for, data_for, progress_head, progress_data}
+use Rattle.iol_octets.specs.declared.control.Channel.TheVariants.{Diagnosis}
+use Rattle.iol_app.specs.Messages.{Head, ask_of, read_head, read_with, question, check, head_of, head_for, data_for, progress_head, progress_data}
 use Rattle.iol_app.proofs.Cutting.{length-segment, is_pair, given_goes_on, sent_on_fits}
 use Rattle.iol_app.proofs.Joining.{StaysCurrent, refused_stays, joined_stays, received_stays}
 
@@ -250,13 +251,29 @@ pub question_head : (out : List ℕ) → head_of (question out).mc ≡ ask_of St
 unfolding control_of
 question_head out = refl
 
--- has the parts of the layout too
+-- and the read of the StatusCode in place of a confirm
+pub check_head : (out : List ℕ) → head_of (check out).mc ≡ read_head Diagnosis 0
+unfolding control_of
+check_head out = refl
+
+-- have the parts of the layout too
+read_parts : (control : ℕ) → (control_of control).read ≡ true → (size : Option Shape)
+    (output : OutputState) → IsOutput (told_output_length size) output
+    → IfSome size (λ layout. HasMasterParts layout (read_with control output.carried.items))
+read_parts control is None output h = tt
+read_parts control is (Some layout) output h = record {
+  out = h.carried;
+  od = ap (λ (b : Bool). if b then 0 else layout.od) (sym is);
+}
+
 pub question_parts : (size : Option Shape) (output : OutputState)
     → IsOutput (told_output_length size) output
     → IfSome size (λ layout. HasMasterParts layout (question output.carried.items))
-question_parts None output h = tt
-question_parts (Some layout) output h = record {
-  out = h.carried;
-  od = ap (λ (b : Bool). if b then 0 else layout.od)
-      (sym (ap (λ x. x.read) (question_head output.carried.items)));
-}
+question_parts size output h =
+    read_parts 0xF0 (ap (λ x. x.read) (question_head output.carried.items)) size output h
+
+pub check_parts : (size : Option Shape) (output : OutputState)
+    → IsOutput (told_output_length size) output
+    → IfSome size (λ layout. HasMasterParts layout (check output.carried.items))
+check_parts size output h =
+    read_parts 0xC0 (ap (λ x. x.read) (check_head output.carried.items)) size output h

@@ -214,6 +214,10 @@ record Exchange (start : Start) (session : SessionState) (g : Ghost) (far far' :
   k : Message start far
   x : HonestExchange far n (master_text k.shape k.message) came far' n'
 
+-- no list was read before
+none_flagged : (flag : Bool) → wants_confirm (reading_flagged flag) ≡ true → ⊥
+none_flagged flag k = grind (arith, common_steps)
+
 module _ {start : Start} {session : SessionState} {g : Ghost} {far far' : Far} {n n' : ℕ}
     {came : Option (List ℕ)} (it : Exchange start session g far far' n n' came) where
   open it use {laws, heard, stands, k, x}
@@ -506,6 +510,7 @@ module _ {start : Start} {session : SessionState} {g : Ghost} {far far' : Far} {
           opens = opens;
           link = entering_link layouts;
           linked = inl (refl, none);
+          in_operate = λ k. absurd (none_flagged r.event k);
           level = rw (none, ← kind_is, ← page_is) (at.before layouts.run.od);
           out = tt;
           answer = λ still. refl;

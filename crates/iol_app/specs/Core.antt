@@ -23,7 +23,7 @@ use Rattle.iol_mode.specs.Kinds.{SeesPulses}
 use Rattle.iol_mode.specs.States.{NextMode, NextModeFits, StateFits, IsDown, next_state, is_behind, is_reset, is_starting, mode_after_wake}
 use Rattle.iol_mode.specs.Exchanges.{StandsOn, text_out, mode_after_reply}
 use Rattle.iol_mode.specs.Turns.{IsRisen, IsMet}
-use Rattle.iol_mode.specs.Stands.{StateStands, IsOperating, IsAccepted}
+use Rattle.iol_mode.specs.Stands.{StateStands, IsOperating, IsAccepted, operate_link}
 use Rattle.iol_app.specs.declared.mode.Mode.TheVariants.{Operate as ModeOperate}
 use Rattle.iol_app.specs.declared.said.Said.{Said}
 use Rattle.iol_app.specs.declared.said.Said.TheVariants.{Idle}
@@ -141,9 +141,11 @@ progress_in w = progress_of w.devices w.clear w.current
 
 -- In OPERATE, with the message that is out
 
--- how often that was sent in vain, of so many attempts: a question only once it went out again
+-- how often that was sent in vain, of so many attempts: a question only once it went out again; a
+-- confirm at a port for any device never
 abbrev pub vain_by : Devices → Purpose → Option Current → ℕ → ℕ
 vain_by Any NextMessage (Some current) tries = if current.again then tries else 0
+vain_by Any ConfirmEvents current tries = 0
 vain_by devices exchange current tries = tries
 
 abbrev pub vain_in : Work → ℕ → ℕ
@@ -214,6 +216,8 @@ pub record OperateRequest (s : Operate) (w : Work) (reading : ReadingState) (g :
   -- both ends are level, as far as the request has come, with the message that is out
   pub link : FarLink
   pub linked : OperateLink s.layouts (progress_in w) link
+  -- a list that was read came in OPERATE
+  pub in_operate : wants_confirm reading ≡ true → link ≡ operate_link
   pub level : LevelOut g s.layouts.run link w s.out far
   pub out : OutBy s.layouts s.out w.exchange w reading g.page g.kind link g.sent
   -- the record has grown by the device's answer, once it has one; it may have by more where the

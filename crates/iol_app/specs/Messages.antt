@@ -18,7 +18,7 @@ use Rattle.iol_app.specs.declared.request.Current.{Current}
 use Rattle.iol_app.specs.declared.request.RequestProgress.{RequestProgress}
 use Rattle.iol_app.specs.declared.request.RequestProgress.TheVariants.{Sending, Doubting, Asking, Receiving, Refused}
 use Rattle.iol_app.specs.declared.session.Purpose.{Purpose}
-use Rattle.iol_app.specs.declared.session.Purpose.TheVariants.{TellOutput, DropOutput, Abort, ReadEvent, ConfirmEvents, Request, Idle}
+use Rattle.iol_app.specs.declared.session.Purpose.TheVariants.{TellOutput, DropOutput, Abort, ReadEvent, ConfirmEvents, CheckEvents, Request, Idle}
 use Rattle.iol_app.specs.EventReading.{reader_of}
 
 -- nothing is said yet
@@ -72,6 +72,7 @@ head_for DropOutput _ current = write_of Page 0
 head_for Abort _ current = ask_of AbortFlow
 head_for ReadEvent reading current = read_head Diagnosis (next_address (reader_of reading))
 head_for ConfirmEvents _ current = write_of Diagnosis 0
+head_for CheckEvents _ current = read_head Diagnosis 0
 head_for Request _ current = request_head current
 head_for Idle _ current = ask_of Idle1
 
@@ -83,10 +84,18 @@ data_for ConfirmEvents size current = first_of_zeros size 0
 data_for Request size current = request_data current
 data_for any size current = []
 
--- a START read that carries these process data: whether the device has a request
-abbrev pub question : List ℕ → MasterMsg
-question out = record {
-  mc = control_of 0xF0;
+-- a read of this control octet, which carries these process data
+abbrev pub read_with : ℕ → List ℕ → MasterMsg
+read_with control out = record {
+  mc = control_of control;
   out = record { items = out };
   od = record { items = [] };
 }
+
+-- a START read: whether the device has a request
+abbrev pub question : List ℕ → MasterMsg
+question out = read_with 0xF0 out
+
+-- a read of the StatusCode: whether the device has events
+abbrev pub check : List ℕ → MasterMsg
+check out = read_with 0xC0 out

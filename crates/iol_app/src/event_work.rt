@@ -50,6 +50,13 @@ impl EventWork {
         }
     }
 
+    /// What was read and reported counts no more.
+    pub(crate) fn forget(&mut self)
+        ensures { self.new ≡ new_event_work }
+    {
+        *self = EventWork::new();
+    }
+
     /// The diagnosis address that is read next.
     pub(crate) fn address(&self) -> u8
         ensures value { result ≡ next_address (reader_of self.now.reading) }

@@ -5,7 +5,7 @@ ghost use Rattle.iol_octets.specs.declared.control.Channel.TheVariants.{Page, Is
 ghost use Rattle.iol_mseq.specs.Parts.{first_of_zeros as octet_and_zeros};
 ghost use Rattle.iol_page.specs.Commands.{command_octet};
 ghost use Rattle.iol_app.specs.Requests.{IsCurrent};
-ghost use Rattle.iol_app.specs.Messages.{IsBlank, head_of, head_for, data_for, question, request_head, request_data, read_head, write_of};
+ghost use Rattle.iol_app.specs.Messages.{IsBlank, head_of, head_for, data_for, question, check, read_with, request_head, request_data, read_head, write_of};
 
 use crate::event_work::EventWork;
 use crate::request::{Current, RequestProgress};
@@ -16,6 +16,9 @@ use iol_page::MasterCommand;
 
 /// The control octet of a START read (IEC 61131-9, A.1.2 and 7.3.6).
 const START_READ: u8 = 0xF0;
+
+/// That of a read of the StatusCode (IEC 61131-9, A.1.2 and A.6).
+const STATUS_READ: u8 = 0xC0;
 
 /// A message that says nothing yet.
 pub(crate) fn blank() -> MasterMsg
@@ -59,6 +62,7 @@ pub(crate) fn body_for(
         Purpose::DropOutput => command(size, MasterCommand::DeviceOperate, od),
         Purpose::Abort => ask(Flow::Abort),
         Purpose::ReadEvent => read(Channel::Diagnosis, events.address()),
+        Purpose::CheckEvents => read(Channel::Diagnosis, 0),
         Purpose::ConfirmEvents => {
             *od = first_of_zeros(size, 0);
             write(Channel::Diagnosis, 0)
@@ -93,8 +97,22 @@ fn request_body(current: &Option<Current>, od: &mut Part) -> Mc
 pub(crate) fn question(out: Part) -> MasterMsg
     ensures { result ≡ question out.items }
 {
+    read_with(START_READ, out)
+}
+
+/// A read of the StatusCode that carries these process data: whether the device has events.
+pub(crate) fn check(out: Part) -> MasterMsg
+    ensures { result ≡ check out.items }
+{
+    read_with(STATUS_READ, out)
+}
+
+/// The read of this control octet, with these process data.
+fn read_with(control: u8, out: Part) -> MasterMsg
+    ensures { result ≡ read_with control out.items }
+{
     MasterMsg {
-        mc: Mc::from_octet(START_READ),
+        mc: Mc::from_octet(control),
         out,
         od: Part::new(),
     }

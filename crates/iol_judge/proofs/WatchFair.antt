@@ -10,13 +10,14 @@ use Rattle.iol_mseq.specs.declared.reply.Reply.{Reply}
 use Rattle.iol_page.specs.declared.page.Layouts.{Layouts}
 use Rattle.iol_judge.specs.declared.blame.Blame.TheVariants.{NotRepeated}
 use Rattle.iol_judge.specs.MasterTransfers.{asks_instead}
+use Rattle.iol_judge.specs.MasterReadings.{checks_instead}
 use Rattle.iol_judge.specs.declared.blame.Blame.{Blame}
 use Rattle.iol_judge.specs.declared.master_phase.MasterPhase.{MasterPhase}
 use Rattle.iol_judge.specs.declared.master_phase.MasterPhase.TheVariants.{Down}
 use Rattle.iol_judge.specs.declared.master.MasterState.{MasterState}
 use Rattle.iol_judge.specs.declared.master.MissedMessage.{MissedMessage}
 use Rattle.iol_judge.specs.declared.master_verdict.MasterVerdict.TheVariants.{ByTheRules}
-use Rattle.iol_judge.specs.Watched.{WatchState, asked_instead, master_after_repeat, master_after_sending, sent_new_or_again, sent_new, sent_on, sent_to_page, master_after_answer, heard_reply, master_without_reply, read_from, written_to, watch_after_exchange, judged_as}
+use Rattle.iol_judge.specs.Watched.{WatchState, asked_instead, checked_instead, checking, master_after_repeat, master_after_sending, sent_new_or_again, sent_new, sent_on, sent_to_page, master_after_answer, heard_reply, master_without_reply, read_from, written_to, watch_after_exchange, judged_as}
 use Rattle.iol_judge.specs.WatchLaws.{RepeatsAreFair, is_out}
 
 bytes_themselves : (a : List ℕ) → bytes_eq a a ≡ true
@@ -64,17 +65,21 @@ module _ (m : MasterState) (octets : List ℕ) (up : is_down m.phase ≡ false) 
       → IsReady octets r
   new_ready r keeps none = grind arith
 
-  out_ready : (r : Result MasterState Blame) → Keeps (stand m) r → (out : MissedMessage)
-      → m.out ≡ Some out → (instead : Bool)
+  out_ready : (r checked : Result MasterState Blame) → Keeps (stand m) r
+      → Keeps (stand m) checked → (out : MissedMessage) → m.out ≡ Some out
+      → (instead checks : Bool)
       → IsReady octets (if bytes_eq out.octets.items octets then Ok (master_after_repeat m) else
-      if instead then asked_instead out.twice octets r else Err NotRepeated)
-  out_ready r keeps out is instead = grind (arith, bytes_themselves)
+      if instead then asked_instead out.twice octets r else
+      if checks then checked_instead out.twice octets checked else Err NotRepeated)
+  out_ready r checked keeps so_too out is instead checks = grind (arith, bytes_themselves)
 
   again_ready : (o : Option MissedMessage) → m.out ≡ o
       → IsReady octets (sent_new_or_again o m octets)
   again_ready None is = new_ready (sent_new m octets) (new_keeps m octets) is
-  again_ready (Some out) is = out_ready (sent_new m octets) (new_keeps m octets) out is
+  again_ready (Some out) is = out_ready (sent_new m octets) (sent_new (checking m) octets)
+      (new_keeps m octets) (new_keeps (checking m) octets) out is
       (asks_instead m.transfer out.octets.items octets)
+      (checks_instead m.events out.octets.items octets)
 
 sent_ready : (m : MasterState) (octets : List ℕ) → IsReady octets (master_after_sending m octets)
 sent_ready m octets = grind (arith, again_ready)

@@ -25,7 +25,8 @@ use Rattle.iol_judge.specs.declared.master_verdict.MasterVerdict.{MasterVerdict}
 use Rattle.iol_judge.specs.declared.master_verdict.MasterVerdict.TheVariants.{Unjudged, ByTheRules, NotByTheRules}
 use Rattle.iol_judge.specs.MasterPhases.{allows, allows_cycle, phase_after_command, is_in_operate, phase_layout}
 use Rattle.iol_judge.specs.MasterOutputs.{no_output, woken_output, output_after_message}
-use Rattle.iol_judge.specs.MasterReadings.{no_master_events, is_due, reading_after_reply}
+use Rattle.iol_judge.specs.MasterReadings.{no_master_events, flagged_events, checks_instead, is_due, reading_after_reply}
+use Rattle.iol_judge.specs.declared.master_reading.Reading.TheVariants.{ConfirmDue}
 use Rattle.iol_judge.specs.MasterTransfers.{transfer_after_repeat, asks_instead, transfer_in_doubt, transfer_after_message, transfer_after_reply}
 
 -- of a capture that just began
@@ -130,6 +131,17 @@ asked_instead twice octets (Ok master) =
     Ok (record (left_out master octets twice) { transfer = transfer_in_doubt master.transfer })
 asked_instead twice octets (Err fault) = Err fault
 
+-- A read of the StatusCode in place of a confirm: the same
+
+abbrev pub checking : MasterState → MasterState
+checking master = record master { events = flagged_events }
+
+abbrev pub checked_instead : Bool → List ℕ → Result MasterState Blame → Result MasterState Blame
+checked_instead twice octets (Ok master) = Ok (record (left_out master octets twice) {
+  events = record master.events { reading = ConfirmDue };
+})
+checked_instead twice octets (Err fault) = Err fault
+
 abbrev pub sent_new_or_again : Option MissedMessage → MasterState → List ℕ
     → Result MasterState Blame
 sent_new_or_again None master octets = sent_new master octets
@@ -137,6 +149,8 @@ sent_new_or_again (Some out) master octets =
     if bytes_eq out.octets.items octets then Ok (master_after_repeat master) else
     if asks_instead master.transfer out.octets.items octets
     then asked_instead out.twice octets (sent_new master octets) else
+    if checks_instead master.events out.octets.items octets
+    then checked_instead out.twice octets (sent_new (checking master) octets) else
     Err NotRepeated
 
 -- once it sends these octets

@@ -14,7 +14,8 @@ pub enum Blame {
     #[error("WakeDue")]
     WakeDue,
     /// 2: the message before had no good reply, and these aren't its octets. A START read
-    /// may go out in place of a START write that holds a whole request.
+    /// may go out in place of a START write that holds a whole request, and a StatusCode read in
+    /// that of a confirm.
     #[error("NotRepeated")]
     NotRepeated,
     /// 3: in STARTUP a message of another channel than the page's; a master command that isn't

@@ -3,13 +3,13 @@ ghost use Rattle.std.specs.Prelude.{◌≡◌, ◌≤◌, length, OnOk, option_c
 ghost use Rattle.iol_judge.specs.Seen.{layouts_seen};
 ghost use Rattle.iol_judge.specs.MasterPhases.{allows, allows_cycle};
 ghost use Rattle.iol_judge.specs.BlameResults.{result_or_blame};
-ghost use Rattle.iol_judge.specs.Watched.{asked_instead, command_sent, cycle_sent, master_after_answer, master_without_reply, mode_entered, new_master, master_after_reply, master_after_sending, sent_in_startup, sent_new, sent_on, sent_to_page, master_after_wake};
+ghost use Rattle.iol_judge.specs.Watched.{asked_instead, checked_instead, checking, command_sent, cycle_sent, master_after_answer, master_without_reply, mode_entered, new_master, master_after_reply, master_after_sending, sent_in_startup, sent_new, sent_on, sent_to_page, master_after_wake};
 
 use crate::blame::Blame;
 use crate::master_message::reply_in;
 use crate::master_output::Output;
 use crate::master_phase::MasterPhase;
-use crate::master_reading::MasterEvents;
+use crate::master_reading::{MasterEvents, Reading};
 use crate::master_transfer::MasterTransfer;
 use crate::seen::SeenPage;
 use crate::verdict::Wake;
@@ -108,6 +108,10 @@ impl MasterState {
                 let twice = out.twice;
                 self.ask_instead(octets, twice)
             }
+            (_, Some(out)) if self.events.checks_instead(out.octets.as_slice(), octets) => {
+                let twice = out.twice;
+                self.check_instead(octets, twice)
+            }
             (_, Some(_)) => Err(Blame::NotRepeated),
             (_, None) => self.send_new(octets),
         }
@@ -121,6 +125,21 @@ impl MasterState {
     {
         self.send_new(octets)?;
         self.transfer.doubt();
+        self.out = Some(MissedMessage {
+            octets: Message::try_from(octets).unwrap(),
+            twice,
+        });
+        Ok(())
+    }
+
+    /// A read of the StatusCode in place of a confirm that is to be sent again: the same.
+    fn check_instead(&mut self, octets: &[u8], twice: bool) -> Result<(), Blame>
+        ensures { result_or_blame result self.new
+            ≡ checked_instead twice octets.now (sent_new (checking self.old) octets.now) }
+    {
+        self.events = MasterEvents::flagged();
+        self.send_new(octets)?;
+        self.events.reading = Reading::ConfirmDue;
         self.out = Some(MissedMessage {
             octets: Message::try_from(octets).unwrap(),
             twice,

@@ -1,9 +1,16 @@
 //! The event work of a master.
 ghost use Rattle.std.specs.Prelude.{◌≡◌};
-ghost use Rattle.iol_judge.specs.MasterReadings.{is_due, no_master_events, reading_after_reply, reading_after};
+ghost use Rattle.iol_judge.specs.MasterReadings.{is_due, no_master_events, flagged_events, checks_instead, reading_after_reply, reading_after};
 
 use iol_event::EventReader;
+use iol_mseq::first;
 use std::mem::replace;
+
+/// The control octet of a confirm.
+const CONFIRM: u8 = 0x40;
+
+/// That of a read of the StatusCode.
+const STATUS_READ: u8 = 0xC0;
 
 /// How far the reading of events has come.
 #[derive(Debug, Drop)]
@@ -37,6 +44,26 @@ impl MasterEvents {
         }
     }
 
+    /// Where the StatusCode is due.
+    pub fn flagged() -> MasterEvents
+        ensures { result ≡ flagged_events }
+    {
+        MasterEvents {
+            flag: true,
+            ..MasterEvents::new()
+        }
+    }
+
+    /// Whether these octets may be a read of the StatusCode in place of the message that is out: a
+    /// confirm.
+    pub fn checks_instead(&self, out: &[u8], octets: &[u8]) -> bool
+        ensures { result ≡ checks_instead self.now out.now octets.now }
+    {
+        matches!(self.reading, Reading::ConfirmDue)
+            && first(out) == CONFIRM
+            && first(octets) == STATUS_READ
+    }
+
     /// Whether a new read or write of this diagnosis address is due.
     pub fn is_due(&self, read: bool, address: u8) -> bool
         ensures { result ≡ is_due self.now read address }
@@ -63,12 +90,13 @@ impl MasterEvents {
 }
 
 impl Reading {
-    /// With one more octet.
+    /// With one more octet; with the StatusCode in place of a confirm it ends.
     fn after(self, octet: u8) -> Reading
         ensures { result ≡ reading_after self octet }
     {
         let mut reader = match self {
             Reading::UnderWay(reader) => reader,
+            Reading::ConfirmDue => return Reading::Resting,
             _ => EventReader::new(),
         };
         match reader.take(octet) {

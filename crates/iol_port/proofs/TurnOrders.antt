@@ -7,7 +7,7 @@ use Rattle.std.specs.List.{list_all}
 use Rattle.iol_event.specs.declared.event.Event.{Event}
 use Rattle.iol_app.specs.declared.mode.Mode.{Mode}
 use Rattle.iol_app.specs.declared.mode.Mode.TheVariants.{Down, Startup, Preoperate, Operate}
-use Rattle.iol_app.specs.Abstract.Steps.{PortStep, Again, Confirm, PowerLoss, OutputOn, OutputOff, ShowImage, DropImage, Busy, Done, Report, Unknown, Move, Start, Reset, TellLength, WireCall, Woke, Exchanged, Moment, CallFits, silence_by, is_report, input_length, through_steps, MayAll, is_right}
+use Rattle.iol_app.specs.Abstract.Steps.{PortStep, Again, Confirm, Untell, PowerLoss, OutputOn, OutputOff, ShowImage, DropImage, Busy, Done, Report, Unknown, Move, Start, Reset, TellLength, WireCall, Woke, Exchanged, Moment, CallFits, silence_by, is_report, input_length, through_steps, MayAll, is_right}
 use Rattle.iol_app.specs.Abstract.Session.{Session, session_after}
 use Rattle.iol_app.specs.Abstract.Events.{Frozen, MayFrozen, frozen_after}
 use Rattle.iol_app.specs.Abstract.Images.{Images, MayImages, images_after, page_after_wire_call}
@@ -92,6 +92,7 @@ in_parts {mode} o = record {
 loss_kept : (steps : List PortStep) (kept : List Event) → IsTrue (loss_brings steps)
     → through_steps kept_after steps kept ≡ kept
 loss_kept [] kept h = refl
+loss_kept (Untell ∷ []) kept h = refl
 loss_kept (Move mode why ∷ []) kept h = refl
 loss_kept (DropImage ∷ Move mode why ∷ []) kept h = refl
 loss_kept (Unknown cause ∷ DropImage ∷ Move mode why ∷ []) kept h = refl
@@ -290,6 +291,7 @@ good_awake m mode steps i h = absurd (cc)
 bad_awake : (m : Moment) (steps : List PortStep) (i : Images) → IsTrue (loss_brings steps)
     → (through_steps (images_after m) steps i).awake ≡ i.awake
 bad_awake m [] i h = refl
+bad_awake m (Untell ∷ []) i h = refl
 bad_awake m (Move mode why ∷ []) i h = refl
 bad_awake m (DropImage ∷ Move mode why ∷ []) i h = refl
 bad_awake m (Unknown cause ∷ DropImage ∷ Move mode why ∷ []) i h = refl
@@ -437,6 +439,7 @@ unread mode page h = absurd (cc h)
 loss_mode : (steps : List PortStep) (s : Session) → IsTrue (loss_brings steps) → s.mode ≡ Startup
     → StaysOrFalls (through_steps session_after steps s).mode
 loss_mode [] s h up = inl up
+loss_mode (Untell ∷ []) s h up = inl up
 loss_mode (Move Down why ∷ []) s h up = inr refl
 loss_mode (DropImage ∷ Move Down why ∷ []) s h up = inr refl
 loss_mode (Unknown cause ∷ DropImage ∷ Move Down why ∷ []) s h up = inr refl
@@ -505,6 +508,7 @@ starts_by_page a b (m, s, r) up none =
 loss_page : (m : Moment) (steps : List PortStep) (i : Images) → IsTrue (loss_brings steps)
     → (through_steps (images_after m) steps i).page ≡ i.page
 loss_page m [] i h = refl
+loss_page m (Untell ∷ []) i h = refl
 loss_page m (Move mode why ∷ []) i h = refl
 loss_page m (DropImage ∷ Move mode why ∷ []) i h = refl
 loss_page m (Unknown cause ∷ DropImage ∷ Move mode why ∷ []) i h = refl

@@ -6,7 +6,7 @@ use Rattle.iol_book.specs.declared.entries.Ticket.{Ticket}
 use Rattle.iol_book.specs.BookModel.{is_taken}
 use Rattle.iol_isdu.specs.declared.values.Cause.TheVariants.{Cancelled}
 use Rattle.iol_event.specs.declared.event.Event.{Event}
-use Rattle.iol_app.specs.Abstract.Steps.{PortStep, Unknown, Moment, MayAll, input_length, is_right}
+use Rattle.iol_app.specs.Abstract.Steps.{PortStep, Unknown, Untell, Exchanged, Moment, MayAll, input_length, is_right}
 use Rattle.iol_app.specs.Abstract.Session.{Job, Session, MaySession, session_after}
 use Rattle.iol_app.specs.declared.mode.Mode.TheVariants.{Operate, Startup, Down}
 use Rattle.iol_port.specs.declared.call.Call.{Call}
@@ -17,6 +17,7 @@ use Rattle.iol_port.specs.Run.{PortState, TurnOf, SendOf, ReceiveOf, Piece, Whol
 use Rattle.iol_port.specs.Owners.{IsOneOf}
 use Rattle.iol_port.specs.Sound.{PortIsSound}
 use Rattle.iol_mode.specs.declared.configuration.Devices.{Devices}
+use Rattle.iol_mode.specs.declared.configuration.Devices.TheVariants.{Any}
 
 -- a port that is opened is sound
 abbrev pub OpensSound : Type 0
@@ -115,3 +116,11 @@ AskedByCancel =
     → (is_cancel_asked a.session.job ≡ true)
     ⊎ ((ticket : Ticket) × (piece ≡ Whole (call.Cancel ticket)) × (reply ≡ answered.Nothing)
     × (is_taken a.book.standing ticket ≡ true))
+
+-- what was reported counts as unreported again, outside down, only at a port for any device: by an
+-- exchange in OPERATE without a good reply
+-- EVT-9
+abbrev pub OnlyMissesUntell : Type 0
+OnlyMissesUntell = (moment : Moment) (steps : List PortStep) (s : Session)
+    → MayAll (MaySession moment) session_after steps s → IsOneOf Untell steps
+    → (moment.terms.devices ≡ Any) × (moment.call ≡ Exchanged false)

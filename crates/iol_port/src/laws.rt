@@ -1,5 +1,5 @@
 //! What a client may conclude of a whole run of a port: laws, without code.
-ghost use Rattle.iol_port.specs.Promises.{OpensSound, RunsSound, GoodLinkStays, NothingIsNoTurn, EventsAreRead, NoneIsSwallowed, AsleepAnswersNothing, ImagesHaveLength, StartsByPage};
+ghost use Rattle.iol_port.specs.Promises.{OpensSound, RunsSound, GoodLinkStays, NothingIsNoTurn, EventsAreRead, NoneIsSwallowed, AsleepAnswersNothing, OnlyMissesUntell, ImagesHaveLength, StartsByPage};
 ghost use Rattle.iol_port.specs.Admitted.{WakesAreMissed, FrozenAreReported, PowerIsLost, InputsAreShown, RightPagesAreRead, PagesLeadOn};
 ghost use Rattle.iol_port.specs.Promises.{WrongPagesStayUnread, RunsJoin};
 ghost use Rattle.iol_port.specs.Promises.{PiecesSound, PiecesJoin, HalvesAreTurns};
@@ -40,8 +40,9 @@ pub fn record_fits_journal()
 /// missing, leaving all as it was is no turn. Events come with a good reply in OPERATE alone, and
 /// are those that the device had frozen when the turn began. With a good reply none of these that
 /// wasn't reported yet is gone: it is frozen still, or is reported. A device that had a power cycle
-/// brings no good reply, until a wake. An image that a good reply in
-/// OPERATE brings has the length that the page says. A start-up that has not read the
+/// brings no good reply, until a wake. What was reported counts as unreported again, outside down,
+/// only at a port for any device, by an exchange in OPERATE without a good reply. An image that a
+/// good reply in OPERATE brings has the length that the page says. A start-up that has not read the
 /// page goes on to no mode but down, and it does not read the page of a device that is not the
 /// expected one. What a turn does on every wire is said by the clause `gives` of
 /// [`Port::turn`](crate::Port::turn).
@@ -51,6 +52,7 @@ pub fn turns_rule_out()
     ensures events { EventsAreRead }
     ensures frozen { NoneIsSwallowed }
     ensures asleep { AsleepAnswersNothing }
+    ensures again { OnlyMissesUntell }
     ensures images { ImagesHaveLength }
     ensures pages { StartsByPage }
     ensures wrong { WrongPagesStayUnread }

@@ -1,9 +1,9 @@
 -- The events that the device has frozen: where each step is allowed, and what it does.
 use Rattle.std.specs.Prelude.{◌≡◌, ◌≤◌, Bool, true, false, List, length, Option, Some, None, IsSomeAnd, ⊤}
 use Rattle.iol_event.specs.declared.event.Event.{Event}
-use Rattle.iol_app.specs.Abstract.Steps.{PortStep, Freeze, Report, Confirm, PowerLoss, Start, Reset}
+use Rattle.iol_app.specs.Abstract.Steps.{PortStep, Freeze, Report, Confirm, Untell, PowerLoss, Start, Reset}
 
--- the frozen list, and whether it was reported since the last wake
+-- the frozen list, and whether it counts as reported: since the last wake, or missed confirm
 pub record Frozen : Type 0 where
   pub events : List Event
   pub told : Bool
@@ -23,6 +23,7 @@ abbrev pub frozen_after : PortStep → Option Frozen → Option Frozen
 frozen_after (Freeze events) f = Some (record { events = events; told = false })
 frozen_after (Report events) f = Some (record { events = events; told = true })
 frozen_after Confirm f = None
+frozen_after Untell f = untold_events f
 frozen_after PowerLoss f = None
 frozen_after Start f = untold_events f
 frozen_after Reset f = untold_events f

@@ -12,11 +12,13 @@ use Rattle.iol_mode.specs.declared.why.Why.{Why}
 use Rattle.iol_mode.specs.declared.why.Why.TheVariants.{Lost}
 use Rattle.iol_app.specs.declared.said.Said.{Said}
 use Rattle.iol_app.specs.declared.said.Said.TheVariants.{Idle, Busy as SaidBusy, Answered, Cut, Reported}
-use Rattle.iol_app.specs.Abstract.Steps.{PortStep, Take, Deny, Done, Unknown, Reset, Report, ShowImage, DropImage, TellLength, Busy, Move}
+use Rattle.iol_app.specs.Abstract.Steps.{PortStep, Take, Deny, Done, Unknown, Reset, Report, Untell, ShowImage, DropImage, TellLength, Busy, Move}
 
 pub data ExchangeResult : Type 0 where
   -- no good reply, and not for the third time
   Missed : ExchangeResult
+  -- the same to a confirm, at a port for any device
+  Unconfirmed : ExchangeResult
   -- no good reply for the third time: the link is lost
   Gone : ExchangeResult
   -- good replies in OPERATE: a busy reply, the whole answer, the reply to an ABORT,
@@ -40,6 +42,7 @@ lost_steps (Some request) = Unknown LinkLost ∷ DropImage ∷ Move Down (Some L
 
 abbrev pub brought_steps : ExchangeResult → Option Request → List PortStep
 brought_steps Missed request = []
+brought_steps Unconfirmed request = Untell ∷ []
 brought_steps Gone request = lost_steps request
 brought_steps WasBusy request = Busy ∷ ShowImage ∷ []
 brought_steps (WasAnswered answer) request = Done answer ∷ ShowImage ∷ []

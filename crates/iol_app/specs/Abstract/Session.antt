@@ -16,7 +16,7 @@ use Rattle.iol_mode.specs.declared.configuration.Devices.TheVariants.{Own, Any}
 use Rattle.iol_mode.specs.declared.why.Why.{Why}
 use Rattle.iol_mode.specs.declared.why.Why.TheVariants.{NoWake, Lost, WrongDevice, Interleaved}
 use Rattle.iol_mode.specs.States.{is_left_out}
-use Rattle.iol_app.specs.Abstract.Steps.{PortStep, Take, Deny, Carry, Again, Done, Unknown, LateCarry, Start, Reset, Busy, Move, WireCall, Woke, Exchanged, Moment, silence_left, page_refusal, is_right, Terms, may_repeat, may_misread, doubts_at}
+use Rattle.iol_app.specs.Abstract.Steps.{PortStep, Take, Deny, Carry, Again, Done, Unknown, LateCarry, Untell, Start, Reset, Busy, Move, WireCall, Woke, Exchanged, Moment, silence_left, page_refusal, is_right, Terms, may_repeat, may_misread, doubts_at}
 
 -- the request under way, the answer that the device gave it, its busy replies, and
 -- whether the program asked to cut it off
@@ -97,6 +97,8 @@ MaySession moment Busy s = IsSomeAnd s.job (λ job. job.answer ≡ None)
 MaySession moment Start s = (moment.terms.devices ≡ Any) × (s.mode ≡ Down)
     × (moment.call ≡ Woke true)
 MaySession moment Reset s = MayReset moment.terms.devices s.mode moment.call
+MaySession moment Untell s = (moment.terms.devices ≡ Any) × (s.mode ≡ Operate)
+    × (moment.call ≡ Exchanged false)
 MaySession moment (Move mode why) s = MayMove moment s.mode mode why × HoldsNothing mode s.late
 MaySession moment step s = ⊤
 

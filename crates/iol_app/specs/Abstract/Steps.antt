@@ -50,6 +50,8 @@ pub data PortStep : Type 0 where
   Freeze : List Event → PortStep
   Report : List Event → PortStep
   Confirm : PortStep
+  -- at a port for any device a confirm had no good reply: what is frozen still counts as unreported
+  Untell : PortStep
   -- the port's image becomes the device's input, or none
   ShowImage : PortStep
   DropImage : PortStep

@@ -7,7 +7,7 @@ use Rattle.iol_event.specs.declared.event.Event.{Event}
 use Rattle.iol_mode.specs.declared.why.Why.TheVariants.{NoWake, Lost}
 use Rattle.iol_app.specs.declared.mode.Mode.{Mode}
 use Rattle.iol_app.specs.declared.mode.Mode.TheVariants.{Down, Startup, Preoperate, Operate}
-use Rattle.iol_app.specs.Abstract.Steps.{PortStep, Carry, Again, Done, Unknown, LateCarry, Start, Reset, Freeze, Report, Confirm, ShowImage, DropImage, OutputOn, OutputOff, Input, PowerLoss, TellLength, Busy, Move, WireCall, Woke, Exchanged, silence_by, is_report, Moment}
+use Rattle.iol_app.specs.Abstract.Steps.{PortStep, Carry, Again, Done, Unknown, LateCarry, Start, Reset, Freeze, Report, Confirm, Untell, ShowImage, DropImage, OutputOn, OutputOff, Input, PowerLoss, TellLength, Busy, Move, WireCall, Woke, Exchanged, silence_by, is_report, Moment}
 use Rattle.iol_app.specs.Abstract.Events.{Frozen}
 use Rattle.iol_app.specs.Abstract.Images.{Images}
 
@@ -50,9 +50,10 @@ wake_brings true (Start ∷ []) = true
 wake_brings true (Reset ∷ []) = true
 wake_brings answered steps = false
 
--- where it is no good reply: nothing, but that the link may be lost
+-- where it is no good reply: nothing, or that nothing counts as reported; or the link is lost
 abbrev pub loss_brings : List PortStep → Bool
 loss_brings [] = true
+loss_brings (Untell ∷ []) = true
 loss_brings (Move Down (Some Lost) ∷ []) = true
 loss_brings (DropImage ∷ Move Down (Some Lost) ∷ []) = true
 loss_brings (Unknown LinkLost ∷ DropImage ∷ Move Down (Some Lost) ∷ []) = true

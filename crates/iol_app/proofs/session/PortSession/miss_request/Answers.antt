@@ -2,7 +2,7 @@
 use Rattle.std.proofs.Common.{◌≡◌, ◌∙◌, ap}
 use Rattle.iol_app.specs.Messages.{question}
 use Rattle.iol_app.proofs.Sessions.{question_parts}
-use Rattle.iol_app.proofs.session.PortSession.miss.Goals as goal
+use Rattle.iol_app.proofs.session.PortSession.miss_request.Goals as goal
 
 pub returns-clause-parts : goal.returns-clause-parts
 returns-clause-parts c =
