@@ -16,9 +16,9 @@ use Rattle.iol_script.specs.Text.{lines_of}
 use Rattle.iol_capture.specs.declared.fault.LineFault.{LineFault}
 use Rattle.iol_capture.specs.declared.telling.Telling.TheVariants as telling
 use Rattle.iol_capture.specs.declared.trace_line.TraceLine.{TraceLine}
-use Rattle.iol_capture.specs.declared.trace_line.TraceLine.TheVariants.{Other, Page, Wake, Sent, Came}
+use Rattle.iol_capture.specs.declared.trace_line.TraceLine.TheVariants.{Other, Skipped, Page, Wake, Sent, Came}
 use Rattle.iol_capture.specs.TraceLines.{trace_form}
-use Rattle.iol_capture.specs.Judging.{Judging, judging_after_exchange, judging_in_call, came_to, new_judging, or_bad_form, page_told, judging_after_line, wake_told}
+use Rattle.iol_capture.specs.Judging.{Judging, judging_after_exchange, judging_in_call, came_to, line_skipped, new_judging, or_bad_form, page_told, judging_after_line, wake_told}
 use Rattle.iol_capture.specs.HonestCapture.{CapturesNeverBlamed, IsFromHonest, IsHonestTrace}
 use Rattle.iol_capture.proofs.ReadLemmas.{judged_from, stays_bad}
 
@@ -51,6 +51,8 @@ module _ (law : NeverBlamed) (lines : List TraceLine) (next : Judging) where
   line_goes : (line : TraceLine) (old : Judging) → Goes old (line ∷ lines)
       → judging_after_line old line ≡ Ok next → Goes next lines
   line_goes Other old h e = on old (grind arith) h.far h.silence h.fair h.honest
+  line_goes Skipped old h e =
+      on (line_skipped old) (grind arith) h.far h.silence h.fair h.honest
   line_goes (Page octets) old h e =
       cond_both (old.call == 0) (page_told old octets) old
       (λ (made : Judging). made ≡ next → Goes next lines)

@@ -1,9 +1,9 @@
 -- What a splitter makes of damage: octets are passed over up to the next message that fits.
-use Rattle.std.specs.Prelude.{ℕ, ◌+◌, ◌-◌, ◌^◌, min, ◌==◌, nat_lt, if◌then◌else◌, List, [], ◌∷◌, ◌++◌, length, Option, Some, None, is_some, Result, Ok, Err}
+use Rattle.std.specs.Prelude.{ℕ, ◌+◌, ◌-◌, ◌^◌, min, Bool, true, false, ◌==◌, nat_lt, if◌then◌else◌, List, [], ◌∷◌, ◌++◌, length, Option, Some, None, is_some, Result, Ok, Err}
 use Rattle.iol_mseq.specs.Shape.{Shape}
 use Rattle.iol_mseq.specs.Master.{master_in}
 use Rattle.iol_judge.specs.declared.open.Open.{Open}
-use Rattle.iol_judge.specs.Seen.{layouts_seen}
+use Rattle.iol_judge.specs.Seen.{layouts_seen, whole_page}
 use Rattle.iol_judge.specs.Taking.{mode_layout}
 use Rattle.iol_capture.specs.declared.split_fault.SplitFault.TheVariants as fault
 use Rattle.iol_capture.specs.declared.gap.Gap.{Gap}
@@ -13,9 +13,9 @@ use Rattle.iol_capture.specs.declared.message.Meaning.TheVariants.{Part, Whole, 
 use Rattle.iol_capture.specs.declared.passed.SplitItem.{SplitItem}
 use Rattle.iol_capture.specs.declared.passed.SplitItem.TheVariants as passed
 use Rattle.iol_capture.specs.declared.splitter.Phase.{Phase}
-use Rattle.iol_capture.specs.declared.splitter.Phase.TheVariants.{Asleep, Waking, Message, Reply, Rest, Damaged, Trial, Spoiled}
+use Rattle.iol_capture.specs.declared.splitter.Phase.TheVariants.{Asleep, Joined, Waking, Message, Reply, Rest, Damaged, Trial, Spoiled}
 use Rattle.iol_capture.specs.Times.{gap_of}
-use Rattle.iol_capture.specs.Linking.{mode_begun}
+use Rattle.iol_capture.specs.Linking.{mode_begun, operating_link}
 use Rattle.iol_capture.specs.Lengths.{meaning_in}
 use Rattle.iol_capture.specs.SplitterState.{Splitting}
 use Rattle.iol_capture.specs.SplitSteps.{SplitStep, split_step, good_step}
@@ -80,12 +80,34 @@ damaged_heard gap.Pause state octet = good_step (line_on_trial state octet) None
 damaged_heard other state octet =
     good_step (record state { passed_over = passed_more state.passed_over 1 }) None
 
+-- the stream begins in OPERATE, maybe amid a message: behind a pause octets are tried
+abbrev pub joined_heard : Gap → Splitting → ℕ → SplitStep
+joined_heard gap.Pause state octet = good_step (line_on_trial state octet) None
+joined_heard other state octet = good_step (damaged_line state 1) None
+
 abbrev pub spoiled_heard : Gap → Splitting → ℕ → SplitStep
 spoiled_heard gap.Overlap state octet = split_step state (Err fault.Overlap)
 spoiled_heard gap.Response state octet = good_step (line_in_message state octet) None
 spoiled_heard gap.Pause state octet = good_step (line_in_message state octet) None
 spoiled_heard other state octet =
     good_step (record state { passed_over = passed_more state.passed_over 1 }) None
+
+-- nothing was told of the line
+abbrev pub is_at_begin : Phase → Bool
+is_at_begin Asleep = true
+is_at_begin Joined = true
+is_at_begin phase = false
+
+-- a device with this page is in OPERATE, where nothing was told before
+abbrev pub joined_line : Splitting → List ℕ → Splitting
+joined_line state octets = record (cleared_line state) {
+  seen = whole_page octets;
+  link = operating_link;
+  phase = Joined;
+}
+
+abbrev pub line_joined : Splitting → List ℕ → Splitting
+line_joined state octets = if is_at_begin state.phase then joined_line state octets else state
 
 -- Octets that are tried
 

@@ -1,14 +1,17 @@
 -- How tools write the octets of a line: sigrok-cli and PulseView, Logic 1, Logic 2.
-use Rattle.std.specs.Prelude.{ℕ, ◌+◌, ◌-◌, ◌*◌, ◌/◌, ◌%◌, ◌^◌, Bool, false, ◌&&◌, ◌||◌, ◌==◌, nat_lt, nat_le, if◌then◌else◌, Option, Some, None, option_map, option_and_then, List, [], ◌∷◌, length, take, drop, codes}
+use Rattle.std.specs.Prelude.{ℕ, ◌+◌, ◌-◌, ◌*◌, ◌/◌, ◌%◌, ◌^◌, Bool, false, ◌&&◌, ◌||◌, ◌==◌, nat_lt, nat_le, if◌then◌else◌, Option, Some, None, is_some, option_map, option_and_then, List, [], ◌∷◌, length, take, drop, codes}
 use Rattle.std.specs.List.{position}
-use Rattle.std.specs.Option.{option_map_or}
+use Rattle.std.specs.Option.{option_map_or, option_or}
 use Rattle.std.specs.Str.{bytes_eq}
 use Rattle.iol_script.specs.Numerals.{number_in}
 use Rattle.iol_capture.specs.declared.export.ExportForm.{ExportForm}
-use Rattle.iol_capture.specs.declared.export.ExportForm.TheVariants.{Timed, Sampled, Logic1, Logic2}
+use Rattle.iol_capture.specs.declared.export.ExportForm.TheVariants.{Timed, Sampled, Events, Logic1, Logic2}
 use Rattle.iol_capture.specs.declared.octet_line.OctetLine.{OctetLine}
-use Rattle.iol_capture.specs.declared.octet_line.OctetLine.TheVariants.{Other, Skipped, Form, Octet, Damaged, DamagedBefore}
-use Rattle.iol_capture.specs.declared.export.TheConstants.{SAMPLE_RATE}
+use Rattle.iol_capture.specs.declared.octet_line.OctetLine.TheVariants.{Other, Skipped, Form, Octet, Damaged, DamagedBefore, Page, Unsampled, Untimed}
+use Rattle.iol_capture.specs.declared.export.TheConstants.{PAGE, SAMPLE_RATE}
+use Rattle.iol_capture.specs.declared.trace_event.TheConstants.{EVENT_BEGIN, EVENT_END, EVENTS, EVENTS_END, FRAME_ERROR, PARITY_ERROR}
+use Rattle.iol_script.specs.Text.{line_words}
+use Rattle.iol_capture.specs.TraceLines.{are_none, ten_octets}
 use Rattle.iol_capture.specs.Cells.{cells_of, cell_text, without_end}
 use Rattle.iol_capture.specs.OctetLines.{digits_behind, octet_form, octet_of, parts_form, time_form}
 
@@ -116,11 +119,71 @@ annotation_form rate line place = if place == 0 then None else
     option_map (λ time. annotation_shows time line)
     (option_and_then (sample_time rate) (digits_behind (Some 0) (take place line)))
 
--- Lines
-
+-- whether a line begins with this text
 unfoldable pub begins_as : List ℕ → List ℕ → Bool
 begins_as line text =
     nat_le (length text) (length line) && bytes_eq (take (length text) line) text
+
+-- Annotations without what tells their times
+
+-- its first word, the decoder's name, ends with a colon
+abbrev pub is_named : List ℕ → Bool
+is_named line = option_map_or (λ place. ends_as (take place line) (codes ":"))
+    (position (λ b. b == 32) line) false
+
+abbrev pub untimed_form : List ℕ → Option OctetLine
+untimed_form line = if is_named line then Some Untimed else None
+
+-- it has the numbers of its samples, and nothing says how many are taken in a second
+abbrev pub is_sampled : List ℕ → Bool
+is_sampled line =
+    is_some (option_and_then (annotation_form 1 line) (position (λ b. b == 45) line))
+
+abbrev pub unsampled_form : List ℕ → Option OctetLine
+unsampled_form line = if is_sampled line then Some Unsampled else untimed_form line
+
+-- Trace events (JSON)
+
+-- microseconds as nanoseconds, by where the point stands; digits behind the third aren't read
+abbrev pub micro_time : List ℕ → ℕ → Option ℕ
+micro_time word place = if place == 0 || nat_lt (length word) (place + 4) then None else
+    digits_behind (digits_behind (Some 0) (take place word)) (take 3 (drop (place + 1) word))
+
+abbrev pub micro_word : List ℕ → Option ℕ
+micro_word word = option_and_then (micro_time word) (position (λ b. b == 46) word)
+
+-- that before the comma
+abbrev pub event_time : List ℕ → Option ℕ
+event_time text = option_and_then (λ comma. micro_word (take comma text))
+    (position (λ b. b == 44) text)
+
+-- the octet that is the name with which an event ends
+abbrev pub octet_in_quotes : List ℕ → Option ℕ
+octet_in_quotes (a ∷ high ∷ low ∷ b ∷ c ∷ []) =
+    if a == 34 && b == 34 && c == 125 then octet_of high low else None
+octet_in_quotes text = None
+
+abbrev pub named_octet : List ℕ → Option ℕ
+named_octet event =
+    if nat_lt (length event) 5 then None else octet_in_quotes (drop (length event - 5) event)
+
+abbrev pub event_shows : ℕ → List ℕ → OctetLine
+event_shows time event =
+    if ends_as event FRAME_ERROR || ends_as event PARITY_ERROR then DamagedBefore
+    else option_map_or (Octet time) (named_octet event) Skipped
+
+-- an annotation begins, with its time, and without the comma behind it
+abbrev pub begun_event_form : List ℕ → Option OctetLine
+begun_event_form line = option_map (λ time. event_shows time (without_end line 44))
+    (event_time (drop (length EVENT_BEGIN) line))
+
+-- that one ends, or all of them, says nothing
+abbrev pub trace_event_form : List ℕ → Option OctetLine
+trace_event_form line =
+    if begins_as line EVENT_BEGIN then begun_event_form line else
+    if begins_as line EVENT_END || bytes_eq line EVENTS_END then Some Other else None
+
+-- Lines
 
 -- samples a second
 abbrev pub sample_rate_form : List ℕ → Option OctetLine
@@ -129,25 +192,40 @@ sample_rate_form number = option_map (λ rate. Form (Sampled rate)) (number_in 1
 -- by the form of the rows below it, if it is a header; else with its time in seconds
 abbrev pub headed_form : List ℕ → Option ExportForm → Option OctetLine
 headed_form line (Some form) = Some (Form form)
-headed_form line None = parts_form line (position (λ b. b == 32) line)
+headed_form line None =
+    option_or (parts_form line (position (λ b. b == 32) line)) (unsampled_form line)
 
--- `Samplerate: ` and samples a second, or a line that begins otherwise
+-- `Samplerate: ` and samples a second, the begin of events, or a line that begins otherwise
 abbrev pub untabled_form : List ℕ → Option OctetLine
 untabled_form line =
-    if begins_as line SAMPLE_RATE then sample_rate_form (drop (length SAMPLE_RATE) line)
+    if begins_as line SAMPLE_RATE then sample_rate_form (drop (length SAMPLE_RATE) line) else
+    if bytes_eq line EVENTS then Some (Form Events)
     else headed_form line (header_form (cells_of line))
 
 abbrev pub written_form : ExportForm → List ℕ → Option OctetLine
 written_form Timed line = untabled_form line
-written_form (Sampled rate) line =
-    option_and_then (annotation_form rate line) (position (λ b. b == 45) line)
+written_form (Sampled rate) line = option_or
+    (option_and_then (annotation_form rate line) (position (λ b. b == 45) line))
+    (untimed_form line)
+written_form Events line = trace_event_form line
 written_form Logic1 line = logic1_form (cells_of line)
 written_form Logic2 line = logic2_form (cells_of line)
+
+-- the words behind `page`: ten octets, or `none`
+abbrev pub page_words_form : List (List ℕ) → Option OctetLine
+page_words_form words =
+    if are_none words then Some Other else option_map Page (ten_octets words)
+
+-- a page in front, or a line of its form
+abbrev pub shown_form : ExportForm → List ℕ → Option OctetLine
+shown_form form line = if begins_as line PAGE
+    then option_and_then page_words_form (line_words (drop (length PAGE) line))
+    else written_form form line
 
 -- a blank line and a comment say nothing
 abbrev pub text_form : ExportForm → List ℕ → Option OctetLine
 text_form form [] = Some Other
-text_form form (c ∷ line) = if c == 35 then Some Other else written_form form (c ∷ line)
+text_form form (c ∷ line) = if c == 35 then Some Other else shown_form form (c ∷ line)
 
 -- what a line says in an export of this form, where it fits one
 abbrev pub export_form : ExportForm → List ℕ → Option OctetLine

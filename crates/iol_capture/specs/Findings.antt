@@ -10,6 +10,10 @@ use Rattle.iol_judge.specs.declared.verdict.Verdict.TheVariants.{Unjudged, Hones
 use Rattle.iol_judge.specs.declared.kinds.Kinds.{Kinds}
 use Rattle.iol_judge.specs.Judged.{kinds_left}
 use Rattle.iol_judge.specs.Numbers.{open_number, reason_number}
+use Rattle.iol_link.specs.declared.wire.Rate.{Rate}
+use Rattle.iol_link.specs.declared.wire.Rate.TheVariants.{Com1, Com2, Com3}
+use Rattle.iol_capture.specs.declared.spacing.RateDoubt.{RateDoubt}
+use Rattle.iol_capture.specs.declared.spacing.RateDoubt.TheVariants.{Apart, Overlap}
 use Rattle.iol_capture.specs.declared.judgement.ExchangeCounts.{ExchangeCounts}
 use Rattle.iol_capture.specs.declared.judgement.OddExchange.{OddExchange}
 use Rattle.iol_capture.specs.declared.printing.Finding.{Finding}
@@ -162,6 +166,21 @@ kinds_text kinds = if not (are_told kinds) then [] else
 abbrev pub count_text : List ℕ → ℕ → List ℕ
 count_text name count = if count == 0 then [] else name ++ decimal count ++ codes "\n"
 
+-- why the rate can't be the one that was given, and which is likely
+abbrev pub rate_word : Rate → List ℕ
+rate_word Com1 = codes "COM1"
+rate_word Com2 = codes "COM2"
+rate_word Com3 = codes "COM3"
+
+abbrev pub at_rate_text : Rate → List ℕ → Rate → List ℕ
+at_rate_text rate why likely = codes "at " ++ rate_word rate ++ why ++ codes "; is it "
+    ++ rate_word likely ++ codes "?\n"
+
+abbrev pub doubt_text : Option RateDoubt → List ℕ
+doubt_text None = []
+doubt_text (Some (Overlap rate likely)) = at_rate_text rate (codes " the octets overlap") likely
+doubt_text (Some (Apart rate likely)) = at_rate_text rate (codes " the octets are far apart") likely
+
 -- odd exchanges, a line each
 abbrev pub odd_texts : List OddExchange → List ℕ
 odd_texts = flat_map (λ (odd : OddExchange). because_text odd.call (codes " odd: ")
@@ -173,6 +192,7 @@ finding_text judging = odd_texts judging.odd
     ++ count_text (codes "unjudged ") judging.counts.unjudged
     ++ count_text (codes "lines skipped ") judging.skipped
     ++ count_text (codes "octets passed over ") judging.passed_over
+    ++ doubt_text judging.rate_doubt
     ++ master_verdict_text judging.watching
     ++ kinds_text (kinds_left judging.judged)
     ++ verdict_text judging.judged.verdict judging.decided judging.counts

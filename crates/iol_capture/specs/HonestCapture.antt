@@ -17,9 +17,9 @@ use Rattle.iol_capture.specs.declared.export.ExportForm.{ExportForm}
 use Rattle.iol_capture.specs.declared.export.ExportForm.TheVariants.{Timed}
 use Rattle.iol_capture.specs.FairSplits.{SaysNothing, items_passed}
 use Rattle.iol_capture.specs.SplitterState.{new_splitter}
-use Rattle.iol_capture.specs.Written.{AreWritten, Damage, DamageBefore, Item, Octet, Request, StreamItem, stream_of}
+use Rattle.iol_capture.specs.Written.{AreWritten, Damage, DamageBefore, Item, Joins, Octet, Request, StreamItem, stream_of}
 use Rattle.iol_capture.specs.declared.trace_line.TraceLine.{TraceLine}
-use Rattle.iol_capture.specs.declared.trace_line.TraceLine.TheVariants.{Other, Page, Wake, Sent, Came}
+use Rattle.iol_capture.specs.declared.trace_line.TraceLine.TheVariants.{Other, Skipped, Page, Wake, Sent, Came}
 use Rattle.iol_capture.specs.declared.telling.CaptureForm.TheVariants as form
 use Rattle.iol_capture.specs.TraceLines.{trace_form}
 use Rattle.iol_capture.specs.Judging.{Judging}
@@ -37,6 +37,7 @@ IsUnblamed judged = (exchange : ℕ) (reason : Reason) → judged.verdict ≢ No
 abbrev pub IsHonestTrace : Far → ℕ → ℕ → Option (List ℕ) → List TraceLine → Type 0
 IsHonestTrace far silence call waits [] = Unit {0}
 IsHonestTrace far silence call waits (Other ∷ lines) = IsHonestTrace far silence call waits lines
+IsHonestTrace far silence call waits (Skipped ∷ lines) = IsHonestTrace far silence call waits lines
 IsHonestTrace far silence call waits (Page octets ∷ lines) =
     (call ≡ 0 → octets ≡ far.page) × IsHonestTrace far silence call waits lines
 IsHonestTrace far silence call waits (Wake number answer ∷ lines) = (far_new : Far)
@@ -70,6 +71,7 @@ stream_item_of (line.Octet time octet) = Some (Octet (record { time = time; octe
 stream_item_of (line.Wake time) = Some (Request time)
 stream_item_of (line.Damaged time) = Some (Damage time)
 stream_item_of line.DamagedBefore = Some DamageBefore
+stream_item_of (line.Page octets) = Some (Joins octets)
 stream_item_of line = None
 
 -- how the lines behind one are written

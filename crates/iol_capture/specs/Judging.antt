@@ -19,8 +19,9 @@ use Rattle.iol_capture.specs.declared.fault.LineFault.TheVariants.{BadForm, Wron
 use Rattle.iol_capture.specs.declared.judgement.ExchangeCounts.{ExchangeCounts}
 use Rattle.iol_capture.specs.declared.judgement.OddExchange.{OddExchange}
 use Rattle.iol_capture.specs.declared.judgement.TheConstants.{ODD_SHOWN}
+use Rattle.iol_capture.specs.declared.spacing.RateDoubt.{RateDoubt}
 use Rattle.iol_capture.specs.declared.trace_line.TraceLine.{TraceLine}
-use Rattle.iol_capture.specs.declared.trace_line.TraceLine.TheVariants.{Other, Page, Wake, Sent, Came}
+use Rattle.iol_capture.specs.declared.trace_line.TraceLine.TheVariants.{Other, Skipped, Page, Wake, Sent, Came}
 use Rattle.iol_capture.specs.Watching.{Watching, exchange_watched, watching_unheard, new_watching, page_watched, wake_watched}
 
 pub record Judging : Type 0 where
@@ -41,6 +42,8 @@ pub record Judging : Type 0 where
   pub passed_over : ℕ
   -- how many lines were skipped
   pub skipped : ℕ
+  -- why the rate of the line can't be the one that was given
+  pub rate_doubt : Option RateDoubt
 
 abbrev pub no_counts : ExchangeCounts
 no_counts = record { unjudged = 0; judged = 0; lost = 0 }
@@ -56,6 +59,7 @@ new_judging odd = record {
   odd = [];
   passed_over = 0;
   skipped = 0;
+  rate_doubt = None;
 }
 
 -- Counts
@@ -135,9 +139,14 @@ page_told judging octets = record judging {
 abbrev pub judging_with_page : Judging → List ℕ → Judging
 judging_with_page judging octets = if judging.call == 0 then page_told judging octets else judging
 
+-- a line was skipped
+abbrev pub line_skipped : Judging → Judging
+line_skipped judging = record judging { skipped = one_more judging.skipped }
+
 -- the judge, told what a line says
 abbrev pub judging_after_line : Judging → TraceLine → Result Judging LineFault
 judging_after_line judging Other = Ok judging
+judging_after_line judging Skipped = Ok (line_skipped judging)
 judging_after_line judging (Page octets) = Ok (judging_with_page judging octets)
 judging_after_line judging (Wake number answer) =
     result_map_both (λ new. wake_told new answer) (λ fault. fault)
@@ -159,10 +168,6 @@ judging_in_mode judging mode = record judging {
   judged = judge_resumed judging.judged mode;
   watching = watching_unheard judging.watching (one_more judging.call);
 }
-
--- a line was skipped
-abbrev pub line_skipped : Judging → Judging
-line_skipped judging = record judging { skipped = one_more judging.skipped }
 
 -- What a splitter tells
 

@@ -6,6 +6,7 @@ pub mod Exchanged
 pub mod SplitterState
 pub mod SplitSteps
 pub mod Waking
+pub mod Spacings
 pub mod Damage
 pub mod Splitting
 pub mod Written

@@ -4,13 +4,16 @@ use Rattle.std.specs.List.{starts_with}
 use Rattle.iol_mseq.specs.declared.master.MasterMsg.{MasterMsg}
 use Rattle.iol_page.specs.declared.page.Layouts.{Layouts}
 use Rattle.iol_far.specs.declared.mode.DeviceMode.{DeviceMode}
-use Rattle.iol_far.specs.declared.mode.DeviceMode.TheVariants.{Startup, Preoperate}
+use Rattle.iol_far.specs.declared.mode.DeviceMode.TheVariants.{Startup, Preoperate, Operate}
 use Rattle.iol_far.specs.Far.{command_in, mode_asked, waits_after}
 use Rattle.iol_far.specs.Level.{FarLink, accepting_link}
 use Rattle.iol_judge.specs.declared.open.Open.{Open}
 
 abbrev pub started_link : FarLink
 started_link = record { mode = Startup; waits = None }
+
+abbrev pub operating_link : FarLink
+operating_link = record { mode = Operate; waits = None }
 
 -- The mode in whose layout a message is that begins with these octets. Behind a mode command
 -- the command itself is in the old one, and any other message in the new one

@@ -1,5 +1,5 @@
 -- A judge, told what a decoder shows.
-use Rattle.std.specs.Prelude.{ℕ, nat_le, Option, Some, None, Result, Ok, List, length, if◌then◌else◌}
+use Rattle.std.specs.Prelude.{ℕ, nat_le, Option, Some, None, Result, Ok, Err, List, length, if◌then◌else◌}
 use Rattle.std.specs.Option.{option_map_or}
 use Rattle.std.specs.Result.{result_map_both, result_unwrap_or}
 use Rattle.iol_judge.specs.declared.verdict.Odd.{Odd}
@@ -14,13 +14,15 @@ use Rattle.iol_capture.specs.declared.export.ExportForm.TheVariants.{Timed}
 use Rattle.iol_capture.specs.Exports.{export_form}
 use Rattle.iol_capture.specs.SplitterState.{Splitting, begins_call, new_splitter}
 use Rattle.iol_capture.specs.Splitting.{untold_at_end, octet_split, wake_split}
-use Rattle.iol_capture.specs.Damage.{damage_split, damaged_before}
+use Rattle.iol_capture.specs.Damage.{damage_split, damaged_before, is_at_begin, joined_line}
 use Rattle.iol_capture.specs.SplitSteps.{SplitStep}
 use Rattle.iol_capture.specs.declared.fault.LineFault.{LineFault}
-use Rattle.iol_capture.specs.declared.fault.LineFault.TheVariants.{Split}
+use Rattle.iol_capture.specs.declared.fault.LineFault.TheVariants.{NoSampleRate, NoTime, Split}
 use Rattle.iol_capture.specs.declared.timed_call.Beginnings.{Beginnings}
 use Rattle.iol_capture.specs.declared.timed_call.TimedCall.{TimedCall}
-use Rattle.iol_capture.specs.Judging.{Judging, maybe_woken, line_skipped, new_judging, passed_next, judging_in_mode}
+use Rattle.iol_capture.specs.Judging.{Judging, judging_with_page, maybe_woken, line_skipped, new_judging, passed_next, judging_in_mode}
+use Rattle.iol_capture.specs.declared.spacing.Spacing.{Spacing}
+use Rattle.iol_capture.specs.Spacings.{doubt_of, nothing_spaced, spaced_by}
 use Rattle.iol_capture.specs.Timed.{begun_untold, call_told, number_of_next, none_begun, number_by_octet}
 
 -- the octets that are split, and what the judge makes of what they are split into
@@ -29,6 +31,8 @@ pub record Hearing : Type 0 where
   pub judging : Judging
   -- when what isn't told yet began
   pub begun : Beginnings
+  -- how soon octets begin behind one another
+  pub spacing : Spacing
   -- how the lines to come are written
   pub form : ExportForm
 
@@ -38,6 +42,7 @@ new_hearing rate odd =
       splitting = new_splitter rate;
       judging = new_judging odd;
       begun = none_begun;
+      spacing = nothing_spaced;
       form = Timed;
     }
 
@@ -69,14 +74,20 @@ abbrev pub begun_by_request : Beginnings → ℕ → Option SplitItem → Beginn
 begun_by_request begun time passed = record (begun_untold begun passed) { request = Some time }
 
 -- the judge is told so what a step tells, and so what isn't told began
-abbrev pub step_heard : ExportForm → (Option SplitItem → Judging) → (Option SplitItem → Beginnings)
+abbrev pub step_heard : Hearing → (Option SplitItem → Judging) → (Option SplitItem → Beginnings)
     → SplitStep → Result Hearing LineFault
-step_heard form judged begun step = result_map_both (λ passed. record {
+step_heard hearing judged begun step = result_map_both (λ passed. record hearing {
   splitting = step.state;
   judging = judged passed;
   begun = begun passed;
-  form = form;
 }) Split step.told
+
+-- a capture begins in OPERATE: a page counts in front alone
+abbrev pub hearing_joined : Hearing → List ℕ → Hearing
+hearing_joined hearing octets = if is_at_begin hearing.splitting.phase then record hearing {
+  splitting = joined_line hearing.splitting octets;
+  judging = judging_with_page hearing.judging octets;
+} else hearing
 
 -- what a line shows
 abbrev pub hearing_after_line : Hearing → OctetLine → Result Hearing LineFault
@@ -84,18 +95,22 @@ hearing_after_line hearing line.Other = Ok hearing
 hearing_after_line hearing line.Skipped =
     Ok (record hearing { judging = line_skipped hearing.judging })
 hearing_after_line hearing (line.Form form) = Ok (record hearing { form = form })
+hearing_after_line hearing (line.Page octets) = Ok (hearing_joined hearing octets)
+hearing_after_line hearing line.Unsampled = Err NoSampleRate
+hearing_after_line hearing line.Untimed = Err NoTime
 hearing_after_line hearing (line.Damaged time) =
-    step_heard hearing.form (passed_by_octet hearing.judging) (begun_untold hearing.begun)
+    step_heard hearing (passed_by_octet hearing.judging) (begun_untold hearing.begun)
     (damage_split hearing.splitting time)
 hearing_after_line hearing line.DamagedBefore =
-    step_heard hearing.form (passed_by_octet hearing.judging) (begun_untold hearing.begun)
+    step_heard hearing (passed_by_octet hearing.judging) (begun_untold hearing.begun)
     (damaged_before hearing.splitting)
 hearing_after_line hearing (line.Octet time octet) =
     let step = octet_split hearing.splitting time octet in
-    step_heard hearing.form (passed_by_octet hearing.judging)
+    step_heard (record hearing { spacing = spaced_by hearing.spacing time })
+    (passed_by_octet hearing.judging)
     (begun_by_octet hearing.begun step.state time) step
 hearing_after_line hearing (line.Wake time) =
-    step_heard hearing.form (passed_by_request hearing.judging)
+    step_heard hearing (passed_by_request hearing.judging)
     (begun_by_request hearing.begun time)
     (wake_split hearing.splitting time)
 
@@ -104,6 +119,7 @@ abbrev pub heard_whole : Hearing → Judging
 heard_whole hearing =
     record (passed_by_request hearing.judging (untold_at_end hearing.splitting)) {
       passed_over = hearing.splitting.passed_over;
+      rate_doubt = doubt_of hearing.spacing hearing.splitting.rate;
     }
 
 -- Calls, each with its time
@@ -119,6 +135,9 @@ abbrev pub call_of_line : Hearing → OctetLine → Option TimedCall
 call_of_line hearing line.Other = None
 call_of_line hearing line.Skipped = None
 call_of_line hearing (line.Form form) = None
+call_of_line hearing (line.Page octets) = None
+call_of_line hearing line.Unsampled = None
+call_of_line hearing line.Untimed = None
 call_of_line hearing (line.Damaged time) =
     call_of_step hearing.begun (number_by_octet hearing.judging)
     (damage_split hearing.splitting time)

@@ -16,14 +16,14 @@ use Rattle.iol_capture.specs.declared.message.Meaning.TheVariants.{Part, Whole, 
 use Rattle.iol_capture.specs.declared.passed.SplitItem.{SplitItem}
 use Rattle.iol_capture.specs.declared.passed.SplitItem.TheVariants as passed
 use Rattle.iol_capture.specs.declared.splitter.Phase.{Phase}
-use Rattle.iol_capture.specs.declared.splitter.Phase.TheVariants.{Waking, Message, Reply, Rest, Damaged, Trial, Spoiled}
+use Rattle.iol_capture.specs.declared.splitter.Phase.TheVariants.{Joined, Waking, Message, Reply, Rest, Damaged, Trial, Spoiled}
 use Rattle.iol_capture.specs.declared.splitter.Requests.TheVariants.{Shown}
 use Rattle.iol_capture.specs.Times.{gap_of}
 use Rattle.iol_capture.specs.Linking.{mode_begun, link_after}
 use Rattle.iol_capture.specs.Lengths.{meaning_in, reply_length}
 use Rattle.iol_capture.specs.SplitterState.{Splitting}
 use Rattle.iol_capture.specs.SplitSteps.{SplitStep, split_step, good_step}
-use Rattle.iol_capture.specs.Damage.{cleared_line, damaged_heard, damaged_line, exchange_of, layout_begun, line_awaiting_reply, line_in_message, line_on_trial, spoiled_heard, spoiled_step, trial_heard}
+use Rattle.iol_capture.specs.Damage.{cleared_line, damaged_heard, damaged_line, exchange_of, joined_heard, layout_begun, line_awaiting_reply, line_in_message, line_on_trial, spoiled_heard, spoiled_step, trial_heard}
 use Rattle.iol_capture.specs.Waking.{waking_heard}
 
 -- A message
@@ -125,6 +125,7 @@ abbrev pub octet_heard : Splitting → ℕ → ℕ → SplitStep
 octet_heard state elapsed octet =
     let gap = gap_of state.rate elapsed in
     elim state.phase [
+      | Joined ↦ joined_heard gap state octet
       | Message ↦ message_heard gap state octet
       | Reply ↦ reply_heard gap state octet
       | Rest ↦ rest_heard gap state octet

@@ -9,7 +9,7 @@ use Rattle.iol_judge.specs.declared.verdict.Wake.TheVariants as wake
 use Rattle.iol_script.specs.Numerals.{octets_of_words, number_in, octets_within}
 use Rattle.iol_script.specs.Text.{text_words}
 use Rattle.iol_capture.specs.declared.trace_line.TraceLine.{TraceLine}
-use Rattle.iol_capture.specs.declared.trace_line.TraceLine.TheVariants.{Other, Page, Wake, Sent, Came}
+use Rattle.iol_capture.specs.declared.trace_line.TraceLine.TheVariants.{Other, Skipped, Page, Wake, Sent, Came}
 
 -- The words of a line
 
@@ -23,10 +23,15 @@ abbrev pub are_none : List (List ℕ) → Bool
 are_none (word ∷ []) = bytes_eq word (codes "none")
 are_none words = false
 
+-- the ten octets of a page
+abbrev pub ten_octets : List (List ℕ) → Option (List ℕ)
+ten_octets words = option_and_then (λ (octets : ArrayVec ℕ).
+    if length octets.items == 10 then Some octets.items else None) (octets_form words)
+
 -- the words behind `page`: ten octets; without them the line says nothing of a page
 abbrev pub page_form : List (List ℕ) → Option TraceLine
-page_form words = if are_none words then Some Other else option_and_then (λ (octets : ArrayVec ℕ).
-    if length octets.items == 10 then Some (Page octets.items) else None) (octets_form words)
+page_form words =
+    if are_none words then Some Other else option_map Page (ten_octets words)
 
 -- whether a wake-up request was answered, by the rate
 abbrev pub rate_form : List (List ℕ) → Option WakeAnswer
@@ -58,7 +63,7 @@ named_form name words =
     if bytes_eq name (codes "page") then page_form words else
     if begins_with_digit name
     then option_and_then (λ number. trace_call_form number words) (number_in 1 (2 ^ 64 - 1) name)
-    else Some Other
+    else Some Skipped
 
 abbrev pub trace_words_form : List (List ℕ) → Option TraceLine
 trace_words_form [] = Some Other

@@ -14,10 +14,10 @@ use Rattle.iol_capture.specs.declared.splitter.Phase.TheVariants.{Asleep, Reply,
 use Rattle.iol_capture.specs.Times.{bit_time}
 use Rattle.iol_capture.specs.Lengths.{meaning_in, reply_length}
 use Rattle.iol_capture.specs.SplitterState.{Splitting, new_splitter}
-use Rattle.iol_capture.specs.SplitSteps.{SplitStep}
+use Rattle.iol_capture.specs.SplitSteps.{SplitStep, good_step}
 use Rattle.iol_capture.specs.Waking.{is_test_reply, line_in_startup}
 use Rattle.iol_capture.specs.Splitting.{untold_at_end, octet_split, line_after_request, line_at_rest, wake_split}
-use Rattle.iol_capture.specs.Damage.{damage_split, damaged_before, layout_begun, some_octets}
+use Rattle.iol_capture.specs.Damage.{damage_split, damaged_before, layout_begun, line_joined, some_octets}
 
 -- an octet, and when it begins
 pub record TimedOctet : Type 0 where
@@ -38,12 +38,15 @@ pub data StreamItem : Type 0 where
   Damage : ℕ → StreamItem
   -- that the octet before has one
   DamageBefore : StreamItem
+  -- that it begins while a device with this page is in OPERATE
+  Joins : List ℕ → StreamItem
 
 abbrev pub split : Splitting → StreamItem → SplitStep
 split state (Octet t) = octet_split state t.time t.octet
 split state (Request time) = wake_split state time
 split state (Damage time) = damage_split state time
 split state DamageBefore = damaged_before state
+split state (Joins octets) = good_step (line_joined state octets) None
 
 abbrev pub with_told : Result (Option SplitItem) SplitFault → Result (List SplitItem) SplitFault
     → Result (List SplitItem) SplitFault

@@ -1,6 +1,6 @@
 //! What a splitter makes of damage: it passes octets over up to the next message that fits.
 ghost use Rattle.std.specs.Prelude.{◌≡◌, ◌≤◌, Some, None, Ok};
-ghost use Rattle.iol_capture.specs.Damage.{damage_split, damaged_before, damaged_heard, damaged_line, line_on_trial, spoiled_heard, spoiled_step, tried_as, tried_in, tried_more, trial_heard};
+ghost use Rattle.iol_capture.specs.Damage.{damage_split, damaged_before, damaged_heard, damaged_line, joined_heard, line_on_trial, spoiled_heard, spoiled_step, tried_as, tried_in, tried_more, trial_heard};
 ghost use Rattle.iol_capture.specs.SplitSteps.{good_step, split_step};
 
 use crate::gap::Gap;
@@ -88,6 +88,17 @@ impl Splitter {
                 self.pass_over(1);
                 Ok(None)
             }
+        }
+    }
+
+    /// Where a stream begins in OPERATE, maybe amid a message.
+    pub(crate) fn hear_joined(&mut self, gap: Gap, octet: u8) -> Option<SplitItem>
+        ensures { good_step self.new result ≡ joined_heard gap self.old octet }
+    {
+        match gap {
+            Gap::Pause => self.try_octet(octet),
+            Gap::Overlap | Gap::Close | Gap::Message => self.lose_item(1),
+            Gap::Reply | Gap::Response => self.lose_item(1),
         }
     }
 

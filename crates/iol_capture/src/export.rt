@@ -1,20 +1,27 @@
 //! How tools write the octets of a line.
-ghost use Rattle.std.specs.Prelude.{◌≡◌, ◌≤◌, ◌==◌, true, length, Some};
+ghost use Rattle.std.specs.Prelude.{◌≡◌, ◌≤◌, ◌==◌, true, length, option_and_then, Some};
 ghost use Rattle.std.specs.List.{position};
+ghost use Rattle.iol_capture.specs.declared.export.ExportForm.TheVariants.{Sampled};
+ghost use Rattle.iol_script.specs.Text.{words_left};
 ghost use Rattle.iol_capture.specs.Cells.{cells_left, cells_of};
-ghost use Rattle.iol_capture.specs.Exports.{annotation_form, annotation_shows, bare_line, begins_as, cut_time, ending_octet, ends_as, error_in, headed_form, header_form, is_cell, logic1_form, logic2_form, octet_row, sample_rate_form, sample_time, table_time, untabled_form, written_form};
+ghost use Rattle.iol_capture.specs.Exports.{annotation_form, annotation_shows, bare_line, begins_as, cut_time, ending_octet, ends_as, error_in, headed_form, header_form, is_cell, is_named, logic1_form, logic2_form, octet_row, page_words_form, sample_rate_form, sample_time, shown_form, table_time, unsampled_form, untabled_form, untimed_form, written_form};
 
 use crate::cells::{Cells, unquoted, without_end};
 use crate::octet_line::{
     OctetLine, PLACES, digits_behind, octet_of, parse_octet, parse_parts, parse_time, place_of,
 };
-use iol_script::decimal_number;
+use crate::trace_event::{EVENTS, parse_event};
+use crate::trace_line::{are_none, parse_page_octets};
+use iol_script::{Words, decimal_number};
 
 /// A second, in nanoseconds.
 const SECOND: u64 = 1_000_000_000;
 
 /// What stands before the samples a second of a capture, as `sigrok-cli --show` prints them.
 const SAMPLE_RATE: [u8; 12] = *b"Samplerate: ";
+
+/// What stands before the octets of a page.
+const PAGE: [u8; 5] = *b"page ";
 
 /// How the lines of an export are written that show octets.
 #[derive(Clone, Copy, Debug, PartialEq, Eq)]
@@ -24,6 +31,8 @@ pub enum ExportForm {
     /// Annotations of sigrok-cli and PulseView, each with the numbers of its samples, of which so
     /// many are taken in a second.
     Sampled(u32),
+    /// Trace events of sigrok-cli, in JSON.
+    Events,
     /// Rows of Logic 1: time, value, parity error, framing error.
     Logic1,
     /// Rows of Logic 2: name, type, start, duration, octet, and the error, where there is one.
@@ -42,8 +51,30 @@ impl OctetLine {
         match line {
             [] => Some(OctetLine::Other),
             [b'#', ..] => Some(OctetLine::Other),
-            _ => parse_written(form, line),
+            _ => parse_shown(form, line),
         }
+    }
+}
+
+/// A page in front, or a line of its form.
+fn parse_shown(form: ExportForm, line: &[u8]) -> Option<OctetLine>
+    ensures { result ≡ shown_form form line.now }
+{
+    if begins_as(line, &PAGE) {
+        parse_page(Words::of(&line[PAGE.len()..])?)
+    } else {
+        parse_written(form, line)
+    }
+}
+
+/// The words behind `page`: ten octets, or `none`.
+fn parse_page(words: Words) -> Option<OctetLine>
+    ensures { result ≡ page_words_form (words_left words.entry) }
+{
+    if are_none(words) {
+        Some(OctetLine::Other)
+    } else {
+        Some(OctetLine::Page(parse_page_octets(words)?))
     }
 }
 
@@ -62,18 +93,21 @@ fn parse_written(form: ExportForm, line: &[u8]) -> Option<OctetLine>
 {
     match form {
         ExportForm::Timed => parse_untabled(line),
-        ExportForm::Sampled(rate) => parse_annotation(rate, line, place_of(line, b'-')?),
+        ExportForm::Sampled(rate) => parse_sampled(rate, line),
+        ExportForm::Events => parse_event(line),
         ExportForm::Logic1 => parse_logic1(Cells::of(line)),
         ExportForm::Logic2 => parse_logic2(Cells::of(line)),
     }
 }
 
-/// Samples a second, or a line that begins otherwise.
+/// Samples a second, the begin of events, or a line that begins otherwise.
 fn parse_untabled(line: &[u8]) -> Option<OctetLine>
     ensures { result ≡ untabled_form line.now }
 {
     if begins_as(line, &SAMPLE_RATE) {
         parse_rate(&line[SAMPLE_RATE.len()..])
+    } else if line == EVENTS.as_slice() {
+        Some(OctetLine::Form(ExportForm::Events))
     } else {
         parse_headed(line)
     }
@@ -85,13 +119,66 @@ fn parse_headed(line: &[u8]) -> Option<OctetLine>
 {
     match parse_header(Cells::of(line)) {
         Some(form) => Some(OctetLine::Form(form)),
-        None => parse_parts(line),
+        None => match parse_parts(line) {
+            None => parse_unsampled(line),
+            found => found,
+        },
+    }
+}
+
+/// An annotation with the numbers of its samples, or without a time.
+fn parse_sampled(rate: u32, line: &[u8]) -> Option<OctetLine>
+    ensures { result ≡ written_form (Sampled rate) line.now }
+{
+    match numbered(rate, line) {
+        None => parse_untimed(line),
+        found => found,
+    }
+}
+
+/// An annotation with the numbers of its samples.
+fn numbered(rate: u32, line: &[u8]) -> Option<OctetLine>
+    ensures { result
+        ≡ option_and_then (annotation_form rate line.now) (position (λ b. b == 45) line.now) }
+{
+    parse_annotation(rate, line, place_of(line, b'-')?)
+}
+
+/// An annotation that lacks the samples a second, or its time.
+fn parse_unsampled(line: &[u8]) -> Option<OctetLine>
+    ensures { result ≡ unsampled_form line.now }
+{
+    if numbered(1, line).is_some() {
+        Some(OctetLine::Unsampled)
+    } else {
+        parse_untimed(line)
+    }
+}
+
+/// An annotation without a time.
+fn parse_untimed(line: &[u8]) -> Option<OctetLine>
+    ensures { result ≡ untimed_form line.now }
+{
+    if is_named(line) {
+        Some(OctetLine::Untimed)
+    } else {
+        None
+    }
+}
+
+/// Whether the first word, the decoder's name, ends with a colon.
+fn is_named(line: &[u8]) -> bool
+    ensures { result ≡ is_named line.now }
+{
+    match place_of(line, b' ') {
+        Some(place) => ends_as(&line[..place], b":"),
+        None => false,
     }
 }
 
 /// Whether a line begins with this text.
 #[tactic(auto, unfolding(crate::specs::Exports::begins_as))]
-fn begins_as(line: &[u8], text: &[u8]) -> bool
+pub(crate) fn begins_as(line: &[u8], text: &[u8]) -> bool
     ensures value { result ≡ begins_as line.now text.now }
     ensures room { result ≡ true → length text.now ≤ length line.now }
 {
@@ -234,7 +321,7 @@ fn annotation_shows(time: u64, line: &[u8]) -> OctetLine
 }
 
 /// Whether this text is the end of a line.
-fn ends_as(line: &[u8], text: &[u8]) -> bool
+pub(crate) fn ends_as(line: &[u8], text: &[u8]) -> bool
     ensures { result ≡ ends_as line.now text.now }
 {
     match line.len().checked_sub(text.len()) {

@@ -17,6 +17,12 @@ pub enum LineFault {
     /// It says what came back, and no line before it what was sent.
     #[error("no message line")]
     MessageMissing,
+    /// It is an annotation without a time.
+    #[error("no time: sigrok-cli prints it with --protocol-decoder-samplenum")]
+    NoTime,
+    /// It has the numbers of samples, and no line above says how many are taken in a second.
+    #[error("no samples a second: wanted above is 'Samplerate: HZ'")]
+    NoSampleRate,
     /// What it shows can't be split into messages and replies.
     #[error("{0}")]
     Split(SplitFault),

@@ -23,6 +23,7 @@ impl Splitter {
         let gap = Gap::of(self.rate, elapsed);
         match self.phase {
             Phase::Asleep => Ok(self.hear_waking(gap, octet)),
+            Phase::Joined => Ok(self.hear_joined(gap, octet)),
             Phase::Waking => Ok(self.hear_waking(gap, octet)),
             Phase::Message => self.hear_message(gap, octet),
             Phase::Reply => self.hear_reply(gap, octet),

@@ -2,7 +2,7 @@
 ghost use Rattle.std.specs.Prelude.{◌≡◌, Ok, option_and_then};
 ghost use Rattle.std.specs.Result.{result_and, result_unwrap_or};
 ghost use Rattle.iol_capture.specs.Judging.{or_bad_form};
-ghost use Rattle.iol_capture.specs.Octets.{call_at_end, call_of_line, hearing_after_line, heard_whole, new_hearing, octet_line_form, passed_by_octet, passed_by_request};
+ghost use Rattle.iol_capture.specs.Octets.{call_at_end, call_of_line, hearing_after_line, heard_whole, hearing_joined, new_hearing, octet_line_form, passed_by_octet, passed_by_request};
 ghost use Rattle.iol_capture.specs.Timed.{number_of_next, number_by_octet};
 
 use crate::export::ExportForm;
@@ -10,6 +10,7 @@ use crate::fault::LineFault;
 use crate::judgement::Judgement;
 use crate::octet_line::OctetLine;
 use crate::passed::SplitItem;
+use crate::spacing::Spacing;
 use crate::splitter::Splitter;
 use crate::timed_call::{Beginnings, TimedCall};
 use crate::trace_line::LONGEST;
@@ -23,6 +24,7 @@ pub(crate) struct OctetJudgement {
     splitter: Splitter,
     judgement: Judgement,
     begun: Beginnings,
+    spacing: Spacing,
     /// How the lines to come are written.
     form: ExportForm,
 }
@@ -36,6 +38,7 @@ impl Model for OctetJudgement {
       splitting = h.splitter;
       judging = h.judgement;
       begun = h.begun;
+      spacing = h.spacing;
       form = h.form;
     } };
 }
@@ -49,6 +52,7 @@ impl OctetJudgement {
             splitter: Splitter::new(rate),
             judgement: Judgement::new(odd),
             begun: Beginnings::none(),
+            spacing: Spacing::nothing(),
             form: ExportForm::Timed,
         }
     }
@@ -81,10 +85,26 @@ impl OctetJudgement {
                 self.form = form;
                 Ok(None)
             }
+            OctetLine::Page(octets) => {
+                self.join(&octets);
+                Ok(None)
+            }
+            OctetLine::Unsampled => Err(LineFault::NoSampleRate),
+            OctetLine::Untimed => Err(LineFault::NoTime),
             OctetLine::Damaged(time) => self.tell_damaged(time),
             OctetLine::DamagedBefore => Ok(self.tell_damaged_before()),
             OctetLine::Octet(time, octet) => self.tell_octet(time, octet),
             OctetLine::Wake(time) => self.tell_request(time),
+        }
+    }
+
+    /// The capture begins in OPERATE, at a device with this page. It counts in front alone.
+    fn join(&mut self, octets: &[u8; 10])
+        ensures { self.new ≡ hearing_joined self.old octets.now }
+    {
+        if self.splitter.is_at_begin() {
+            self.splitter.join(octets);
+            self.judgement.tell_page(octets);
         }
     }
 
@@ -97,6 +117,7 @@ impl OctetJudgement {
         ensures told { result_unwrap_or result None
             ≡ call_of_line self.old (line.Octet time octet) }
     {
+        self.spacing.note(time);
         match self.splitter.octet(time, octet) {
             Ok(passed) => {
                 let number = pass_octet(&mut self.judgement, &passed);
@@ -161,6 +182,7 @@ impl OctetJudgement {
         let mut begun = self.begun;
         let layout = self.splitter.layout();
         judgement.passed_over = self.splitter.passed_over();
+        judgement.rate_doubt = self.spacing.doubt(self.splitter.rate());
         let passed = self.splitter.end();
         let number = pass_request(&mut judgement, &passed);
         let call = begun.tell(number, layout, passed);

@@ -7,6 +7,7 @@ ghost use Rattle.iol_capture.specs.Judging.{judging_after_exchange, judging_at_n
 
 use crate::fault::LineFault;
 use crate::passed::SplitItem;
+use crate::spacing::RateDoubt;
 use crate::trace_line::TraceLine;
 use crate::watching::CallWatch;
 use arrayvec::ArrayVec;
@@ -104,6 +105,8 @@ pub struct Judgement {
     pub(crate) passed_over: u64,
     /// How many lines were skipped.
     pub(crate) skipped: u64,
+    /// Why the rate of the line can't be the one that was given.
+    pub(crate) rate_doubt: Option<RateDoubt>,
 }
 
 impl Model for Judgement {
@@ -122,6 +125,7 @@ impl Model for Judgement {
       odd = j.odd.items;
       passed_over = j.passed_over;
       skipped = j.skipped;
+      rate_doubt = j.rate_doubt;
     } };
 }
 
@@ -140,6 +144,7 @@ impl Judgement {
             odd: OddExchanges::new(),
             passed_over: 0,
             skipped: 0,
+            rate_doubt: None,
         }
     }
 
@@ -156,6 +161,10 @@ impl Judgement {
     {
         match line {
             TraceLine::Other => Ok(()),
+            TraceLine::Skipped => {
+                self.skip();
+                Ok(())
+            }
             TraceLine::Page(octets) => {
                 self.tell_page(&octets);
                 Ok(())
@@ -175,7 +184,7 @@ impl Judgement {
     }
 
     /// The page counts before the first call alone: later it is what a port read.
-    fn tell_page(&mut self, octets: &[u8; 10])
+    pub(crate) fn tell_page(&mut self, octets: &[u8; 10])
         ensures { self.new ≡ judging_with_page self.old octets.now }
     {
         if self.call == 0 {

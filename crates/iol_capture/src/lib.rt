@@ -42,12 +42,14 @@ mod octet_line;
 mod opened;
 mod passed;
 mod printing;
+mod spacing;
 mod split_fault;
 mod split_laws;
 mod splitter;
 mod telling;
 mod test_read;
 mod timed_call;
+mod trace_event;
 mod trace_line;
 mod watching;
 

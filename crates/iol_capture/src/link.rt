@@ -25,7 +25,7 @@ impl Model for Spoken {
 }
 
 impl Spoken {
-    ghost use Rattle.iol_capture.specs.Linking.{mode_begun, link_after, started_link};
+    ghost use Rattle.iol_capture.specs.Linking.{mode_begun, link_after, operating_link, started_link};
 
     /// Right after a wake-up request.
     pub fn started() -> Spoken
@@ -33,6 +33,16 @@ impl Spoken {
     {
         Spoken {
             mode: DeviceMode::Startup,
+            waits: None,
+        }
+    }
+
+    /// In OPERATE.
+    pub fn operating() -> Spoken
+        ensures { result ≡ operating_link }
+    {
+        Spoken {
+            mode: DeviceMode::Operate,
             waits: None,
         }
     }

@@ -27,6 +27,14 @@ pub enum OctetLine {
     DamagedBefore,
     /// A wake-up request, and its time in nanoseconds.
     Wake(u64),
+    /// In front: the capture begins while a device with this page is in OPERATE. The octets are
+    /// those of addresses 0x02 to 0x0B.
+    Page([u8; 10]),
+    /// An annotation with the numbers of its samples, of which it isn't known how many are taken in
+    /// a second.
+    Unsampled,
+    /// An annotation without a time.
+    Untimed,
 }
 
 impl OctetLine {

@@ -2,11 +2,13 @@
 ghost use Rattle.std.specs.Prelude.{◌≡◌, IfOk, codes};
 ghost use Rattle.std.specs.String.{string_bytes};
 ghost use Rattle.iol_script.specs.Printing.{Prints};
-ghost use Rattle.iol_capture.specs.Findings.{are_told, because_text, blamed_text, count_text, fault_text, finding_of, finding_text, from_text, honest_text, kind_text, kinds_text, master_verdict_text, odd_texts, open_text, reason_text, unsure_text, verdict_text};
+ghost use Rattle.iol_capture.specs.Findings.{are_told, at_rate_text, because_text, blamed_text, count_text, doubt_text, fault_text, finding_of, finding_text, from_text, honest_text, kind_text, kinds_text, master_verdict_text, odd_texts, open_text, rate_word, reason_text, unsure_text, verdict_text};
 
 use crate::judgement::{ExchangeCounts, Judgement, OddExchange};
+use crate::spacing::RateDoubt;
 use crate::watching::CallWatch;
 use iol_judge::{Blame, Kinds, MasterVerdict, Open, Reason, Verdict};
+use iol_link::Rate;
 use std::alloc::{AllocError, Allocator};
 
 /// Why the master's mode isn't known.
@@ -42,7 +44,8 @@ impl Judgement {
     }
 
     /// What was found, in a line of text. Before it the first 100 odd exchanges; how many exchanges
-    /// aren't judged, lines were skipped and octets passed over, where some are; of the master the
+    /// aren't judged, lines were skipped and octets passed over, where some are; why the rate can't
+    /// be the one that was given, where the octets' times say so; of the master the
     /// first fault in the whole capture, whatever was found of the device; and of which kinds the
     /// device may be, where it may be of some, and not of all four. Behind it how many are odd,
     /// where some are.
@@ -54,6 +57,7 @@ impl Judgement {
         print_count(&mut output, "unjudged ", self.counts.unjudged)?;
         print_count(&mut output, "lines skipped ", self.skipped)?;
         print_count(&mut output, "octets passed over ", self.passed_over)?;
+        print_doubt(&mut output, self.rate_doubt)?;
         print_master(&mut output, &self.watching)?;
         print_kinds(&mut output, &self.judge.kinds())?;
         print_verdict(
@@ -98,6 +102,48 @@ fn print_count<A: Allocator>(
         return Ok(());
     }
     writeln!(output, "{name}{count}")
+}
+
+/// Why the rate can't be the one that was given, where that is known.
+fn print_doubt<A: Allocator>(
+    output: &mut String<A>,
+    doubt: Option<RateDoubt>,
+) -> Result<(), AllocError>
+    ensures { Prints result output.old output.new (doubt_text doubt) }
+{
+    match doubt {
+        None => Ok(()),
+        Some(RateDoubt::Overlap(rate, likely)) => {
+            print_at_rate(output, rate, " the octets overlap", likely)
+        }
+        Some(RateDoubt::Apart(rate, likely)) => {
+            print_at_rate(output, rate, " the octets are far apart", likely)
+        }
+    }
+}
+
+/// A rate, why it can't be that of the line, and the one that is likely.
+fn print_at_rate<A: Allocator>(
+    output: &mut String<A>,
+    rate: Rate,
+    why: &str,
+    likely: Rate,
+) -> Result<(), AllocError>
+    ensures { Prints result output.old output.new (at_rate_text rate why.now likely) }
+{
+    let (given, other) = (rate_word(rate), rate_word(likely));
+    writeln!(output, "at {given}{why}; is it {other}?")
+}
+
+/// The name of a rate.
+fn rate_word(rate: Rate) -> &'static str
+    ensures { result.now ≡ rate_word rate }
+{
+    match rate {
+        Rate::Com1 => "COM1",
+        Rate::Com2 => "COM2",
+        Rate::Com3 => "COM3",
+    }
 }
 
 /// What is said of the master.

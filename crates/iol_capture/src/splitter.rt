@@ -2,6 +2,7 @@
 ghost use Rattle.std.specs.Prelude.{◌≡◌};
 ghost use Rattle.iol_judge.specs.Seen.{whole_page};
 ghost use Rattle.iol_capture.specs.Splitting.{is_unheard, untold_at_end, octet_split, wake_split};
+ghost use Rattle.iol_capture.specs.Damage.{is_at_begin, line_joined};
 ghost use Rattle.iol_capture.specs.SplitSteps.{split_step, good_step};
 ghost use Rattle.iol_capture.specs.SplitterState.{begins_call, new_splitter};
 
@@ -18,6 +19,8 @@ use std::marker::Model;
 pub(crate) enum Phase {
     /// An answered test read. Nothing was told before.
     Asleep,
+    /// A message in OPERATE, or a wake-up request. Nothing was told before.
+    Joined,
     /// An answered test read, behind a wake-up request.
     Waking,
     /// More of a message.
@@ -35,6 +38,13 @@ pub(crate) enum Phase {
 }
 
 impl Phase {
+    /// Whether nothing was told of the line.
+    pub(crate) fn is_at_begin(self) -> bool
+        ensures { result ≡ is_at_begin self }
+    {
+        matches!(self, Phase::Asleep | Phase::Joined)
+    }
+
     /// Whether what goes over the line isn't known.
     pub(crate) fn is_unheard(self) -> bool
         ensures { result ≡ is_unheard self }
@@ -121,6 +131,29 @@ impl Splitter {
         self.seen = SeenPage::whole(octets);
     }
 
+    /// The stream begins while a device with this page is in OPERATE: the octets of 0x02 to 0x0B.
+    /// Octets are passed over up to the first pause. Once anything of the line was told, it changes
+    /// nothing.
+    pub fn join(&mut self, octets: &[u8; 10])
+        ensures { self.new ≡ line_joined self.old octets.now }
+    {
+        if !self.phase.is_at_begin() {
+            return;
+        }
+        self.page(octets);
+        self.link = Spoken::operating();
+        self.phase = Phase::Joined;
+        self.sent.clear();
+        self.answer.clear();
+    }
+
+    /// Whether nothing of the line was told.
+    pub(crate) fn is_at_begin(&self) -> bool
+        ensures { result ≡ is_at_begin self.now.phase }
+    {
+        self.phase.is_at_begin()
+    }
+
     /// An octet began at this time. None: what went over the line isn't known yet. Refusals: each
     /// of [`SplitFault`]. Behind one the rest can't be split.
     pub fn octet(&mut self, time: u64, octet: u8) -> Result<Option<SplitItem>, SplitFault>
@@ -147,6 +180,13 @@ impl Splitter {
         self.requests = Requests::Shown;
         self.phase = Phase::Waking;
         Ok(passed)
+    }
+
+    /// The rate of the line.
+    pub fn rate(&self) -> Rate
+        ensures { result ≡ self.now.rate }
+    {
+        self.rate
     }
 
     /// How many octets were passed over, for they or those about them are damaged. The count stops
@@ -201,7 +241,7 @@ impl Splitter {
             ≡ good_step (cleared_line self.old) (untold_at_end self.old) }
     {
         let passed = match self.phase {
-            Phase::Asleep => None,
+            Phase::Asleep | Phase::Joined => None,
             Phase::Waking => Some(SplitItem::Wake(Wake::Unanswered)),
             Phase::Message => None,
             Phase::Reply => Some(self.exchange()),

@@ -77,7 +77,7 @@ fn is_test_reply(value: u8, check: u8) -> bool
 
 impl Gap {
     /// Whether the octet behind it goes on with a message.
-    fn is_in_message(self) -> bool
+    pub(crate) fn is_in_message(self) -> bool
         ensures { result ≡ in_message self }
     {
         matches!(self, Gap::Close | Gap::Message)

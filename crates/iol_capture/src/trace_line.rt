@@ -2,7 +2,7 @@
 ghost use Rattle.std.specs.Prelude.{◌≡◌, ◌==◌};
 ghost use Rattle.std.specs.List.{position};
 ghost use Rattle.iol_script.specs.Text.{words_left};
-ghost use Rattle.iol_capture.specs.TraceLines.{before_colon, trace_call_form, came_form, named_form, octets_form, page_form, rate_form, trace_words_form};
+ghost use Rattle.iol_capture.specs.TraceLines.{before_colon, trace_call_form, came_form, named_form, octets_form, page_form, ten_octets, rate_form, trace_words_form};
 
 use iol_judge::Wake;
 use iol_script::{LineOctets, Words, decimal_number, parted_octets};
@@ -13,8 +13,10 @@ pub(crate) const LONGEST: usize = 1024;
 /// What a line of a trace says.
 #[derive(Debug, Drop)]
 pub enum TraceLine {
-    /// Nothing that went over the line.
+    /// Nothing: it is blank, a comment, which begins with `#`, or `page none`.
     Other,
+    /// Something else than what went over the line.
+    Skipped,
     /// The octets of the page's addresses 0x02 to 0x0B.
     Page([u8; 10]),
     /// A wake-up request, with the number of the call, and whether it was answered.
@@ -72,7 +74,7 @@ fn parse_named(name: &[u8], words: Words) -> Option<TraceLine>
     match name {
         b"page" => parse_page(words),
         [b'0'..=b'9', ..] => parse_call(decimal_number(name, 1, u64::MAX)?, words),
-        _ => Some(TraceLine::Other),
+        _ => Some(TraceLine::Skipped),
     }
 }
 
@@ -83,11 +85,16 @@ fn parse_page(words: Words) -> Option<TraceLine>
     if are_none(words) {
         return Some(TraceLine::Other);
     }
+    Some(TraceLine::Page(parse_page_octets(words)?))
+}
+
+/// The ten octets of a page.
+pub(crate) fn parse_page_octets(words: Words) -> Option<[u8; 10]>
+    ensures { result ≡ ten_octets (words_left words.entry) }
+{
     let octets = parse_octets(words)?;
     match octets.as_slice() {
-        [a, b, c, d, e, f, g, h, i, j] => Some(TraceLine::Page([
-            *a, *b, *c, *d, *e, *f, *g, *h, *i, *j,
-        ])),
+        [a, b, c, d, e, f, g, h, i, j] => Some([*a, *b, *c, *d, *e, *f, *g, *h, *i, *j]),
         _ => None,
     }
 }
@@ -138,7 +145,7 @@ fn parse_came(words: Words) -> Option<Option<LineOctets>>
 }
 
 /// Whether they are the one word `none`.
-fn are_none(mut words: Words) -> bool
+pub(crate) fn are_none(mut words: Words) -> bool
     ensures { result ≡ are_none (words_left words.entry) }
 {
     matches!((words.next(), words.next()), (Some(b"none"), None))
