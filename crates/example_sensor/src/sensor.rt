@@ -6,7 +6,7 @@ use iol_image::Image;
 use iol_isdu::{Answer, Place};
 use iol_mseq::Message;
 use iol_param_device::ParamDevice;
-use iol_params::ErrorType;
+use iol_params::{ErrorType, Restart};
 use iol_slots::RamSlots;
 
 /// 20 degrees, in tenths.
@@ -18,6 +18,9 @@ const PRESS: u16 = 5;
 /// The process variable is out of its range: a warning of the application, with the
 /// two modes that it has.
 const OUT_OF_RANGE: u16 = 0x8C10;
+
+/// How many messages a master has to fetch the answer to a reset, before the sensor restarts.
+const FETCHES: u8 = 4;
 
 const APPEARS: u8 = 0xE4;
 
@@ -41,6 +44,7 @@ pub struct Sensor<'a> {
     device: ParamDevice<'a, RamSlots>,
     tenths: u16,
     is_hot: bool,
+    fetches: u8,
 }
 
 impl<'a> Sensor<'a> {
@@ -50,6 +54,7 @@ impl<'a> Sensor<'a> {
             device,
             tenths: FIRST,
             is_hot: false,
+            fetches: FETCHES,
         }
     }
 
@@ -110,6 +115,7 @@ impl<'a> Sensor<'a> {
     pub fn power_cycle(&mut self) {
         self.device.power_cycle();
         self.is_hot = false;
+        self.fetches = FETCHES;
     }
 
     pub fn wake(&mut self) {
@@ -119,8 +125,28 @@ impl<'a> Sensor<'a> {
     /// The reply to these octets, where it has one. A request that came whole with
     /// them is carried out at once.
     pub fn hear(&mut self, octets: &[u8]) -> Option<Message> {
+        if self.restarts() {
+            return None;
+        }
         let reply = self.device.hear(octets);
         self.device.work();
         reply
+    }
+
+    /// Whether the master asked for a restart, and had time to fetch the answer. Then the sensor
+    /// begins anew, or it is silent until its power is back.
+    fn restarts(&mut self) -> bool {
+        let restart = self.device.manager().restart();
+        if restart == Restart::NotDue {
+            return false;
+        }
+        if self.fetches > 0 {
+            self.fetches -= 1;
+            return false;
+        }
+        if restart == Restart::Warm {
+            self.power_cycle();
+        }
+        true
     }
 }

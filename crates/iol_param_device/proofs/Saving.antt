@@ -9,6 +9,7 @@ use Rattle.iol_params.specs.declared.error_type.ErrorType.{ErrorType}
 use Rattle.iol_params.specs.declared.state.Scope.TheVariants.{Block}
 use Rattle.iol_params.specs.declared.state.Command.TheVariants.{FactoryReset}
 use Rattle.iol_params.specs.declared.state.Activity.TheVariants.{Idle}
+use Rattle.iol_params.specs.declared.state.Restart.TheVariants.{NotDue}
 use Rattle.iol_params.specs.Table.{ParamTable}
 use Rattle.iol_params.specs.State.{ParamState, is_foreign}
 use Rattle.iol_params.specs.Carry.{local_change, local_refusal, local_settled, command, own_command, unless_foreign}
@@ -49,6 +50,7 @@ fresh kept = record {
   locks = kept.locks;
   flag = kept.flag;
   event_due = kept.flag;
+  restart = NotDue;
 }
 
 power-up-fresh : (table : ParamTable) (l : Option (List ℕ))

@@ -17,7 +17,9 @@ use Rattle.iol_params.specs.declared.state.WritesSoFar.TheVariants.{AllTaken, On
 use Rattle.iol_params.specs.declared.state.Activity.{Activity}
 use Rattle.iol_params.specs.declared.state.Activity.TheVariants.{Idle, Upload, Download}
 use Rattle.iol_params.specs.declared.state.Command.{Command}
-use Rattle.iol_params.specs.declared.state.Command.TheVariants.{UploadStart, UploadEnd, DownloadStart, DownloadEnd, DownloadStore, Break, ApplicationReset, FactoryReset}
+use Rattle.iol_params.specs.declared.state.Restart.{Restart}
+use Rattle.iol_params.specs.declared.state.Restart.TheVariants.{Warm, Silent}
+use Rattle.iol_params.specs.declared.state.Command.TheVariants.{UploadStart, UploadEnd, DownloadStart, DownloadEnd, DownloadStore, Break, ApplicationReset, FactoryReset, DeviceReset, BackToBox}
 use Rattle.iol_params.specs.declared.error_type.ErrorType.TheVariants.{AccessDenied, TooLong, TooShort, ValueOutOfRange, InvalidSet, FunctionUnavailable}
 use Rattle.iol_params.specs.declared.table.Flaw.TheVariants.{TooManyMembers, ManagedIndex, SubindexOutOfTurn, MixedAccess, BadLength, BadDefault, NoStoredNumber, BrokenAtFirst}
 use Rattle.iol_params.specs.Members.{big_endian}
@@ -227,6 +229,11 @@ module _ (table : ParamTable) where
       → IsConsistent table (with_flag_set s)
   set-consistent s h = record { fit = h.fit; copy_fit = h.copy_fit; rules = h.rules }
 
+  pub restart-consistent : (restart : Restart) (s : ParamState) → IsConsistent table s
+      → IsConsistent table (record s { restart = restart })
+  restart-consistent restart s h =
+      record { fit = h.fit; copy_fit = h.copy_fit; rules = h.rules }
+
   pub if-consistent : (b : Bool) (s : ParamState) → IsConsistent table s
       → IsConsistent table (with_flag_if b s)
   if-consistent true s h = set-consistent s h
@@ -346,6 +353,12 @@ module _ (table : ParamTable) where
         set-consistent (with_reset table (after_end s)) (reset-consistent sound)
     own-consistent sound scope FactoryReset = cleared-consistent Storage
         (with_reset table (after_end s)) (reset-consistent sound)
+    own-consistent sound scope DeviceReset = restart-consistent Warm (after_end s)
+        (end-consistent s h)
+    own-consistent sound scope BackToBox =
+        let reset = with_reset table (after_end s) in
+        restart-consistent Silent (with_flag_cleared Storage reset)
+        (cleared-consistent Storage reset (reset-consistent sound))
 
     pub command-consistent : table_fault table.members table.rules ≡ None → (scope : Scope)
         (asked : Command) (foreign : Bool)

@@ -9,7 +9,6 @@ use Rattle.iol_params.specs.declared.state.Scope.TheVariants.{Block, Storage}
 use Rattle.iol_params.specs.declared.state.WritesSoFar.{WritesSoFar}
 use Rattle.iol_params.specs.declared.state.WritesSoFar.TheVariants.{AllTaken, OneRefused}
 use Rattle.iol_params.specs.declared.state.Activity.TheVariants.{Upload, Download}
-use Rattle.iol_params.specs.declared.state.Locks.{Locks}
 use Rattle.iol_params.specs.declared.state.Command.{Command}
 use Rattle.iol_params.specs.declared.state.Command.TheVariants.{DownloadStart, DownloadEnd, DownloadStore}
 use Rattle.iol_params.specs.Values.{overlay}
@@ -19,24 +18,12 @@ use Rattle.iol_params.specs.Carry.{write, download_settled, write_settled, write
 use Rattle.iol_params.specs.Laws.{after_writes, all_written, with_writes, DownloadsAreWhole, is_download_end, UploadsAreOneMoment}
 
 -- a state in a download
-pub record Kept : Type 0 where
-  pub values : List (List ℕ)
-  pub locks : Locks
-  pub flag : Bool
-  pub event_due : Bool
-
-abbrev pub downloading : Kept → Scope → WritesSoFar → List (List ℕ) → ParamState
-downloading k scope writes copy = record {
-  values = k.values;
-  copy = copy;
-  activity = Download scope writes;
-  locks = k.locks;
-  flag = k.flag;
-  event_due = k.event_due;
-}
+abbrev pub downloading : ParamState → Scope → WritesSoFar → List (List ℕ) → ParamState
+downloading k scope writes copy =
+    record k { copy = copy; activity = Download scope writes }
 
 -- what writes leave of a download
-pub record Leaves (table : ParamTable) (k : Kept) (scope : Scope) (writes : WritesSoFar)
+pub record Leaves (table : ParamTable) (k : ParamState) (scope : Scope) (writes : WritesSoFar)
     (copy : List (List ℕ)) (ws : List (Place × List ℕ)) : Type 0 where
   pub left : WritesSoFar
   pub end_copy : List (List ℕ)
@@ -46,7 +33,7 @@ pub record Leaves (table : ParamTable) (k : Kept) (scope : Scope) (writes : Writ
       × (all_written table (downloading k scope writes copy) ws ≡ true)
       × (end_copy ≡ with_writes table.members copy ws)
 
-module _ (table : ParamTable) (k : Kept) (scope : Scope) where
+module _ (table : ParamTable) (k : ParamState) (scope : Scope) where
   pub leaves-step : (writes : WritesSoFar) (copy : List (List ℕ)) (w : Place × List ℕ)
       (ws : List (Place × List ℕ)) (refusal : Option ErrorType)
       → write_refusal table (downloading k scope writes copy) w.0 w.1 ≡ refusal
@@ -102,7 +89,7 @@ pub record Ends (writes : WritesSoFar) (consistent : Bool) (copy values : List (
       → (writes ≡ AllTaken) × (last.1.values ≡ copy) × (consistent ≡ true)
   pub none : (why : ErrorType) → last.0 ≡ Some why → last.1.values ≡ values
 
-module _ (k : Kept) (copy : List (List ℕ)) (scope : Scope)
+module _ (k : ParamState) (copy : List (List ℕ)) (scope : Scope)
     (applied : ParamState → ParamState)
     (keeps : (t : ParamState) → (applied t).values ≡ t.values) where
   pub ends-settled : (writes : WritesSoFar) (c : Bool)
@@ -121,7 +108,7 @@ module _ (k : Kept) (copy : List (List ℕ)) (scope : Scope)
   ends-settled OneRefused c =
       record { whole = λ all. absurd (cc); none = λ why got. refl }
 
-module _ (table : ParamTable) (k : Kept) (copy : List (List ℕ)) (writes : WritesSoFar) where
+module _ (table : ParamTable) (k : ParamState) (copy : List (List ℕ)) (writes : WritesSoFar) where
   pub ends : (scope : Scope) (asked : Command) → is_download_end asked ≡ true
       → Ends writes (is_consistent table copy) copy k.values
       (command table (downloading k scope writes copy) scope asked)
@@ -137,19 +124,13 @@ module _ (table : ParamTable) (k : Kept) (copy : List (List ℕ)) (writes : Writ
 
 pub downloads-whole : DownloadsAreWhole
 downloads-whole table s scope asked ws own he =
-    let k : Kept = record {
-      values = s.values;
-      locks = s.locks;
-      flag = s.flag;
-      event_due = s.event_due;
-    } in
-    let begun : (command table s scope DownloadStart).1 ≡ downloading k scope AllTaken s.values
+    let begun : (command table s scope DownloadStart).1 ≡ downloading s scope AllTaken s.values
     = ap (λ (b : Bool). (unless_foreign b s (own_command table s scope DownloadStart)).1) own in
-    let l = leaves table k scope AllTaken s.values ws in
+    let l = leaves table s scope AllTaken s.values ws in
     let inside : after_writes table (command table s scope DownloadStart).1 ws
-    ≡ downloading k scope l.left l.end_copy
+    ≡ downloading s scope l.left l.end_copy
     = ap (λ (t : ParamState). after_writes table t ws) begun ∙ l.state in
-    let e = ends table k l.end_copy l.left scope asked he in
+    let e = ends table s l.end_copy l.left scope asked he in
     let last : ParamState → Option ErrorType × ParamState
     = λ (t : ParamState). command table t scope asked in
     record {
@@ -167,17 +148,10 @@ downloads-whole table s scope asked ws own he =
       over = ap (λ (t : ParamState). (after_end t).values) inside;
     }
 
-abbrev pub uploading : Kept → Scope → List (List ℕ) → ParamState
-uploading k scope copy = record {
-  values = k.values;
-  copy = copy;
-  activity = Upload scope;
-  locks = k.locks;
-  flag = k.flag;
-  event_due = k.event_due;
-}
+abbrev pub uploading : ParamState → Scope → List (List ℕ) → ParamState
+uploading k scope copy = record k { copy = copy; activity = Upload scope }
 
-module _ (table : ParamTable) (k : Kept) (scope : Scope) (copy : List (List ℕ)) where
+module _ (table : ParamTable) (k : ParamState) (scope : Scope) (copy : List (List ℕ)) where
   pub upload-step : (w : Place × List ℕ) (refusal : Option ErrorType)
       → (write_settled refusal table (uploading k scope copy) w.0 w.1).1 ≡ uploading k scope copy
   upload-step w None = refl
@@ -191,12 +165,6 @@ module _ (table : ParamTable) (k : Kept) (scope : Scope) (copy : List (List ℕ)
 
 pub uploads-one_moment : UploadsAreOneMoment
 uploads-one_moment table s scope ws h =
-    let k : Kept = record {
-      values = s.values;
-      locks = s.locks;
-      flag = s.flag;
-      event_due = s.event_due;
-    } in
-    let at : s ≡ uploading k scope s.copy = ap (λ (a : Activity). record s { activity = a }) h in
+    let at : s ≡ uploading s scope s.copy = ap (λ (a : Activity). record s { activity = a }) h in
     ap (λ (t : ParamState). (after_writes table t ws).values) at
-    ∙ ap (λ (t : ParamState). t.values) (upload-writes table k scope s.copy ws)
+    ∙ ap (λ (t : ParamState). t.values) (upload-writes table s scope s.copy ws)

@@ -8,7 +8,7 @@ use Rattle.iol_params.specs.declared.state.WritesSoFar.TheVariants.{AllTaken, On
 use Rattle.iol_params.specs.declared.state.Activity.{Activity}
 use Rattle.iol_params.specs.declared.state.Activity.TheVariants.{Idle, Upload, Download}
 use Rattle.iol_params.specs.declared.state.Command.{Command}
-use Rattle.iol_params.specs.declared.state.Command.TheVariants.{UploadStart, UploadEnd, DownloadStart, DownloadEnd, DownloadStore, Break, ApplicationReset, FactoryReset}
+use Rattle.iol_params.specs.declared.state.Command.TheVariants.{UploadStart, UploadEnd, DownloadStart, DownloadEnd, DownloadStore, Break, ApplicationReset, FactoryReset, DeviceReset, BackToBox}
 use Rattle.std.specs.List.{list_any}
 use Rattle.iol_params.specs.Values.{overlay}
 use Rattle.iol_params.specs.Table.{ParamTable}
@@ -84,6 +84,9 @@ module _ (table : ParamTable) (s : ParamState) where
   own-flag scope ApplicationReset h kept = refl
   own-flag Block FactoryReset h kept = absurd (cc)
   own-flag Storage FactoryReset h kept = absurd (cc)
+  own-flag scope DeviceReset h kept = h
+  own-flag Block BackToBox h kept = absurd (cc)
+  own-flag Storage BackToBox h kept = absurd (cc)
 
   pub own-refused : (scope : Scope) (asked : Command) (why : ErrorType)
       → (own_command table s scope asked).0 ≡ Some why
@@ -98,6 +101,8 @@ module _ (table : ParamTable) (s : ParamState) where
   own-refused scope Break why h = absurd (cc)
   own-refused scope ApplicationReset why h = absurd (cc)
   own-refused scope FactoryReset why h = absurd (cc)
+  own-refused scope DeviceReset why h = absurd (cc)
+  own-refused scope BackToBox why h = absurd (cc)
 
   pub command-flag : (scope : Scope) (asked : Command) (foreign : Bool) → s.flag ≡ true
       → may_clear (Commanding scope asked) ≡ false

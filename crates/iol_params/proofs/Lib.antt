@@ -1,8 +1,10 @@
 pub mod CellLemmas
 pub mod Consistency
 pub mod Downloads
+pub mod Fitting
 pub mod Flags
 pub mod ImageLemmas
 pub mod ManagerLemmas
+pub mod Sets
 pub mod StorageLemmas
 pub mod TableLemmas

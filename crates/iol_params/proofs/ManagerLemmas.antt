@@ -1,6 +1,6 @@
 -- What a manager does with a write and the end of a download.
 use Rattle.std.specs.Prelude.{nat_lt, length}
-use Rattle.std.proofs.Common.{◌≡◌, ℕ, Bool, true, false, refl, List, Some, None}
+use Rattle.std.proofs.Common.{◌≡◌, ℕ, Bool, true, false, refl, List, Some, None, ap}
 use Rattle.iol_isdu.specs.declared.values.Place.{Place}
 use Rattle.iol_params.specs.declared.error_type.ErrorType.TheVariants.{AccessDenied, TooLong, TooShort, ValueOutOfRange, InvalidSet, FunctionUnavailable, InconsistentSet}
 use Rattle.iol_params.specs.declared.member.Member.{Member}
@@ -58,6 +58,30 @@ module _ (table : ParamTable) (s : ParamState) (place : Place) (octets : List �
             (second-none s.locks.local (is_at_rest s.activity) AccessDenied FunctionUnavailable
             second.0),
       )
+
+-- what a write needs, and what a change at the device needs
+pub write-fits : (table : ParamTable) (s : ParamState) (place : Place) (octets : List ℕ)
+    → write_refusal table s place octets ≡ None → fits_place table.members place octets ≡ true
+write-fits table s place octets h = (write-taken table s place octets h).0
+
+pub write-holds : (table : ParamTable) (s : ParamState) (place : Place) (octets : List ℕ)
+    → write_refusal table s place octets ≡ None → s.activity ≡ Idle
+    → is_consistent table (overlay table.members s.values place octets) ≡ true
+write-holds table s place octets h resting =
+    (write-taken table s place octets h).1 (ap is_at_rest resting)
+
+pub local-fits : (table : ParamTable) (s : ParamState) (place : Place) (octets : List ℕ)
+    → local_refusal table s place octets ≡ None → fits_place table.members place octets ≡ true
+local-fits table s place octets h = (local-taken table s place octets h).0
+
+pub local-holds : (table : ParamTable) (s : ParamState) (place : Place) (octets : List ℕ)
+    → local_refusal table s place octets ≡ None
+    → is_consistent table (overlay table.members s.values place octets) ≡ true
+local-holds table s place octets h = (local-taken table s place octets h).1
+
+pub ruleset write_taken = (write-fits, write-holds)
+
+pub ruleset local_taken = (local-fits, local-holds)
 
 -- the ways that the end of a download goes
 module _ (a : Activity) (c : Bool) (s : ParamState) (applied : ParamState → ParamState) where

@@ -12,7 +12,8 @@ use Rattle.iol_params.specs.declared.state.WritesSoFar.TheVariants.{AllTaken, On
 use Rattle.iol_params.specs.declared.state.Activity.{Activity}
 use Rattle.iol_params.specs.declared.state.Activity.TheVariants.{Idle, Upload, Download}
 use Rattle.iol_params.specs.declared.state.Command.{Command}
-use Rattle.iol_params.specs.declared.state.Command.TheVariants.{UploadStart, UploadEnd, DownloadStart, DownloadEnd, DownloadStore, Break, ApplicationReset, FactoryReset}
+use Rattle.iol_params.specs.declared.state.Command.TheVariants.{UploadStart, UploadEnd, DownloadStart, DownloadEnd, DownloadStore, Break, ApplicationReset, FactoryReset, DeviceReset, BackToBox}
+use Rattle.iol_params.specs.declared.state.Restart.TheVariants.{Warm, Silent}
 use Rattle.iol_params.specs.Members.{selects}
 use Rattle.iol_params.specs.Values.{most_at, least_at, fits_place, overlay, holds_rule, is_writable, is_stored, reset_values}
 use Rattle.iol_params.specs.Table.{ParamTable, is_of_index}
@@ -180,6 +181,11 @@ own_command table s scope Break = (None, after_end s)
 own_command table s scope ApplicationReset = (None, with_flag_set (with_reset table (after_end s)))
 own_command table s scope FactoryReset =
     (None, with_flag_cleared Storage (with_reset table (after_end s)))
+own_command table s scope DeviceReset = (None, record (after_end s) { restart = Warm })
+own_command table s scope BackToBox = (
+  None,
+  record (with_flag_cleared Storage (with_reset table (after_end s))) { restart = Silent },
+)
 
 abbrev pub unless_foreign : Bool → ParamState → Option ErrorType × ParamState
     → Option ErrorType × ParamState

@@ -3,7 +3,7 @@ use Rattle.std.specs.Prelude.{ℕ, ◌==◌, if◌then◌else◌, Option, Some, 
 use Rattle.iol_params.specs.declared.state.Scope.{Scope}
 use Rattle.iol_params.specs.declared.state.Scope.TheVariants.{Block, Storage}
 use Rattle.iol_params.specs.declared.state.Command.{Command}
-use Rattle.iol_params.specs.declared.state.Command.TheVariants.{UploadStart, UploadEnd, DownloadStart, DownloadEnd, DownloadStore, Break, ApplicationReset, FactoryReset}
+use Rattle.iol_params.specs.declared.state.Command.TheVariants.{UploadStart, UploadEnd, DownloadStart, DownloadEnd, DownloadStore, Break, ApplicationReset, FactoryReset, DeviceReset, BackToBox}
 
 -- the commands that both have
 abbrev pub common_command : ℕ → Option Command
@@ -15,6 +15,7 @@ common_command octet =
 abbrev pub param_command : Scope → ℕ → Option Command
 param_command Block octet =
     if octet == 5 then Some DownloadStore else if octet == 6 then Some Break else
-    if octet == 129 then Some ApplicationReset else if octet == 130 then Some FactoryReset else
+    if octet == 128 then Some DeviceReset else if octet == 129 then Some ApplicationReset else
+    if octet == 130 then Some FactoryReset else if octet == 131 then Some BackToBox else
     common_command octet
 param_command Storage octet = if octet == 5 then Some Break else common_command octet

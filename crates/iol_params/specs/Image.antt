@@ -2,6 +2,7 @@
 use Rattle.std.specs.Prelude.{ℕ, ◌+◌, ◌*◌, Bool, true, false, ◌==◌, ◌&&◌, nat_le, nat_lt, List, [], drop, length, slice_index, Option, Some, None}
 use Rattle.iol_params.specs.declared.state.Locks.{Locks}
 use Rattle.iol_params.specs.declared.state.Activity.TheVariants.{Idle}
+use Rattle.iol_params.specs.declared.state.Restart.TheVariants.{NotDue}
 use Rattle.iol_params.specs.Values.{values_in, room_for, all_fit}
 use Rattle.iol_params.specs.Table.{ParamTable}
 use Rattle.iol_params.specs.State.{ParamState, bit_of, locks_octet, locks_in}
@@ -53,6 +54,7 @@ with_kept s (Some kept) = record {
   locks = kept.locks;
   flag = kept.flag;
   event_due = kept.flag;
+  restart = NotDue;
 }
 
 -- the state once the power is back, by the image that is loaded

@@ -1,5 +1,5 @@
 -- What a reader may conclude of a manager, whatever happens.
-use Rattle.std.specs.Prelude.{◌≡◌, ℕ, Bool, true, false, ◌&&◌, List, [], ◌∷◌, Option, Some, None, is_none}
+use Rattle.std.specs.Prelude.{◌≡◌, ℕ, Bool, true, false, ◌&&◌, if◌then◌else◌, List, [], ◌∷◌, Option, Some, None, is_none}
 use Rattle.iol_isdu.specs.declared.values.Place.{Place}
 use Rattle.iol_params.specs.declared.error_type.ErrorType.{ErrorType}
 use Rattle.iol_params.specs.declared.member.Member.{Member}
@@ -7,10 +7,11 @@ use Rattle.iol_params.specs.declared.state.Scope.{Scope}
 use Rattle.iol_params.specs.declared.state.Scope.TheVariants.{Storage}
 use Rattle.iol_params.specs.declared.state.Activity.TheVariants.{Upload}
 use Rattle.iol_params.specs.declared.state.Command.{Command}
-use Rattle.iol_params.specs.declared.state.Command.TheVariants.{UploadEnd, DownloadStart, DownloadEnd, DownloadStore, FactoryReset}
-use Rattle.iol_params.specs.Values.{all_fit, overlay}
-use Rattle.iol_params.specs.Table.{ParamTable, table_fault}
-use Rattle.iol_params.specs.State.{ParamState, is_foreign, is_downloading, after_end}
+use Rattle.iol_params.specs.declared.state.Command.TheVariants.{UploadEnd, DownloadStart, DownloadEnd, DownloadStore, FactoryReset, BackToBox}
+use Rattle.iol_params.specs.Values.{all_fit, overlay, value_at}
+use Rattle.iol_params.specs.Table.{ParamTable, table_fault, whole, begins_stored}
+use Rattle.iol_params.specs.State.{ParamState, is_at_rest, is_foreign, is_downloading, after_end}
+use Rattle.iol_params.specs.Storage.{checksum_over}
 use Rattle.iol_params.specs.Carry.{write, local_change, command, is_consistent}
 
 -- what changes a manager: a write, a change at the device, a command, and the end of an activity
@@ -85,11 +86,42 @@ UploadsAreOneMoment = (table : ParamTable) (s : ParamState) (scope : Scope)
     (ws : List (Place × List ℕ)) → s.activity ≡ Upload scope
     → (after_writes table s ws).values ≡ s.values
 
+-- what Data Storage fetches of a device: each stored parameter, with its value
+abbrev pub stored_set : List Member → List (List ℕ) → List Member → List (Place × List ℕ)
+stored_set members values [] = []
+stored_set members values (m ∷ ms) = if begins_stored m
+    then (whole m.place.index, value_at members values (whole m.place.index))
+    ∷ stored_set members values ms
+    else stored_set members values ms
+
+abbrev pub set_of : ParamTable → ParamState → List (Place × List ℕ)
+set_of table s = stored_set table.members s.values table.members
+
+-- the set of one device is written to another: all of it is Written, and then that has this set
+pub record SetFits (table : ParamTable) (from to : ParamState)
+    (begun : Option ErrorType × ParamState) (last : Option ErrorType × ParamState) : Type 0 where
+  pub begins : begun.0 ≡ None
+  pub written : all_written table begun.1 (set_of table from) ≡ true
+  pub ends : last.0 ≡ None
+  pub same : set_of table last.1 ≡ set_of table from
+  pub checksum : checksum_over table last.1 ≡ checksum_over table from
+
+-- a set fits each device of its table that isn't locked and has no activity
+abbrev pub SetsFit : Type 0
+SetsFit = (table : ParamTable) (from to : ParamState)
+    → table_fault table.members table.rules ≡ None
+    → IsConsistent table from → IsConsistent table to
+    → is_at_rest to.activity ≡ true → to.locks.parameters ≡ false
+    → let begun = command table to Storage DownloadStart in
+    let inside = after_writes table begun.1 (set_of table from) in
+    SetFits table from to begun (command table inside Storage DownloadEnd)
+
 -- what may clear the flag: the ends of Data Storage's activities, if they are Written, and a reset
 abbrev pub may_clear : ParamChange → Bool
 may_clear (Commanding Storage UploadEnd) = true
 may_clear (Commanding Storage DownloadEnd) = true
 may_clear (Commanding scope FactoryReset) = true
+may_clear (Commanding scope BackToBox) = true
 may_clear _ = false
 
 abbrev pub FlagStays : Type 0

@@ -7,6 +7,7 @@ use Rattle.iol_params.specs.declared.error_type.ErrorType.{ErrorType}
 use Rattle.iol_params.specs.declared.manager.Manager.TheInside.{Inside}
 use Rattle.iol_params.specs.declared.state.Activity.{Activity}
 use Rattle.iol_params.specs.declared.state.Activity.TheVariants.{Idle}
+use Rattle.iol_params.specs.declared.state.Restart.TheVariants.{NotDue}
 use Rattle.iol_params.specs.Errors.{refusal_answer}
 use Rattle.iol_params.specs.Values.{values_in, room_for, all_fit, defaults, value_at}
 use Rattle.iol_params.specs.Table.{ParamTable}
@@ -28,6 +29,7 @@ new_manager table = record {
     locks = no_locks;
     flag = false;
     event_due = false;
+    restart = NotDue;
   };
 }
 
@@ -60,6 +62,7 @@ module _ {A : Type 0} where
       locks = m.locks;
       flag = m.flag;
       event_due = m.event_due;
+      restart = m.restart;
     };
   }
 

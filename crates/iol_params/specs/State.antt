@@ -6,6 +6,7 @@ use Rattle.iol_params.specs.declared.state.WritesSoFar.TheVariants.{AllTaken, On
 use Rattle.iol_params.specs.declared.state.Activity.{Activity}
 use Rattle.iol_params.specs.declared.state.Activity.TheVariants.{Idle, Upload, Download}
 use Rattle.iol_params.specs.declared.state.Locks.{Locks}
+use Rattle.iol_params.specs.declared.state.Restart.{Restart}
 
 pub record ParamState : Type 0 where
   -- the values in force, in the order of the table
@@ -20,6 +21,9 @@ pub record ParamState : Type 0 where
   pub flag : Bool
   -- whether the event FF91 is still to be raised
   pub event_due : Bool
+  -- what the program has to do since a reset
+  -- PAR-9
+  pub restart : Restart
 
 abbrev pub same_scope : Scope → Scope → Bool
 same_scope Block Block = true

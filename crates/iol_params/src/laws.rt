@@ -1,5 +1,5 @@
 //! What a reader may conclude of a manager: laws, without code.
-ghost use Rattle.iol_params.specs.Laws.{DownloadsAreWhole, StaysConsistent, UploadsAreOneMoment, FlagStays};
+ghost use Rattle.iol_params.specs.Laws.{DownloadsAreWhole, StaysConsistent, UploadsAreOneMoment, FlagStays, SetsFit};
 
 /// A law of the definitions: a download, of a block or of Data Storage, is applied whole or not at
 /// all. Whatever is written in it, no value changes before its end. The end, if it is Written,
@@ -22,6 +22,13 @@ pub fn uploads_are_one_moment()
 /// Rule DSD-4.
 pub fn flag_stays()
     ensures { FlagStays }
+{}
+
+/// A law of the definitions: a set fits each device of its table. What Data Storage fetched of one
+/// device is Written, all of it, at another one that isn't locked and has no activity. Behind the
+/// end, which is Written too, that has the same set and the same checksum.
+pub fn sets_fit()
+    ensures { SetsFit }
 {}
 
 /// A law of the definitions: by each write, command and end of an activity, each member keeps a

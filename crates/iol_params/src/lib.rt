@@ -15,14 +15,18 @@ mod error_type;
 mod image;
 mod laws;
 mod manager;
+#[cfg(test)]
+mod manager_tests;
 mod member;
 mod state;
 mod storage;
 mod table;
 
 pub use error_type::ErrorType;
-pub use laws::{downloads_are_whole, flag_stays, stays_consistent, uploads_are_one_moment};
+pub use laws::{
+    downloads_are_whole, flag_stays, sets_fit, stays_consistent, uploads_are_one_moment,
+};
 pub use manager::Manager;
 pub use member::{Access, DataType, IntegerWidth, Member};
-pub use state::{Activity, Command, Locks, Scope, WritesSoFar};
+pub use state::{Activity, Command, Locks, Restart, Scope, WritesSoFar};
 pub use table::{Flaw, OrderRule, Table, TableFault};

@@ -1,7 +1,7 @@
 //! The parameters of a device, and what becomes of them.
 ghost use Rattle.std.specs.Prelude.{◌≡◌, ◌≤◌, ◌++◌, ◌∷◌, [], Option, Some, None, IfOk, IfErr, length, true, false};
 ghost use Rattle.std.specs.Result.{result_err};
-ghost use Rattle.iol_params.specs.Values.{values_in, room_for, defaults, overlay, all_fit};
+ghost use Rattle.iol_params.specs.Values.{values_in, room_for, defaults, overlay, all_fit, fits_place};
 ghost use Rattle.iol_params.specs.Table.{is_of_index};
 ghost use Rattle.iol_params.specs.State.{is_uploading, after_end, with_flag_cleared, with_flag_set};
 ghost use Rattle.iol_params.specs.Carry.{write, command, upload_settled, place_refusal, access_refusal, content_refusal, alone_refusal, write_refusal, local_change, local_refusal, download_end, with_reset, rules_hold, is_consistent};
@@ -10,7 +10,7 @@ ghost use Rattle.iol_params.specs.Image.{with_kept};
 ghost use Rattle.iol_params.specs.Manager.{new_manager, read_answer, IsFitting};
 
 use crate::error_type::ErrorType;
-use crate::state::{Activity, Command, Locks, Scope, WritesSoFar};
+use crate::state::{Activity, Command, Locks, Restart, Scope, WritesSoFar};
 use crate::table::{Table, has_index, has_place, has_read_only, has_stored, most_at};
 use crate::{cells, storage};
 use iol_isdu::{Answer, Octets, Place, Request};
@@ -29,6 +29,7 @@ pub struct Manager<'a, A: Allocator + Copy = Global> {
     locks: Locks,
     flag: bool,
     event_due: bool,
+    restart: Restart,
 }
 
 impl<'a, A: Allocator + Copy> Model for Manager<'a, A> {
@@ -62,6 +63,7 @@ impl<'a, A: Allocator + Copy> Manager<'a, A> {
             locks: Locks::none(),
             flag: false,
             event_due: false,
+            restart: Restart::NotDue,
         })
     }
 
@@ -88,6 +90,7 @@ impl<'a, A: Allocator + Copy> Manager<'a, A> {
     /// Then no value changes, and a download can't be applied any more.
     ///
     /// Rules PAR-4, ACT-2, ACT-3.
+    #[tactic(auto, using(crate::proofs::ManagerLemmas::write_taken))]
     pub fn write(&mut self, place: Place, octets: &[u8]) -> Result<(), ErrorType>
         ensures state { let after = write self.old.table self.old.state place octets.now in
             self.new ≡ record self.old { state = after.1 } }
@@ -99,7 +102,7 @@ impl<'a, A: Allocator + Copy> Manager<'a, A> {
             return Err(why);
         }
         match self.activity {
-            Activity::Idle => cells::write(self.table.members(), &mut self.values, place, octets),
+            Activity::Idle => self.put(place, octets),
             Activity::Upload(_) => {}
             Activity::Download(..) => {
                 cells::write(self.table.members(), &mut self.copy, place, octets);
@@ -116,6 +119,7 @@ impl<'a, A: Allocator + Copy> Manager<'a, A> {
     /// break an order rule.
     ///
     /// Rules ACT-4, DSD-5.
+    #[tactic(auto, using(crate::proofs::ManagerLemmas::local_taken))]
     pub fn set(&mut self, place: Place, octets: &[u8]) -> Result<(), ErrorType>
         ensures state { let after = local_change self.old.table self.old.state place octets.now in
             self.new ≡ record self.old { state = after.1 } }
@@ -125,9 +129,8 @@ impl<'a, A: Allocator + Copy> Manager<'a, A> {
         if let Some(why) = self.local_refusal(place, octets) {
             return Err(why);
         }
-        let members = self.table.members();
-        cells::write(members, &mut self.values, place, octets);
-        if has_stored(members, place) {
+        self.put(place, octets);
+        if has_stored(self.table.members(), place) {
             self.set_flag();
         }
         Ok(())
@@ -156,6 +159,16 @@ impl<'a, A: Allocator + Copy> Manager<'a, A> {
         } }
     {
         self.event_due = false;
+    }
+
+    /// What the program itself has to do since a reset that the master asked for. No call but
+    /// [`restore`](Manager::restore) ends it.
+    ///
+    /// Rule PAR-9.
+    pub fn restart(&self) -> Restart
+        ensures { result ≡ self.now.state.restart }
+    {
+        self.restart
     }
 
     /// What is under way.
@@ -236,6 +249,7 @@ impl<'a, A: Allocator + Copy> Manager<'a, A> {
         self.locks = locks;
         self.flag = flag;
         self.event_due = flag;
+        self.restart = Restart::NotDue;
     }
 
     /// The locks.
@@ -282,6 +296,15 @@ impl<'a, A: Allocator + Copy> Manager<'a, A> {
                 self.reset();
                 self.clear_flag(Scope::Storage);
             }
+            Command::DeviceReset => {
+                self.end();
+                self.restart = Restart::Warm;
+            }
+            Command::BackToBox => {
+                self.reset();
+                self.clear_flag(Scope::Storage);
+                self.restart = Restart::Silent;
+            }
         }
         Ok(())
     }
@@ -294,6 +317,20 @@ impl<'a, A: Allocator + Copy> Manager<'a, A> {
         ensures { self.new ≡ record self.old { state = after_end self.old.state } }
     {
         self.end();
+    }
+
+    // A value that fits there, and breaks no order rule, is in force.
+    fn put(&mut self, place: Place, octets: &[u8])
+        requires fits { fits_place self.old.table.members place octets.now ≡ true }
+        requires rules { is_consistent self.old.table
+            (overlay self.old.table.members self.old.state.values place octets.now) ≡ true }
+        ensures { self.new ≡ record self.old {
+          state = record self.old.state {
+            values = overlay self.old.table.members self.old.state.values place octets.now;
+          };
+        } }
+    {
+        cells::write(self.table.members(), &mut self.values, place, octets);
     }
 
     // Why there is nothing at a place.
@@ -482,268 +519,5 @@ impl<'a, A: Allocator + Copy> Manager<'a, A> {
         self.table.is_sound();
         cells::reset(self.table.members(), &mut self.values);
         self.locks = Locks::none();
-    }
-}
-
-#[cfg(test)]
-mod tests {
-    use super::*;
-    use crate::member::{Access, DataType, IntegerWidth, Member};
-    use crate::table::OrderRule;
-    use std::test::Fail;
-
-    const fn at(index: u16) -> Place {
-        Place { index, sub: 0 }
-    }
-
-    const MEMBERS: [Member; 4] = [
-        Member {
-            place: Place { index: 24, sub: 0 },
-            data_type: DataType::Text(16),
-            access: Access::Stored,
-            default: b"tag",
-        },
-        Member {
-            place: Place { index: 64, sub: 0 },
-            data_type: DataType::UInteger(IntegerWidth::One, 0, 100),
-            access: Access::Stored,
-            default: &[10],
-        },
-        Member {
-            place: Place { index: 65, sub: 0 },
-            data_type: DataType::UInteger(IntegerWidth::One, 0, 100),
-            access: Access::Stored,
-            default: &[90],
-        },
-        Member {
-            place: Place { index: 21, sub: 0 },
-            data_type: DataType::OctetString(4),
-            access: Access::ReadOnly,
-            default: &[1, 2, 3, 4],
-        },
-    ];
-
-    const RULES: [OrderRule; 1] = [OrderRule {
-        low: Place { index: 64, sub: 0 },
-        high: Place { index: 65, sub: 0 },
-    }];
-
-    #[test]
-    fn a_block_is_applied_whole(rt: HostRuntime) -> Result<(), Fail> {
-        let table = Table::new(&MEMBERS, &RULES)?;
-        let mut manager = Manager::open(rt.alloc(), &table)?;
-        assert_eq!(rt; manager.write(at(64), &[95]), Err(ErrorType::InvalidSet));
-        manager.command(Scope::Block, Command::DownloadStart)?;
-        manager.write(at(64), &[95])?;
-        manager.write(at(65), &[99])?;
-        assert_eq!(rt; octet_at(&manager, 64), Some(10));
-        manager.command(Scope::Block, Command::DownloadEnd)?;
-        assert_eq!(rt; octet_at(&manager, 64), Some(95));
-        assert_eq!(rt; octet_at(&manager, 65), Some(99));
-        Ok(())
-    }
-
-    #[test]
-    fn each_write_is_refused_for_its_first_reason(rt: HostRuntime) -> Result<(), Fail> {
-        let table = Table::new(&MEMBERS, &RULES)?;
-        let mut manager = Manager::open(rt.alloc(), &table)?;
-        assert_eq!(rt;
-            manager.write(at(99), &[]),
-            Err(ErrorType::IndexNotAvailable)
-        );
-        let part = Place { index: 64, sub: 1 };
-        assert_eq!(rt;
-            manager.write(part, &[]),
-            Err(ErrorType::SubindexNotAvailable)
-        );
-        assert_eq!(rt; manager.write(at(21), &[]), Err(ErrorType::AccessDenied));
-        assert_eq!(rt; manager.write(at(64), &[1, 2]), Err(ErrorType::TooLong));
-        assert_eq!(rt; manager.write(at(64), &[]), Err(ErrorType::TooShort));
-        assert_eq!(rt;
-            manager.write(at(64), &[101]),
-            Err(ErrorType::ValueOutOfRange)
-        );
-        assert_eq!(rt; manager.write(at(64), &[91]), Err(ErrorType::InvalidSet));
-        manager.command(Scope::Block, Command::UploadStart)?;
-        assert_eq!(rt;
-            manager.write(at(64), &[1, 2]),
-            Err(ErrorType::FunctionUnavailable)
-        );
-        assert_eq!(rt; octet_at(&manager, 64), Some(10));
-        assert!(rt; !manager.flag());
-        Ok(())
-    }
-
-    #[test]
-    fn a_block_with_a_hole_is_none(rt: HostRuntime) -> Result<(), Fail> {
-        let table = Table::new(&MEMBERS, &RULES)?;
-        let mut manager = Manager::open(rt.alloc(), &table)?;
-        manager.command(Scope::Block, Command::DownloadStart)?;
-        manager.write(at(64), &[20])?;
-        assert_eq!(rt;
-            manager.write(at(65), &[101]),
-            Err(ErrorType::ValueOutOfRange)
-        );
-        let end = manager.command(Scope::Block, Command::DownloadEnd);
-        assert_eq!(rt; end, Err(ErrorType::InconsistentSet));
-        assert_eq!(rt; octet_at(&manager, 64), Some(10));
-        let end = manager.command(Scope::Block, Command::DownloadEnd);
-        assert_eq!(rt; end, Err(ErrorType::FunctionUnavailable));
-        Ok(())
-    }
-
-    #[test]
-    fn an_activity_stands_alone(rt: HostRuntime) -> Result<(), Fail> {
-        let table = Table::new(&MEMBERS, &RULES)?;
-        let mut manager = Manager::open(rt.alloc(), &table)?;
-        manager.command(Scope::Storage, Command::DownloadStart)?;
-        let other = manager.command(Scope::Block, Command::FactoryReset);
-        assert_eq!(rt; other, Err(ErrorType::FunctionUnavailable));
-        assert_eq!(rt;
-            manager.set(at(64), &[5]),
-            Err(ErrorType::FunctionUnavailable)
-        );
-        manager.write(at(64), &[5])?;
-        manager.over();
-        assert_eq!(rt; octet_at(&manager, 64), Some(10));
-        manager.set(at(64), &[5])?;
-        assert_eq!(rt; octet_at(&manager, 64), Some(5));
-        Ok(())
-    }
-
-    #[test]
-    fn the_flag_is_set_and_cleared(rt: HostRuntime) -> Result<(), Fail> {
-        let table = Table::new(&MEMBERS, &RULES)?;
-        let mut manager = Manager::open(rt.alloc(), &table)?;
-        manager.write(at(64), &[5])?;
-        assert!(rt; !manager.flag());
-        manager.set(at(64), &[6])?;
-        assert!(rt; manager.flag() && manager.is_event_due());
-        manager.event_raised();
-        manager.command(Scope::Block, Command::UploadStart)?;
-        manager.command(Scope::Block, Command::UploadEnd)?;
-        assert!(rt; manager.flag() && manager.is_event_due());
-        manager.command(Scope::Storage, Command::UploadStart)?;
-        manager.command(Scope::Storage, Command::UploadEnd)?;
-        assert!(rt; !manager.flag() && !manager.is_event_due());
-        manager.command(Scope::Block, Command::DownloadStart)?;
-        manager.command(Scope::Block, Command::DownloadStore)?;
-        assert!(rt; manager.flag());
-        manager.command(Scope::Block, Command::FactoryReset)?;
-        assert!(rt; !manager.flag());
-        assert_eq!(rt; octet_at(&manager, 64), Some(10));
-        manager.command(Scope::Block, Command::ApplicationReset)?;
-        assert!(rt; manager.flag());
-        Ok(())
-    }
-
-    fn written<A: Allocator + Copy>(
-        manager: &mut Manager<A>,
-        index: u16,
-        sub: u8,
-        octets: &[u8],
-    ) -> Answer {
-        let place = Place { index, sub };
-        match Request::write(place, octets) {
-            Ok(request) => manager.carry(&request),
-            Err(_) => Answer::Written,
-        }
-    }
-
-    fn read_at<A: Allocator + Copy>(manager: &mut Manager<A>, index: u16, sub: u8) -> Answer {
-        manager.carry(&Request::read(Place { index, sub }))
-    }
-
-    fn read_as(octets: &[u8]) -> Answer
-        requires { length octets.now ≤ 232 }
-    {
-        Answer::Read(cells::octets_of(octets))
-    }
-
-    #[test]
-    fn data_storage_reads_what_a_sensor_has(rt: HostRuntime) -> Result<(), Fail> {
-        let members = [
-            MEMBERS[0],
-            MEMBERS[1],
-            MEMBERS[2],
-            Member {
-                place: at(80),
-                data_type: DataType::OctetString(6),
-                access: Access::Stored,
-                default: &[0; 6],
-            },
-        ];
-        let table = Table::new(&members, &RULES)?;
-        let mut manager = Manager::open(rt.alloc(), &table)?;
-        let sum = read_at(&mut manager, 3, 4);
-        assert_eq!(rt; sum, read_as(&[0x16, 0xB4, 0xB2, 0xDE]));
-        manager.set(at(65), &[50])?;
-        assert_eq!(rt; read_at(&mut manager, 3, 2), read_as(&[0x80]));
-        assert_eq!(rt; read_at(&mut manager, 3, 3), read_as(&[0, 0, 0, 40]));
-        let sum = read_at(&mut manager, 3, 4);
-        assert_eq!(rt; sum, read_as(&[0xFC, 0xA3, 0xC5, 0xA3]));
-        let list = [0, 24, 0, 0, 64, 0, 0, 65, 0, 0, 80, 0, 0, 0];
-        assert_eq!(rt; read_at(&mut manager, 3, 5), read_as(&list));
-        assert_eq!(rt; written(&mut manager, 3, 1, &[1]), Answer::Written);
-        assert_eq!(rt; read_at(&mut manager, 3, 2), read_as(&[0x82]));
-        assert_eq!(rt; written(&mut manager, 3, 1, &[2]), Answer::Written);
-        assert_eq!(rt; read_at(&mut manager, 3, 2), read_as(&[0]));
-        Ok(())
-    }
-
-    #[test]
-    fn locks_and_commands_are_carried_out(rt: HostRuntime) -> Result<(), Fail> {
-        let table = Table::new(&MEMBERS, &RULES)?;
-        let mut manager = Manager::open(rt.alloc(), &table)?;
-        assert_eq!(rt;
-            written(&mut manager, 12, 0, &[0, 16]),
-            Answer::Refused(0x80, 0x30)
-        );
-        assert_eq!(rt;
-            written(&mut manager, 12, 0, &[0]),
-            Answer::Refused(0x80, 0x34)
-        );
-        assert_eq!(rt;
-            written(&mut manager, 12, 0, &[0, 0, 0]),
-            Answer::Refused(0x80, 0x33)
-        );
-        assert_eq!(rt; written(&mut manager, 12, 0, &[0, 3]), Answer::Written);
-        assert_eq!(rt; read_at(&mut manager, 12, 0), read_as(&[0, 3]));
-        assert_eq!(rt;
-            written(&mut manager, 64, 0, &[1]),
-            Answer::Refused(0x80, 0x23)
-        );
-        assert_eq!(rt;
-            written(&mut manager, 3, 1, &[1]),
-            Answer::Refused(0x80, 0x23)
-        );
-        assert_eq!(rt; read_at(&mut manager, 3, 2), read_as(&[6]));
-        assert_eq!(rt;
-            written(&mut manager, 2, 0, &[9]),
-            Answer::Refused(0x80, 0x35)
-        );
-        assert_eq!(rt;
-            written(&mut manager, 2, 1, &[9]),
-            Answer::Refused(0x80, 0x12)
-        );
-        assert_eq!(rt; read_at(&mut manager, 2, 0), Answer::Refused(0x80, 0x23));
-        assert_eq!(rt; written(&mut manager, 2, 0, &[0x82]), Answer::Written);
-        assert_eq!(rt; written(&mut manager, 64, 0, &[1]), Answer::Written);
-        assert_eq!(rt;
-            written(&mut manager, 3, 1, &[6]),
-            Answer::Refused(0x80, 0x30)
-        );
-        assert_eq!(rt;
-            written(&mut manager, 3, 3, &[6]),
-            Answer::Refused(0x80, 0x23)
-        );
-        Ok(())
-    }
-
-    fn octet_at<A: Allocator + Copy>(manager: &Manager<A>, index: u16) -> Option<u8> {
-        match manager.read(at(index)) {
-            Answer::Read(octets) => octets.first().copied(),
-            _ => None,
-        }
     }
 }

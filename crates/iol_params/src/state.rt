@@ -44,6 +44,21 @@ pub enum Command {
     ApplicationReset,
     /// Defaults, and Data Storage isn't asked.
     FactoryReset,
+    /// The device begins anew; nothing that outlives the power changes (10.7.2).
+    DeviceReset,
+    /// A factory reset, behind which the device is silent until its power is back (10.7.5).
+    BackToBox,
+}
+
+/// What the program itself has to do since a reset that the master asked for.
+#[derive(Clone, Copy, Debug, PartialEq, Eq)]
+pub enum Restart {
+    /// Nothing.
+    NotDue,
+    /// Behind 0x80: to begin anew, as after a power cycle, once the answer was sent.
+    Warm,
+    /// Behind 0x83: to send nothing more, once the answer was sent, until the power is back.
+    Silent,
 }
 
 /// The Device access locks (B.2.4).
@@ -73,8 +88,10 @@ impl Scope {
             (_, 0x04) => Some(Command::DownloadEnd),
             (Scope::Storage, 0x05) | (Scope::Block, 0x06) => Some(Command::Break),
             (Scope::Block, 0x05) => Some(Command::DownloadStore),
+            (Scope::Block, 0x80) => Some(Command::DeviceReset),
             (Scope::Block, 0x81) => Some(Command::ApplicationReset),
             (Scope::Block, 0x82) => Some(Command::FactoryReset),
+            (Scope::Block, 0x83) => Some(Command::BackToBox),
             _ => None,
         }
     }
