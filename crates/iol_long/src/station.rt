@@ -1,0 +1,165 @@
+//! A port with its two clients, its line and the plain list.
+use crate::chance::Chance;
+use crate::client::{Client, MOST_TICKETS, Room};
+use crate::counts::Counts;
+use crate::fault::{LongFault, Wrong};
+use crate::line::Line;
+use crate::plain::PlainList;
+use iol_app::Asked;
+use iol_book::{Entry, Limits, Outcome};
+use iol_port::{AwaitedAnswer, Counters, PortCore};
+use std::alloc::Global;
+
+/// Before one of so many turns the journal is drained, and whenever it is full.
+const DRAINS: u64 = 100;
+
+/// Of so many times one is that the next drain waits until it is full.
+const PATIENCE: u64 = 3;
+
+/// Behind one of so many turns the port is restarted.
+const RESTARTS: u64 = 2_000;
+
+/// More turns than each request takes, and than those take that are outstanding at the end.
+const TURNS_EACH: u64 = 1_000;
+
+const LAST_TURNS: u64 = 100_000;
+
+/// The most entries that a ticket has while it is outstanding or in doubt.
+const ENTRIES: usize = 4;
+
+/// When the journal is drained next.
+#[derive(Clone, Copy, PartialEq, Eq)]
+enum Drains {
+    NowAndThen,
+    WhenFull,
+}
+
+/// A port with all that stands round it.
+#[derive(Drop)]
+pub(crate) struct Station {
+    port: PortCore,
+    line: Line,
+    list: PlainList,
+    first: Client,
+    second: Client,
+    chance: Chance,
+    drains: Drains,
+    drained: Vec<Entry>,
+    outcome: Outcome,
+}
+
+impl Station {
+    pub(crate) fn open(alloc: Global, seed: u64) -> Result<Station, LongFault> {
+        let limits = Limits::default();
+        let entries = limits.journal.entries() as usize;
+        Ok(Station {
+            port: PortCore::open(alloc, &limits)?,
+            line: Line::new(seed),
+            list: PlainList::new(alloc, entries, ENTRIES * (2 * MOST_TICKETS + 1))?,
+            first: Client::new(alloc)?,
+            second: Client::new(alloc)?,
+            chance: Chance::new(!seed),
+            drains: Drains::WhenFull,
+            drained: Vec::with_capacity(alloc, entries)?,
+            outcome: Outcome::Withdrawn,
+        })
+    }
+
+    /// Has clients submit until so many tickets are given, and waits for what is outstanding then.
+    pub(crate) fn serve(&mut self, count: u64) -> Result<(), LongFault> {
+        for _ in 0..count.saturating_mul(TURNS_EACH) {
+            if self.list.next_ticket() > count {
+                break;
+            }
+            self.ask(count)?;
+            self.go_on()?;
+        }
+        for _ in 0..LAST_TURNS {
+            if !self.first.is_waiting() && !self.second.is_waiting() {
+                break;
+            }
+            self.go_on()?;
+        }
+        self.drain()?;
+        self.list.close(count)
+    }
+
+    pub(crate) fn told(&self) -> &Counts {
+        &self.list.counts
+    }
+
+    /// The clients ask for something, until so many tickets are given. A full journal is drained.
+    fn ask(&mut self, count: u64) -> Result<(), LongFault> {
+        let first = self
+            .first
+            .ask(&mut self.port, &mut self.list, &mut self.chance)?;
+        let second = if self.list.next_ticket() > count {
+            Room::Left
+        } else {
+            self.second
+                .ask(&mut self.port, &mut self.list, &mut self.chance)?
+        };
+        let is_full = first == Room::Full || second == Room::Full;
+        let is_time = self.drains == Drains::NowAndThen && self.chance.once_in(DRAINS);
+        if is_full || is_time {
+            self.drain()?;
+            self.drains = if self.chance.once_in(PATIENCE) {
+                Drains::WhenFull
+            } else {
+                Drains::NowAndThen
+            };
+        }
+        Ok(())
+    }
+
+    /// A turn, behind which both clients collect.
+    fn go_on(&mut self) -> Result<(), LongFault> {
+        let before = left_in_doubt(self.port.counters());
+        turn(&mut self.port, &mut self.line, &mut self.list)?;
+        if self.chance.once_in(RESTARTS) && self.port.awaits() == AwaitedAnswer::Nothing {
+            self.port.restart();
+        }
+        if left_in_doubt(self.port.counters()) > before {
+            self.list.left_in_doubt();
+        }
+        self.first
+            .collect(&mut self.port, &mut self.list, &mut self.outcome)?;
+        self.second
+            .collect(&mut self.port, &mut self.list, &mut self.outcome)
+    }
+
+    /// Drains the journal, and reads it beside the plain list.
+    fn drain(&mut self) -> Result<(), LongFault> {
+        self.drained.clear();
+        let restated = self.port.restated();
+        let said = self.port.drain_into(&mut self.drained)?;
+        if said != restated {
+            return Err(Wrong::Restated.of(said as u64));
+        }
+        self.list.drained(self.drained.as_slice(), restated)
+    }
+}
+
+/// How many requests were cut off that the device could still carry out.
+fn left_in_doubt(counters: &Counters) -> u64 {
+    let unknown = &counters.unknown;
+    unknown.link_lost.saturating_add(unknown.restarted)
+}
+
+/// One turn.
+fn turn(port: &mut PortCore, line: &mut Line, list: &mut PlainList) -> Result<(), LongFault> {
+    match port.send() {
+        Asked::Wake => {
+            let rate = line.wake(list)?;
+            if rate.is_some() {
+                list.reset();
+            }
+            port.receive_wake(rate);
+        }
+        Asked::Exchange(sent) => {
+            let came = line.exchange(&sent.octets, list)?;
+            port.receive(&came);
+        }
+    }
+    Ok(())
+}
