@@ -4,9 +4,11 @@
 Behind the number of a line stand the lines that are wanted, with `-`, and those that were printed, with `+`. Of a long
 line the part is shown in which the two differ.
 """
+import io
 import sys
 from difflib import SequenceMatcher
 from itertools import takewhile, zip_longest
+from pathlib import Path
 
 # How many lines are shown, how many are looked at behind the first difference, and how many characters of one.
 MOST, AHEAD, WIDTH = 10, 100, 120
@@ -48,10 +50,10 @@ def difference(wanted, printed):
     return said
 
 
-def lines_of(path):
-    with open(path, encoding="utf-8", errors="backslashreplace", newline="\n") as it:
-        return it.readlines()
+def lines_in(octets):
+    return io.StringIO(octets.decode(errors="backslashreplace"), newline="\n").readlines()
 
 
 if __name__ == "__main__":
-    sys.stdout.writelines(f"{it}\n" for it in difference(*map(lines_of, sys.argv[1:3])))
+    texts = [lines_in(Path(it).read_bytes()) for it in sys.argv[1:3]]
+    sys.stdout.writelines(f"{it}\n" for it in difference(*texts))

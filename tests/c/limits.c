@@ -1,5 +1,5 @@
 /* Openings and calls at their limits, where memory is not lacking: none may answer 24. A library is refused that has no
- * memory, or no port, from a size on, or that takes one port's answer for another's. tests/c/run also runs this program
+ * memory, or no port, from a size on, or that takes one port's answer for another's. tests/c/check_c also runs this program
  * below an allocator that refuses what is large and counts what is given back. What is printed is compared with
  * limits.stdout. */
 #include "iolink_port.h"

@@ -1,6 +1,6 @@
 /* The log of a port and that of a device, over a line of this program that loses and damages: the lines that
  * tests/rows/link/trace_as_from_c prints for the same turns. What is printed is compared with trace.stdout, and
- * tests/c/run compares it with the rows whose program prints and judges such logs. */
+ * tests/c/check_c compares it with the rows whose program prints and judges such logs. */
 #include "iolink_port.h"
 #include "iolink_device.h"
 #include <stdio.h>

@@ -1,7 +1,7 @@
 """Bad lines: the page says of a line that it refuses what `iolink judge --why` says of it, and web/line.html of a
 script what `iolink trace --why` says.
 
-The traces are the bad ones among the rows of tests/rows, single lines that tests/why/run makes bad, and whole traces in
+The traces are the bad ones among the rows of tests/rows, single lines that tests/why/check_why makes bad, and whole traces in
 which a line is made bad, goes, comes twice, or changes its place. The page takes some of what `judge` refuses: a trace
 that is cut off behind a message, and a carriage return at the end of a line, without which `judge` is asked. It refuses
 more: lines that `judge` passes over. A line of `judge` itself, `N odd: ..`, is none of a trace, and isn't compared.
@@ -25,8 +25,8 @@ OF_JUDGE = re.compile(r"\d+ odd\b")
 
 
 def why():
-    """The test tests/why/run, which has the bad rows, and makes lines bad."""
-    loader = importlib.machinery.SourceFileLoader("why", f"{ROOT}/tests/why/run")
+    """The test tests/why/check_why, which has the bad rows, and makes lines bad."""
+    loader = importlib.machinery.SourceFileLoader("why", f"{ROOT}/tests/why/check_why")
     made = importlib.util.module_from_spec(importlib.util.spec_from_loader("why", loader))
     loader.exec_module(made)
     return made
@@ -77,7 +77,7 @@ def traces_of_rows(tests):
         if words[0] == b"judge" and b"--octets" not in words:
             for at, text in enumerate(tests.texts_of(row)):
                 try:
-                    yield f"{row.relative_to(tests.ROWS)}, {at}", text.decode()
+                    yield f"{row.name}, {at}", text.decode()
                 except UnicodeDecodeError:
                     continue
 

@@ -2,7 +2,6 @@
 
 The page has no protocol of its own. So each story and random sessions of its buttons are run again by the program.
 """
-import glob
 import json
 import os
 import random
@@ -10,7 +9,8 @@ import subprocess
 
 from bad_lines import OF_LIVE as BAD_SCRIPTS
 from counting import more_than_asked
-from trace_page import ROOT, missing, unlike
+from row import rows
+from trace_page import ROOT, is_plain, missing, unlike
 
 LIVE = f"{ROOT}/web/line.html"
 ADDRESS = f"file://{LIVE}"
@@ -44,8 +44,7 @@ FIELDS = {
     "index": ["16", "17", "99"], "octets": ["41", "43 44", "00 01 02 03 04 05 06 07 08"], "output-octets": ["5A"],
     "input-octets": ["12 34"], "event": ["F4 8CA0", "04 1234"],
 }
-# Files of a row that the module can be run with; a command that it can't carry out, since it has no threads.
-KNOWN = {"args", "stdin", "stdout", "stderr", "status"}
+# A command that the module can't carry out, since it has no threads.
 LEFT_OUT = {"many"}
 BY_OCTET = """globalThis.rowOf = (words, input) => {
   const text = (pieces) => pieces.map((it) => Array.from(it, (each) => String.fromCharCode(each)).join('')).join('');
@@ -214,21 +213,14 @@ def check_old_browser(room):
     window.ask("Page.removeScriptToEvaluateOnNewDocument", identifier=given["identifier"])
 
 
-def octets_of(path):
-    if not os.path.exists(path):
-        return ""
-    with open(path, "rb") as it:
-        return it.read().decode("latin-1")
-
-
 def rows_of_module():
-    """The rows of `iolink` that have words and an input alone, each with what has to be printed."""
-    for folder in sorted(glob.glob(f"{ROOT}/tests/rows/*/*/")):
-        words = octets_of(f"{folder}args").split("\n")[:-1]
-        if set(os.listdir(folder)) - KNOWN or not all(it.isascii() for it in words) or LEFT_OUT & set(words[:1]):
+    """The rows of `iolink` that are run once, each with its words, its input and what has to be printed."""
+    for row in rows():
+        words = [it.decode("latin-1") for it in row.words]
+        if row.program != "iolink" or not is_plain(row) or not all(it.isascii() for it in words) or LEFT_OUT & set(words[:1]):
             continue
-        wanted = [int(octets_of(f"{folder}status") or 0), octets_of(f"{folder}stdout"), octets_of(f"{folder}stderr")]
-        yield os.path.relpath(folder, f"{ROOT}/tests/rows"), words, octets_of(f"{folder}stdin"), wanted
+        wanted = [row.status, row.stdout.decode("latin-1"), row.stderr.decode("latin-1")]
+        yield row.name, words, row.text.decode("latin-1"), wanted
 
 
 def check_rows(room):

@@ -117,8 +117,8 @@ def check_records(room):
 
 
 def once():
-    """The script tests/once/run, which writes random scripts."""
-    loader = importlib.machinery.SourceFileLoader("once", f"{ROOT}/tests/once/run")
+    """The script tests/once/check_once, which writes random scripts."""
+    loader = importlib.machinery.SourceFileLoader("once", f"{ROOT}/tests/once/check_once")
     made = importlib.util.module_from_spec(importlib.util.spec_from_loader("once", loader))
     loader.exec_module(made)
     return made
@@ -159,7 +159,7 @@ def check_twice(room):
     room.open_page()
     for row in ("kinds/run_carried_out_twice", "kinds/run_carried_out_twice_and_forgets"):
         room.open_text(room.trace_of(script_of(row)))
-        yield f"{row}: in words", missing("Carried out twice: Ticket 1, write 16/0 = 41.", room.window.run(STORY))
+        yield f"{row}: in words", missing("Carried out twice: Ticket 1, write 16/0 = 41 (VendorName).", room.window.run(STORY))
         yield f"{row}: the rule", missing("REQ-15", room.window.run(STORY))
         yield f"{row}: drawn", missing("The device carried it out twice: write 16/0 = 41.", room.window.run(DRAWN))
         frames = "document.querySelectorAll('#picture .story.twice').length"
@@ -180,4 +180,32 @@ def check_twice(room):
     yield f"{row}: listed", missing(f"≠ carried out: {answer}", room.window.run(LISTED))
 
 
-CHECKS = [check_records, check_random_records, check_twice]
+# Requests and answers, and how the page says them: with the standard's name, where it has one.
+NAMED = {
+    "page.requestInWords('read 21 0')": "read 21/0 (SerialNumber)",
+    "page.requestInWords('write 12 0 00 01')": "write 12/0 = 00 01 (DeviceAccessLocks)",
+    "page.requestInWords('write 2 0 03')": "write 2/0 = 03 (SystemCommand ParamDownloadStart)",
+    "page.requestInWords('write 2 0 A0')": "write 2/0 = A0 (SystemCommand)",
+    "page.requestInWords('write 64 0 03')": "write 64/0 = 03",
+    "page.requestInWords(undefined)": "a request, cut short",
+    "page.answerInWords('refused 80 41')": "refused 80 41 (inconsistent set)",
+    "page.answerInWords('refused 81 41')": "refused 81 41",
+    "page.answerInWords('read 80 41')": "read 80 41",
+}
+REFUSED = "write 2 0 82\nturn 20\ncollect 1\n"
+
+
+def check_names(room):
+    """What the guide names is named in the lists."""
+    room.open_page()
+    for asked, wanted in NAMED.items():
+        yield f"names: {asked}", unlike(room.window.run(asked), wanted)
+    room.open_text(room.trace_of(REFUSED))
+    listed = room.window.run(LISTED)
+    for part in ("SystemCommand RestoreFactorySettings", "done: refused 80 11 (Index not available)"):
+        yield f"names: {part}", missing(part, listed)
+    part = "carried out: refused 80 11 (Index not available)"
+    yield f"names: {part}", missing(part, listed)
+
+
+CHECKS = [check_records, check_random_records, check_twice, check_names]

@@ -104,7 +104,7 @@ def check_sample(room):
 
 
 def check_program(room):
-    """`judge` takes the sample as it takes the octets, and so does the page what the program prints with --trace."""
+    """`judge` takes the sample as the octets, but for the lines of times, and so does the page what --trace prints."""
     octets = read(f"{ROOT}/examples/octets")
 
     def judge(*words, given):
@@ -112,7 +112,7 @@ def check_program(room):
         return ran.stdout
 
     verdict = judge("--octets", "com3", given=octets)
-    yield "times: judge", unlike(judge(given=OCTETS), verdict)
+    yield "times: judge", unlike(judge(given=OCTETS), f"lines skipped {len(BEGUN)}\n{verdict}")
     printed = judge("--octets", "com3", "--trace", given=octets)
     room.open_page()
     room.open_text(printed or OCTETS + verdict)

@@ -3,10 +3,13 @@ import glob
 import os
 import subprocess
 
+import row
 from difference import difference
 
 ROOT = os.path.dirname(os.path.dirname(os.path.dirname(os.path.realpath(__file__))))
 PAGE = f"file://{ROOT}/web/trace.html"
+# A larger row takes the page too long.
+MOST_OCTETS = 110_000
 
 
 def read(path):
@@ -27,10 +30,14 @@ def missing(part, text):
     return "" if part in text else f"{part!r} is not in {text[:400]!r}"
 
 
-def script_of(row):
+def script_of(name):
     """The script of a row, which may be empty."""
-    path = f"{ROOT}/tests/rows/{row}/stdin"
-    return read(path) if os.path.exists(path) else ""
+    return row.read(name).text.decode()
+
+
+def is_plain(it):
+    """Whether a row is run once, with an input as it is written, which a page opens in time."""
+    return not it.each and not it.is_directory and not it.is_bounded() and not it.is_made
 
 
 class Room:
@@ -53,20 +60,16 @@ class Room:
 
     def row_traces(self):
         """The traces that the rows want, by name."""
-        paths = sorted(glob.glob(f"{ROOT}/tests/rows/*/trace_*/stdout"))
-        return {os.path.relpath(os.path.dirname(it), f"{ROOT}/tests/rows"): read(it) for it in paths}
+        found = [it for it in row.rows("*/trace_*") if 0 < len(it.stdout) <= MOST_OCTETS]
+        return {it.name: it.stdout.decode() for it in found}
 
     def run_traces(self):
         """The traces of the rows of `run` that have one script, and that `trace` takes."""
         made = {}
-        for row in sorted(glob.glob(f"{ROOT}/tests/rows/*/run_*")):
-            has = set(os.listdir(row))
-            if "stdin" not in has or has & {"each", "memory", "output", "status"}:
-                continue
-            name = os.path.relpath(row, f"{ROOT}/tests/rows")
-            trace = self.trace_of(script_of(name))
+        for it in row.rows("*/run_*"):
+            trace = self.trace_of(it.text.decode()) if is_plain(it) and not it.status else None
             if trace is not None:
-                made[name] = trace
+                made[it.name] = trace
         return made
 
     def file_of(self, text, name="given"):

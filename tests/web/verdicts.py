@@ -2,14 +2,13 @@
 
 The traces are those of tests/rows/judge. Where they have octets alone, `iolink check` gives them their texts.
 """
-import glob
-import os
 import re
 import subprocess
 
 from counting import VERDICT, findings
 from large import repeated
-from trace_page import ROOT, missing, read, unlike
+from row import rows
+from trace_page import ROOT, is_plain, missing, read, unlike
 
 NUMBERED = re.compile(r"(\d+) ([<>]) ([0-9A-Fa-f ]+?)(?:: .*)?")
 # The others of these rows are words that `judge` passes over and that `trace` doesn't print.
@@ -123,12 +122,11 @@ def is_whole(text):
 
 def judged_rows(room):
     """The traces of the rows of `judge`, by name, each with what `judge` prints."""
-    for row in sorted(glob.glob(f"{ROOT}/tests/rows/judge/*")):
-        has = set(os.listdir(row))
-        if not {"stdin", "stdout"} <= has or has & {"each", "memory"} or "--octets" in read(f"{row}/args"):
+    for row in rows("judge/*"):
+        if not is_plain(row) or not row.stdout or b"--octets" in row.words:
             continue
-        text = read(f"{row}/stdin")
-        yield os.path.basename(row), text if is_whole(text) else with_texts(room, text), read(f"{row}/stdout")
+        text = row.text.decode()
+        yield row.name, text if is_whole(text) else with_texts(room, text), row.stdout.decode()
 
 
 def is_counted(text):

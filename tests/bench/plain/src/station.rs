@@ -76,6 +76,8 @@ enum Purpose {
     TellOutput(bool),
     Abort,
     Confirm,
+    /// The StatusCode, in place of a confirm that had no good reply.
+    CheckEvents,
     ReadEvents,
     WriteSegment(usize),
     /// Whether the device has the one segment, which had no good reply.
@@ -363,7 +365,7 @@ impl<W: Wire> Station<W> {
             Some(Ok(reply)) => self.take(purpose, &reply),
             _ if attempts == ATTEMPTS => self.lose(),
             _ => {
-                if self.devices == Devices::Any && purpose.is_of_request() {
+                if self.devices == Devices::Any {
                     self.miss(purpose);
                 }
                 Said::Nothing
@@ -371,24 +373,36 @@ impl<W: Wire> Station<W> {
         }
     }
 
-    /// A message of the request had no good reply. One that held the whole text goes out no more: a device that
-    /// handed it over would take it for another request. A question goes out in its place.
+    /// A message had no good reply. A confirm goes out no more, as it might clear events that weren't read, nor does
+    /// one that held the whole text of a request: a device that handed it over would take it for another request. A
+    /// question goes out in its place.
     fn miss(&mut self, purpose: Purpose) {
+        if purpose == Purpose::Confirm {
+            self.confirm_due = false;
+            self.ask_instead(Purpose::CheckEvents, Mc::read(Channel::Diagnosis, 0));
+        }
+        if !purpose.is_of_request() {
+            return;
+        }
         self.again = true;
         if purpose == Purpose::WriteSegment(0) && self.cutter.count(self.layout.od) == 1 {
             self.again = false;
             self.stage = Some(Stage::Doubting);
-            let mc = Mc::read(Channel::Isdu, START);
-            let msg = MasterMsg {
-                mc,
-                out: &self.carried,
-                od: &[],
-            };
-            write_master(&self.layout, &msg, &mut self.message);
-            if let Some(out) = &mut self.out {
-                out.purpose = Purpose::AskWhether;
-                out.read = true;
-            }
+            self.ask_instead(Purpose::AskWhether, Mc::read(Channel::Isdu, START));
+        }
+    }
+
+    /// This read goes out in place of the message that is out.
+    fn ask_instead(&mut self, purpose: Purpose, mc: Mc) {
+        let msg = MasterMsg {
+            mc,
+            out: &self.carried,
+            od: &[],
+        };
+        write_master(&self.layout, &msg, &mut self.message);
+        if let Some(out) = &mut self.out {
+            out.purpose = purpose;
+            out.read = true;
         }
     }
 
@@ -469,6 +483,7 @@ impl<W: Wire> Station<W> {
             }
             Purpose::Abort => Mc::read(Channel::Isdu, ABORT),
             Purpose::Confirm => self.write(&mut od, Channel::Diagnosis, 0, 0),
+            Purpose::CheckEvents => Mc::read(Channel::Diagnosis, 0),
             Purpose::ReadEvents => Mc::read(Channel::Diagnosis, self.reader.address()),
             Purpose::WriteSegment(segment) => {
                 self.cutter.put(segment, self.layout.od, &mut od);
@@ -541,6 +556,7 @@ impl<W: Wire> Station<W> {
                 self.confirm_due = false;
                 Said::Nothing
             }
+            Purpose::CheckEvents => Said::Nothing,
             Purpose::ReadEvents => self.take_event_octet(reply.od[0]),
             Purpose::WriteSegment(segment) => self.written(segment),
             Purpose::AskWhether => self.take_whether(reply.od, again),
