@@ -317,13 +317,42 @@ page.requestName = function requestName(text) {
   return `${name} = ${octets.slice(0, MOST_SHOWN).join(' ')} … (${octets.length} octets)`;
 };
 
+/** The standard's names of Indexes, SystemCommands and ErrorTypes: the guide lists them. */
+const NAMES = JSON.parse(document.getElementById('names').textContent);
+
+/** A text, and in brackets what the standard calls it, where it has a name for it. */
+const named = (text, ...names) => {
+  const known = names.filter(Boolean).join(' ');
+  return known ? `${text} (${known})` : text;
+};
+
+/** A request in short, with the names of its Index and of its SystemCommand. */
+page.requestInWords = function requestInWords(text) {
+  const [, index, command] = /^\w+ (\d+) \d+(?: (.*))?$/.exec(text ?? '') ?? [];
+  const asked = NAMES.Index[index] === 'SystemCommand' ? NAMES.SystemCommand[command] : undefined;
+  return named(page.requestName(text), NAMES.Index[index], asked);
+};
+
+/** An answer, with the name of its ErrorType. */
+page.answerInWords = function answerInWords(text) {
+  return named(text, NAMES.ErrorType[/^refused (.. ..)$/.exec(text)?.[1]]);
+};
+
+/** What the client was told of a ticket, an answer with its name. */
+page.toldInWords = function toldInWords(ticket) {
+  const { outcome } = ticket;
+  return outcome?.end === 'done' ? `done: ${page.answerInWords(outcome.answer)}`
+    : page.toldOf(ticket);
+};
+
 /** A number of times. */
 page.timesName = (count) => ['never', 'once', 'twice'][count] ?? `${count} times`;
 
 /** What the device's record says of a request. */
 page.recordOf = function recordOf({ carried, times: { least, most }, entries }) {
   if (carried !== 'yes') return { no: 'not carried out', untold: 'not told' }[carried];
-  const answers = entries.length ? `: ${entries.map((it) => it.answer).join(', ')}` : '';
+  const texts = entries.map((it) => page.answerInWords(it.answer));
+  const answers = texts.length ? `: ${texts.join(', ')}` : '';
   if (least < most) return `carried out at least ${page.timesName(least)}`;
   return least > 1 ? `carried out ${page.timesName(least)}${answers}` : `carried out${answers}`;
 };

@@ -111,8 +111,8 @@ function ticketRow(ticket) {
   const place = request ? `${exchangeLink(request.first)} to ${exchangeLink(request.last)}` : '–';
   const record = request ? safe(page.recordOf(request)) : 'not told';
   return `<tr><td class="number"><a href="#line=${line}">${number}</a>${order}</td>
-    <td>${request ? safe(page.requestName(request.text)) : '–'}</td>
-    <td class="number">${place}</td><td>${safe(page.toldOf(ticket))}</td>
+    <td>${request ? safe(page.requestInWords(request.text)) : '–'}</td>
+    <td class="number">${place}</td><td>${safe(page.toldInWords(ticket))}</td>
     <td>${markedRecord(request, record)}</td></tr>`;
 }
 

@@ -353,6 +353,11 @@ function readUnjudged(reader, rest) {
   reader.unjudged = { count: Number(count), line: reader.line };
 }
 
+/** What the judge says of its input, which the page doesn't draw: its form. */
+const ofInput = (regexp, form) => (reader, rest) => {
+  matched(regexp, rest, form);
+};
+
 function readHonest(reader, rest) {
   const form = 'honest N exchanges, M lost';
   const [, judged, lost] = matched(/^(\d+) exchanges, (\d+) lost$/, rest, form);
@@ -446,6 +451,10 @@ const CALLS = new Map([
 const OF_JUDGE = new Map([
   ['unjudged', readUnjudged], ['honest', readHonest], ['not', readGuilty], ["can't", readCantSay],
   ['master', readMaster], ['kind', readKinds], ['odd', readOddCount],
+  ['lines', ofInput(/^skipped [1-9]\d*$/, 'lines skipped N')],
+  ['octets', ofInput(/^passed over [1-9]\d*$/, 'octets passed over N')],
+  ['at', ofInput(/^COM[123] the octets (?:overlap|are far apart); is it COM[123]\?$/,
+    'at RATE ..; is it RATE?')],
 ]);
 
 const JUDGED_CALLS = new Map([['odd', readOdd]]);

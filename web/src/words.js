@@ -146,8 +146,8 @@ function oddInWords({ odd, oddities }) {
 function surpriseInWords(request) {
   const { ticket, first, text, isTwice, isOther, times, entries } = request;
   const name = `${ticket ? `Ticket ${ticket.number}` : 'A request'},
-    ${safe(page.requestName(text))}`;
-  const told = `<strong>${safe(ticket ? page.toldOf(ticket) : 'nothing')}</strong>`;
+    ${safe(page.requestInWords(text))}`;
+  const told = `<strong>${safe(ticket ? page.toldInWords(ticket) : 'nothing')}</strong>`;
   const link = `<a href="#exchange=${state.trace.exchanges[first].number}">See it</a>`;
   if (isTwice) {
     return `<li class="twice">${page.signOf(request)} Carried out
@@ -156,7 +156,8 @@ function surpriseInWords(request) {
   }
   if (isOther) {
     return `<li class="other">${name}: the client was told ${told}; the device answered
-      <strong>${safe(entries.at(-1).answer)}</strong>. ${rules(['REQ-15'])} ${link}</li>`;
+      <strong>${safe(page.answerInWords(entries.at(-1).answer))}</strong>. ${rules(['REQ-15'])}
+      ${link}</li>`;
   }
   return `<li>${name}: the client was told ${told}; the device <strong>did it</strong>, once.
     ${link}</li>`;
@@ -167,7 +168,7 @@ function againInWords({ again, requests }) {
   const isShown = (it) => requests.some((each) => each.isTwice && each.text === it.text);
   return again.filter((it) => !isShown(it)).map(({ text, times }) => (
     `<li class="twice">◆◆ Carried out more often than asked, by ${times}:
-      ${safe(page.requestName(text))}.</li>`));
+      ${safe(page.requestInWords(text))}.</li>`));
 }
 
 /** Of which kind the device is taken to be, where it is none of ours and no verdict says it. */
@@ -232,8 +233,8 @@ function aboutRequest({ request }) {
   const { ticket, byOrder, text } = request;
   const found = byOrder ? ' (by order)' : '';
   const name = ticket ? `ticket ${ticket.number}${found}` : 'a request without a ticket';
-  const told = ticket ? ` Its client was told: ${page.toldOf(ticket)}.` : '';
-  return `<li>It belongs to ${name}: ${safe(page.requestName(text))}.${safe(told)}
+  const told = ticket ? ` Its client was told: ${page.toldInWords(ticket)}.` : '';
+  return `<li>It belongs to ${name}: ${safe(page.requestInWords(text))}.${safe(told)}
     The device’s record: ${safe(page.recordOf(request))}.</li>`;
 }
 

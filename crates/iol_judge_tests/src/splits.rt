@@ -359,7 +359,10 @@ fn exports_of_tools_are_read(rt: HostRuntime) {
         OctetLine::parse_in(timed, b"Samplerate: 1000000"),
         Some(OctetLine::Form(sampled))
     );
-    assert_eq!(rt; OctetLine::parse_in(timed, b"2010-2090 uart-1: 00"), None);
+    assert_eq!(rt;
+        OctetLine::parse_in(timed, b"2010-2090 uart-1: 00"),
+        Some(OctetLine::Unsampled)
+    );
     assert_eq!(rt;
         OctetLine::parse_in(sampled, b"2010-2090 uart-1: 1B"),
         Some(OctetLine::Octet(2_010_000, 0x1B))

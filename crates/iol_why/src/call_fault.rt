@@ -16,6 +16,10 @@ pub enum CallFault {
     ReplyMissing(Option<u64>),
     /// It is a reply, and no message waits for one.
     MessageMissing,
+    /// It is an annotation without a time.
+    NoTime,
+    /// It has the numbers of samples, and no line above says how many are taken in a second.
+    NoSampleRate,
     /// What it shows can't be split into messages and replies.
     Split(SplitFault),
 }
@@ -42,6 +46,12 @@ impl fmt::Display for CallFault {
             CallFault::ReplyMissing(None) => f.write_str("the message before has no reply line"),
             CallFault::MessageMissing => {
                 f.write_str("a reply, and no message before it waits for one; wanted: N > ..")
+            }
+            CallFault::NoTime => f.write_str(
+                "an octet without its time; wanted: what sigrok-cli --protocol-decoder-samplenum prints",
+            ),
+            CallFault::NoSampleRate => {
+                f.write_str("sample numbers, and no samples a second; wanted above: Samplerate: HZ")
             }
             CallFault::Split(fault) => f.write_str(wanted_in_place_of(fault)),
         }
@@ -78,6 +88,8 @@ pub(crate) fn call_fault_of(
         },
         LineFault::ReplyMissing => CallFault::ReplyMissing(call),
         LineFault::MessageMissing => CallFault::MessageMissing,
+        LineFault::NoTime => CallFault::NoTime,
+        LineFault::NoSampleRate => CallFault::NoSampleRate,
         LineFault::Split(fault) => CallFault::Split(fault),
     })
 }

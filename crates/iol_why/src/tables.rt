@@ -398,15 +398,11 @@ pub(crate) static TRACE: [LineForm; 6] = [
         word!("page"),
         PAGE
     ),
-    form!(
-        "passed over, as other lines are",
-        word!("page"),
-        word!("none")
-    ),
+    form!("passed over", word!("page"), word!("none")),
 ];
 
 /// The lines of a decoder's export.
-pub(crate) static OCTETS: [LineForm; 2] = [
+pub(crate) static OCTETS: [LineForm; 3] = [
     form!(
         "an octet, as A2 or 0xA2, and when it begins: 12.000042",
         one!(SECONDS),
@@ -416,5 +412,10 @@ pub(crate) static OCTETS: [LineForm; 2] = [
         "a wake-up request, where the decoder shows them",
         one!(SECONDS),
         word!("wake")
+    ),
+    form!(
+        "in front: it begins in OPERATE, at a device with this page, 0x02 to 0x0B",
+        word!("page"),
+        PAGE
     ),
 ];

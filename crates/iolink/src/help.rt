@@ -124,7 +124,8 @@ Reads standard input to its end: the lines that 'iolink trace' prints.
 ";
 
 /// Before the lines of an export.
-const OCTETS: &str = "  ..                      a line that begins otherwise is passed over
+const OCTETS: &str =
+    "  ..                      a line that begins otherwise is counted: 'lines skipped COUNT'
 N is any number at first, and then the next. It prints of the device one of these lines:
   honest COUNT exchanges, COUNT lost
   not honest at N: NUMBER NAME: TEXT (RULE)
@@ -154,7 +155,9 @@ passed over up to the next message that does, and so are octets with framing or 
 COUNT'. In PREOPERATE and OPERATE such a read may be none; a fault of the master behind it, or behind damage, is
   master can't be judged from N on: TEXT
 Read are too: what sigrok-cli prints with --protocol-decoder-samplenum and what PulseView exports, behind a line
-'Samplerate: HZ'; tables of Logic 1 and Logic 2 with their headers. Lines of anything else are 'lines skipped COUNT'.
+'Samplerate: HZ'; what sigrok-cli prints with --protocol-decoder-jsontrace; tables of Logic 1 and Logic 2 with their
+headers. Lines of anything else are 'lines skipped COUNT'. Where the times of octets speak for another rate, it says so:
+  at RATE the octets overlap; is it RATE?   or   are far apart
 
 With --trace it prints what they are split into before all that, as it comes, and up to a bad line. A call has the lines
 of 'iolink trace', and before them 'time SECONDS', when its message or its wake-up request began:
