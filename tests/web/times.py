@@ -7,7 +7,7 @@ import random
 import re
 import subprocess
 
-from large import OPEN_MS, STALL_MS, open_time, move_time, repeated, within
+from large import EXCHANGES, SCALES, TENTH, least_move_time, limits, open_time, repeated, within
 from trace_page import ROOT, missing, read, unlike
 
 OCTETS = """time 0.001868000
@@ -268,7 +268,6 @@ def check_maybe(room):
 
 def check_large_times(room):
     """As large.py, with a time before each exchange, and some pauses."""
-    trace = repeated(room.examples()["one_read"], 100_000)
     maker = random.Random(1)
 
     def begun():
@@ -277,13 +276,18 @@ def check_large_times(room):
             yield time
             time += maker.choice([2_300_000] * 50 + [10**10])
 
+    def timed(count):
+        return with_times(repeated(room.examples()["one_read"], count), begun())
+
     room.window.ask("Performance.enable", timeDomain="threadTicks")
-    opened = open_time(room, with_times(trace, begun()))
+    open_limit, move_limits = limits(room, timed(TENTH))
+    opened = open_time(room, timed(EXCHANGES))
     yield "large, with times: fault", room.fault()
-    yield "large, with times: opens", within(opened, OPEN_MS)
-    moved = max(min(move_time(room, scale) for _ in range(3)) for scale in (60, 16, 6, 0.3))
-    yield "large, with times: moves", within(moved, STALL_MS)
-    print(f"100,000 exchanges with times: {opened:.0f} ms to open, at most {moved:.0f} ms to move")
+    yield "large, with times: opens", within(opened, open_limit)
+    moved = {scale: least_move_time(room, scale) for scale in SCALES}
+    for scale in SCALES:
+        yield f"large, with times: moves at {scale} px an exchange", within(moved[scale], move_limits[scale])
+    print(f"{EXCHANGES:,} exchanges with times: {opened:.0f} ms to open, at most {max(moved.values()):.0f} ms to move")
 
 
 CHECKS = [
