@@ -12,7 +12,6 @@ use Rattle.iol_params.specs.declared.member.Access.TheVariants.{ReadOnly, ReadWr
 use Rattle.iol_params.specs.declared.table.OrderRule.{OrderRule}
 use Rattle.iol_params.specs.declared.table.Flaw.{Flaw}
 use Rattle.iol_params.specs.declared.table.Flaw.TheVariants.{ManagedIndex, SubindexOutOfTurn, MixedAccess, BadLength, BadDefault, NoStoredNumber, BrokenAtFirst}
-use Rattle.iol_params.specs.declared.state.Activity.{Activity}
 use Rattle.iol_params.specs.declared.state.Scope.TheVariants.{Storage}
 use Rattle.iol_params.specs.declared.state.WritesSoFar.TheVariants.{AllTaken}
 use Rattle.iol_params.specs.declared.state.Command.TheVariants.{DownloadStart, DownloadEnd}
@@ -20,13 +19,13 @@ use Rattle.iol_params.specs.Members.{fits_type, selects, big_endian}
 use Rattle.iol_params.specs.Values.{all_fit, value_at, fits_place, overlay, defaults, most_of, most_at, least_at, is_stored, is_writable, has_stored_number, holds_rule}
 use Rattle.iol_params.specs.Table.{ParamTable, table_fault, whole, is_managed, is_of_index, same_access, differs, sub_in_turn, may_stand, has_length, member_flaw, members_fault, rules_fault, rule_flaw, is_stored_number, begins_stored}
 use Rattle.iol_params.specs.State.{ParamState, is_at_rest, is_in, is_foreign, after_end, with_flag_cleared}
-use Rattle.iol_params.specs.Storage.{set_entry, set_octets, crc32, checksum_over}
+use Rattle.iol_params.specs.Storage.{set_octets, crc32}
 use Rattle.iol_params.specs.Carry.{is_read_only_at, rules_hold, is_consistent, first_refusal, place_refusal, access_refusal, content_refusal, alone_refusal, write_refusal, write_settled, write, own_command, unless_foreign, command, download_settled}
-use Rattle.iol_params.specs.Laws.{after_writes, all_written, IsConsistent, stored_set, set_of, SetFits, SetsFit}
+use Rattle.iol_params.specs.Laws.{ParamChange, after_changes, all_written, writings, stored_set, set_of, SetsFit}
 use Rattle.iol_params.proofs.Consistency.{and-both, fault_or-none, rule-none, stored-all, table-none}
 use Rattle.iol_params.proofs.TableLemmas.{value-length}
 use Rattle.iol_params.proofs.Downloads.{downloading}
-use Rattle.iol_params.proofs.Sets.{count-first, count-none, and-parts, or-parts, or-first, or-second, or-then, is_fixed, stands-fixed, Parses, fixed-parses, one-parses, parses-fit, least-length}
+use Rattle.iol_params.proofs.Sets.{entries_of, set-entries, count-first, count-none, and-parts, or-parts, or-first, or-second, or-then, is_fixed, stands-fixed, Parses, fixed-parses, one-parses, parses-fit, least-length}
 
 -- what a member without a flaw is
 pub record Stands (all before : List Member) (m : Member) : Type 0 where
@@ -666,8 +665,9 @@ module _ (table : ParamTable) (from to : ParamState)
   -- so are all of them
   pub set-written : (before : List Member) (row : ℕ) (rest done : List Member)
       → members_fault rows before row rest ≡ None → AreInside rest rows
-      → (after_writes table (at done) (stored_set rows from.values rest) ≡ at (taken done rest))
-      × (all_written table (at done) (stored_set rows from.values rest) ≡ true)
+      → (after_changes table (at done) (writings (stored_set rows from.values rest))
+      ≡ at (taken done rest))
+      × (all_written table (at done) (writings (stored_set rows from.values rest)) ≡ true)
   set-written before row [] done h inside = (refl, refl)
   set-written before row (m ∷ rest) done h inside =
       let parts = first-stands rows before row m rest h in
@@ -685,66 +685,37 @@ module _ (table : ParamTable) (from to : ParamState)
       more : List (Place × List ℕ)
       more = stored_set rows from.values rest
 
-      set : Bool → List (Place × List ℕ)
-      set b = if b then (place, octets) ∷ more else more
+      later : List ParamChange
+      later = writings more
+
+      set : Bool → List ParamChange
+      set b = writings (if b then (place, octets) ∷ more else more)
 
       last : Bool → ParamState
       last b = at (if b then taken (m ∷ done) rest else taken done rest)
 
       by : (b : Bool) → begins_stored m ≡ b
           → (is_stored m.access ≡ true → write table (at done) place octets ≡ (None, at (m ∷ done)))
-          → ((next : List Member) → (after_writes table (at next) more ≡ at (taken next rest))
-          × (all_written table (at next) more ≡ true))
-          → (after_writes table (at done) (set (begins_stored m)) ≡ last (begins_stored m))
+          → ((next : List Member) → (after_changes table (at next) later ≡ at (taken next rest))
+          × (all_written table (at next) later ≡ true))
+          → (after_changes table (at done) (set (begins_stored m)) ≡ last (begins_stored m))
           × (all_written table (at done) (set (begins_stored m)) ≡ true)
       by true e step all =
           let kept = (and-parts (is_stored m.access) (nat_le m.place.sub 1) e).0 in
           let now = step kept in
           let left = all (m ∷ done) in (
-            ap (λ (b : Bool). after_writes table (at done) (set b)) e
-                ∙ (ap (λ (r : Option ErrorType × ParamState). after_writes table r.1 more) now
+            ap (λ (b : Bool). after_changes table (at done) (set b)) e
+                ∙ (ap (λ (r : Option ErrorType × ParamState). after_changes table r.1 later) now
                 ∙ (left.0 ∙ sym (ap last e))),
             ap (λ (b : Bool). all_written table (at done) (set b)) e
                 ∙ (ap (λ (r : Option ErrorType × ParamState).
-                is_none r.0 && all_written table r.1 more) now ∙ left.1),
+                is_none r.0 && all_written table r.1 later) now ∙ left.1),
           )
       by false e step all =
           let left = all done in (
-            ap (λ (b : Bool). after_writes table (at done) (set b)) e ∙ (left.0 ∙ sym (ap last e)),
+            ap (λ (b : Bool). after_changes table (at done) (set b)) e ∙ (left.0 ∙ sym (ap last e)),
             ap (λ (b : Bool). all_written table (at done) (set b)) e ∙ left.1,
           )
-
--- what the checksum is over, by the set
-abbrev pub entries_of : List (Place × List ℕ) → List ℕ
-entries_of [] = []
-entries_of (w ∷ ws) = set_entry w.0.index w.1 ++ entries_of ws
-
-pub set-entries : (ms : List Member) (values : List (List ℕ)) (rest : List Member)
-    → set_octets ms values rest ≡ entries_of (stored_set ms values rest)
-set-entries ms values [] = refl
-set-entries ms values (m ∷ rest) = by (begins_stored m) refl (set-entries ms values rest)
-  where
-    place : Place
-    place = whole m.place.index
-
-    more : List (Place × List ℕ)
-    more = stored_set ms values rest
-
-    left : Bool → List ℕ
-    left b =
-        if b then set_entry m.place.index (value_at ms values place)
-        ++ set_octets ms values rest
-        else set_octets ms values rest
-
-    right : Bool → List ℕ
-    right b = entries_of (if b then (place, value_at ms values place) ∷ more else more)
-
-    by : (b : Bool) → begins_stored m ≡ b → set_octets ms values rest ≡ entries_of more
-        → left (begins_stored m) ≡ right (begins_stored m)
-    by true e same = ap left e
-        ∙ (ap (λ l. set_entry m.place.index (value_at ms values place) ++ l) same
-        ∙ sym (ap right e))
-    by false e same = ap left e ∙ (same ∙ sym (ap right e))
 
 pub foreign-none : (to : ParamState) → is_at_rest to.activity ≡ true
     → is_foreign Storage to.activity ≡ false
@@ -771,8 +742,8 @@ sets-fit table from to sound a b resting unlocked =
     let start : (command table to Storage DownloadStart).1
     ≡ at (mixed [] ms from.values to.values)
     = ap (λ (r : Option ErrorType × ParamState). r.1) begun ∙ first in
-    let inside : after_writes table (command table to Storage DownloadStart).1 set ≡ at new
-    = ap (λ (s : ParamState). after_writes table s set) start ∙ all.0 in
+    let inside : after_changes table (command table to Storage DownloadStart).1 (writings set)
+    ≡ at new = ap (λ (s : ParamState). after_changes table s (writings set)) start ∙ all.0 in
     let holds : is_consistent table new ≡ true
     = rules-same ms from.values to.values done a.fit b.fit stored 0 table.rules parts.1 a.rules in
     let last : ParamState = with_flag_cleared Storage (after_end (record to { values = new })) in
@@ -789,12 +760,12 @@ sets-fit table from to sound a b resting unlocked =
     ∙ set-same ms from.values to.values done a.fit b.fit stored ms stored in
     record {
       begins = ap (λ (r : Option ErrorType × ParamState). r.0) begun;
-      written = ap (λ (s : ParamState). all_written table s set) start ∙ all.1;
+      written = ap (λ (s : ParamState). all_written table s (writings set)) start ∙ all.1;
       ends = ap (λ (r : Option ErrorType × ParamState). r.0) done-now;
       same = same;
       checksum =
           let octets : ParamState → List ℕ = λ (s : ParamState). set_octets ms s.values ms in
-          ap crc32 (set-entries ms (own (after_writes table
-          (command table to Storage DownloadStart).1 set)).1.values ms
+          ap crc32 (set-entries ms (own (after_changes table
+          (command table to Storage DownloadStart).1 (writings set))).1.values ms
           ∙ (ap entries_of same ∙ sym (set-entries ms from.values ms)));
     }

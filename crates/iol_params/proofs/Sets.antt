@@ -1,7 +1,7 @@
 -- A set of one device fits each device of its table.
-use Rattle.std.specs.Prelude.{if◌then◌else◌, ◌&&◌, ◌||◌, ◌==◌, not, nat_le, nat_lt, length, count_by, ◌+◌, cond}
-use Rattle.std.specs.List.{list_all, list_any}
-use Rattle.std.proofs.Common.{◌≡◌, ◌≤◌, ℕ, Bool, true, false, refl, List, [], ◌∷◌, ◌++◌, Option, Some, None, ap, sym, ◌∙◌, arith, take, drop}
+use Rattle.std.specs.Prelude.{if◌then◌else◌, ◌&&◌, ◌||◌, not, length, count_by, ◌+◌, cond}
+use Rattle.std.specs.List.{list_all}
+use Rattle.std.proofs.Common.{◌≡◌, ◌≤◌, ℕ, Bool, true, false, refl, List, [], ◌∷◌, ◌++◌, ap, sym, ◌∙◌, arith, take, drop}
 use Rattle.std.proofs.lemmas.Grind.{common_steps}
 use Rattle.std.proofs.lemmas.List.Recursion.{is_count_by}
 use Rattle.std.proofs.lemmas.List.{append-nil, length-append, take_at, drop_at, take_all, drop_all}
@@ -9,12 +9,11 @@ use Rattle.iol_isdu.specs.declared.values.Place.{Place}
 use Rattle.iol_params.specs.declared.member.Member.{Member}
 use Rattle.iol_params.specs.declared.member.DataType.{DataType}
 use Rattle.iol_params.specs.declared.member.DataType.TheVariants.{UInteger, OctetString, Text}
-use Rattle.iol_params.specs.declared.member.Access.{Access}
-use Rattle.iol_params.specs.declared.member.Access.TheVariants.{ReadOnly, ReadWrite, Stored}
 use Rattle.iol_params.specs.Members.{fits_type, longest, selects}
-use Rattle.iol_params.specs.Values.{all_fit, value_at, fits_place, overlay, most_of, least_at, is_stored}
-use Rattle.iol_params.specs.Table.{whole, is_of_index, same_access, differs, may_stand, begins_stored}
-use Rattle.iol_params.specs.Carry.{is_read_only_at}
+use Rattle.iol_params.specs.Values.{all_fit, value_at, fits_place, most_of, least_at}
+use Rattle.iol_params.specs.Table.{whole, may_stand, begins_stored}
+use Rattle.iol_params.specs.Storage.{set_entry, set_octets}
+use Rattle.iol_params.specs.Laws.{stored_set}
 use Rattle.iol_params.proofs.Consistency.{and-both}
 
 pub and-parts : (a b : Bool) → (a && b) ≡ true → (a ≡ true) × (b ≡ true)
@@ -198,3 +197,35 @@ least-length (m ∷ ms) (v ∷ values) place fit = grind (
   least-length ms values place,
   length-append v (value_at ms values place),
 )
+
+-- what the checksum is over, by the set
+abbrev pub entries_of : List (Place × List ℕ) → List ℕ
+entries_of [] = []
+entries_of (w ∷ ws) = set_entry w.0.index w.1 ++ entries_of ws
+
+pub set-entries : (ms : List Member) (values : List (List ℕ)) (rest : List Member)
+    → set_octets ms values rest ≡ entries_of (stored_set ms values rest)
+set-entries ms values [] = refl
+set-entries ms values (m ∷ rest) = by (begins_stored m) refl (set-entries ms values rest)
+  where
+    place : Place
+    place = whole m.place.index
+
+    more : List (Place × List ℕ)
+    more = stored_set ms values rest
+
+    left : Bool → List ℕ
+    left b =
+        if b then set_entry m.place.index (value_at ms values place)
+        ++ set_octets ms values rest
+        else set_octets ms values rest
+
+    right : Bool → List ℕ
+    right b = entries_of (if b then (place, value_at ms values place) ∷ more else more)
+
+    by : (b : Bool) → begins_stored m ≡ b → set_octets ms values rest ≡ entries_of more
+        → left (begins_stored m) ≡ right (begins_stored m)
+    by true e same = ap left e
+        ∙ (ap (λ l. set_entry m.place.index (value_at ms values place) ++ l) same
+        ∙ sym (ap right e))
+    by false e same = ap left e ∙ (same ∙ sym (ap right e))

@@ -1,11 +1,14 @@
 -- What a reader may conclude of a manager, whatever happens.
-use Rattle.std.specs.Prelude.{◌≡◌, ℕ, Bool, true, false, ◌&&◌, if◌then◌else◌, List, [], ◌∷◌, Option, Some, None, is_none}
+use Rattle.std.specs.Prelude.{◌≡◌, ℕ, Bool, true, false, ◌&&◌, ◌||◌, if◌then◌else◌, List, [], ◌∷◌, Option, Some, None, is_none}
+use Rattle.std.specs.List.{list_all}
 use Rattle.iol_isdu.specs.declared.values.Place.{Place}
 use Rattle.iol_params.specs.declared.error_type.ErrorType.{ErrorType}
 use Rattle.iol_params.specs.declared.member.Member.{Member}
 use Rattle.iol_params.specs.declared.state.Scope.{Scope}
 use Rattle.iol_params.specs.declared.state.Scope.TheVariants.{Storage}
-use Rattle.iol_params.specs.declared.state.Activity.TheVariants.{Upload}
+use Rattle.iol_params.specs.declared.state.WritesSoFar.TheVariants.{AllTaken}
+use Rattle.iol_params.specs.declared.state.Activity.{Activity}
+use Rattle.iol_params.specs.declared.state.Activity.TheVariants.{Idle, Upload, Download}
 use Rattle.iol_params.specs.declared.state.Command.{Command}
 use Rattle.iol_params.specs.declared.state.Command.TheVariants.{UploadEnd, DownloadStart, DownloadEnd, DownloadStore, FactoryReset, BackToBox}
 use Rattle.iol_params.specs.Values.{all_fit, overlay, value_at}
@@ -28,46 +31,76 @@ after_change table s (Setting place octets) = local_change table s place octets
 after_change table s (Commanding scope asked) = command table s scope asked
 after_change table s Over = (None, after_end s)
 
--- the state behind writes, one after the other
-abbrev pub after_writes : ParamTable → ParamState → List (Place × List ℕ) → ParamState
-after_writes table s [] = s
-after_writes table s (w ∷ ws) = after_writes table (write table s w.0 w.1).1 ws
+-- the state behind changes, one after the other
+abbrev pub after_changes : ParamTable → ParamState → List ParamChange → ParamState
+after_changes table s [] = s
+after_changes table s (c ∷ cs) = after_changes table (after_change table s c).1 cs
 
--- whether each of them was Written
-abbrev pub all_written : ParamTable → ParamState → List (Place × List ℕ) → Bool
+-- whether an answer is Written, if it is one to a write
+abbrev pub is_written : ParamChange → Option ErrorType → Bool
+is_written (Writing place octets) answer = is_none answer
+is_written _ answer = true
+
+-- whether each write among them is Written
+abbrev pub all_written : ParamTable → ParamState → List ParamChange → Bool
 all_written table s [] = true
-all_written table s (w ∷ ws) = is_none (write table s w.0 w.1).0
-    && all_written table (write table s w.0 w.1).1 ws
+all_written table s (c ∷ cs) = is_written c (after_change table s c).0
+    && all_written table (after_change table s c).1 cs
 
--- the values with all of them, in order
-abbrev pub with_writes : List Member → List (List ℕ) → List (Place × List ℕ) → List (List ℕ)
+abbrev pub with_write_of : List Member → List (List ℕ) → ParamChange → List (List ℕ)
+with_write_of members values (Writing place octets) = overlay members values place octets
+with_write_of members values _ = values
+
+-- the values with all that is written, in order
+abbrev pub with_writes : List Member → List (List ℕ) → List ParamChange → List (List ℕ)
 with_writes members values [] = values
-with_writes members values (w ∷ ws) = with_writes members (overlay members values w.0 w.1) ws
-
--- a download is applied whole or not at all: from its start on the values in force stay as they
--- are. Its end, if it is Written, brings all of its writes, in order, each of which was Written
-pub record WholeOrNot (table : ParamTable) (s : ParamState) (scope : Scope) (asked : Command)
-    (ws : List (Place × List ℕ)) (begun inside : ParamState)
-    (last : Option ErrorType × ParamState) : Type 0 where
-  pub waits : inside.values ≡ s.values
-  pub whole : last.0 ≡ None → (all_written table begun ws ≡ true)
-      × (last.1.values ≡ with_writes table.members s.values ws)
-      × (is_consistent table last.1.values ≡ true)
-  pub none : (why : ErrorType) → last.0 ≡ Some why → last.1.values ≡ s.values
-  pub over : (after_end inside).values ≡ s.values
+with_writes members values (c ∷ cs) = with_writes members (with_write_of members values c) cs
 
 abbrev pub is_download_end : Command → Bool
 is_download_end DownloadEnd = true
 is_download_end DownloadStore = true
 is_download_end _ = false
 
+abbrev pub is_upload_end : Command → Bool
+is_upload_end UploadEnd = true
+is_upload_end _ = false
+
+-- whether a command is the end of an activity that isn't the one under way
+abbrev pub ends_another : Activity → Command → Bool
+ends_another Idle asked = false
+ends_another (Upload scope) asked = is_download_end asked
+ends_another (Download scope writes) asked = is_upload_end asked
+
+-- what may come in an activity, which goes on: writes, changes at the device, and the commands
+-- that are refused. All others end it, or begin it anew
+-- ACT-6
+abbrev pub is_inside : Activity → ParamChange → Bool
+is_inside activity (Writing place octets) = true
+is_inside activity (Setting place octets) = true
+is_inside activity (Commanding scope asked) =
+    is_foreign scope activity || ends_another activity asked
+is_inside activity Over = false
+
+-- a download is applied whole or not at all: from its start on the values in force stay as they
+-- are, whatever comes inside. Its end, if it is Written, brings all of its writes, in order, each
+-- of which was Written
+pub record WholeOrNot (table : ParamTable) (s : ParamState) (cs : List ParamChange)
+    (begun inside : ParamState) (last : Option ErrorType × ParamState) : Type 0 where
+  pub waits : inside.values ≡ s.values
+  pub whole : last.0 ≡ None → (all_written table begun cs ≡ true)
+      × (last.1.values ≡ with_writes table.members s.values cs)
+      × (is_consistent table last.1.values ≡ true)
+  pub none : (why : ErrorType) → last.0 ≡ Some why → last.1.values ≡ s.values
+  pub over : (after_end inside).values ≡ s.values
+
 abbrev pub DownloadsAreWhole : Type 0
 DownloadsAreWhole = (table : ParamTable) (s : ParamState) (scope : Scope) (asked : Command)
-    (ws : List (Place × List ℕ)) → is_foreign scope s.activity ≡ false
+    (cs : List ParamChange) → is_foreign scope s.activity ≡ false
+    → list_all (is_inside (Download scope AllTaken)) cs ≡ true
     → is_download_end asked ≡ true
     → let begun = (command table s scope DownloadStart).1 in
-    let inside = after_writes table begun ws in
-    WholeOrNot table s scope asked ws begun inside (command table inside scope asked)
+    let inside = after_changes table begun cs in
+    WholeOrNot table s cs begun inside (command table inside scope asked)
 
 -- always each member has a value that fits, in a copy too, and each order rule holds
 pub record IsConsistent (table : ParamTable) (s : ParamState) : Type 0 where
@@ -80,11 +113,12 @@ StaysConsistent = (table : ParamTable) (s : ParamState) (what : ParamChange)
     → table_fault table.members table.rules ≡ None
     → IsConsistent table s → IsConsistent table (after_change table s what).1
 
--- while an upload lasts no write changes a value
+-- while an upload lasts nothing changes a value
 abbrev pub UploadsAreOneMoment : Type 0
 UploadsAreOneMoment = (table : ParamTable) (s : ParamState) (scope : Scope)
-    (ws : List (Place × List ℕ)) → s.activity ≡ Upload scope
-    → (after_writes table s ws).values ≡ s.values
+    (cs : List ParamChange) → s.activity ≡ Upload scope
+    → list_all (is_inside (Upload scope)) cs ≡ true
+    → (after_changes table s cs).values ≡ s.values
 
 -- what Data Storage fetches of a device: each stored parameter, with its value
 abbrev pub stored_set : List Member → List (List ℕ) → List Member → List (Place × List ℕ)
@@ -97,11 +131,15 @@ stored_set members values (m ∷ ms) = if begins_stored m
 abbrev pub set_of : ParamTable → ParamState → List (Place × List ℕ)
 set_of table s = stored_set table.members s.values table.members
 
+abbrev pub writings : List (Place × List ℕ) → List ParamChange
+writings [] = []
+writings (w ∷ ws) = Writing w.0 w.1 ∷ writings ws
+
 -- the set of one device is written to another: all of it is Written, and then that has this set
 pub record SetFits (table : ParamTable) (from to : ParamState)
     (begun : Option ErrorType × ParamState) (last : Option ErrorType × ParamState) : Type 0 where
   pub begins : begun.0 ≡ None
-  pub written : all_written table begun.1 (set_of table from) ≡ true
+  pub written : all_written table begun.1 (writings (set_of table from)) ≡ true
   pub ends : last.0 ≡ None
   pub same : set_of table last.1 ≡ set_of table from
   pub checksum : checksum_over table last.1 ≡ checksum_over table from
@@ -113,7 +151,7 @@ SetsFit = (table : ParamTable) (from to : ParamState)
     → IsConsistent table from → IsConsistent table to
     → is_at_rest to.activity ≡ true → to.locks.parameters ≡ false
     → let begun = command table to Storage DownloadStart in
-    let inside = after_writes table begun.1 (set_of table from) in
+    let inside = after_changes table begun.1 (writings (set_of table from)) in
     SetFits table from to begun (command table inside Storage DownloadEnd)
 
 -- what may clear the flag: the ends of Data Storage's activities, if they are Written, and a reset

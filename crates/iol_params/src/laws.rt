@@ -2,16 +2,17 @@
 ghost use Rattle.iol_params.specs.Laws.{DownloadsAreWhole, StaysConsistent, UploadsAreOneMoment, FlagStays, SetsFit};
 
 /// A law of the definitions: a download, of a block or of Data Storage, is applied whole or not at
-/// all. Whatever is written in it, no value changes before its end. The end, if it is Written,
-/// brings all that was written, in order, none of it refused, and no order rule is broken. If the
-/// end is refused, or the activity is over, all values are as they were.
+/// all. Whatever comes in it, writes, changes at the device and commands that are refused, no value
+/// changes before its end. The end, if it is Written, brings all that was written, in order, none
+/// of it refused, and no order rule is broken. If the end is refused, or the activity is over, all
+/// values are as they were.
 ///
-/// Rule ACT-2.
+/// Rules ACT-2, ACT-3, ACT-4.
 pub fn downloads_are_whole()
     ensures { DownloadsAreWhole }
 {}
 
-/// A law of the definitions: what an upload reads is of one moment.
+/// A law of the definitions: what an upload reads is of one moment, whatever comes in it.
 pub fn uploads_are_one_moment()
     ensures { UploadsAreOneMoment }
 {}
