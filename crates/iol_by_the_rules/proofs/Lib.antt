@@ -1,0 +1,4 @@
+pub mod Telling
+pub mod StartUps
+pub mod Calls
+pub mod Lines
