@@ -7,7 +7,7 @@ ghost use Rattle.iol_params.specs.Laws.{DownloadsAreWhole, StaysConsistent, Uplo
 /// of it refused, and no order rule is broken. If the end is refused, or the activity is over, all
 /// values are as they were.
 ///
-/// Rules ACT-2, ACT-3, ACT-4.
+/// Rule ACT-2.
 pub fn downloads_are_whole()
     ensures { DownloadsAreWhole }
 {}
