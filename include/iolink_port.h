@@ -230,6 +230,11 @@ uint8_t iol_port_withdraw(iol_port *port, uint64_t ticket);
  * 36 it waits, or has an outcome. */
 uint8_t iol_port_cancel(iol_port *port, uint64_t ticket);
 
+/* Gives up the outcome of a ticket, as for a client that is gone: whatever comes of the request is dropped, and the
+ * ticket is unknown from then on. What waits is never sent; what is under way goes on, and keeps its place until its
+ * outcome comes. 252, 25 no such ticket is outstanding. */
+uint8_t iol_port_abandon(iol_port *port, uint64_t ticket);
+
 /* ---- the device: which one is expected, its cycle time, its page
  *
  * Each start-up reads the device's page, and checks it before it writes anything. What is expected, and the cycle time,
@@ -333,8 +338,9 @@ uint8_t iol_port_counters(iol_port *port, iol_counters *out);
 /* ---- the journal */
 
 /* An entry of the journal. Where `kind` is 1 the request was submitted, 2 submitted as urgent; 8 the master began to
- * send it; 9 it has this outcome; 12 it was withdrawn while it waited; 16 its outcome was handed out; 0 there is no
- * further entry. Other kinds may come. `request` counts for 1 and 2, `outcome` for 9; the kind of the other is 0. */
+ * send it; 9 it has this outcome; 12 it was withdrawn while it waited; 16 its outcome was handed out; 17 it was
+ * abandoned; 0 there is no further entry. Other kinds may come. `request` counts for 1 and 2, `outcome` for 9; the kind
+ * of the other is 0. */
 typedef struct { uint64_t ticket; uint8_t kind; iol_request request; iol_outcome outcome; } iol_entry;
 
 /* Begins a new journal, and keeps the old one, of `count` entries, for iol_port_entry; one that was kept before is given
@@ -422,6 +428,9 @@ IOL_CHECKED(port_withdraw, (iol_port *port, uint64_t ticket), iol_port_misuse(po
 
 IOL_CHECKED(port_cancel, (iol_port *port, uint64_t ticket), iol_port_misuse(port, true), (port, ticket))
 #define iol_port_cancel iol_checked_port_cancel
+
+IOL_CHECKED(port_abandon, (iol_port *port, uint64_t ticket), iol_port_misuse(port, true), (port, ticket))
+#define iol_port_abandon iol_checked_port_abandon
 
 IOL_CHECKED(port_expect, (iol_port *port, uint16_t vendor, uint32_t device, uint8_t *counts),
     iol_port_misuse(port, counts != NULL), (port, vendor, device, counts))

@@ -29,7 +29,13 @@ enum { WRITE_START = 0x70, WRITE_COUNT = 0x60, READ_START = 0xF0, READ_COUNT = 0
 
 /* The request in that state, at parameter 24, and one that is submitted between, at parameter 40: its ticket, 0 where
  * there is none, its outcome, how often it was carried out, and the octet that a read was answered with last. */
-struct job { uint64_t ticket; bool reads; bool collected; iol_outcome outcome; int carried_out; uint8_t answer; };
+struct job {
+    uint64_t ticket;
+    bool reads, collected, abandoned;
+    iol_outcome outcome;
+    int carried_out;
+    uint8_t answer;
+};
 
 enum { INDEX = 24, INDEX_BETWEEN = 40, OCTETS = 3, RECORD = 32, OUTCOMES = 80 };
 
@@ -246,6 +252,7 @@ static uint8_t call_between(enum call call)
     IS(room.counts, !configures(call) ? 0 : checked ? 2 : 1);
     jobs[1].reads = call == CALL_read || call == CALL_read_urgent;
     jobs[1].ticket = room.ticket;
+    jobs[0].abandoned = call == CALL_abandon && answered == 0;
     if (call == CALL_collect && answered == 0) {
         jobs[0].collected = true;
         jobs[0].outcome = room.outcome;
@@ -272,13 +279,18 @@ static const char *judge(const struct job *job)
     }
 }
 
-/* The outcome of a request, as it is printed; its ticket is collected then. */
+/* The outcome of a request, as it is printed; its ticket is collected then. One that was abandoned is unknown. */
 static size_t tell_job(struct job *job, char *outcomes, size_t room)
 {
     const char *name;
     if (job->ticket == 0) {
         IS(job->carried_out, 0);
         return 0;
+    }
+    if (job->abandoned) {
+        IS(collect(job), 25);
+        IS(job->carried_out <= 1, true);
+        return (size_t)snprintf(outcomes, room, "%d abandoned; ", (int)job->ticket);
     }
     if (!job->collected)
         IS(collect(job), 0);

@@ -99,8 +99,8 @@ static int cycle_time(void)
     return octet;
 }
 
-static const char *names[17] = {"none", "submitted", "urgent", "", "", "", "", "", "taken", "answered", "", "",
-                                "withdrawn", "", "", "", "collected"};
+static const char *names[18] = {"none", "submitted", "urgent", "", "", "", "", "", "taken", "answered", "", "",
+                                "withdrawn", "", "", "", "collected", "abandoned"};
 
 /* The journal that is kept, to its end. */
 static void entries(void)
@@ -108,7 +108,7 @@ static void entries(void)
     iol_entry entry;
     do {
         IS(iol_port_entry(&port, &entry), 0);
-        printf("  %llu %s", (unsigned long long)entry.ticket, names[entry.kind % 17]);
+        printf("  %llu %s", (unsigned long long)entry.ticket, names[entry.kind % 18]);
         if (entry.request.kind)
             printf(" %s %d/%d", entry.request.kind == 1 ? "read" : "write", entry.request.index, entry.request.sub);
         if (entry.outcome.kind)
@@ -159,6 +159,7 @@ static void closed_handles(void)
     IS(iol_port_collect(&none, 1, &outcome), IOL_CLOSED);
     IS(iol_port_withdraw(&none, 1), IOL_CLOSED);
     IS(iol_port_cancel(&none, 1), IOL_CLOSED);
+    IS(iol_port_abandon(&none, 1), IOL_CLOSED);
     IS(iol_port_restart(&none), IOL_CLOSED);
     IS(iol_port_set_output(&none, &octet, 1), IOL_CLOSED);
     IS(iol_port_clear_output(&none), IOL_CLOSED);
@@ -395,6 +396,30 @@ static void losses(void)
     drain();
     turns(15);
     IS(mode(), 4);
+    archive();
+}
+
+/* Of clients that are gone: one request waits, one is under way, and one is done. */
+static void abandoned(void)
+{
+    uint64_t first = 0, second = 0;
+    iol_outcome outcome;
+    uint32_t count;
+    IS(iol_port_read(&port, 16, 0, &first), 0);
+    IS(iol_port_read(&port, 16, 0, &second), 0);
+    IS(iol_port_abandon(&port, second), 0);
+    IS(iol_port_abandon(&port, second), 25);
+    turn();
+    IS(iol_port_abandon(&port, first), 0);
+    IS(iol_port_cancel(&port, first), 25);
+    IS(iol_port_collect(&port, first, &outcome), 25);
+    IS(iol_port_archive(&port, &count), 28);
+    turns(4);
+    IS(iol_port_collect(&port, first, &outcome), 25);
+    IS(iol_port_read(&port, 16, 0, &first), 0);
+    turns(4);
+    IS(iol_port_abandon(&port, first), 0);
+    IS(iol_port_collect(&port, first, &outcome), 25);
     archive();
 }
 
@@ -680,6 +705,7 @@ int main(void)
     requests();
     losses();
     cancelled_and_withdrawn();
+    abandoned();
     events();
     late_answer();
     IS(iol_device_power_cycle(&device), 0);

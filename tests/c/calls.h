@@ -58,6 +58,7 @@ enum { OUTPUT = 0x5A, OUTPUT_BETWEEN = 0xA5 };
     X(cancel, BY_STATE, (PORT, given.ticket))                                                                          \
     X(withdraw, BY_STATE, (PORT, given.ticket))                                                                        \
     X(collect, BY_STATE, (PORT, given.ticket, P(&room.outcome)))                                                       \
+    X(abandon, BY_STATE, (PORT, given.ticket))                                                                         \
     X(archive, BY_STATE, (PORT, P(&room.entries)))                                                                     \
     X(drain, LOOKS, (PORT, P(&room.entries), P(&room.restated)))                                                       \
     X(take_event, ALWAYS(0, OUTPUT, 0), (PORT, P(&room.event)))                                                        \

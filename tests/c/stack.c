@@ -169,6 +169,7 @@ static void requests(int lost)
     CALL(iol_port_read, &port, 16, 0, &ticket);
     turns(2, lost);
     CALL(iol_port_cancel, &port, ticket);
+    CALL(iol_port_abandon, &port, ticket);
     turns(100, lost);
     outcomes();
 }

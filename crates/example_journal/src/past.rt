@@ -13,7 +13,7 @@ pub enum Stand {
     Ended(String),
 }
 
-/// A ticket that wasn't collected.
+/// A ticket that was neither collected nor abandoned.
 #[derive(Drop)]
 pub struct OpenTicket {
     pub ticket: u64,
@@ -60,7 +60,7 @@ impl Past {
                 }
                 self.put(ticket, Stand::Ended(outcome))
             }
-            "collected" => self.close(ticket),
+            "collected" | "abandoned" => self.close(ticket),
             _ => bail!("that is no entry"),
         }
     }
@@ -75,8 +75,12 @@ impl Past {
     }
 
     fn put(&mut self, ticket: u64, stand: Stand) -> Result<()> {
-        let own = self.open.iter_mut().find(|own| own.ticket == ticket);
-        own.context("a ticket was never given")?.stand = stand;
+        if let Some(own) = self.open.iter_mut().find(|own| own.ticket == ticket) {
+            own.stand = stand;
+        } else if ticket > self.given {
+            bail!("a ticket was never given");
+        }
+        // one that is given, and not open, was abandoned: nobody is told
         Ok(())
     }
 

@@ -34,6 +34,7 @@ impl fmt::Display for EntryText<'_> {
             }
             Entry::Withdrawn(ticket) => write!(f, "withdrawn {}", ticket.0),
             Entry::Collected(ticket) => write!(f, "collected {}", ticket.0),
+            Entry::Abandoned(ticket) => write!(f, "abandoned {}", ticket.0),
         }
     }
 }

@@ -17,7 +17,8 @@ use Rattle.iol_book.specs.BookModel.{BookState, outstanding_count, entries_owed}
 use Rattle.iol_book.specs.Numbers.{IsNumbered}
 use Rattle.iol_book.specs.BookInside.{IsSoundBook, book_state, standing_of}
 use Rattle.iol_book.proofs.LineLemmas.{Says, among-values, request-own}
-use Rattle.iol_book.proofs.RestatedLemmas.{kept_pairs, kept_entries, kept_standing, kept_taken, kept-all, kept-replay, LeadsTo, leads-where, same-filter}
+use Rattle.iol_book.proofs.RestatedLemmas.{kept_pairs, kept_entries, kept_standing, kept_taken, kept_abandoned, kept-all, kept-replay, LeadsTo, leads-where, same-filter}
+use Rattle.iol_book.proofs.SoundLemmas.{none_abandoned}
 use Rattle.iol_book.proofs.NumberLemmas.{says-after, taken-after, open-numbers}
 
 -- the line of the one that is taken is its ticket's
@@ -33,6 +34,16 @@ taken-kept : (k : ℕ → Bool) (entries : List Entry) (taken : Option (Ticket �
     → k t.0 ≡ true) → kept_taken k (taken_at entries taken) ≡ taken_at entries taken
 taken-kept k entries None held = refl
 taken-kept k entries (Some line) held =
+    rw (held line.0 (eq-eqb line.0.0 line.0.0 refl)) refl
+
+-- and so is that it was abandoned
+abandoned-kept : (k : ℕ → Bool) (entries : List Entry) (taken : Option (Ticket × ℕ))
+    (abandoned : Bool)
+    → ((t : Ticket) → option_map_or (λ own. same_ticket t own.0) taken false ≡ true
+    → k t.0 ≡ true) → (taken_at entries taken ≡ None → abandoned ≡ false)
+    → kept_abandoned k (taken_at entries taken) abandoned ≡ abandoned
+abandoned-kept k entries None abandoned held free = sym (free refl)
+abandoned-kept k entries (Some line) abandoned held free =
     rw (held line.0 (eq-eqb line.0.0 line.0.0 refl)) refl
 
 -- what is the same part by part is the same
@@ -87,10 +98,14 @@ module _ {A : Type 0} {old : Inside A} (sound : IsSoundBook old) (doubt : Option
       (rw (among-values outcome_in old.journal.items t old.outcomes.items) at found)) in
       let taken : kept_taken is_kept (standing_of old).taken ≡ (standing_of old).taken =
       taken-kept is_kept old.journal.items old.taken taken-held in
+      let abandoned : kept_abandoned is_kept (standing_of old).taken old.abandoned
+      ≡ old.abandoned = abandoned-kept is_kept old.journal.items old.taken old.abandoned
+      taken-held (none_abandoned sound) in
       λ i. record {
         urgent = urgent i;
         waiting = waiting i;
         taken = taken i;
+        abandoned = abandoned i;
         outcomes = outcomes i;
       }
 
@@ -123,6 +138,7 @@ module _ {A : Type 0} {old : Inside A} (sound : IsSoundBook old) (doubt : Option
         old.waiting.items
     pub taken : option_to_list new.taken ≡ lines_after (λ t. is_kept t.0) old.journal.items
         (option_to_list old.taken)
+    pub abandoned : new.abandoned ≡ old.abandoned
     pub outcomes : new.outcomes.items ≡ lines_after (λ t. is_kept t.0) old.journal.items
         old.outcomes.items
     pub fewer : length new.journal.items ≤ length old.journal.items
@@ -175,6 +191,7 @@ module _ {A : Type 0} {old : Inside A} (sound : IsSoundBook old) (doubt : Option
           urgent = urgent i;
           waiting = waiting i;
           taken = taken i;
+          abandoned = does.abandoned i;
           outcomes = outcomes i;
         }
 

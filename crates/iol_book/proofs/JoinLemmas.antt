@@ -8,8 +8,8 @@ use Rattle.iol_book.specs.declared.entries.Ticket.{Ticket}
 use Rattle.iol_book.specs.declared.entries.Outcome.{Outcome}
 use Rattle.iol_book.specs.declared.entries.Outcome.TheVariants.{NoIsdu}
 use Rattle.iol_book.specs.declared.entries.Entry.{Entry}
-use Rattle.iol_book.specs.declared.entries.Entry.TheVariants.{Submitted, Urgent, Taken, Answered, Withdrawn as WithdrawnEntry, Collected}
-use Rattle.iol_book.specs.BookModel.{BookState, book_with_entry, next_ticket, ended_with, leaves_unsure, book_after_collect, book_after_post, book_after_withdrawal, collect_answer, withdraw_refusal}
+use Rattle.iol_book.specs.declared.entries.Entry.TheVariants.{Submitted, Urgent, Taken, Answered, Withdrawn as WithdrawnEntry, Collected, Abandoned}
+use Rattle.iol_book.specs.BookModel.{BookState, book_with_entry, next_ticket, ended_with, leaves_unsure, book_after_collect, book_after_post, book_after_withdrawal, book_after_abandon, collect_answer, withdraw_refusal, abandon_refusal}
 use Rattle.iol_book.specs.Drained.{restated_entries}
 use Rattle.iol_book.specs.OneJournal.{entries_since, whole_book, JoinsInto, DrainsJoin}
 
@@ -56,6 +56,16 @@ module _ (earlier : List Entry) (book : BookState)
       by true = refl
       by false = rw (entered (WithdrawnEntry ticket)) refl
 
+  abandoned : (ticket : Ticket) → whole_book earlier (book_after_abandon book ticket)
+      ≡ book_after_abandon (whole_book earlier book) ticket
+  abandoned ticket = by (is_some (abandon_refusal book.standing ticket))
+    where
+      by : (b : Bool) → whole_book earlier (cond b book (book_with_entry book (Abandoned ticket)))
+          ≡ cond b (whole_book earlier book)
+          (book_with_entry (whole_book earlier book) (Abandoned ticket))
+      by true = refl
+      by false = rw (entered (Abandoned ticket)) refl
+
   joins : JoinsInto earlier book
   joins = record {
     drain = rw (
@@ -69,6 +79,7 @@ module _ (earlier : List Entry) (book : BookState)
     post = posted;
     collect = collected;
     withdrawal = withdrawn;
+    abandon = abandoned;
     reset = refl;
   }
 

@@ -4,3 +4,4 @@ pub mod RestatedLemmas
 pub mod NumberLemmas
 pub mod CompactLemmas
 pub mod JoinLemmas
+pub mod AbandonLemmas

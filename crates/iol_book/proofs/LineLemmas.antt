@@ -174,11 +174,13 @@ copied-request None found none value has = absurd (let never : false ≡ true = 
 copied-request (Some q) found some value has = ap (λ x. Some x) value
 
 pub next-request : (es : List Entry) (us ws os : TicketLines) (taken : Option (Ticket × ℕ))
-    (p : Ticket × ℕ) (r : Option Request) → is_some taken ≡ false → slice_get (us ++ ws) 0 ≡ Some p
+    (given_up : Bool) (p : Ticket × ℕ) (r : Option Request) → is_some taken ≡ false
+    → slice_get (us ++ ws) 0 ≡ Some p
     → r ≡ Some (entry_request (slice_get es p.1))
-    → r ≡ option_map (λ t. t.1) (next_taken (standing_at es us ws taken os))
-next-request es us ws os None p r none head is = rw (head-at entry_request es us ws head, is) refl
-next-request es us ws os (Some l) p r none head is = absurd (cc)
+    → r ≡ option_map (λ t. t.1) (next_taken (standing_at es us ws taken given_up os))
+next-request es us ws os None given_up p r none head is =
+    rw (head-at entry_request es us ws head, is) refl
+next-request es us ws os (Some l) given_up p r none head is = absurd (cc)
 
 -- the one that is taken stays in the journal, and is the same
 pub taken-more : (e : Entry) (es : List Entry) (taken : Option (Ticket × ℕ))

@@ -1,7 +1,7 @@
 -- A journal without the entries of tickets that are over says what it said (the clauses `state` and
 -- `replayed` of `drain_into`, the parts `in_turn` and `replayed` of `IsSoundBook`): each step, with
 -- what isn't kept left out of the standing, is the step of an entry that is kept, or none.
-use Rattle.std.proofs.Common.{◌≡◌, ℕ, Bool, true, false, ◌||◌, refl, cond, List, [], ◌∷◌, ◌++◌, Option, Some, None, ap, arith, is_some, nat_eq, ◌∙◌, sym}
+use Rattle.std.proofs.Common.{◌≡◌, ℕ, Bool, true, false, ◌||◌, ◌&&◌, refl, cond, List, [], ◌∷◌, ◌++◌, Option, Some, None, ap, arith, is_some, nat_eq, ◌∙◌, sym}
 use Rattle.std.specs.Prelude.{filter, if◌then◌else◌}
 use Rattle.std.specs.Option.{option_map, option_map_or}
 use Rattle.std.specs.Map.{lookup, remove_entry}
@@ -13,9 +13,9 @@ use Rattle.iol_book.specs.declared.entries.Ticket.{Ticket}
 use Rattle.iol_book.specs.declared.entries.Outcome.{Outcome}
 use Rattle.iol_book.specs.declared.entries.Outcome.TheVariants.{Done, Unknown, Withdrawn, NoIsdu}
 use Rattle.iol_book.specs.declared.entries.Entry.{Entry}
-use Rattle.iol_book.specs.declared.entries.Entry.TheVariants.{Submitted, Urgent, Taken, Answered, Withdrawn as WithdrawnEntry, Collected}
+use Rattle.iol_book.specs.declared.entries.Entry.TheVariants.{Submitted, Urgent, Taken, Answered, Withdrawn as WithdrawnEntry, Collected, Abandoned}
 use Rattle.iol_book.specs.Lines.{entry_ticket}
-use Rattle.iol_book.specs.Replay.{Standing, same_ticket, is_among, without, others_without, request_waiting, standing_after, replay_from}
+use Rattle.iol_book.specs.Replay.{Standing, same_ticket, is_among, is_taken, without, others_without, request_waiting, standing_after, replay_from}
 use Rattle.iol_book.specs.Drained.{IsInTurn, AreInTurn}
 
 -- a ticket of a list is found there
@@ -26,6 +26,11 @@ first-among w ws = rw (eq-eqb w.0.0 w.0.0 refl) refl
 pub later-among : {X : Type 0} (t : Ticket) (w : Ticket × X) (ws : List (Ticket × X))
     → is_among t ws ≡ true → is_among t (w ∷ ws) ≡ true
 later-among t w ws found = grind (arith, common_steps)
+
+-- the outcomes after that of a ticket
+abbrev outcomes_with : Standing → Ticket → Outcome → List (Ticket × Outcome)
+outcomes_with s t o =
+    if is_taken s t && s.abandoned then s.outcomes else insert_entry same_ticket s.outcomes t o
 
 -- entries that come where they may from this standing on, and what they lead to
 pub record LeadsTo (s : Standing) (es : List Entry) (next : Standing) : Type 0 where
@@ -53,11 +58,17 @@ module _ (k : ℕ → Bool) where
   kept_taken None = None
   kept_taken (Some p) = if k p.0.0 then Some p else None
 
+  -- whether that one was abandoned
+  abbrev pub kept_abandoned : Option (Ticket × Request) → Bool → Bool
+  kept_abandoned None abandoned = false
+  kept_abandoned (Some p) abandoned = k p.0.0 && abandoned
+
   abbrev pub kept_standing : Standing → Standing
   kept_standing s = record {
     urgent = kept_pairs s.urgent;
     waiting = kept_pairs s.waiting;
     taken = kept_taken s.taken;
+    abandoned = kept_abandoned s.taken s.abandoned;
     outcomes = kept_pairs s.outcomes;
   }
 
@@ -152,6 +163,65 @@ module _ (k : ℕ → Bool) where
       by true = turn
       by false = refl
 
+  -- none that is kept was abandoned then
+  none-kept : (t : Ticket) (taken : Option (Ticket × Request)) (b : Bool)
+      → option_map_or (λ p. same_ticket t p.0) taken true ≡ true → k t.0 ≡ false
+      → false ≡ kept_abandoned taken b
+  none-kept t None b turn goes = refl
+  none-kept t (Some p) b turn goes = grind (arith, common_steps)
+
+  new-kept : (taken : Option (Ticket × Request)) → kept_abandoned taken false ≡ false
+  new-kept None = refl
+  new-kept (Some p) = elim (k p.0.0) as (λ b. (b && false) ≡ false) [ true ↦ refl | false ↦ refl ]
+
+  -- whether the ticket is the one that was abandoned
+  keeps-dropped : (t : Ticket) (s : Standing) → k t.0 ≡ true
+      → (is_taken (kept_standing s) t && kept_abandoned s.taken s.abandoned)
+      ≡ (is_taken s t && s.abandoned)
+  keeps-dropped t s stays = by s.taken
+    where
+      by : (taken : Option (Ticket × Request))
+          → (is_taken (kept_standing (record s { taken = taken })) t
+          && kept_abandoned taken s.abandoned)
+          ≡ (is_taken (record s { taken = taken }) t && s.abandoned)
+      by None = refl
+      by (Some p) = grind (arith, common_steps, stays)
+
+  keeps-outcomes : (t : Ticket) (o : Outcome) (s : Standing) → k t.0 ≡ true
+      → kept_pairs (outcomes_with s t o) ≡ outcomes_with (kept_standing s) t o
+  keeps-outcomes t o s stays =
+      rw (keeps-dropped t s stays) (by (is_taken s t && s.abandoned))
+    where
+      by : (b : Bool)
+          → kept_pairs (cond b s.outcomes (insert_entry same_ticket s.outcomes t o))
+          ≡ cond b (kept_pairs s.outcomes) (insert_entry same_ticket (kept_pairs s.outcomes) t o)
+      by true = refl
+      by false = keeps-insert t o s.outcomes stays
+
+  drops-outcomes : (t : Ticket) (o : Outcome) (s : Standing) → k t.0 ≡ false
+      → kept_pairs (outcomes_with s t o) ≡ kept_pairs s.outcomes
+  drops-outcomes t o s goes = by (is_taken s t && s.abandoned)
+    where
+      by : (b : Bool)
+          → kept_pairs (cond b s.outcomes (insert_entry same_ticket s.outcomes t o))
+          ≡ kept_pairs s.outcomes
+      by true = refl
+      by false = drops-insert t o s.outcomes goes
+
+  -- an abandoned ticket is that one where it is the one that is taken
+  keeps-abandoned : (t : Ticket) (taken : Option (Ticket × Request)) (b : Bool) → k t.0 ≡ true
+      → kept_abandoned taken (b || option_map_or (λ p. same_ticket t p.0) taken false)
+      ≡ (kept_abandoned taken b
+      || option_map_or (λ p. same_ticket t p.0) (kept_taken taken) false)
+  keeps-abandoned t None b stays = refl
+  keeps-abandoned t (Some p) b stays = grind (arith, common_steps)
+
+  drops-abandoned : (t : Ticket) (taken : Option (Ticket × Request)) (b : Bool) → k t.0 ≡ false
+      → kept_abandoned taken (b || option_map_or (λ p. same_ticket t p.0) taken false)
+      ≡ kept_abandoned taken b
+  drops-abandoned t None b goes = refl
+  drops-abandoned t (Some p) b goes = grind (arith, common_steps)
+
   -- what a step does to what is kept
   record KeptStep (s : Standing) (e : Entry) : Type 0 where
     kept : k (entry_ticket e).0 ≡ true
@@ -165,17 +235,24 @@ module _ (k : ℕ → Bool) where
       → option_map_or (λ p. same_ticket t p.0) s.taken true ≡ true
       → ((k t.0 ≡ true → kept_standing (record s {
         taken = None;
-        outcomes = insert_entry same_ticket s.outcomes t o;
+        abandoned = false;
+        outcomes = outcomes_with s t o;
       }) ≡ record (kept_standing s) {
         taken = None;
-        outcomes = insert_entry same_ticket (kept_pairs s.outcomes) t o;
+        abandoned = false;
+        outcomes = outcomes_with (kept_standing s) t o;
       }) × (k t.0 ≡ false → kept_standing (record s {
         taken = None;
-        outcomes = insert_entry same_ticket s.outcomes t o;
+        abandoned = false;
+        outcomes = outcomes_with s t o;
       }) ≡ kept_standing s))
   answered-step s t o turn = (
-    λ stays. rw (keeps-insert t o s.outcomes stays) refl,
-    λ goes. rw (drops-insert t o s.outcomes goes, ← none-taken t s.taken turn goes) refl,
+    λ stays. rw (keeps-outcomes t o s stays) refl,
+    λ goes. rw (
+      drops-outcomes t o s goes,
+      ← none-taken t s.taken turn goes,
+      ← none-kept t s.taken s.abandoned turn goes,
+    ) refl,
   )
 
   kept-step : (s : Standing) (e : Entry) → IsInTurn s e → KeptStep s e
@@ -196,12 +273,14 @@ module _ (k : ℕ → Bool) where
       keeps-taken t (request_waiting s t) stays,
       keeps-lookup t s.urgent stays,
       keeps-lookup t s.waiting stays,
+      new-kept (option_map (λ request. (t, request)) (request_waiting s t)),
     ) refl;
     turn = λ stays. rw h refl;
     dropped = λ goes. rw (
       drops-remove t s.urgent goes,
       drops-others t s.urgent s.waiting goes,
       drops-taken t (request_waiting s t) goes,
+      new-kept (option_map (λ request. (t, request)) (request_waiting s t)),
       h,
     ) refl;
   }
@@ -209,14 +288,15 @@ module _ (k : ℕ → Bool) where
     kept = λ stays. rw (
       keeps-remove t s.urgent stays,
       keeps-others t s.urgent s.waiting stays,
-      keeps-insert t NoIsdu s.outcomes stays,
+      keeps-outcomes t NoIsdu s stays,
     ) refl;
     turn = λ stays. same-taken t s.taken h;
     dropped = λ goes. rw (
       drops-remove t s.urgent goes,
       drops-others t s.urgent s.waiting goes,
-      drops-insert t NoIsdu s.outcomes goes,
+      drops-outcomes t NoIsdu s goes,
       ← none-taken t s.taken h goes,
+      ← none-kept t s.taken s.abandoned h goes,
     ) refl;
   }
   kept-step s (Answered t (Done a)) h = let step = answered-step s t (Done a) h in
@@ -242,6 +322,21 @@ module _ (k : ℕ → Bool) where
     kept = λ stays. rw (keeps-remove t s.outcomes stays) refl;
     turn = λ stays. tt;
     dropped = λ goes. rw (drops-remove t s.outcomes goes) refl;
+  }
+  kept-step s (Abandoned t) h = record {
+    kept = λ stays. rw (
+      keeps-remove t s.urgent stays,
+      keeps-others t s.urgent s.waiting stays,
+      keeps-remove t s.outcomes stays,
+      keeps-abandoned t s.taken s.abandoned stays,
+    ) refl;
+    turn = λ stays. tt;
+    dropped = λ goes. rw (
+      drops-remove t s.urgent goes,
+      drops-others t s.urgent s.waiting goes,
+      drops-remove t s.outcomes goes,
+      drops-abandoned t s.taken s.abandoned goes,
+    ) refl;
   }
 
   pub kept-replay : (s : Standing) (es : List Entry) → AreInTurn s es

@@ -3,9 +3,10 @@
 -- request (`numbered` of `IsSoundBook`), and which have no outcome (the clause `answer` of
 -- `collect_into`). Then that the step of an entry is what its call does to the standing (the clause
 -- `state` of each call), and last a lemma of each call, from what the call did to the fields.
-use Rattle.std.proofs.Common.{◌≡◌, ℕ, ◌+◌, ◌≤◌, Bool, true, false, ◌||◌, refl, cond, List, [], ◌∷◌, ◌++◌, Option, Some, None, ap, arith, is_some, nat_eq, drop, length, ◌∙◌}
+use Rattle.std.proofs.Common.{◌≡◌, ℕ, ◌+◌, ◌≤◌, Bool, true, false, ◌||◌, refl, cond, List, [], ◌∷◌, ◌++◌, Option, Some, None, ap, arith, is_some, nat_eq, drop, length, sym, ◌∙◌}
 use Rattle.std.specs.Prelude.{slice_get, if◌then◌else◌}
 use Rattle.std.specs.Option.{option_map_or, option_to_list}
+use Rattle.std.proofs.lemmas.Bool.{eq-eqb}
 use Rattle.std.proofs.lemmas.Grind.{common_steps}
 use Rattle.std.specs.Map.{lookup, remove_entry}
 use Rattle.indexmap.specs.IndexMap.{insert_entry}
@@ -13,9 +14,9 @@ use Rattle.iol_isdu.specs.declared.values.Request.{Request}
 use Rattle.iol_book.specs.declared.entries.Ticket.{Ticket}
 use Rattle.iol_book.specs.declared.entries.Outcome.{Outcome}
 use Rattle.iol_book.specs.declared.entries.Outcome.TheVariants.{Done, Unknown, Withdrawn, NoIsdu}
-use Rattle.iol_book.specs.declared.entries.Entry.TheVariants.{Submitted, Urgent, Taken, Answered, Collected}
-use Rattle.iol_book.specs.Replay.{Standing, nothing, standing_after, same_ticket, waiting_after, is_among, without, others_without, without_waiting}
-use Rattle.iol_book.specs.BookModel.{waits, is_taken, others_behind, without_first}
+use Rattle.iol_book.specs.declared.entries.Entry.TheVariants.{Submitted, Urgent, Taken, Answered, Withdrawn as WithdrawnEntry, Collected, Abandoned}
+use Rattle.iol_book.specs.Replay.{Standing, nothing, standing_after, replay_from, same_ticket, waiting_after, is_among, is_taken, without, others_without, without_waiting}
+use Rattle.iol_book.specs.BookModel.{waits, is_awaited, others_behind, without_first}
 use Rattle.iol_book.specs.Drained.{IsInTurn}
 use Rattle.iol_book.specs.Numbers.{times, times_in, IsNumbered}
 use Rattle.std.specs.VecDeque.{deque_capacity}
@@ -98,6 +99,11 @@ numbered-more more h = record {
   given = λ n above. grind (arith, common_steps, more n, h.given n);
 }
 
+-- one that is found is there
+among-once : {X : Type 0} (t : Ticket) (ws : List (Ticket × X)) → is_among t ws ≡ true
+    → 1 ≤ times_in t.0 ws
+among-once t ws found = grind (arith, common_steps, times_in-removed t.0 t ws)
+
 -- a ticket that is taken is there once
 taken-once : (t : Ticket) (taken : Option (Ticket × Request))
     → option_map_or (λ p. same_ticket t p.0) taken false ≡ true
@@ -116,6 +122,37 @@ module _ {last : ℕ} {s : Standing} (h : IsNumbered last s) where
       → lookup (same_ticket t) s.outcomes ≡ None
   waiting-unanswered t found = lookup-none t.0 t s.outcomes
       (grind (arith, common_steps, h.once t.0, times_in-leaves t.0 t s.urgent s.waiting found))
+
+  -- a ticket stands at one place
+  pub taken-alone : (t : Ticket) → is_taken s t ≡ true → (is_among t s.urgent ≡ false)
+      × ((is_among t s.waiting ≡ false) × (is_among t s.outcomes ≡ false))
+  taken-alone t found =
+      let once = taken-once t s.taken found in (
+        grind (arith, common_steps, h.once t.0, once, among-once t s.urgent),
+        (
+          grind (arith, common_steps, h.once t.0, once, among-once t s.waiting),
+          grind (arith, common_steps, h.once t.0, once, among-once t s.outcomes),
+        ),
+      )
+
+  pub waiting-alone : (t : Ticket) → waits s t ≡ true
+      → (is_taken s t ≡ false) × (is_among t s.outcomes ≡ false)
+  waiting-alone t found =
+      let once = times_in-leaves t.0 t s.urgent s.waiting found in (
+        grind (arith, common_steps, h.once t.0, once, taken-once t s.taken),
+        grind (arith, common_steps, h.once t.0, once, among-once t s.outcomes),
+      )
+
+  pub outcome-alone : (t : Ticket) → is_among t s.outcomes ≡ true → (is_taken s t ≡ false)
+      × ((is_among t s.urgent ≡ false) × (is_among t s.waiting ≡ false))
+  outcome-alone t found =
+      let once = among-once t s.outcomes found in (
+        grind (arith, common_steps, h.once t.0, once, taken-once t s.taken),
+        (
+          grind (arith, common_steps, h.once t.0, once, among-once t s.urgent),
+          grind (arith, common_steps, h.once t.0, once, among-once t s.waiting),
+        ),
+      )
 
   -- the request that is taken waits no longer
   pub taken-waits : (p : Ticket × Request) (o : Outcome) → s.taken ≡ Some p
@@ -169,13 +206,14 @@ module _ (n : ℕ) (s : Standing) where
   pub times-posted : (p : Ticket × Request) (o : Outcome) → s.taken ≡ Some p
       → times n (record s {
         taken = None;
-        outcomes = insert_entry same_ticket s.outcomes p.0 o;
+        abandoned = false;
+        outcomes = cond s.abandoned s.outcomes (insert_entry same_ticket s.outcomes p.0 o);
       }) ≤ times n s
   times-posted p o e = grind (arith, common_steps, e, times_in-insert_entry n p.0 o s.outcomes)
 
   pub times-taken : (p : Ticket × Request) → s.taken ≡ None
       → slice_get (s.urgent ++ s.waiting) 0 ≡ Some p
-      → times n (record (without_first s) { taken = Some p }) ≤ times n s
+      → times n (record (without_first s) { taken = Some p; abandoned = false }) ≤ times n s
   times-taken p none head = let leaves = head-leaves s.urgent s.waiting p head in
       let fewer = times_in-leaves n p.0 s.urgent s.waiting leaves.waits in
       rw (leaves.urgent, leaves.waiting) (grind (arith, common_steps, none, fewer))
@@ -195,24 +233,65 @@ module _ (n : ℕ) (s : Standing) where
   pub times-collected : (t : Ticket) → times n (standing_after s (Collected t)) ≤ times n s
   times-collected t = grind (arith, common_steps, times_in-remove_entry n t s.outcomes)
 
+  times-abandoned : (t : Ticket) → times n (standing_after s (Abandoned t)) ≤ times n s
+  times-abandoned t = grind (
+    arith,
+    common_steps,
+    times_in-remove_entry n t s.urgent,
+    times_in-remove_entry n t s.waiting,
+    times_in-remove_entry n t s.outcomes,
+  )
+
+-- the one that is taken is taken under its ticket
+held-taken : (s : Standing) (p : Ticket × Request) → s.taken ≡ Some p → is_taken s p.0 ≡ true
+held-taken s p e = rw (e, eq-eqb p.0.0 p.0.0 refl) refl
+
 -- what is taken, denied and posted is what the step of the entry says
 module _ (s : Standing) (p : Ticket × Request) where
   pub taken-step : slice_get (s.urgent ++ s.waiting) 0 ≡ Some p
-      → record (without_first s) { taken = Some p } ≡ standing_after s (Taken p.0)
+      → record (without_first s) { taken = Some p; abandoned = false }
+      ≡ standing_after s (Taken p.0)
   taken-step head = let leaves = head-leaves s.urgent s.waiting p head in
       rw (leaves.urgent, leaves.waiting, ← leaves.request) refl
 
   pub denied-step : s.taken ≡ None → slice_get (s.urgent ++ s.waiting) 0 ≡ Some p
       → record (without_first s) {
+        abandoned = false;
         outcomes = insert_entry same_ticket s.outcomes p.0 NoIsdu;
       } ≡ standing_after s (Answered p.0 NoIsdu)
   denied-step none head = let leaves = head-leaves s.urgent s.waiting p head in
       rw (leaves.urgent, leaves.waiting, none) refl
 
   pub posted-step : {last : ℕ} (o : Outcome) → s.taken ≡ Some p → IsNumbered last s
-      → record s { taken = None; outcomes = insert_entry same_ticket s.outcomes p.0 o }
-      ≡ standing_after s (Answered p.0 o)
-  posted-step o e h = rw (taken-waits h p o e) refl
+      → record s {
+        taken = None;
+        abandoned = false;
+        outcomes = cond s.abandoned s.outcomes (insert_entry same_ticket s.outcomes p.0 o);
+      } ≡ standing_after s (Answered p.0 o)
+  posted-step o e h = rw (taken-waits h p o e, held-taken s p e) refl
+
+-- Where none is taken none was abandoned
+
+step-free : (s : Standing) (e : Entry) → (s.taken ≡ None → s.abandoned ≡ false)
+    → (standing_after s e).taken ≡ None → (standing_after s e).abandoned ≡ false
+step-free s (Taken t) free none = refl
+step-free s (Answered t o) free none = refl
+step-free s (Abandoned t) free none = rw (free none, none) refl
+step-free s (Submitted t r) free none = free none
+step-free s (Urgent t r) free none = free none
+step-free s (WithdrawnEntry t) free none = free none
+step-free s (Collected t) free none = free none
+
+replay-free : (s : Standing) (es : List Entry) → (s.taken ≡ None → s.abandoned ≡ false)
+    → (replay_from s es).taken ≡ None → (replay_from s es).abandoned ≡ false
+replay-free s [] free none = free none
+replay-free s (e ∷ es) free none = replay-free (standing_after s e) es (step-free s e free) none
+
+pub none_abandoned : {A : Type 0} {fields : Inside A} → IsSoundBook fields
+    → (standing_of fields).taken ≡ None → fields.abandoned ≡ false
+none_abandoned {fields = fields} sound none = ap (λ s. s.abandoned) sound.replayed
+    ∙ replay-free nothing fields.journal.items (λ _. refl)
+    (sym (ap (λ s. s.taken) sound.replayed) ∙ none)
 
 -- the outcome of the one that is taken comes where it may
 posted-turn : (s : Standing) (o : Outcome) (t : Ticket) (r : Request) → s.taken ≡ Some (t, r)
@@ -253,6 +332,7 @@ record Tells {A : Type 0} (entries : List Entry) (fields : Inside A) (next : Sta
   pub waiting : Says has_request_of entry_request entries fields.waiting.items next.waiting
   pub taken : AllPass is_of entries (option_to_list fields.taken)
       × (taken_at entries fields.taken ≡ next.taken)
+  pub abandoned : fields.abandoned ≡ next.abandoned
   pub outcomes : Says is_of outcome_in entries fields.outcomes.items next.outcomes
 
 module _ {A : Type 0} {old : Inside A} (sound : IsSoundBook old) where
@@ -279,7 +359,13 @@ module _ {A : Type 0} {old : Inside A} (sound : IsSoundBook old) where
     }
       where
         stands : standing_of new ≡ next
-        stands = rw (tells.urgent.said, tells.waiting.said, tells.taken.1, tells.outcomes.said) refl
+        stands = rw (
+          tells.urgent.said,
+          tells.waiting.said,
+          tells.taken.1,
+          tells.abandoned,
+          tells.outcomes.said,
+        ) refl
 
     -- after one more entry the lines say what they said
     kept : Tells entries old (standing_of old)
@@ -287,6 +373,7 @@ module _ {A : Type 0} {old : Inside A} (sound : IsSoundBook old) where
       urgent = says-more _ e _ (λ _. refl) sound.lines.urgent_requests;
       waiting = says-more _ e _ (λ _. refl) sound.lines.waiting_requests;
       taken = taken-more e _ old.taken sound.lines.taken_within;
+      abandoned = refl;
       outcomes = says-more _ e _ (λ _. refl) sound.lines.outcomes_within;
     })
 
@@ -312,6 +399,7 @@ module _ {A : Type 0} {old : Inside A} (sound : IsSoundBook old) where
         waiting = rw (n, w) (says-new _ (Submitted t r) _ t (λ _. refl)
             (own-entry (Submitted t r)) sound.lines.waiting_requests);
         taken = same.taken;
+        abandoned = same.abandoned;
         outcomes = same.outcomes;
       })
 
@@ -328,6 +416,7 @@ module _ {A : Type 0} {old : Inside A} (sound : IsSoundBook old) where
             sound.lines.urgent_requests);
         waiting = same.waiting;
         taken = same.taken;
+        abandoned = same.abandoned;
         outcomes = same.outcomes;
       })
 
@@ -341,32 +430,66 @@ module _ {A : Type 0} {old : Inside A} (sound : IsSoundBook old) where
         urgent = same.urgent;
         waiting = same.waiting;
         taken = same.taken;
+        abandoned = same.abandoned;
         outcomes = rw o (says-without t same.outcomes);
       })
 
-  pub sound-posted : (journal : Vec Entry A) (taken : Option (Ticket × ℕ))
+  -- what is said of one that is taken, and is answered
+  posted-tells : (new : Inside A) (p : Ticket × ℕ) (o : Outcome)
+      → new.journal.items ≡ old.journal.items ++ Answered p.0 o ∷ [] → old.taken ≡ Some p
+      → new.taken ≡ None → new.abandoned ≡ false → new.urgent ≡ old.urgent
+      → new.waiting ≡ old.waiting → new.restated ≡ old.restated → new.last ≡ old.last
+      → Says is_of outcome_in new.journal.items new.outcomes.items
+      (cond old.abandoned (standing_of old).outcomes
+      (insert_entry same_ticket (standing_of old).outcomes p.0 o)) → IsSoundWithRoom new
+  posted-tells new p o n held none free us ws head last outcomes room =
+      let same = kept (Answered p.0 o) n in
+      let was = ap (λ found. taken_at old.journal.items found) held in
+      sound-entered (Answered p.0 o) n new _ refl head (posted-turn (standing_of old) o p.0 _ was)
+      (posted-step (standing_of old) _ o was sound.numbered)
+      (rw last (numbered-fewer (λ i. times-posted i (standing_of old) _ o was) sound.numbered))
+      room (record {
+        urgent = rw us same.urgent;
+        waiting = rw ws same.waiting;
+        taken = rw none (tt, refl);
+        abandoned = free;
+        outcomes = outcomes;
+      })
+
+  pub sound-posted : (journal : Vec Entry A) (taken : Option (Ticket × ℕ)) (abandoned : Bool)
       (outcomes : Vec (Ticket × ℕ) A) (unsure : Bool) (p : Ticket × ℕ) (o : Outcome)
+      → old.abandoned ≡ false
       → journal.items ≡ old.journal.items ++ Answered p.0 o ∷ []
-      → old.taken ≡ Some p → taken ≡ None
+      → old.taken ≡ Some p → taken ≡ None → abandoned ≡ false
       → outcomes.items ≡ old.outcomes.items ++ (p.0, length old.journal.items) ∷ []
       → IsSoundWithRoom (record old {
         journal = journal;
         taken = taken;
+        abandoned = abandoned;
         outcomes = outcomes;
         unsure = unsure;
       })
-  sound-posted journal taken outcomes unsure p o n held none add room =
-      let same = kept (Answered p.0 o) n in
-      let was = ap (λ found. taken_at old.journal.items found) held in
-      let free = taken-unanswered sound.numbered p.0 (grind (arith, common_steps, held)) in
-      sound-entered (Answered p.0 o) n _ _ refl refl (posted-turn (standing_of old) o p.0 _ was)
-      (posted-step (standing_of old) _ o was sound.numbered)
-      (numbered-fewer (λ i. times-posted i (standing_of old) _ o was) sound.numbered) room (record {
-        urgent = same.urgent;
-        waiting = same.waiting;
-        taken = rw none (tt, refl);
-        outcomes = outcomes-new (Answered p.0 o) n p.0 (own-entry (Answered p.0 o)) add free;
+  sound-posted journal taken abandoned outcomes unsure p o awaited n held none free add room =
+      let unanswered = taken-unanswered sound.numbered p.0 (grind (arith, common_steps, held)) in
+      posted-tells _ p o n held none free refl refl refl refl
+      (rw awaited (outcomes-new (Answered p.0 o) n p.0 (own-entry (Answered p.0 o)) add
+      unanswered)) room
+
+  -- of one that was abandoned
+  pub sound-dropped : (journal : Vec Entry A) (taken : Option (Ticket × ℕ)) (abandoned : Bool)
+      (unsure : Bool) (p : Ticket × ℕ) (o : Outcome)
+      → old.abandoned ≡ true
+      → journal.items ≡ old.journal.items ++ Answered p.0 o ∷ []
+      → old.taken ≡ Some p → taken ≡ None → abandoned ≡ false
+      → IsSoundWithRoom (record old {
+        journal = journal;
+        taken = taken;
+        abandoned = abandoned;
+        unsure = unsure;
       })
+  sound-dropped journal taken abandoned unsure p o given_up n held none free room =
+      posted-tells _ p o n held none free refl refl refl refl
+      (rw given_up (kept (Answered p.0 o) n).outcomes) room
 
   -- the first that waits leaves its queue
   pub sound-taken : (journal : Vec Entry A) (urgent waiting : VecDeque (Ticket × ℕ) A)
@@ -379,6 +502,7 @@ module _ {A : Type 0} {old : Inside A} (sound : IsSoundBook old) where
         urgent = urgent;
         waiting = waiting;
         taken = Some p;
+        abandoned = false;
       })
   sound-taken journal urgent waiting {p} head none u w n room =
       let same = kept (Taken p.0) n in
@@ -396,8 +520,86 @@ module _ {A : Type 0} {old : Inside A} (sound : IsSoundBook old) where
         urgent = rw u (says-drop same.urgent);
         waiting = rw w (says-behind same.urgent same.waiting);
         taken = rw n (taken-more (Taken p.0) _ (Some p) within);
+        abandoned = refl;
         outcomes = same.outcomes;
       })
+
+  -- one that is abandoned is nowhere but among those taken
+  sound-abandoned : (new : Inside A) (t : Ticket)
+      → new.journal.items ≡ old.journal.items ++ Abandoned t ∷ []
+      → new.urgent.items ≡ without t old.urgent.items
+      → new.waiting.items ≡ others_without t old.urgent.items old.waiting.items
+      → new.outcomes.items ≡ without t old.outcomes.items → new.taken ≡ old.taken
+      → new.abandoned ≡ (old.abandoned || is_taken (standing_of old) t)
+      → new.restated ≡ old.restated → new.last ≡ old.last → IsSoundWithRoom new
+  sound-abandoned new t n u w o taken abandoned head last room = let same = kept (Abandoned t) n in
+      sound-entered (Abandoned t) n new _ refl head tt refl
+      (rw last (numbered-fewer (λ i. times-abandoned i (standing_of old) t) sound.numbered)) room
+      (record {
+        urgent = rw (n, u) (says-without t (rw n at same.urgent));
+        waiting = rw (n, w) (says-others t (rw n at same.urgent) (rw n at same.waiting));
+        taken = rw (n, taken) (rw n at same.taken);
+        abandoned = abandoned;
+        outcomes = rw (n, o) (says-without t (rw n at same.outcomes));
+      })
+
+  -- what isn't in a list stays away
+  absent : (t : Ticket) (lines : TicketLines) → is_among t lines ≡ false
+      → lines ≡ without t lines
+  absent t lines none = sym (remove-absent (same_ticket t) lines none)
+
+  absent-others : (t : Ticket) → is_among t old.urgent.items ≡ false
+      → is_among t old.waiting.items ≡ false
+      → old.waiting.items ≡ others_without t old.urgent.items old.waiting.items
+  absent-others t u w = rw u (absent t old.waiting.items w)
+
+  no-urgent : (t : Ticket) → is_among t (standing_of old).urgent ≡ false
+      → is_among t old.urgent.items ≡ false
+  no-urgent t none = sym (among-values entry_request old.journal.items t old.urgent.items) ∙ none
+
+  no-other : (t : Ticket) → is_among t (standing_of old).waiting ≡ false
+      → is_among t old.waiting.items ≡ false
+  no-other t none = sym (among-values entry_request old.journal.items t old.waiting.items) ∙ none
+
+  no-outcome : (t : Ticket) → is_among t (standing_of old).outcomes ≡ false
+      → is_among t old.outcomes.items ≡ false
+  no-outcome t none = sym (among-values outcome_in old.journal.items t old.outcomes.items) ∙ none
+
+  pub abandoned-taken : (journal : Vec Entry A) (abandoned : Bool) (t : Ticket)
+      → is_taken (standing_of old) t ≡ true → abandoned ≡ true
+      → journal.items ≡ old.journal.items ++ Abandoned t ∷ []
+      → IsSoundWithRoom (record old { journal = journal; abandoned = abandoned })
+  abandoned-taken journal abandoned t found is n room =
+      let (u, (w, o)) = taken-alone sound.numbered t found in
+      sound-abandoned _ t n (absent t _ (no-urgent t u)) (absent-others t (no-urgent t u)
+      (no-other t w)) (absent t _ (no-outcome t o)) refl
+      (rw (is, found) (elim old.abandoned as (λ b. true ≡ (b || true))
+      [ true ↦ refl | false ↦ refl ])) refl refl room
+
+  pub abandoned-waiting : (journal : Vec Entry A) (urgent waiting : VecDeque (Ticket × ℕ) A)
+      (t : Ticket) → waits (standing_of old) t ≡ true
+      → urgent.items ≡ without t old.urgent.items
+      → waiting.items ≡ others_without t old.urgent.items old.waiting.items
+      → journal.items ≡ old.journal.items ++ Abandoned t ∷ []
+      → IsSoundWithRoom
+      (record old { journal = journal; urgent = urgent; waiting = waiting })
+  abandoned-waiting journal urgent waiting t found u w n room =
+      let (free, o) = waiting-alone sound.numbered t found in
+      sound-abandoned _ t n u w (absent t _ (no-outcome t o)) refl
+      (rw free (elim old.abandoned as (λ b. b ≡ (b || false)) [ true ↦ refl | false ↦ refl ]))
+      refl refl room
+
+  pub abandoned-outcome : (journal : Vec Entry A) (outcomes : Vec (Ticket × ℕ) A) (t : Ticket)
+      → is_among t (standing_of old).outcomes ≡ true
+      → outcomes.items ≡ without t old.outcomes.items
+      → journal.items ≡ old.journal.items ++ Abandoned t ∷ []
+      → IsSoundWithRoom (record old { journal = journal; outcomes = outcomes })
+  abandoned-outcome journal outcomes t found o n room =
+      let (free, (u, w)) = outcome-alone sound.numbered t found in
+      sound-abandoned _ t n (absent t _ (no-urgent t u)) (absent-others t (no-urgent t u)
+      (no-other t w)) o refl
+      (rw free (elim old.abandoned as (λ b. b ≡ (b || false)) [ true ↦ refl | false ↦ refl ]))
+      refl refl room
 
   -- a request that waited leaves its queue, and has an outcome: it was withdrawn, or denied
   pub sound-left : (journal : Vec Entry A) (urgent waiting : VecDeque (Ticket × ℕ) A)
@@ -427,5 +629,6 @@ module _ {A : Type 0} {old : Inside A} (sound : IsSoundBook old) where
         urgent = rw u (says-without t same.urgent);
         waiting = rw w (says-others t same.urgent same.waiting);
         taken = same.taken;
+        abandoned = same.abandoned;
         outcomes = outcomes-new e n t own o (waiting-unanswered sound.numbered t waited);
       })

@@ -14,7 +14,7 @@ module _ {A : Type 0} where
   -- what the queues, the request that is taken and the list of outcomes hold
   abbrev pub standing_of : Inside A → Standing
   standing_of fields = standing_at fields.journal.items fields.urgent.items fields.waiting.items
-      fields.taken fields.outcomes.items
+      fields.taken fields.abandoned fields.outcomes.items
 
   -- the book without its memory
   abbrev pub book_state : Inside A → BookState

@@ -1,6 +1,6 @@
 -- What callers see of a book, and what its calls answer and leave.
-use Rattle.std.specs.Prelude.{◌≡◌, ℕ, ◌+◌, ◌*◌, ◌^◌, ◌≤◌, Bool, true, false, ◌||◌, ◌&&◌, not, List, [], ◌∷◌, ◌++◌, Option, None, Some, Result, Ok, Err, is_some, is_ok, length, nat_eq, nat_lt, nat_le, if◌then◌else◌, slice_get, drop}
-use Rattle.std.specs.Option.{option_map_or}
+use Rattle.std.specs.Prelude.{◌≡◌, ℕ, ◌+◌, ◌*◌, ◌^◌, ◌≤◌, Bool, true, false, ◌||◌, ◌&&◌, not, List, [], ◌∷◌, ◌++◌, Option, None, Some, Result, is_some, is_ok, length, nat_eq, nat_lt, nat_le, if◌then◌else◌, slice_get, drop}
+use Rattle.std.specs.Option.{ok_or}
 use Rattle.std.specs.Map.{lookup}
 use Rattle.indexmap.specs.IndexMap.{insert_entry}
 use Rattle.iol_isdu.specs.declared.values.Request.{Request}
@@ -10,11 +10,11 @@ use Rattle.iol_book.specs.declared.limits.Limits.{Limits}
 use Rattle.iol_book.specs.declared.entries.Outcome.{Outcome}
 use Rattle.iol_book.specs.declared.entries.Outcome.TheVariants.{Done, Unknown, Withdrawn, NoIsdu}
 use Rattle.iol_book.specs.declared.entries.Entry.{Entry}
-use Rattle.iol_book.specs.declared.entries.Entry.TheVariants.{Submitted, Urgent, Taken, Answered, Withdrawn as WithdrawnEntry, Collected}
+use Rattle.iol_book.specs.declared.entries.Entry.TheVariants.{Submitted, Urgent, Taken, Answered, Withdrawn as WithdrawnEntry, Collected, Abandoned}
 use Rattle.iol_book.specs.declared.fault.BookFault.{BookFault}
 use Rattle.iol_book.specs.declared.fault.BookFault.TheVariants.{Full, JournalFull, TicketsSpent, OutOfMemory, UnknownTicket, NotYet, TakenAlready, NotInFlight}
 use Rattle.iol_book.specs.Limits.{request_entries}
-use Rattle.iol_book.specs.Replay.{Standing, nothing, standing_after, replay, same_ticket, is_among}
+use Rattle.iol_book.specs.Replay.{Standing, nothing, standing_after, replay, same_ticket, is_among, is_taken}
 
 pub record BookState : Type 0 where
   -- the entries since the book was opened or last archived, or what the last drain left of them
@@ -71,10 +71,6 @@ book_with_entry book entry =
       standing = standing_after book.standing entry;
     }
 
--- how many requests are taken: one or none
-abbrev pub taken_count : Standing → ℕ
-taken_count standing = if is_some standing.taken then 1 else 0
-
 -- how many requests wait
 abbrev pub waiting_count : Standing → ℕ
 waiting_count standing = length standing.urgent + length standing.waiting
@@ -82,14 +78,16 @@ waiting_count standing = length standing.urgent + length standing.waiting
 -- how many tickets are outstanding
 abbrev pub outstanding_count : Standing → ℕ
 outstanding_count standing =
-    waiting_count standing + taken_count standing + length standing.outcomes
+    waiting_count standing + (if is_some standing.taken then 1 else 0) + length standing.outcomes
 
 -- the entries that the outstanding tickets will still get: taken, answered and
--- collected, or withdrawn and collected
+-- collected, or withdrawn and collected; one that is abandoned gets fewer
 -- BOOK-3
 abbrev pub entries_owed : Standing → ℕ
 entries_owed standing =
-    3 * waiting_count standing + 2 * taken_count standing + length standing.outcomes
+    3 * waiting_count standing
+    + (if is_some standing.taken then (if standing.abandoned then 1 else 2) else 0)
+    + length standing.outcomes
 
 -- the first reason why a request can't be submitted, where it can't
 -- BOOK-2, BOOK-3
@@ -145,7 +143,7 @@ without_first standing = record standing {
 abbrev pub book_after_take : BookState → Ticket × Request → BookState
 book_after_take book taken = record book {
   journal = book.journal ++ Taken taken.0 ∷ [];
-  standing = record (without_first book.standing) { taken = Some taken };
+  standing = record (without_first book.standing) { taken = Some taken; abandoned = false };
 }
 
 -- the book after that request, which has this ticket, is denied
@@ -154,6 +152,7 @@ abbrev pub book_after_denial : BookState → Ticket → BookState
 book_after_denial book ticket = record book {
   journal = book.journal ++ Answered ticket NoIsdu ∷ [];
   standing = record (without_first book.standing) {
+    abandoned = false;
     outcomes = insert_entry same_ticket book.standing.outcomes ticket NoIsdu;
   };
 }
@@ -171,7 +170,8 @@ leaves_unsure (Unknown Cancelled) = false
 leaves_unsure Withdrawn = false
 leaves_unsure NoIsdu = false
 
--- the book after the request that is taken has this outcome
+-- the book after the request that is taken has this outcome, which is dropped where the ticket was
+-- abandoned
 abbrev pub ended_with : BookState → Option (Ticket × Request) → Outcome → BookState
 ended_with book None outcome = book
 ended_with book (Some taken) outcome = record book {
@@ -179,7 +179,10 @@ ended_with book (Some taken) outcome = record book {
   standing =
       record book.standing {
         taken = None;
-        outcomes = insert_entry same_ticket book.standing.outcomes taken.0 outcome;
+        abandoned = false;
+        outcomes =
+            if book.standing.abandoned then book.standing.outcomes
+            else insert_entry same_ticket book.standing.outcomes taken.0 outcome;
       };
 }
 
@@ -193,24 +196,19 @@ book_after_post book outcome =
 abbrev pub waits : Standing → Ticket → Bool
 waits standing ticket = is_among ticket standing.urgent || is_among ticket standing.waiting
 
--- whether it is the one that is taken
-abbrev pub is_taken : Standing → Ticket → Bool
-is_taken standing ticket = option_map_or (λ taken. same_ticket ticket taken.0) standing.taken false
+-- whether it is the one that is taken, and was not abandoned
+abbrev pub is_awaited : Standing → Ticket → Bool
+is_awaited standing ticket = is_taken standing ticket && not standing.abandoned
 
 -- whether it has its outcome
 abbrev pub has_outcome : Standing → Ticket → Bool
 has_outcome standing ticket = is_among ticket standing.outcomes
 
--- the outcome, or this refusal where there is none
-abbrev pub outcome_or : Option Outcome → BookFault → Result Outcome BookFault
-outcome_or None fault = Err fault
-outcome_or (Some outcome) fault = Ok outcome
-
 -- what a collect answers: the outcome of the ticket, or why there is none
 -- BOOK-5
 abbrev pub collect_answer : Standing → Ticket → Result Outcome BookFault
-collect_answer standing ticket = outcome_or (lookup (same_ticket ticket) standing.outcomes)
-    (if waits standing ticket || is_taken standing ticket then NotYet else UnknownTicket)
+collect_answer standing ticket = ok_or (lookup (same_ticket ticket) standing.outcomes)
+    (if waits standing ticket || is_awaited standing ticket then NotYet else UnknownTicket)
 
 -- the book after a collect
 -- BOOK-5
@@ -224,7 +222,7 @@ book_after_collect book ticket =
 abbrev pub withdraw_refusal : Standing → Ticket → Option BookFault
 withdraw_refusal standing ticket =
     if waits standing ticket then None
-    else if is_taken standing ticket || has_outcome standing ticket then Some TakenAlready
+    else if is_awaited standing ticket || has_outcome standing ticket then Some TakenAlready
     else Some UnknownTicket
 
 -- the book after a withdraw
@@ -233,13 +231,27 @@ abbrev pub book_after_withdrawal : BookState → Ticket → BookState
 book_after_withdrawal book ticket = if is_some (withdraw_refusal book.standing ticket) then book
     else book_with_entry book (WithdrawnEntry ticket)
 
--- why the request of a ticket can't be cut off, where it can't: it is not the one that is taken
+-- why the request of a ticket can't be cut off, where it can't: it is not the one that is taken,
+-- or was abandoned
 -- BOOK-7
 abbrev pub flight_refusal : Standing → Ticket → Option BookFault
 flight_refusal standing ticket =
-    if is_taken standing ticket then None
+    if is_awaited standing ticket then None
     else if waits standing ticket || has_outcome standing ticket then Some NotInFlight
     else Some UnknownTicket
+
+-- why a ticket can't be abandoned, where it can't
+abbrev pub abandon_refusal : Standing → Ticket → Option BookFault
+abandon_refusal standing ticket =
+    if waits standing ticket || (is_awaited standing ticket || has_outcome standing ticket)
+    then None
+    else Some UnknownTicket
+
+-- the book after an abandon
+-- BOOK-14
+abbrev pub book_after_abandon : BookState → Ticket → BookState
+book_after_abandon book ticket = if is_some (abandon_refusal book.standing ticket) then book
+    else book_with_entry book (Abandoned ticket)
 
 -- the book after a wake of the device
 abbrev pub book_after_wake : BookState → BookState

@@ -5,8 +5,8 @@ use Rattle.iol_book.specs.declared.entries.Ticket.{Ticket}
 use Rattle.iol_book.specs.declared.entries.Entry.{Entry}
 use Rattle.iol_book.specs.declared.entries.Entry.TheVariants.{Taken, Answered}
 use Rattle.iol_book.specs.Lines.{entry_ticket}
-use Rattle.iol_book.specs.Replay.{Standing, same_ticket, standing_after, replay}
-use Rattle.iol_book.specs.BookModel.{BookState, waits, is_taken, has_outcome}
+use Rattle.iol_book.specs.Replay.{Standing, same_ticket, is_taken, standing_after, replay}
+use Rattle.iol_book.specs.BookModel.{BookState, waits, has_outcome}
 
 -- the ticket that was taken last, of these entries or else before them
 abbrev pub last_taken : Option Ticket → List Entry → Option Ticket

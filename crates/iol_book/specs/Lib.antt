@@ -8,3 +8,4 @@ pub mod BookInside
 pub mod Numbers
 pub mod Takings
 pub mod OneJournal
+pub mod Abandoning

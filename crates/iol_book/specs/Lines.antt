@@ -9,7 +9,7 @@ use Rattle.iol_book.specs.declared.entries.Ticket.{Ticket}
 use Rattle.iol_book.specs.declared.entries.Outcome.{Outcome}
 use Rattle.iol_book.specs.declared.entries.Outcome.TheVariants.{Withdrawn as WithdrawnOutcome}
 use Rattle.iol_book.specs.declared.entries.Entry.{Entry}
-use Rattle.iol_book.specs.declared.entries.Entry.TheVariants.{Submitted, Urgent, Taken, Answered, Withdrawn, Collected}
+use Rattle.iol_book.specs.declared.entries.Entry.TheVariants.{Submitted, Urgent, Taken, Answered, Withdrawn, Collected, Abandoned}
 use Rattle.iol_book.specs.Replay.{Standing, same_ticket, is_among}
 
 -- tickets, each with a line of the journal
@@ -30,6 +30,7 @@ entry_ticket (Taken ticket) = ticket
 entry_ticket (Answered ticket outcome) = ticket
 entry_ticket (Withdrawn ticket) = ticket
 entry_ticket (Collected ticket) = ticket
+entry_ticket (Abandoned ticket) = ticket
 
 -- whether a line is of a ticket
 abbrev pub is_of : Ticket → Option Entry → Bool
@@ -74,13 +75,14 @@ taken_at entries taken =
     option_map (λ line. (line.0, entry_request (slice_get entries line.1))) taken
 
 -- where the outstanding tickets stand, by their lines
-abbrev pub standing_at : List Entry → TicketLines → TicketLines → Option (Ticket × ℕ)
+abbrev pub standing_at : List Entry → TicketLines → TicketLines → Option (Ticket × ℕ) → Bool
     → TicketLines → Standing
-standing_at entries urgent waiting taken outcomes =
+standing_at entries urgent waiting taken abandoned outcomes =
     record {
       urgent = values_at entry_request entries urgent;
       waiting = values_at entry_request entries waiting;
       taken = taken_at entries taken;
+      abandoned = abandoned;
       outcomes = values_at outcome_in entries outcomes;
     }
 

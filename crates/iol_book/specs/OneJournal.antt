@@ -4,7 +4,7 @@ use Rattle.iol_isdu.specs.declared.values.Request.{Request}
 use Rattle.iol_book.specs.declared.entries.Ticket.{Ticket}
 use Rattle.iol_book.specs.declared.entries.Outcome.{Outcome}
 use Rattle.iol_book.specs.declared.entries.Entry.{Entry}
-use Rattle.iol_book.specs.BookModel.{BookState, book_after_submit, book_after_urgent, book_after_take, book_after_denial, book_after_post, book_after_collect, book_after_withdrawal, book_after_wake}
+use Rattle.iol_book.specs.BookModel.{BookState, book_after_submit, book_after_urgent, book_after_take, book_after_denial, book_after_post, book_after_collect, book_after_withdrawal, book_after_abandon, book_after_wake}
 use Rattle.iol_book.specs.Drained.{book_after_drain}
 
 -- the entries that no drain handed out
@@ -34,6 +34,8 @@ pub record JoinsInto (earlier : List Entry) (book : BookState) : Type 0 where
       ≡ book_after_collect (whole_book earlier book) ticket
   pub withdrawal : (ticket : Ticket) → whole_book earlier (book_after_withdrawal book ticket)
       ≡ book_after_withdrawal (whole_book earlier book) ticket
+  pub abandon : (ticket : Ticket) → whole_book earlier (book_after_abandon book ticket)
+      ≡ book_after_abandon (whole_book earlier book) ticket
   pub reset : whole_book earlier (book_after_wake book)
       ≡ book_after_wake (whole_book earlier book)
 

@@ -17,13 +17,15 @@
 #![tactic(auto)]
 
 mod book;
+mod compacting;
 mod entries;
 mod fault;
 mod laws;
 mod limits;
+mod lines;
 
 pub use book::Book;
 pub use entries::{Entry, Outcome, Ticket};
 pub use fault::BookFault;
-pub use laws::drains_join;
+pub use laws::{abandons_hold, drains_join};
 pub use limits::{BusyLimit, JournalLimit, Limits, QueueLimit};

@@ -21,14 +21,14 @@ impl Did {
     }
 }
 
-/// The call that an entry is of, if a client made it.
+/// The call that an entry is of, if a client made it. No client here abandons a ticket.
 pub(crate) fn did_of(entry: &Entry) -> Option<Did> {
     match entry {
         Entry::Submitted(ticket, _) => Some(Did::Submitted(ticket.0)),
         Entry::Urgent(ticket, _) => Some(Did::Urgent(ticket.0)),
         Entry::Withdrawn(ticket) => Some(Did::Withdrawn(ticket.0)),
         Entry::Collected(ticket) => Some(Did::Collected(ticket.0)),
-        Entry::Taken(_) | Entry::Answered(..) => None,
+        Entry::Taken(_) | Entry::Answered(..) | Entry::Abandoned(_) => None,
     }
 }
 
@@ -38,6 +38,9 @@ pub(crate) fn ticket_in(entry: &Entry) -> u64 {
         Entry::Submitted(ticket, _) | Entry::Urgent(ticket, _) | Entry::Answered(ticket, _) => {
             ticket.0
         }
-        Entry::Taken(ticket) | Entry::Withdrawn(ticket) | Entry::Collected(ticket) => ticket.0,
+        Entry::Taken(ticket)
+        | Entry::Withdrawn(ticket)
+        | Entry::Collected(ticket)
+        | Entry::Abandoned(ticket) => ticket.0,
     }
 }

@@ -193,6 +193,7 @@ impl PlainList {
             Entry::Answered(ticket, outcome) => self.answer(ticket.0, outcome),
             Entry::Withdrawn(ticket) => { self.end(ticket.0, Stand::Waiting, &Outcome::Withdrawn) }
             Entry::Collected(ticket) => self.collect(ticket.0),
+            Entry::Abandoned(ticket) => Err(Wrong::OtherCall.of(ticket.0)),
         }
     }
 

@@ -4,7 +4,7 @@ ghost use Rattle.std.specs.Vec.{vec_len, vec_capacity};
 ghost use Rattle.std.specs.Option.{option_copied};
 ghost use Rattle.iol_book.specs.BookModel.{IsReplayed};
 ghost use Rattle.iol_port.specs.View.{IsRun, OpensWell, KeepsRecordOver, over};
-ghost use Rattle.iol_port.specs.Called.{Collects, Withdraws, Cancels, Restarts, SetsOutput, ClearsOutput};
+ghost use Rattle.iol_port.specs.Called.{Collects, Withdraws, Cancels, Abandons, Restarts, SetsOutput, ClearsOutput};
 ghost use Rattle.iol_port.specs.Called.{Expects, SetsCycle, TakesEvent, Archives, Drains, DrainsInto, Turns, PublishesAfter};
 ghost use Rattle.iol_port.specs.Called.{ShowsPage, ShowsCounters, ShowsLastLoss, ShowsImage, ShowsStatus, CoreCalled, MakesCall};
 ghost use Rattle.iol_port.specs.Claim.{Claim};
@@ -158,6 +158,14 @@ impl<W: Wire, K: Ledger, A: Handle> Held<W, K, A> {
             ticket result }
     {
         self.port.cancel(ticket)
+    }
+
+    /// As [`PortCore::abandon`](iol_port::PortCore::abandon).
+    pub fn abandon(&mut self, ticket: Ticket) -> Result<(), PortFault>
+        ensures { Abandons (MakesCall self.old self.new) self.old.parts self.new.parts
+            ticket result }
+    {
+        self.port.abandon(ticket)
     }
 
     /// As [`Port::restart_shown`].

@@ -10,7 +10,7 @@ ghost use Rattle.iol_app.specs.declared.asked.Asked.{Asked};
 ghost use Rattle.iol_app.specs.Asking.{IsCall};
 ghost use Rattle.iol_port.specs.declared.fault.PortFault.TheVariants as fault;
 ghost use Rattle.iol_port.specs.declared.call.Answered.TheVariants as answered;
-ghost use Rattle.iol_port.specs.Called.{Submits, SubmitsUrgent, Collects, Withdraws, Cancels, SetsOutput, ClearsOutput};
+ghost use Rattle.iol_port.specs.Called.{Submits, SubmitsUrgent, Collects, Withdraws, Cancels, Abandons, SetsOutput, ClearsOutput};
 ghost use Rattle.iol_port.specs.Called.{Expects, SetsCycle, TakesEvent, Archives, Drains, DrainsInto, CoreCalled};
 ghost use Rattle.iol_port.specs.Called.{ShowsPage, ShowsCounters, ShowsLastLoss, ShowsImage, ShowsStatus};
 ghost use Rattle.iol_port.specs.declared.awaited.AwaitedAnswer.TheVariants as AwaitedAnswer;
@@ -153,6 +153,14 @@ impl<K: Ledger, A: Allocator + Copy> LinePort<K, A> {
             ticket result }
     {
         self.port.cancel(ticket)
+    }
+
+    /// As [`PortCore::abandon`].
+    pub fn abandon(&mut self, ticket: Ticket) -> Result<(), PortFault>
+        ensures { Abandons (LineCalled self.old self.new) self.old.parts self.new.parts
+            ticket result }
+    {
+        self.port.abandon(ticket)
     }
 
     /// Cuts off the request under way, if any, and leaves the link in down, without an image: at

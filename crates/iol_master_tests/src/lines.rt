@@ -79,6 +79,13 @@ fn archives<K: Ledger>(port: &mut LinePort<K>) -> bool {
     is_whole && port.submit(read()) == Ok(Ticket(3)) && drains(port)
 }
 
+/// One more request is abandoned while it waits, and is unknown then.
+fn abandons<K: Ledger>(port: &mut LinePort<K>) -> bool {
+    port.submit(read()) == Ok(Ticket(4))
+        && port.abandon(Ticket(4)) == Ok(())
+        && port.collect(Ticket(4)) == Err(PortFault::Book(BookFault::UnknownTicket))
+}
+
 /// The one entry of the request that waits is handed out, and stays.
 fn drains<K: Ledger>(port: &mut LinePort<K>) -> bool {
     let is_new = port.restated() == 0;
@@ -90,7 +97,7 @@ fn drains<K: Ledger>(port: &mut LinePort<K>) -> bool {
         Ok(drained) => drained.len() == 1,
         Err(_) => false,
     };
-    is_new && is_one && is_again && port.restated() == 1
+    is_new && is_one && is_again && port.restated() == 1 && abandons(port)
 }
 
 fn is_cancelled<K: Ledger>(port: &mut LinePort<K>) -> bool {

@@ -6,11 +6,11 @@ ghost use Rattle.iol_master.specs.Ledgers.{IsBlankFor};
 
 use crate::calls::{answer, check, gives, read};
 use crate::opening::{numbered, numbered_port, open_master, open_one};
-use iol_book::{Entry, Outcome, Ticket};
+use iol_book::{BookFault, Entry, Outcome, Ticket};
 use iol_isdu::{Place, Request};
 use iol_link::Wire;
 use iol_master::{Desk, Gate, Held, Master, Settled, Tally};
-use iol_port::Port;
+use iol_port::{Port, PortFault};
 use std::alloc::Global;
 use std::marker::Brand;
 use std::process::Abort;
@@ -183,7 +183,8 @@ fn is_taken_back<W: Wire, K: Ledger>(
         Ok(drained) => held.restated() == 2 && wanted.starts_with(drained.as_slice()),
         Err(_) => false,
     };
-    let is_told = held.collect(ticket) == Ok(Outcome::Withdrawn);
+    let is_told = held.collect(ticket) == Ok(Outcome::Withdrawn)
+        && held.abandon(ticket) == Err(PortFault::Book(BookFault::UnknownTicket));
     match held.archive() {
         Ok(archived) => is_withdrawn && is_drained && is_told && archived.as_slice() == wanted,
         Err(_) => false,

@@ -3,7 +3,7 @@ use Rattle.std.proofs.Common.{◌≡◌, ◌⊎◌, inl, inr, ◌∷◌, [], Lis
 use Rattle.std.proofs.lemmas.Grind.{common_steps}
 use Rattle.iol_isdu.specs.declared.values.Cause.TheVariants.{Cancelled}
 use Rattle.iol_book.specs.declared.entries.Ticket.{Ticket}
-use Rattle.iol_book.specs.BookModel.{is_taken}
+use Rattle.iol_book.specs.Replay.{is_taken}
 use Rattle.iol_app.specs.Abstract.OfMaster.{restart_steps}
 use Rattle.iol_app.specs.Abstract.Steps.{PortStep, Unknown, through_steps}
 use Rattle.iol_app.specs.Abstract.Session.{Session, MaySession, session_after}

@@ -16,7 +16,7 @@ use Rattle.iol_app.specs.Abstract.OfMaster.{book_said}
 use Rattle.iol_port.specs.Asks.{lacks_isdu}
 use Rattle.iol_port.specs.EveryWire.{book_after_taking, HasNoIsdu, IsDenied}
 use Rattle.iol_port.specs.View.{PortParts, Asks}
-use Rattle.iol_port.proofs.OwnerSteps.{ticket_is}
+use Rattle.iol_port.proofs.PairLists.{ticket_is}
 use Rattle.iol_port.proofs.Replaying.{next_is}
 use Rattle.iol_port.specs.Steps.{book_after}
 

@@ -1,6 +1,7 @@
 pub mod Replaying
 pub mod Joining
 pub mod PieceLemmas
+pub mod PairLists
 pub mod OwnerSteps
 pub mod OwnerRuns
 pub mod CallLemmas

@@ -10,7 +10,7 @@ use Rattle.iol_isdu.specs.declared.values.Cause.{Cause}
 use Rattle.iol_isdu.specs.declared.values.Cause.TheVariants.{Restarted}
 use Rattle.iol_book.specs.declared.entries.Ticket.{Ticket}
 use Rattle.iol_book.specs.declared.entries.Entry.{Entry}
-use Rattle.iol_book.specs.declared.entries.Entry.TheVariants.{Submitted, Collected, Withdrawn, Urgent}
+use Rattle.iol_book.specs.declared.entries.Entry.TheVariants.{Submitted, Collected, Withdrawn, Urgent, Abandoned}
 use Rattle.iol_book.specs.declared.entries.Outcome.{Outcome}
 use Rattle.iol_book.specs.declared.entries.Outcome.TheVariants as outcome
 use Rattle.iol_book.specs.Replay.{Standing, same_ticket, request_waiting, without, others_without}
@@ -31,10 +31,11 @@ use Rattle.iol_port.specs.Sound.{Each, IsOutcome, PortIsSound, times_ever}
 use Rattle.iol_port.specs.CarriesOut.{CarriesOut, IsSubmitted, IsCutOff, Happens, EachDoneHasItsPair, LeavesOut, IsBelow, LateEnds, CutForGoodStaysOut}
 use Rattle.iol_port.specs.Denials.{CarriesNone, IsDeniedWithoutIsdu}
 use Rattle.iol_port.specs.Promises.{OpensSound, PiecesSound, RunsSound}
-use Rattle.iol_port.proofs.PieceLemmas.{Did, Stays, Submits, Urges, Collects, Withdraws, Cancels, Restarts, Archives, Drains, Moves, piece_did, told_outcome, pieces_join}
+use Rattle.iol_port.proofs.PieceLemmas.{Did, Stays, Submits, Urges, Collects, Withdraws, Cancels, Abandons, Restarts, Archives, Drains, Moves, piece_did, told_outcome, pieces_join}
 use Rattle.iol_port.proofs.Replaying.{entered_replayed, free_archive, next_is, next_ticket_is, steps_keep}
 use Rattle.iol_port.proofs.Joining.{grown_says, grown_takings, last_pushed}
-use Rattle.iol_port.proofs.OwnerSteps.{each_removed, each_push, each_inserted, each_looked, waiting_push, waiting_left, counted, go_on_then, go_on_each, outcome_on, closed, closed_of, closed_has, Goes, goes_then, goes_itself, goes_book, marked_goes, restart_goes, archive_goes, drain_goes, step_goes}
+use Rattle.iol_port.proofs.PairLists.{each_removed, each_push, each_inserted, each_looked, waiting_push, waiting_left, counted}
+use Rattle.iol_port.proofs.OwnerSteps.{go_on_then, go_on_each, outcome_on, closed, closed_of, closed_has, Goes, goes_then, goes_itself, goes_book, marked_goes, restart_goes, archive_goes, drain_goes, step_goes}
 
 -- The pieces
 
@@ -103,6 +104,12 @@ piece_leads a b c reply is sound = by b (piece_did a b c reply is)
           (λ n. omega (arith, waiting_left n t a.book.standing))
           (each_inserted Stands outcomes t outcome.Withdrawn tt sound.outcomes) sound;
     }
+    by _ (Abandons t is) = rw is record {
+      terms_are = refl;
+      goes = entry_goes a (Abandoned t) refl refl refl
+          (λ n. omega (arith, waiting_left n t a.book.standing))
+          (each_removed Stands (same_ticket t) outcomes sound.outcomes) sound;
+    }
     by _ (Cancels t e r) = record {
       terms_are = refl;
       goes = marked_goes a.session a.session.job a.session.late a.owners a.owners.current sound;
@@ -114,7 +121,7 @@ piece_leads a b c reply is sound = by b (piece_did a b c reply is)
     by _ (Archives may) = record {
       terms_are = refl;
       goes = archive_goes a.session a.session.job a.session.late a.owners a.owners.current
-          (free_archive a.book may) sound;
+          (free_archive a.book sound.says.replayed may) sound;
     }
     by _ (Drains replayed) = record {
       terms_are = refl;
@@ -279,6 +286,9 @@ module _ (P : Ticket → Request → Type 0) where
           (each_push P urgent t q (submits t q told (inr e)) asked_urgent, asked_waiting, taken)
       by _ (Collects k is) = rw is (asked_urgent, asked_waiting, taken)
       by _ (Withdraws k is) =
+          let left = asked_left k a.book.standing (asked_urgent, asked_waiting) in
+          rw is (left.0, left.1, taken)
+      by _ (Abandons k is) =
           let left = asked_left k a.book.standing (asked_urgent, asked_waiting) in
           rw is (left.0, left.1, taken)
       by _ Restarts = cut a.session.job

@@ -1,9 +1,7 @@
 -- What each step does to the owners of a sound port: it stays sound, and they go on.
-use Rattle.std.proofs.Common.{◌≡◌, ◌⊎◌, ◌∷◌, ◌++◌, [], List, ℕ, ◌+◌, Bool, true, false, cond, ◌≤◌, nat_eq, Option, Some, None, append_assoc, append-nil, length, ◌||◌, refl, ap, sym, ◌∙◌, subst, arith, inl, inr, map, drop}
+use Rattle.std.proofs.Common.{◌≡◌, ◌⊎◌, ◌∷◌, ◌++◌, [], List, ℕ, ◌+◌, Bool, true, false, ◌≤◌, Option, Some, None, append_assoc, append-nil, length, ◌||◌, refl, ap, sym, ◌∙◌, subst, arith, inl, inr, map, drop}
 use Rattle.std.proofs.lemmas.Grind.{common_steps}
 use Rattle.std.specs.Prelude.{IsTrue, IsSome}
-use Rattle.std.specs.Map.{remove_entry, lookup}
-use Rattle.indexmap.specs.IndexMap.{insert_entry}
 use Rattle.iol_isdu.specs.declared.values.Request.{Request}
 use Rattle.iol_isdu.specs.declared.values.Answer.{Answer}
 use Rattle.iol_isdu.specs.declared.values.Cause.{Cause}
@@ -14,9 +12,8 @@ use Rattle.iol_book.specs.declared.entries.Entry.{Entry}
 use Rattle.iol_book.specs.declared.entries.Entry.TheVariants.{Taken, Answered}
 use Rattle.iol_book.specs.declared.entries.Outcome.{Outcome}
 use Rattle.iol_book.specs.declared.entries.Outcome.TheVariants as outcome
-use Rattle.iol_book.specs.Numbers.{times_in}
-use Rattle.iol_book.specs.Replay.{Standing, nothing, same_ticket, without, without_waiting, replay}
-use Rattle.iol_book.specs.BookModel.{BookState, IsReplayed, next_taken, book_after_take, book_after_post, leaves_unsure, is_taken}
+use Rattle.iol_book.specs.Replay.{nothing, replay}
+use Rattle.iol_book.specs.BookModel.{BookState, IsReplayed, next_taken, book_after_take, book_after_post, leaves_unsure}
 use Rattle.iol_book.specs.Takings.{takings, taking_of, first_with, taking_with_outcome}
 use Rattle.iol_book.specs.Drained.{last_taken, in_doubt, is_still_open, book_after_drain}
 use Rattle.iol_book.specs.OneJournal.{entries_since}
@@ -31,69 +28,9 @@ use Rattle.iol_port.specs.Steps.{ticket_of, MayBook, book_after}
 use Rattle.iol_port.specs.Run.{job_request}
 use Rattle.iol_port.specs.Sound.{not_under_way, Each, AnswersFitJob, LastTakenIsOpen, IsToldLast, SaysWhere, IsOutcome, times_ever, Sound}
 use Rattle.iol_port.specs.CarriesOut.{OwnerGoesOn, LastGoesOn, GoOn}
+use Rattle.iol_port.proofs.PairLists.{ticket_is, each_more, each_inserted, each_ended, waiting_next, waiting_left}
 use Rattle.iol_port.proofs.Replaying.{told_for, LeavesWaiting, next_is, next_ticket_is}
 use Rattle.iol_port.proofs.Joining.{took_says, took_takings, denied_says, denied_takings, posted_says, posted_takings, last_pushed, posted_last, last_stays, drained_says, drained_whole}
-
--- What is said of each pair of a list
-
-pub each_removed : {K X : Type 0} (P : K → X → Type 0) (test : K → Bool) (es : List (K × X))
-    → Each P es → Each P (remove_entry test es)
-each_removed P test [] each = tt
-each_removed P test (e ∷ es) each = grind (arith, each_removed P test es)
-
-pub each_more : {K X : Type 0} {P Q : K → X → Type 0} (es : List (K × X))
-    → ((k : K) (x : X) → P k x → Q k x) → Each P es → Each Q es
-each_more [] more each = tt
-each_more (e ∷ es) more each = (more e.0 e.1 each.0, each_more es more each.1)
-
-pub each_push : {K X : Type 0} (P : K → X → Type 0) (es : List (K × X)) (k : K) (x : X) → P k x
-    → Each P es → Each P (es ++ (k, x) ∷ [])
-each_push P [] k x this each = (this, tt)
-each_push P (e ∷ es) k x this each = (each.0, each_push P es k x this each.1)
-
--- the ticket of that number
-pub ticket_is : (t k : Ticket) → same_ticket t k ≡ true → k ≡ t
-ticket_is t k e = grind (arith, common_steps)
-
--- one that is entered for a ticket, and the one that is found for it
-pub each_inserted : {X : Type 0} (P : Ticket → X → Type 0) (es : List (Ticket × X)) (t : Ticket)
-    (x : X) → P t x → Each P es → Each P (insert_entry same_ticket es t x)
-each_inserted P [] t x this each = (this, tt)
-each_inserted P (e ∷ es) t x this each =
-    grind (arith, common_steps, ticket_is, each_inserted P es t x)
-
-pub each_looked : {X : Type 0} (P : Ticket → X → Type 0) (es : List (Ticket × X)) (t : Ticket)
-    (x : X) → lookup (same_ticket t) es ≡ Some x → Each P es → P t x
-each_looked P [] t x e each = absurd (cc)
-each_looked P (entry ∷ es) t x e each = grind (arith, common_steps, ticket_is, each_looked P es t x)
-
--- How often a number stands among those that wait
-
-abbrev pub counted : ℕ → ℕ → ℕ
-counted n m = cond (nat_eq n m) 1 0
-
-pub waiting_push : (n : ℕ) (ws : List (Ticket × Request)) (w : Ticket × Request)
-    → times_in n (ws ++ w ∷ []) ≡ times_in n ws + counted n w.0.0
-waiting_push n [] w = grind (arith, common_steps)
-waiting_push n (v ∷ ws) w = grind (arith, common_steps, waiting_push n ws w)
-
-waiting_without : (n : ℕ) (t : Ticket) (ws : List (Ticket × Request))
-    → times_in n (without t ws) ≤ times_in n ws
-waiting_without n t [] = omega arith
-waiting_without n t (w ∷ ws) = grind (arith, common_steps, waiting_without n t ws)
-
-abbrev pub waiting_in : ℕ → Standing → ℕ
-waiting_in n s = times_in n s.urgent + times_in n s.waiting
-
-pub waiting_left : (n : ℕ) (t : Ticket) (s : Standing)
-    → waiting_in n (without_waiting s t) ≤ waiting_in n s
-waiting_left n t s = grind (arith, waiting_without n t s.urgent, waiting_without n t s.waiting)
-
--- the request that is taken next leaves the list that it heads
-waiting_next : (n : ℕ) (s : Standing) (t : Ticket) (q : Request) → next_taken s ≡ Some (t, q)
-    → waiting_in n s ≡ counted n t.0 + waiting_in n (without_waiting s t)
-waiting_next n s t q next =
-    let is = next_is s t q next in rw (← is.urgent, ← is.others) (grind (arith, common_steps))
 
 -- Owners that go on
 
@@ -420,7 +357,7 @@ module _ {allowance : Allowance} {b : BookState} {s : Session} (l : Owners) (x :
       { once = fits_x.once; ends = ends; isdu = fits_x.isdu })
       (λ z i. ended_are z (others_all t.job _ z i)) (rw taken opens) sure
       (λ n. rw taken (omega arith))
-      (rw taken (each_inserted _ b.standing.outcomes x.taking.ticket out new
+      (rw taken (each_ended _ b.standing.abandoned b.standing.outcomes x.taking.ticket out new
       (each_more b.standing.outcomes (outcome_on allowance.isdu (go_on_first goes))
       sound.outcomes))) stays
     where

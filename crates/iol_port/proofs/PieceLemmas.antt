@@ -7,9 +7,9 @@ use Rattle.std.specs.List.{list_all}
 use Rattle.iol_isdu.specs.declared.values.Request.{Request}
 use Rattle.iol_book.specs.declared.entries.Ticket.{Ticket}
 use Rattle.iol_book.specs.declared.entries.Outcome.{Outcome}
-use Rattle.iol_book.specs.declared.entries.Entry.TheVariants.{Collected, Withdrawn}
+use Rattle.iol_book.specs.declared.entries.Entry.TheVariants.{Collected, Withdrawn, Abandoned}
 use Rattle.iol_book.specs.Replay.{same_ticket}
-use Rattle.iol_book.specs.BookModel.{book_with_entry, book_after_submit, next_ticket, book_after_collect, book_after_withdrawal, may_archive, book_after_urgent, flight_refusal, IsReplayed}
+use Rattle.iol_book.specs.BookModel.{book_with_entry, book_after_submit, next_ticket, book_after_collect, book_after_withdrawal, book_after_abandon, may_archive, book_after_urgent, flight_refusal, IsReplayed}
 use Rattle.iol_book.specs.Drained.{book_after_drain}
 use Rattle.iol_app.specs.Abstract.Session.{Session, session_after, session_cancelling, MaySession}
 use Rattle.iol_app.specs.Abstract.Images.{Images}
@@ -21,7 +21,7 @@ use Rattle.iol_port.specs.Owners.{owners_after, owners_after_archive, owners_aft
 use Rattle.iol_port.specs.declared.call.Call.TheVariants as call
 use Rattle.iol_port.specs.declared.call.Answered.{Answered}
 use Rattle.iol_port.specs.declared.call.Answered.TheVariants as answered
-use Rattle.iol_port.specs.Run.{PortState, SendOf, ReceiveOf, CallOf, is_sending_step, Piece, Whole, Send, Receive, PieceOf, moment_in, moment_by, port_after_restart}
+use Rattle.iol_port.specs.Run.{PortState, SendOf, ReceiveOf, CallOf, is_sending_step, Piece, Whole, Send, Receive, PieceOf, moment_by, port_after_restart}
 use Rattle.iol_port.specs.Promises.{RunsJoin, PiecesJoin}
 use Rattle.iol_app.proofs.Parts.{runs-append, through_steps-append}
 
@@ -72,6 +72,8 @@ pub data Did (a : PortState) (c : Piece) (reply : Answered) : PortState → Type
       → Did a c reply (record a { book = book_after_collect a.book t })
   Withdraws : (t : Ticket) → book_after_withdrawal a.book t ≡ book_with_entry a.book (Withdrawn t)
       → Did a c reply (record a { book = book_after_withdrawal a.book t })
+  Abandons : (t : Ticket) → book_after_abandon a.book t ≡ book_with_entry a.book (Abandoned t)
+      → Did a c reply (record a { book = book_after_abandon a.book t })
   Cancels : (t : Ticket) → c ≡ Whole (call.Cancel t)
       → (reply ≡ answered.Nothing) × (flight_refusal a.book.standing t ≡ None)
       → Did a c reply (record a { session = session_cancelling a.session })
@@ -115,6 +117,7 @@ module _ (a b : PortState) where
       may_do (Urges q refl) (grind (arith, common_steps))
   piece_did (Whole (call.Collect t)) reply e = may_do (Collects t) (grind (arith, common_steps))
   piece_did (Whole (call.Withdraw t)) reply e = may_do (Withdraws t) (grind (arith, common_steps))
+  piece_did (Whole (call.Abandon t)) reply e = may_do (Abandons t) (grind (arith, common_steps))
   piece_did (Whole (call.Cancel t)) reply e = may_do (Cancels t refl) (grind (arith, common_steps))
   piece_did (Whole call.Archive) reply e = may_do Archives (grind (arith, common_steps))
   piece_did (Whole call.Drain) reply (inl (is, replayed)) =
@@ -137,7 +140,7 @@ module _ (a b : PortState) where
       (grind (arith, common_steps, s.session (Exchanged true)))
   piece_did Send reply (_, inr (_, e)) = stayed e
   piece_did Receive reply (_, r) =
-      Moves (moment_in a r.turn) r.turn.steps (grind (arith, common_steps))
+      Moves (moment_by a r.turn.call) r.turn.steps (grind (arith, common_steps))
 
 -- A run, and one that goes on from where it led
 

@@ -1,5 +1,5 @@
 -- each change of a book keeps it the replay of its journal
-use Rattle.std.proofs.Common.{◌≡◌, Bool, true, List, [], ◌∷◌, ◌++◌, Option, None, Some, drop, refl, ap, arith, ◌||◌, ◌⊎◌, inl, inr}
+use Rattle.std.proofs.Common.{◌≡◌, Bool, true, List, [], ◌∷◌, ◌++◌, Option, None, Some, drop, refl, sym, ap, ◌∙◌, arith, ◌||◌, ◌⊎◌, inl, inr}
 use Rattle.std.proofs.lemmas.Bool.{eq-eqb}
 use Rattle.std.proofs.lemmas.Grind.{common_steps}
 use Rattle.std.specs.Prelude.{IsTrue, false}
@@ -10,8 +10,8 @@ use Rattle.iol_book.specs.declared.entries.Ticket.{Ticket}
 use Rattle.iol_book.specs.declared.entries.Outcome.{Outcome}
 use Rattle.iol_book.specs.declared.entries.Outcome.TheVariants.{NoIsdu}
 use Rattle.iol_book.specs.declared.entries.Entry.{Entry}
-use Rattle.iol_book.specs.declared.entries.Entry.TheVariants.{Taken, Answered}
-use Rattle.iol_book.specs.Replay.{Standing, nothing, same_ticket, request_waiting, without, others_without, waiting_after, standing_after, replay_from}
+use Rattle.iol_book.specs.declared.entries.Entry.TheVariants.{Submitted, Urgent, Taken, Answered, Withdrawn, Collected, Abandoned}
+use Rattle.iol_book.specs.Replay.{Standing, nothing, same_ticket, request_waiting, is_taken, without, others_without, waiting_after, standing_after, replay_from}
 use Rattle.iol_book.specs.BookModel.{BookState, IsReplayed, book_with_entry, leaves_unsure, book_after_take, book_after_denial, ended_with, book_after_post, next_taken, may_archive, others_behind, waits}
 use Rattle.iol_app.specs.Abstract.Steps.{PortStep, Moment, Terms, may_misread, through_steps, MayAll}
 use Rattle.iol_app.specs.Abstract.Session.{Session, MayTell, MaySession, session_after}
@@ -60,12 +60,14 @@ LeavesWaiting o = (t : Ticket) (s : Standing) → waiting_after t o s ≡ s
 
 pub posted_replayed : (book : BookState) (o : Outcome) → LeavesWaiting o → IsReplayed book
     → IsReplayed (book_after_post book o)
-posted_replayed book o leaves h = by_taken book.standing.taken
+posted_replayed book o leaves h = by_taken book.standing.taken refl
   where
-    by_taken : (taken : Option (Ticket × Request))
+    by_taken : (taken : Option (Ticket × Request)) → book.standing.taken ≡ taken
         → IsReplayed (record (ended_with book taken o) { unsure = book.unsure || leaves_unsure o })
-    by_taken None = h
-    by_taken (Some t) = rw (leaves t.0 book.standing) at (entered_replayed book (Answered t.0 o) h)
+    by_taken None held = h
+    by_taken (Some t) held =
+        let own : is_taken book.standing t.0 ≡ true = rw (held, eq-eqb t.0.0 t.0.0 refl) refl in
+        rw (leaves t.0 book.standing, own) at (entered_replayed book (Answered t.0 o) h)
 
 -- the ticket that is next is that of a request
 pub next_ticket_is : (next : Option (Ticket × Request)) (t : Ticket)
@@ -79,12 +81,35 @@ pub denied_replayed : (book : BookState) (t : Ticket) (q : Request)
     → IsReplayed (book_after_denial book t)
 denied_replayed book t q next h =
     let is = next_is book.standing t q next in
-    rw (is.urgent, is.others, is.free) (entered_replayed book (Answered t NoIsdu) h)
+    rw (is.urgent, is.others, is.free)
+    (rw is.free at (entered_replayed book (Answered t NoIsdu) h))
+
+-- where none is taken none was abandoned
+step_free : (s : Standing) (entry : Entry) → (s.taken ≡ None → s.abandoned ≡ false)
+    → (standing_after s entry).taken ≡ None → (standing_after s entry).abandoned ≡ false
+step_free s (Taken t) free none = refl
+step_free s (Answered t o) free none = refl
+step_free s (Abandoned t) free none = rw (free none, none) refl
+step_free s (Submitted t q) free none = free none
+step_free s (Urgent t q) free none = free none
+step_free s (Withdrawn t) free none = free none
+step_free s (Collected t) free none = free none
+
+replay_free : (s : Standing) (entries : List Entry) → (s.taken ≡ None → s.abandoned ≡ false)
+    → (replay_from s entries).taken ≡ None → (replay_from s entries).abandoned ≡ false
+replay_free s [] free none = free none
+replay_free s (e ∷ entries) free none =
+    replay_free (standing_after s e) entries (step_free s e free) none
+
+unabandoned : (book : BookState) → IsReplayed book → book.standing.taken ≡ None
+    → book.standing.abandoned ≡ false
+unabandoned book h none = ap (λ s. s.abandoned) h
+    ∙ replay_free nothing book.journal (λ _. refl) (sym (ap (λ s. s.taken) h) ∙ none)
 
 -- nothing is outstanding in a book that may be archived, and it is sure
-pub free_archive : (book : BookState) → may_archive book ≡ true
+pub free_archive : (book : BookState) → IsReplayed book → may_archive book ≡ true
     → (book.standing ≡ nothing) × (book.unsure ≡ false)
-free_archive book may = grind (arith, common_steps)
+free_archive book h may = grind (arith, common_steps, unabandoned book h)
 
 told_as : (misreads : Bool) (told a : Answer) → IsTrue misreads ⊎ (a ≡ told)
     → IsToldAs misreads told a

@@ -13,7 +13,7 @@ use Rattle.iol_app.specs.Abstract.Events.{Frozen, MayFrozen, frozen_after}
 use Rattle.iol_app.specs.Abstract.Images.{Images, MayImages, images_after, page_after_wire_call}
 use Rattle.iol_app.specs.Abstract.Turn.{is_own_step, is_handing, is_output_then, is_hearing, wake_brings, loss_brings, startup_brings, preoperate_brings, operate_brings, may_bring, IsInOrder, IsPageRead}
 use Rattle.iol_port.specs.Steps.{kept_after}
-use Rattle.iol_port.specs.Run.{PortState, SendOf, ReceiveOf, is_sending_step, moment_by, moment_in}
+use Rattle.iol_port.specs.Run.{PortState, SendOf, ReceiveOf, is_sending_step, moment_by}
 use Rattle.iol_port.specs.Promises.{EventsAreRead, NoneIsSwallowed, AsleepAnswersNothing, ImagesHaveLength, StartsByPage, WrongPagesStayUnread}
 use Rattle.iol_app.proofs.Parts.{through_steps-append}
 use Rattle.iol_port.proofs.PieceLemmas.{sending_mode}
@@ -316,10 +316,11 @@ may_before m (x ∷ xs) ys i may = (may.0, may_before m xs ys (images_after m x 
 -- so that the device is awake behind a turn as it was behind its own part
 awake_behind : {m b : PortState} (r : ReceiveOf m b) → m.session.mode ≢ Down
     → b.images.awake
-    ≡ (through_steps (images_after (moment_in m r.turn)) (in_parts r.all.order).far m.images).awake
+    ≡ (through_steps (images_after (moment_by m r.turn.call)) (in_parts r.all.order).far
+    m.images).awake
 awake_behind {m} r up =
     let o = in_parts r.all.order in
-    let at : Moment = moment_in m r.turn in
+    let at : Moment = moment_by m r.turn.call in
     ap (λ (i : Images). i.awake) (sym (rw o.is at r.images.images.1)
     ∙ through_steps-append (images_after at) o.far o.brought m.images)
     ∙ brought_awake at m.session.mode r.turn.call o.brought
@@ -334,7 +335,7 @@ none_is_swallowed a b (m, s, r) up quiet events frozen =
     let was : m.frozen ≡ unreported events = s.frozen ∙ frozen in
     let (behind, first) = freezes_behind o.far o.brought (unreported events)
     (rw (o.is, was) at r.events.frozen.0) in
-    let at : Moment = moment_in m r.turn in
+    let at : Moment = moment_by m r.turn.call in
     let still : through_steps frozen_after o.far (unreported events) ≡ unreported events =
     far_frozen at o.far events m.images
     (unwoken m.session.mode r.turn.call high r.all.fits) o.are_far
@@ -368,7 +369,7 @@ sending_awake m (step ∷ steps) i h =
 pub asleep_answers_nothing : AsleepAnswersNothing
 asleep_answers_nothing a b (m, s, r) up off =
     let o = in_parts r.all.order in
-    let at : Moment = moment_in m r.turn in
+    let at : Moment = moment_by m r.turn.call in
     let high : m.session.mode ≢ Down = λ down. up (sym (sent_mode s) ∙ down) in
     let was : m.images.awake ≡ false =
     ap (λ (i : Images). i.awake) (sym (s.images (Exchanged true)).1)
@@ -416,7 +417,7 @@ images_have_length a b (m, s, r) up quiet =
     let mode : m.session.mode ≡ Operate = sent_mode s ∙ up in
     let call : r.turn.call ≡ Exchanged true = good_call m.session.mode r.turn.call m.silence
     b.silence mode r.all.fits r.all.silence quiet in
-    let at : Moment = moment_in m r.turn in
+    let at : Moment = moment_by m r.turn.call in
     let between : Images = through_steps (images_after at) o.far m.images in
     let is : through_steps (images_after at) o.brought between ≡ b.images =
     sym (through_steps-append (images_after at) o.far o.brought m.images)
@@ -482,7 +483,7 @@ sent_page {a} s = ap (λ (i : Images). i.page) (sym (s.images (Exchanged true)).
 pub starts_by_page : StartsByPage
 starts_by_page a b (m, s, r) up none =
     let o = in_parts r.all.order in
-    let at : Moment = moment_in m r.turn in
+    let at : Moment = moment_by m r.turn.call in
     let mode : m.session.mode ≡ Startup = sent_mode s ∙ up in
     let page : m.images.page ≡ None = sent_page s ∙ none in
     let s1 : Session = through_steps session_after o.far m.session in
@@ -534,7 +535,7 @@ wrong_page m call steps i h wrong none may = absurd (cc)
 pub wrong_pages_stay_unread : WrongPagesStayUnread
 wrong_pages_stay_unread a b (m, s, r) up none wrong =
     let o = in_parts r.all.order in
-    let at : Moment = moment_in m r.turn in
+    let at : Moment = moment_by m r.turn.call in
     let i1 : Images = through_steps (images_after at) o.far m.images in
     let images : through_steps (images_after at) o.brought i1 ≡ b.images =
     sym (through_steps-append (images_after at) o.far o.brought m.images)

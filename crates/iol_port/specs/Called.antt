@@ -27,7 +27,7 @@ use Rattle.iol_port.specs.Replies.{ticket_reply, outcome_reply, nothing_reply, e
 use Rattle.iol_port.specs.View.{PortParts, PortValue, Does, over, writer_after_publish, status_of}
 use Rattle.iol_port.specs.Clean.{CleanTurn}
 use Rattle.iol_port.specs.CorePort.{CoreDoes}
-use Rattle.iol_port.specs.EveryWire.{SubmitGives, CollectGives, WithdrawGives, CancelGives, ArchiveGives, DrainGives, DrainIntoGives, TakeEventGives, SetOutputGives, ClearOutputGives, ExpectGives, SetCycleGives, RestartGives, PortTurnGives, page_shown}
+use Rattle.iol_port.specs.EveryWire.{SubmitGives, CollectGives, WithdrawGives, CancelGives, AbandonGives, ArchiveGives, DrainGives, DrainIntoGives, TakeEventGives, SetOutputGives, ClearOutputGives, ExpectGives, SetCycleGives, RestartGives, PortTurnGives, page_shown}
 
 -- what is said of a call with its reply, and of what else it gives, at who has the parts
 abbrev pub Carrier : Type 1
@@ -54,6 +54,10 @@ module _ (Carries : Carrier) (p next : PortParts) where
   abbrev pub Cancels : Ticket → Result (Unit {0}) PortFault → Type 0
   Cancels ticket result = Carries (call.Cancel ticket) (nothing_reply result)
       (CancelGives p ticket result next)
+
+  abbrev pub Abandons : Ticket → Result (Unit {0}) PortFault → Type 0
+  Abandons ticket result = Carries (call.Abandon ticket) (nothing_reply result)
+      (AbandonGives p ticket result next)
 
   abbrev pub Restarts : Type 0
   Restarts = Carries call.Restart answered.Nothing (RestartGives p next)

@@ -39,7 +39,7 @@ module _ {W : Type 0} (facts : WireFacts W) where
   -- it has a power cycle, and then answers nothing until a wake. What the line loses. How soon the
   -- port gets on: takes the next request, tells an answer that is there, reports what is frozen,
   -- has read the page, and changes the mode. That a port which may be in doubt of a request cuts it
-  -- off. That a submit lacks memory. What the counters and the last loss say.
+  -- off. That a submit or a drain lacks memory. What the counters and the last loss say.
   pub record Claim (o : Opening W) (calls : List Call) (replies : List Answered) (q : PortOver W) :
       Type 0 where
     pub earlier : List Call

@@ -16,7 +16,7 @@ use Rattle.iol_book.specs.declared.entries.Ticket.{Ticket}
 use Rattle.iol_book.specs.declared.fault.BookFault.TheVariants.{Outstanding, OutOfMemory}
 use Rattle.iol_book.specs.declared.entries.Outcome.TheVariants.{NoIsdu}
 use Rattle.iol_book.specs.Replay.{same_ticket}
-use Rattle.iol_book.specs.BookModel.{BookState, BookValue, MemoryGrows, memory_archived, RefusesFor, submit_refusal, book_after_submit, book_after_urgent, next_ticket, next_taken, book_after_take, book_after_denial, waits, collect_answer, book_after_collect, withdraw_refusal, book_after_withdrawal, flight_refusal, may_archive, book_after_archive}
+use Rattle.iol_book.specs.BookModel.{BookState, BookValue, MemoryGrows, memory_archived, RefusesFor, submit_refusal, book_after_submit, book_after_urgent, next_ticket, next_taken, book_after_take, book_after_denial, waits, collect_answer, book_after_collect, withdraw_refusal, abandon_refusal, book_after_abandon, book_after_withdrawal, flight_refusal, may_archive, book_after_archive}
 use Rattle.iol_book.specs.Drained.{book_after_drain}
 use Rattle.iol_mode.specs.States.{is_reset}
 use Rattle.iol_mode.specs.declared.why.Why.{Why}
@@ -98,6 +98,16 @@ pub record WithdrawGives (old : PortParts) (ticket : Ticket)
   pub answer : result_err result
       ≡ option_map (λ why. fault.Book why) (withdraw_refusal old.book.state.standing ticket)
   pub book : new.book.state ≡ book_after_withdrawal old.book.state ticket
+  pub memory : KeepsMemory old new
+  pub rest : IsBookCall old new
+
+-- the same of a ticket whose outcome nobody wants
+pub record AbandonGives (old : PortParts) (ticket : Ticket)
+    (result : Result (Unit {0}) PortFault)
+    (new : PortParts) : Type 0 where
+  pub answer : result_err result
+      ≡ option_map (λ why. fault.Book why) (abandon_refusal old.book.state.standing ticket)
+  pub book : new.book.state ≡ book_after_abandon old.book.state ticket
   pub memory : KeepsMemory old new
   pub rest : IsBookCall old new
 
@@ -262,6 +272,9 @@ CoreCallGives old (call.Withdraw ticket) reply new =
 CoreCallGives old (call.Cancel ticket) reply new =
     (result : Result (Unit {0}) PortFault) × (reply ≡ nothing_reply result)
     × CancelGives old ticket result new
+CoreCallGives old (call.Abandon ticket) reply new =
+    (result : Result (Unit {0}) PortFault) × (reply ≡ nothing_reply result)
+    × AbandonGives old ticket result new
 CoreCallGives old call.Restart reply new = (reply ≡ answered.Nothing) × RestartGives old new
 CoreCallGives old (call.SetOutput image) reply new =
     (result : Result (Unit {0}) PortFault) × (reply ≡ nothing_reply result)

@@ -3,7 +3,7 @@ use Rattle.std.specs.Prelude.{◌≡◌, ◌≢◌, ◌⊎◌, ℕ, Bool, true, 
 use Rattle.iol_far.specs.Far.{Far}
 use Rattle.iol_book.specs.declared.limits.Limits.{Limits}
 use Rattle.iol_book.specs.declared.entries.Ticket.{Ticket}
-use Rattle.iol_book.specs.BookModel.{is_taken}
+use Rattle.iol_book.specs.Replay.{is_taken}
 use Rattle.iol_isdu.specs.declared.values.Cause.TheVariants.{Cancelled}
 use Rattle.iol_event.specs.declared.event.Event.{Event}
 use Rattle.iol_app.specs.Abstract.Steps.{PortStep, Unknown, Untell, Exchanged, Moment, MayAll, input_length, is_right}

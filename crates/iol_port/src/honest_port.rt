@@ -17,7 +17,7 @@ ghost use Rattle.iol_port.specs.RightDevice.{IsForRightDevice};
 ghost use Rattle.iol_port.specs.View.{IsNew, IsNewFor};
 ghost use Rattle.iol_port.specs.CorePort.{CoreOpens, CoreOpensFor, awaited_answer, PortSendGives, SendDoes};
 ghost use Rattle.iol_port.specs.CorePort.{PortReceiveGives, ReceiveDoes, WakeGives, WakeDoes};
-ghost use Rattle.iol_port.specs.Called.{Submits, SubmitsUrgent, Collects, Withdraws, Cancels, Restarts, SetsOutput};
+ghost use Rattle.iol_port.specs.Called.{Submits, SubmitsUrgent, Collects, Withdraws, Cancels, Abandons, Restarts, SetsOutput};
 ghost use Rattle.iol_port.specs.Called.{ClearsOutput, Expects, SetsCycle, TakesEvent, Archives, Drains, DrainsInto};
 ghost use Rattle.iol_port.specs.Standing.{LinePosition};
 
@@ -205,6 +205,14 @@ impl<A: Allocator + Copy> HonestPort<A> {
             ticket result }
     {
         self.core.cancel(ticket)
+    }
+
+    /// As [`PortCore::abandon`].
+    pub fn abandon(&mut self, ticket: Ticket) -> Result<(), PortFault>
+        ensures { Abandons (Calls self.old self.new) self.old.parts self.new.parts
+            ticket result }
+    {
+        self.core.abandon(ticket)
     }
 
     /// As [`PortCore::restart`]: what was sent has to be answered first.

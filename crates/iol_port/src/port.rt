@@ -13,7 +13,7 @@ ghost use Rattle.iol_port.specs.declared.call.Call.TheVariants as call;
 ghost use Rattle.iol_port.specs.declared.call.Answered.TheVariants as answered;
 ghost use Rattle.iol_port.specs.Run.{port_at_opening};
 ghost use Rattle.iol_port.specs.Asks.{asks_of, IsWireCall};
-ghost use Rattle.iol_port.specs.Called.{Submits, SubmitsUrgent, Collects, Withdraws, Cancels, Restarts, SetsOutput};
+ghost use Rattle.iol_port.specs.Called.{Submits, SubmitsUrgent, Collects, Withdraws, Cancels, Abandons, Restarts, SetsOutput};
 ghost use Rattle.iol_port.specs.Called.{ClearsOutput, Expects, SetsCycle, TakesEvent, Archives, Drains, DrainsInto, Turns, PublishesAfter};
 ghost use Rattle.iol_port.specs.Called.{ShowsPage, ShowsCounters, ShowsLastLoss, ShowsImage, ShowsStatus, CoreCalled, MakesCall};
 ghost use Rattle.iol_port.specs.Claim.{Claim};
@@ -182,6 +182,14 @@ impl<W: Wire, A: Handle> Port<W, A> {
             ticket result }
     {
         self.core.cancel(ticket)
+    }
+
+    /// As [`PortCore::abandon`].
+    pub fn abandon(&mut self, ticket: Ticket) -> Result<(), PortFault>
+        ensures { Abandons (MakesCall self.old self.new) self.old.parts self.new.parts
+            ticket result }
+    {
+        self.core.abandon(ticket)
     }
 
     /// As [`PortCore::restart`]. Between two calls nothing is out.
@@ -355,6 +363,7 @@ impl<W: Wire, A: Handle> Port<W, A> {
             },
             Call::Withdraw(ticket) => nothing_or(self.withdraw(*ticket)),
             Call::Cancel(ticket) => nothing_or(self.cancel(*ticket)),
+            Call::Abandon(ticket) => nothing_or(self.abandon(*ticket)),
             Call::Restart => {
                 self.restart();
                 Answered::Nothing

@@ -21,7 +21,7 @@ ghost use Rattle.iol_port.specs.RightDevice.{IsForRightDevice};
 ghost use Rattle.iol_port.specs.Run.{counting_of};
 ghost use Rattle.iol_port.specs.Clean.{CleanTurn};
 ghost use Rattle.iol_port.specs.CorePort.{CoreOpens, CoreOpensFor, CoreKeeps, awaited_answer, PortSendGives, SendDoes, PortReceiveGives, ReceiveDoes, WakeGives, WakeDoes};
-ghost use Rattle.iol_port.specs.Called.{Submits, SubmitsUrgent, Collects, Withdraws, Cancels, Restarts, SetsOutput};
+ghost use Rattle.iol_port.specs.Called.{Submits, SubmitsUrgent, Collects, Withdraws, Cancels, Abandons, Restarts, SetsOutput};
 ghost use Rattle.iol_port.specs.Called.{ClearsOutput, Expects, SetsCycle, TakesEvent, Archives, Drains, DrainsInto, CoreCalled};
 ghost use Rattle.iol_port.specs.Called.{ShowsPage, ShowsCounters, ShowsLastLoss, ShowsImage, ShowsStatus};
 
@@ -226,6 +226,22 @@ impl<A: Allocator + Copy> PortCore<A> {
             }
             Err(fault) => Err(PortFault::Book(fault)),
         }
+    }
+
+    /// Gives up the outcome of a ticket, as for a client that is gone: whatever comes of the
+    /// request is dropped, and the ticket is unknown from then on.
+    ///
+    /// A request that waits is never sent. One that is under way is carried out as before, and
+    /// keeps its place until its outcome comes, which nobody collects. The journal has an entry
+    /// that says so. A request that was cut off, and that the device may still carry out, stays in
+    /// doubt.
+    ///
+    /// Refused, with nothing changed, by 25 where no such ticket is outstanding.
+    pub fn abandon(&mut self, ticket: Ticket) -> Result<(), PortFault>
+        ensures { Abandons (CoreCalled self.old self.new) self.old self.new
+            ticket result }
+    {
+        by_book(self.book.abandon(ticket))
     }
 
     /// Cuts off the request under way, if any, and leaves the link in down, without an image.

@@ -17,6 +17,8 @@ pub use laws::{
 };
 
 #[cfg(test)]
+mod abandons;
+#[cfg(test)]
 mod answers;
 #[cfg(test)]
 mod bare_ports;

@@ -79,6 +79,9 @@ fn settle(book: &mut Book, name: &[u8], line: &mut Line<'_>) -> Result<(), BookF
     if is(name, b"withdraw") {
         return book.withdraw(ticket(line));
     }
+    if is(name, b"abandon") {
+        return book.abandon(ticket(line));
+    }
     if is(name, b"flight") {
         return book.in_flight(ticket(line));
     }

@@ -26,7 +26,7 @@
 //! reader new|address|take OO                         image OCTETS
 //! book open JOURNAL BUSY GIVEN [QUEUE]
 //! book submit|urgent REQUEST|take|deny|next|post T OUTCOME|collect T|withdraw T|flight T
-//! book reset|archive|drain|journal|restated
+//! book abandon T|reset|archive|drain|journal|restated
 //! device param INDEX SUB ro|rw WORD
 //! device open|apart ROOM OCTETS                      device bare OCTETS
 //! device hear OCTETS|raise QQ CCCC|input OCTETS|clear|wake|work|power|silence|miss

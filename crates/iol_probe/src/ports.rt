@@ -3,7 +3,7 @@
 //! ```text
 //! port open JOURNAL BUSY GIVEN [QUEUE]
 //! port send|asks|awaits|receive OCTETS|silence|woken com1|com2|com3|none
-//! port submit|urgent REQUEST|collect T|withdraw T|cancel T|archive
+//! port submit|urgent REQUEST|collect T|withdraw T|cancel T|abandon T|archive
 //! port restart|output OCTETS|clear|image|event|status|counters|last
 //! port expect VENDOR DEVICE|any|pace OO|page|reply
 //! ```
@@ -64,6 +64,8 @@ fn answer_call(
         print_collected(output, port.collect(ticket(line)))
     } else if is(name, b"withdraw") {
         print_done(output, port.withdraw(ticket(line)))
+    } else if is(name, b"abandon") {
+        print_done(output, port.abandon(ticket(line)))
     } else if is(name, b"cancel") {
         print_done(output, port.cancel(ticket(line)))
     } else if is(name, b"output") {

@@ -140,5 +140,6 @@ fn print_entry(output: &mut String, entry: &Entry) -> Result<(), AllocError> {
         }
         Entry::Withdrawn(Ticket(number)) => write!(output, "withdrawn {number}"),
         Entry::Collected(Ticket(number)) => write!(output, "collected {number}"),
+        Entry::Abandoned(Ticket(number)) => write!(output, "abandoned {number}"),
     }
 }

@@ -26,6 +26,8 @@ pub(crate) fn fits_call(name: &[u8], words: Words) -> bool
         fits_ticket(words)
     } else if is(name, b"cancel") {
         fits_ticket(words)
+    } else if is(name, b"abandon") {
+        fits_ticket(words)
     } else if is(name, b"output") {
         fits_image(words)
     } else if is(name, b"expect") {

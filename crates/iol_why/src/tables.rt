@@ -278,7 +278,7 @@ pub(crate) static WIRE: [LineForm; 9] = [
 ];
 
 /// The calls of the port.
-pub(crate) static CALLS: [LineForm; 17] = [
+pub(crate) static CALLS: [LineForm; 18] = [
     form!(
         "submits a request, and prints its ticket",
         word!("read"),
@@ -316,6 +316,11 @@ pub(crate) static CALLS: [LineForm; 17] = [
     form!(
         "asks to cut off a request that is under way",
         word!("cancel"),
+        one!(TICKET)
+    ),
+    form!(
+        "whatever comes of a ticket is dropped",
+        word!("abandon"),
         one!(TICKET)
     ),
     form!(

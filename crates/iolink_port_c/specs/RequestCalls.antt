@@ -9,7 +9,7 @@ use Rattle.iol_book.specs.BookModel.{BookState, book_after_submit, book_after_ur
 use Rattle.iol_port.specs.declared.call.Call.{Call}
 use Rattle.iol_port.specs.declared.call.Call.TheVariants as call
 use Rattle.iol_port.specs.declared.fault.PortFault.{PortFault}
-use Rattle.iol_port.specs.EveryWire.{SubmitGives, CollectGives, WithdrawGives, CancelGives}
+use Rattle.iol_port.specs.EveryWire.{SubmitGives, CollectGives, WithdrawGives, CancelGives, AbandonGives}
 use Rattle.iol_port.specs.Replies.{ticket_reply, outcome_reply, nothing_reply}
 use Rattle.iolink_port_c.specs.declared.held.IolPort.{IolPort}
 use Rattle.iolink_port_c.specs.declared.request.Urgency.{Urgency}
@@ -73,3 +73,10 @@ pub record HandleCancels (ticket : ℕ) (old : IolPort) (number : ℕ) (new : Io
   pub number_is : number ≡ answer_number answer
   pub gives : CancelGives (held_parts old) (ticket_of ticket) answer (held_parts new)
   pub does : CallDoes old (call.Cancel (ticket_of ticket)) (nothing_reply answer) new
+
+-- the outcome of a ticket is given up, or not
+pub record HandleAbandons (ticket : ℕ) (old : IolPort) (number : ℕ) (new : IolPort) : Type 0 where
+  pub answer : Result (Unit {0}) PortFault
+  pub number_is : number ≡ answer_number answer
+  pub gives : AbandonGives (held_parts old) (ticket_of ticket) answer (held_parts new)
+  pub does : CallDoes old (call.Abandon (ticket_of ticket)) (nothing_reply answer) new

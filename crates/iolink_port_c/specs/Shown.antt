@@ -111,6 +111,8 @@ IsEntry (entry.Withdrawn ticket) out = (out.kind ≡ 12) × (out.ticket ≡ tick
     × HasNoOutcome out
 IsEntry (entry.Collected ticket) out = (out.kind ≡ 16) × (out.ticket ≡ ticket.0) × HasNoRequest out
     × HasNoOutcome out
+IsEntry (entry.Abandoned ticket) out = (out.kind ≡ 17) × (out.ticket ≡ ticket.0) × HasNoRequest out
+    × HasNoOutcome out
 
 -- the next entry, or kind 0 at the end
 abbrev pub IsNext : Option Entry → IolEntry → Type 0

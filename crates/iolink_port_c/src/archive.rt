@@ -27,13 +27,16 @@ const ANSWERED: u8 = 9;
 const WITHDRAWN: u8 = 12;
 /// Its outcome was handed out.
 const COLLECTED: u8 = 16;
+/// Its outcome is handed out to nobody.
+const ABANDONED: u8 = 17;
 
 /// An entry of a journal.
 #[repr(C)]
 pub struct IolEntry {
     pub ticket: u64,
     /// 1 submitted and 2 submitted as urgent, with the request; 8 taken; 9 answered,
-    /// with the outcome; 12 withdrawn; 16 collected. 0 where the journal is at its end.
+    /// with the outcome; 12 withdrawn; 16 collected; 17 abandoned. 0 where the journal is at its
+    /// end.
     pub kind: u8,
     pub request: IolRequest,
     pub outcome: IolOutcome,
@@ -218,6 +221,7 @@ fn show_entry(entry: &Entry, out: &mut IolEntry)
         }
         Entry::Withdrawn(ticket) => (WITHDRAWN, *ticket),
         Entry::Collected(ticket) => (COLLECTED, *ticket),
+        Entry::Abandoned(ticket) => (ABANDONED, *ticket),
     };
     out.kind = kind;
     out.ticket = ticket;

@@ -3,7 +3,7 @@ ghost use Rattle.std.specs.Prelude.{◌≡◌, ◌≤◌, ◌<◌, length, IsTru
 ghost use Rattle.std.specs.Prelude.{IfOk, IfErr, IfSome, IfNone};
 ghost use Rattle.iol_isdu.specs.Fault.{isdu_fault_number};
 ghost use Rattle.iolink_port_c.specs.declared.request.Urgency.{Urgency};
-ghost use Rattle.iolink_port_c.specs.RequestCalls.{HandleEnters, HandleCollects, HandleWithdraws, HandleCancels};
+ghost use Rattle.iolink_port_c.specs.RequestCalls.{HandleEnters, HandleCollects, HandleWithdraws, HandleCancels, HandleAbandons};
 ghost use Rattle.iolink_port_c.specs.RequestCalls.{read_at, write_at};
 ghost use Rattle.iolink_port_c.specs.Calls.{answer_number, GuardsPort, GuardsOut};
 
@@ -199,4 +199,16 @@ pub extern "C" fn iol_port_cancel(alloc: Global, handle: &mut IolPort, ticket: u
         HandleCancels ticket handle.old result handle.new }
 {
     code_of(handle.with(alloc, |master| master.port.cancel(Ticket(ticket))))
+}
+
+/// Gives up the outcome of a ticket, as for a client that is gone: whatever comes of the request is
+/// dropped. 0, or the first of 252 where the handle is closed, and 25 where no such ticket is
+/// outstanding.
+#[unsafe(no_mangle)]
+pub extern "C" fn iol_port_abandon(alloc: Global, handle: &mut IolPort, ticket: u64) -> u8
+    ensures guards { GuardsPort result handle.old handle.new }
+    ensures abandons { IsTrue handle.old.is_open →
+        HandleAbandons ticket handle.old result handle.new }
+{
+    code_of(handle.with(alloc, |master| master.port.abandon(Ticket(ticket))))
 }

@@ -18,6 +18,7 @@ pub enum Call {
     Collect(u64),
     Withdraw(u64),
     Cancel(u64),
+    Abandon(u64),
     Restart,
     SetOutput(Image),
     ClearOutput,
@@ -46,6 +47,7 @@ impl Call {
             b"collect" => Call::Collect(number(words.next()?)?),
             b"withdraw" => Call::Withdraw(number(words.next()?)?),
             b"cancel" => Call::Cancel(number(words.next()?)?),
+            b"abandon" => Call::Abandon(number(words.next()?)?),
             b"restart" => Call::Restart,
             b"output" => match words.next()? {
                 b"none" => Call::ClearOutput,
@@ -105,6 +107,7 @@ impl Call {
             Call::Status => return print_status(output, port.status()),
             Call::Withdraw(ticket) => port.withdraw(ticket),
             Call::Cancel(ticket) => port.cancel(ticket),
+            Call::Abandon(ticket) => port.abandon(ticket),
             Call::SetOutput(image) => port.set_output(&image),
             Call::ClearOutput => {
                 port.clear_output();

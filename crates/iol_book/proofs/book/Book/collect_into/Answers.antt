@@ -24,8 +24,8 @@ returns-clause-state g c = grind (entry_steps, lookup-values, (invariant_of-self
 pub returns-clause-replayed : goal.returns-clause-replayed
 returns-clause-replayed g c = (invariant_of-self g c).replayed
 
-pub returns-then-is_taken-clause-answer : goal.returns-then-is_taken-clause-answer
-returns-then-is_taken-clause-answer g c = grind (entry_steps, taken-unanswered)
+pub returns-then-is_awaited-clause-answer : goal.returns-then-is_awaited-clause-answer
+returns-then-is_awaited-clause-answer g c = grind (entry_steps, taken-unanswered)
 
-pub returns-then-is_taken-clause-state : goal.returns-then-is_taken-clause-state
-returns-then-is_taken-clause-state g c = grind (entry_steps, taken-unanswered)
+pub returns-then-is_awaited-clause-state : goal.returns-then-is_awaited-clause-state
+returns-then-is_awaited-clause-state g c = grind (entry_steps, taken-unanswered)

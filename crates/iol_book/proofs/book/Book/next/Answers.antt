@@ -11,7 +11,7 @@ returns-in-Some-get g c =
     c.self.invariant.lines.waiting_requests in
     rw (← c.self.view_is) (next-request c.self.inside.journal.items c.self.inside.urgent.items
     c.self.inside.waiting.items c.self.inside.outcomes.items c.self.inside.taken
-    c.in-Some-get.field-0.now _ (grind entry_steps) head (copied-request
+    c.self.inside.abandoned c.in-Some-get.field-0.now _ (grind entry_steps) head (copied-request
     c.request_at-in-Some-get.result _ (grind entry_steps) (grind entry_steps) has))
 
 pub returns-in-None : goal.returns-in-None

@@ -4,7 +4,7 @@ use Rattle.std.specs.VecDeque.{deque_capacity}
 use Rattle.iol_book.specs.declared.entries.Ticket.{Ticket}
 use Rattle.iol_book.specs.declared.entries.Entry.{Entry}
 use Rattle.iol_book.specs.Lines.{TicketLines, is_still_open_by, line_number_after, with_numbers, lines_after}
-use Rattle.iol_book.proofs.book.renumber.Given as goal
+use Rattle.iol_book.proofs.compacting.renumber.Given as goal
 
 -- these lines, which the loop has still to renumber, come to what those at first do
 abbrev Comes : (Ticket → Bool) → List Entry → ℕ → ℕ → TicketLines → TicketLines → Type 0

@@ -1,6 +1,6 @@
 use Rattle.iol_book.specs.Replay.{same_ticket}
 use Rattle.iol_book.proofs.LineLemmas.{is_some-position, lookup-position, remove-position}
-use Rattle.iol_book.proofs.book.outcome_at.Goals as goal
+use Rattle.iol_book.proofs.lines.outcome_at.Goals as goal
 
 pub returns-clause-found : goal.returns-clause-found
 returns-clause-found c = is_some-position (same_ticket c.args.ticket) _ _ c.place_of.ensures

@@ -5,8 +5,8 @@ use Rattle.std.specs.Option.{option_to_list}
 use Rattle.iol_book.specs.Lines.{entry_ticket}
 use Rattle.iol_book.specs.Lines.{is_still_open_by, moved_number, with_numbers}
 use Rattle.iol_book.proofs.NumberLemmas.{comes-dropped, comes-end, comes-kept, open-numbers}
-use Rattle.iol_book.proofs.book.renumber.Goals as goal
-use Rattle.iol_book.proofs.book.renumber.Goals.{then-is_still_open, else-is_still_open}
+use Rattle.iol_book.proofs.compacting.renumber.Goals as goal
+use Rattle.iol_book.proofs.compacting.renumber.Goals.{then-is_still_open, else-is_still_open}
 
 pub loop-line-preserved : goal.loop-line-preserved
 loop-line-preserved g c =

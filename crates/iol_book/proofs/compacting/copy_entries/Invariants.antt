@@ -1,5 +1,5 @@
 use Rattle.std.proofs.Common.{◌≡◌, ◌++◌, take, vec_capacity}
-use Rattle.iol_book.proofs.book.copy_entries.Given as goal
+use Rattle.iol_book.proofs.compacting.copy_entries.Given as goal
 
 abbrev pub invariant-loop-entry : goal.invariant-loop-entry
 invariant-loop-entry g l = (l.list.items ≡ l.initial.list.items ++ take l.entry-index l.journal)

@@ -1,6 +1,6 @@
 use Rattle.iol_book.specs.Replay.{same_ticket}
 use Rattle.iol_book.proofs.LineLemmas.{is_some-position, none-position, remove-position}
-use Rattle.iol_book.proofs.book.place_in.Goals as goal
+use Rattle.iol_book.proofs.lines.place_in.Goals as goal
 
 pub returns-clause-found : goal.returns-clause-found
 returns-clause-found g c = is_some-position (same_ticket c.args.ticket) _ _ c.first_at.ensures
