@@ -11,3 +11,4 @@ pub mod Laws
 pub mod SoundTable
 pub mod Storage
 pub mod Requests
+pub mod Flaws

@@ -5,6 +5,7 @@ use Rattle.iol_isdu.specs.declared.values.Answer.{Answer}
 use Rattle.iol_isdu.specs.declared.values.Answer.TheVariants.{Read}
 use Rattle.iol_params.specs.declared.error_type.ErrorType.{ErrorType}
 use Rattle.iol_params.specs.declared.manager.Manager.TheInside.{Inside}
+use Rattle.iol_params.specs.declared.parts.ManagerParts.{ManagerParts}
 use Rattle.iol_params.specs.declared.state.Activity.{Activity}
 use Rattle.iol_params.specs.declared.state.Activity.TheVariants.{Idle}
 use Rattle.iol_params.specs.declared.state.Restart.TheVariants.{NotDue}
@@ -51,7 +52,38 @@ IsFitting m place octets = content_refusal m.table.members place octets ≡ None
 abbrev pub copy_seen : Activity → List (List ℕ) → List (List ℕ)
 copy_seen activity copy = if is_downloading activity then copy else []
 
+-- cells of values and of a copy, as they fit a table and what is under way
+pub record AreSound (table : ParamTable) (values copy : List ℕ) (activity : Activity)
+    : Type 0 where
+  pub values_room : room_for table.members ≡ length values
+  pub copy_room : room_for table.members ≡ length copy
+  -- each member has a value that fits, in a copy too
+  pub fit : all_fit table.members (values_in table.members values) ≡ true
+  pub copy_fit : is_downloading activity ≡ true
+      → all_fit table.members (values_in table.members copy) ≡ true
+  -- and each order rule holds
+  pub consistent : is_consistent table (values_in table.members values) ≡ true
+
 module _ {A : Type 0} where
+  -- what the parts of a manager are beside a table
+  abbrev pub parts_seen : ParamTable → ManagerParts A → ManagerValue
+  parts_seen table parts = record {
+    table = table;
+    state = record {
+      values = values_in table.members parts.values.items;
+      copy = copy_seen parts.activity (values_in table.members parts.copy.items);
+      activity = parts.activity;
+      locks = parts.locks;
+      flag = parts.flag;
+      event_due = parts.event_due;
+      restart = parts.restart;
+    };
+  }
+
+  abbrev pub ArePartsOf : ParamTable → ManagerParts A → Type 0
+  ArePartsOf table parts =
+      AreSound table parts.values.items parts.copy.items parts.activity
+
   abbrev pub manager_view : Inside A → ManagerValue
   manager_view m = record {
     table = m.table.now;
@@ -66,12 +98,5 @@ module _ {A : Type 0} where
     };
   }
 
-  pub record IsSoundManager (m : Inside A) : Type 0 where
-    pub values_room : room_for m.table.now.members ≡ length m.values.items
-    pub copy_room : room_for m.table.now.members ≡ length m.copy.items
-    -- each member has a value that fits, in a copy too
-    pub fit : all_fit m.table.now.members (values_in m.table.now.members m.values.items) ≡ true
-    pub copy_fit : is_downloading m.activity ≡ true
-        → all_fit m.table.now.members (values_in m.table.now.members m.copy.items) ≡ true
-    -- and each order rule holds
-    pub consistent : is_consistent m.table.now (values_in m.table.now.members m.values.items) ≡ true
+  abbrev pub IsSoundManager : Inside A → Type 0
+  IsSoundManager m = AreSound m.table.now m.values.items m.copy.items m.activity

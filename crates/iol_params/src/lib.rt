@@ -18,6 +18,8 @@ mod manager;
 #[cfg(test)]
 mod manager_tests;
 mod member;
+mod owned;
+mod parts;
 mod state;
 mod storage;
 mod table;
@@ -28,5 +30,6 @@ pub use laws::{
 };
 pub use manager::Manager;
 pub use member::{Access, DataType, IntegerWidth, Member};
+pub use owned::{OwnedManager, OwnedTable};
 pub use state::{Activity, Command, Locks, Restart, Scope, WritesSoFar};
 pub use table::{Flaw, OrderRule, Table, TableFault};

@@ -7,9 +7,10 @@ ghost use Rattle.iol_params.specs.State.{is_uploading, after_end, with_flag_clea
 ghost use Rattle.iol_params.specs.Carry.{write, command, upload_settled, place_refusal, access_refusal, content_refusal, alone_refusal, write_refusal, local_change, local_refusal, download_end, with_reset, rules_hold, is_consistent};
 ghost use Rattle.iol_params.specs.Storage.{storage_value, state_octet};
 ghost use Rattle.iol_params.specs.Image.{with_kept};
-ghost use Rattle.iol_params.specs.Manager.{new_manager, read_answer, IsFitting};
+ghost use Rattle.iol_params.specs.Manager.{new_manager, read_answer, IsFitting, parts_seen, ArePartsOf};
 
 use crate::error_type::ErrorType;
+use crate::parts::ManagerParts;
 use crate::state::{Activity, Command, Locks, Restart, Scope, WritesSoFar};
 use crate::table::{Table, has_index, has_place, has_read_only, has_stored, most_at};
 use crate::{cells, storage};
@@ -65,6 +66,58 @@ impl<'a, A: Allocator + Copy> Manager<'a, A> {
             event_due: false,
             restart: Restart::NotDue,
         })
+    }
+
+    /// A manager of these parts beside the table that they are of. It takes no memory.
+    pub(crate) fn of_parts(table: &'a Table<'a>, parts: ManagerParts<A>) -> Manager<'a, A>
+        requires { ArePartsOf table.now parts }
+        ensures { result ≡ parts_seen table.now parts }
+    {
+        let ManagerParts {
+            values,
+            copy,
+            activity,
+            locks,
+            flag,
+            event_due,
+            restart,
+        } = parts;
+        Manager {
+            table,
+            values,
+            copy,
+            activity,
+            locks,
+            flag,
+            event_due,
+            restart,
+        }
+    }
+
+    /// Its parts, without its table.
+    pub(crate) fn into_parts(self) -> ManagerParts<A>
+        ensures sound { ArePartsOf self.entry.table result }
+        ensures seen { parts_seen self.entry.table result ≡ self.entry }
+    {
+        let Manager {
+            table: _,
+            values,
+            copy,
+            activity,
+            locks,
+            flag,
+            event_due,
+            restart,
+        } = self;
+        ManagerParts {
+            values,
+            copy,
+            activity,
+            locks,
+            flag,
+            event_due,
+            restart,
+        }
     }
 
     /// Answers a read of a parameter of the table: its value in force, in a download too.

@@ -63,6 +63,27 @@ pub enum Flaw {
     TooMuchStored,
 }
 
+impl Flaw {
+    ghost use Rattle.iol_params.specs.Flaws.{flaw_number};
+
+    /// The number of the refusal.
+    pub fn code(self) -> u8
+        ensures { result ≡ flaw_number self }
+    {
+        match self {
+            Flaw::TooManyMembers => 50,
+            Flaw::ManagedIndex => 51,
+            Flaw::SubindexOutOfTurn => 52,
+            Flaw::MixedAccess => 53,
+            Flaw::BadLength => 54,
+            Flaw::BadDefault => 55,
+            Flaw::NoStoredNumber => 56,
+            Flaw::BrokenAtFirst => 57,
+            Flaw::TooMuchStored => 58,
+        }
+    }
+}
+
 /// The first flaw of a table, and where it is.
 #[derive(Clone, Copy, Debug, PartialEq, Eq)]
 pub struct TableFault {
@@ -114,6 +135,15 @@ impl<'a> Table<'a> {
         check_storage(members)?;
         check_rules(members, rules)?;
         Ok(Table { members, rules })
+    }
+
+    /// The table of members and rules that were found to be without a flaw before. Nothing is
+    /// looked at again.
+    pub(crate) fn of_sound(members: &'a [Member<'a>], rules: &'a [OrderRule]) -> Table<'a>
+        requires { table_fault members.now rules.now ≡ None }
+        ensures { result ≡ record { members = members.now; rules = rules.now } }
+    {
+        Table { members, rules }
     }
 
     /// A law of each table, without code of its own: it has at most 1,000 members, each parameter
