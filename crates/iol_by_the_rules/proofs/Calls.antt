@@ -48,6 +48,7 @@ mode_after p next (call.Submit request) reply gives = of_book p next gives.2.res
 mode_after p next (call.SubmitUrgent request) reply gives = of_book p next gives.2.rest
 mode_after p next (call.Collect ticket) reply gives = of_book p next gives.2.rest
 mode_after p next (call.Withdraw ticket) reply gives = of_book p next gives.2.rest
+mode_after p next (call.Abandon ticket) reply gives = of_book p next gives.2.rest
 mode_after p next (call.Cancel ticket) reply gives = cancelled p next ticket gives.0 gives.2
 mode_after p next call.Restart reply gives = inr (down_of next.core.state gives.1.mode)
 mode_after p next (call.SetOutput image) reply gives = wanted p next image gives.0 gives.2
