@@ -1,5 +1,0 @@
-pub mod Line
-pub mod Work
-pub mod Process
-pub mod Rows
-pub mod Calls
