@@ -1,7 +1,7 @@
 /* Null pointers and copied handles: each call refuses them, writes nothing, and leaves the handle as it was. Calls of a
  * port that may come at any time are those of calls.h. What is printed is compared with misuse.stdout. */
 #include "calls.h"
-#include "iolink_device.h"
+#include "iolink_params.h"
 #include <stdio.h>
 #include <string.h>
 
@@ -106,6 +106,92 @@ static void device_calls_of_the_handle_alone(iol_device *device, uint8_t wanted)
     IS(iol_device_close(device), wanted);
 }
 
+static const uint8_t octet[1] = {1};
+static const iol_param_row rows[] = {{24, 0, IOL_UINT8, IOL_STORED, 0, 0, 9, octet, 1}};
+static const iol_param_row without[] = {{24, 0, IOL_UINT8, IOL_STORED, 0, 0, 9, NULL, 1}};
+static const iol_order_rule rules[] = {{24, 0, 24, 0}};
+enum { SIZE = 3 };
+
+/* Each call of a device with parameters, with these pointers. */
+static void params_calls(iol_params *device, bool has_others, uint8_t wanted)
+{
+    uint8_t image[SIZE] = {7}, error = 7, out = 7;
+    iol_reply reply;
+    iol_image output;
+    iol_value value;
+    size_t size = 7;
+    memset(&reply, 7, sizeof reply);
+    memset(&value, 7, sizeof value);
+    IS(iol_params_image_size(device, OTHER(&size)), wanted);
+    IS(iol_params_image(device, OTHER(image), SIZE), wanted);
+    IS(iol_params_set(device, 24, 0, OTHER(octet), 1, &error), wanted);
+    IS(iol_params_set(device, 24, 0, octet, 1, OTHER(&error)), wanted);
+    IS(iol_params_reset(device, OTHER(&error)), wanted);
+    IS(iol_params_value(device, 24, 0, OTHER(&value), &error), wanted);
+    IS(iol_params_value(device, 24, 0, &value, OTHER(&error)), wanted);
+    IS(iol_params_restart(device, OTHER(&out)), wanted);
+    IS(iol_params_locks(device, OTHER(&out)), wanted);
+    IS(iol_params_hear(device, OTHER(page), 1, &reply), wanted);
+    IS(iol_params_hear(device, page, 1, OTHER(&reply)), wanted);
+    IS(iol_params_expects(device, OTHER(page), 1, &out), wanted);
+    IS(iol_params_expects(device, page, 1, OTHER(&out)), wanted);
+    IS(iol_params_mode(device, OTHER(&out)), wanted);
+    IS(iol_params_cycle_time(device, OTHER(&out)), wanted);
+    IS(iol_params_set_input(device, OTHER(page), 1), wanted);
+    IS(iol_params_output(device, OTHER(&output)), wanted);
+    IS(image[0], 7);
+    IS(error, 7);
+    IS(out, 7);
+    IS(size, 7);
+    IS(reply.length, 7);
+    IS(value.length, 7);
+}
+
+static void params_calls_of_the_handle_alone(iol_params *device, uint8_t wanted)
+{
+    size_t row = 7;
+    IS(iol_params_open(device, page, rows, 1, rules, 1, NULL, 0, &row), wanted);
+    IS(iol_params_work(device), wanted);
+    IS(iol_params_saved(device), wanted);
+    IS(iol_params_wake(device), wanted);
+    IS(iol_params_silence(device), wanted);
+    IS(iol_params_raise(device, 0x54, 1), wanted);
+    IS(iol_params_clear_input(device), wanted);
+    IS(iol_params_close(device), wanted);
+    IS(row, 7);
+}
+
+/* Null pointers and copies at a device with parameters. */
+static void params(void)
+{
+    iol_params device = {0}, copy;
+    size_t row = 7;
+    params_calls(NULL, true, IOL_NOT_ASKED);
+    params_calls_of_the_handle_alone(NULL, IOL_NOT_ASKED);
+    NULLS(iol_params_open(&device, NULL, rows, 1, rules, 1, NULL, 0, &row));
+    NULLS(iol_params_open(&device, page, NULL, 1, rules, 1, NULL, 0, &row));
+    NULLS(iol_params_open(&device, page, without, 1, rules, 1, NULL, 0, &row));
+    NULLS(iol_params_open(&device, page, rows, 1, NULL, 1, NULL, 0, &row));
+    NULLS(iol_params_open(&device, page, rows, 1, rules, 1, NULL, 1, &row));
+    NULLS(iol_params_open(&device, page, rows, 1, rules, 1, NULL, 0, NULL));
+    params_calls(&device, false, IOL_NOT_ASKED);
+    params_calls(&device, true, IOL_CLOSED);
+    IS(iol_params_work(&device), IOL_CLOSED);
+    IS(iol_params_saved(&device), IOL_CLOSED);
+    IS(iol_params_open(&device, page, NULL, 0, NULL, 0, NULL, 0, &row), 0);
+    IS(iol_params_close(&device), 0);
+    IS(iol_params_open(&device, page, rows, 1, rules, 1, NULL, 0, &row), 0);
+    params_calls(&device, false, IOL_NOT_ASKED);
+    copy = device;
+    params_calls(&copy, true, IOL_COPIED);
+    params_calls_of_the_handle_alone(&copy, IOL_COPIED);
+    IS(iol_params_hear(&device, NULL, 0, &(iol_reply){0}), 0);
+    IS(iol_params_wake(&device), 0);
+    IS(iol_params_close(&device), 0);
+    IS(iol_params_close(&copy), IOL_COPIED);
+    IS(iol_params_close(&device), IOL_CLOSED);
+}
+
 static void nulls(void)
 {
     iol_port port = {0};
@@ -199,6 +285,7 @@ int main(void)
     nulls();
     empty_lists();
     copies();
+    params();
     printf("wrong %d\n", wrong);
     return wrong != 0;
 }

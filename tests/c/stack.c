@@ -4,7 +4,7 @@
  * another; 256 means 256 or less. It is to run with LD_BIND_NOW=1: else the first call of a function of the C library
  * counts what the dynamic linker needs to find it. */
 #include "calls.h"
-#include "iolink_device.h"
+#include "iolink_params.h"
 #include <stdio.h>
 #include <string.h>
 
@@ -20,7 +20,12 @@ enum { KB = 1024, OF_OPENING = 8 * KB, OF_LINE = 12 * KB, OF_CALL = 4 * KB, ROOM
     X(iol_device_power_cycle) X(iol_device_expects) X(iol_device_checksum) X(iol_device_cycle_micros)                  \
     X(iol_device_handed) X(iol_device_answer_read) X(iol_device_answer_written) X(iol_device_answer_refused)           \
     X(iol_device_raise) X(iol_device_set_input) X(iol_device_clear_input) X(iol_device_output)                         \
-    X(iol_device_silence) X(iol_device_mode) X(iol_device_cycle_time) X(iol_device_trace_line)
+    X(iol_device_silence) X(iol_device_mode) X(iol_device_cycle_time) X(iol_device_trace_line)                         \
+    X(iol_params_open) X(iol_params_close) X(iol_params_work) X(iol_params_image_size) X(iol_params_image)             \
+    X(iol_params_saved) X(iol_params_set) X(iol_params_reset) X(iol_params_value) X(iol_params_restart)                \
+    X(iol_params_locks) X(iol_params_hear) X(iol_params_expects) X(iol_params_wake) X(iol_params_silence)              \
+    X(iol_params_mode) X(iol_params_cycle_time) X(iol_params_raise) X(iol_params_set_input)                            \
+    X(iol_params_clear_input) X(iol_params_output)
 
 #define AT(name) at_##name,
 #define AT_PORT(name, end, arguments) at_iol_port_##name,
@@ -36,7 +41,7 @@ static size_t deepest[MEASURED];
 static size_t bound(int call)
 {
     bool opens = call == at_iol_port_open || call == at_iol_port_open_for || call == at_iol_device_open
-        || call == at_iol_device_open_from;
+        || call == at_iol_device_open_from || call == at_iol_params_open;
     bool tells = call == at_iol_port_trace_line || call == at_iol_device_trace_line;
     return opens ? OF_OPENING : tells ? OF_LINE : OF_CALL;
 }
@@ -247,6 +252,66 @@ static void noise(void)
     }
 }
 
+/* A device with parameters, of which one has as many octets as there can be: it takes each message of a port, and saves. */
+static void with_parameters(const uint8_t page[10])
+{
+    static const iol_param_row rows[] = {{16, 0, IOL_OCTETS, IOL_STORED, LONGEST, 0, 0, longest, LONGEST},
+        {17, 0, IOL_UINT32, IOL_STORED, 0, 0, 9, longest, 4}, {18, 0, IOL_UINT16, IOL_STORED, 0, 0, 9, longest, 2}};
+    static const iol_order_rule rules[] = {{17, 0, 18, 0}};
+    static uint8_t image[1 + LONGEST + 1 + 5 + 3];
+    iol_params params = {0};
+    iol_message asked;
+    iol_reply reply;
+    iol_value value;
+    iol_image output;
+    size_t row, size;
+    uint8_t octet, error;
+    int turn;
+    CALL(iol_params_open, &params, page, rows, 3, rules, 1, NULL, 0, &row);
+    CALL(iol_params_image_size, &params, &size);
+    CALL(iol_port_open_for, &port, IOL_DEVICES_OWN, 1000, 100, 64, 0);
+    for (turn = 0; turn < 2000; turn++) {
+        CALL(iol_port_asks, &port, &asked);
+        if (asked.length == 0) {
+            CALL(iol_params_wake, &params);
+            CALL(iol_port_turn_woken, &port, 2);
+            continue;
+        }
+        CALL(iol_params_expects, &params, asked.octets, 1, &octet);
+        CALL(iol_params_hear, &params, asked.octets, asked.length, &reply);
+        if (CALL(iol_params_work, &params) == IOL_TO_SAVE) {
+            CALL(iol_params_image, &params, image, size);
+            CALL(iol_params_saved, &params);
+        }
+        CALL(iol_port_turn_answered, &port, reply.octets, reply.length);
+        if (turn % 200 == 50)
+            CALL(iol_port_write, &port, 16, 0, longest, LONGEST, &ticket);
+        if (turn % 200 == 100)
+            CALL(iol_port_write, &port, 2, 0, (const uint8_t *)(turn % 400 == 100 ? "\x03" : "\x05"), 1, &ticket);
+        if (turn % 200 == 150)
+            CALL(iol_port_read, &port, 3, 4, &ticket);
+        CALL(iol_params_raise, &params, 0x54, 0x1800);
+    }
+    CALL(iol_params_set_input, &params, longest, 2);
+    CALL(iol_params_clear_input, &params);
+    CALL(iol_params_output, &params, &output);
+    CALL(iol_params_value, &params, 16, 0, &value, &error);
+    CALL(iol_params_mode, &params, &octet);
+    CALL(iol_params_cycle_time, &params, &octet);
+    CALL(iol_params_restart, &params, &octet);
+    CALL(iol_params_locks, &params, &octet);
+    CALL(iol_params_silence, &params);
+    CALL(iol_params_set, &params, 16, 0, longest, LONGEST, &error);
+    CALL(iol_params_saved, &params);
+    CALL(iol_params_reset, &params, &error);
+    CALL(iol_params_saved, &params);
+    CALL(iol_params_close, &params);
+    CALL(iol_params_open, &params, page, rows, 3, rules, 1, image, size, &row);
+    CALL(iol_params_close, &params);
+    CALL(iol_port_close, &port);
+    ticket = 0;
+}
+
 static void run(const uint8_t page[10])
 {
     ticket = 0;
@@ -285,6 +350,8 @@ int main(int count, char **words)
     run(plain);
     run(process);
     run(largest);
+    with_parameters(plain);
+    with_parameters(process);
     for (call = 0; call < MEASURED; call++) {
         if (measures)
             printf("%s %zu\n", names[call], deepest[call]);

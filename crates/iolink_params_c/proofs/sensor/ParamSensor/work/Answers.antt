@@ -1,0 +1,8 @@
+-- What is carried out without anything to be saved leaves what outlives the power as it was.
+use Rattle.std.proofs.Common.{rules}
+use Rattle.iolink_params_c.proofs.Keeping.{worked_keeps}
+use Rattle.iolink_params_c.proofs.sensor.ParamSensor.work.Goals as goal
+
+pub returns-then-is_nothing-clause-kept : goal.returns-then-is_nothing-clause-kept
+returns-then-is_nothing-clause-kept c =
+    worked_keeps c.args.self.now c.tell_event.new.self (search rules)

@@ -1,0 +1,5 @@
+pub mod Line
+pub mod Work
+pub mod Process
+pub mod Rows
+pub mod Calls
