@@ -3,6 +3,7 @@ ghost use Rattle.std.specs.Prelude.{◌≡◌, List, All, IfOk, vec_len};
 ghost use Rattle.iol_clients.specs.Counts.{AddsUp, ClientsAreServed};
 ghost use Rattle.iol_master.specs.Ledgers.{IsBlankFor};
 ghost use Rattle.iol_sim.specs.Sim.{SimulatedWire};
+ghost use Rattle.iol_sim.specs.declared.beside.Nothing.{Nothing};
 ghost use Rattle.iol_sim.specs.declared.params.ParameterEntry.{ParameterEntry};
 
 use crate::collect::{count_ports, settle_all};
@@ -40,7 +41,8 @@ pub fn serve_clients<R: Threads + Wait + Sync>(
     ensures up { IfOk result (λ counts.
         All (λ port. AddsUp port.requests) counts.ports.items) }
     ensures served { IfOk result (λ counts.
-        ClientsAreServed (SimulatedWire (List ParameterEntry)) counts.ports.items counts.total) }
+        ClientsAreServed (SimulatedWire (List ParameterEntry) Nothing) counts.ports.items
+        counts.total) }
 {
     let ports = u64::from(plan.ports);
     with_ledgers::<Brand, Brand, R>(rt, alloc, plan, Blank::new(1025), Blank::new(ports))
@@ -60,7 +62,8 @@ fn with_ledgers<L: Ledger + Sync, K: Ledger + Sync, R: Threads + Wait + Sync>(
     ensures up { IfOk result (λ counts.
         All (λ port. AddsUp port.requests) counts.ports.items) }
     ensures served { IfOk result (λ counts.
-        ClientsAreServed (SimulatedWire (List ParameterEntry)) counts.ports.items counts.total) }
+        ClientsAreServed (SimulatedWire (List ParameterEntry) Nothing) counts.ports.items
+        counts.total) }
 {
     let ports = open_ports(alloc, plan.ports)?;
     let opened: Result<Master<Sim<Params>, L, K>, _> = Master::open(alloc, ports, clients, tickets);

@@ -1,2 +1,2 @@
-mod Answering
+pub mod Answering
 mod Saving

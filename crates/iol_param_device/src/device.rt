@@ -38,7 +38,7 @@ use std::marker::Model;
 
 /// DS_UPLOAD_REQ: Data Storage has something new to fetch. A single notification of the
 /// application (IEC 61131-9, Annex D, cited from memory).
-const UPLOAD_REQUEST: Event = Event {
+pub const UPLOAD_REQUEST: Event = Event {
     qualifier: 0x54,
     code: 0xFF91,
 };

@@ -2,12 +2,13 @@
 -- application
 use Rattle.std.proofs.Common.{◌≡◌, ◌⊎◌, inl, inr, List, [], ◌∷◌, Option, Some, None, option_map, refl, ap, subst, ◌∙◌}
 use Rattle.iol_device.specs.App.{Gives, Follows}
-use Rattle.iol_device.specs.Device.{Running}
 use Rattle.iol_app.specs.declared.asked.Asked.{Asked}
 use Rattle.iol_app.specs.declared.asked.Asked.TheVariants.{Wake, Exchange}
 use Rattle.iol_app.specs.Asking.{IsCall}
 use Rattle.iol_port.specs.WireCalls.{AreCalls, ComesFrom}
 use Rattle.iol_sim.specs.declared.params.ParameterEntry.{ParameterEntry}
+use Rattle.iol_sim.specs.declared.beside.Nothing.{Nothing}
+use Rattle.iol_sim.specs.Beside.{Stand, BesideFacts, plain_facts}
 use Rattle.iol_sim.specs.Params.{Stores, AnsweredBy}
 use Rattle.iol_sim.specs.Script.{firsts_of, firsts_after_swap, AreThose}
 use Rattle.iol_sim.specs.Sim.{SimulatedWire, sim_devices, sim_facts}
@@ -31,38 +32,40 @@ one_first (first, None) y (inl e) one = ap (λ (z : _ × Option _). z.0) e
 one_first (first, None) y (inr e) one = ap (λ (z : _ × Option _). z.0) e
 one_first (first, Some other) y same one = absurd (cc)
 
-module _ {P : Type 0} (gives : Gives P) where
-  those_by : (asked : Asked) (old new : SimulatedWire P) → IsCall (sim_facts gives) asked old new
+module _ {P M : Type 0} (facts : BesideFacts P M) where
+  those_by : (asked : Asked) (old new : SimulatedWire P M) → IsCall (sim_facts facts) asked old new
       → AreThose (sim_devices old) (sim_devices new)
   those_by Wake old new (answer, woken) = woken.those
   those_by (Exchange sent) old new (answer, exchanged) = exchanged.those
 
-  those_through : (calls : List Asked) (old new : SimulatedWire P)
-      → AreCalls (sim_facts gives) calls old new → AreThose (sim_devices old) (sim_devices new)
-  those_through [] old new same = inl (ap (λ (s : SimulatedWire P). firsts_of (sim_devices s)) same)
+  those_through : (calls : List Asked) (old new : SimulatedWire P M)
+      → AreCalls (sim_facts facts) calls old new → AreThose (sim_devices old) (sim_devices new)
+  those_through [] old new same = inl
+      (ap (λ (s : SimulatedWire P M). firsts_of (sim_devices s)) same)
   those_through (asked ∷ calls) old new (mid, one, rest) =
       same_and (firsts_of (sim_devices old)) (firsts_of (sim_devices mid))
       (firsts_of (sim_devices new)) (those_by asked old mid one)
       (those_through calls mid new rest)
 
-  pub those_now : (old new : SimulatedWire P) → ComesFrom (sim_facts gives) old new
+  pub those_now : (old new : SimulatedWire P M) → ComesFrom (sim_facts facts) old new
       → AreThose (sim_devices old) (sim_devices new)
   those_now old new (calls, through) = those_through calls old new through
 
-  pub follows_first : (old new : SimulatedWire P) → ComesFrom (sim_facts gives) old new
+  pub follows_first : (gives : Gives P) (old new : SimulatedWire P M)
+      → ComesFrom (sim_facts facts) old new
       → Follows gives new.device.first new.device.far.carried new.device.app
       → old.away ≡ None → Follows gives old.device.first new.device.far.carried new.device.app
-  follows_first old new from follows one =
+  follows_first gives old new from follows one =
       subst (λ (first : P). Follows gives first new.device.far.carried new.device.app)
       (one_first (firsts_of (sim_devices old)) (firsts_of (sim_devices new))
-      (those_now old new from) (ap (option_map (λ (d : Running P). d.first)) one)) follows
+      (those_now old new from) (ap (option_map (λ (s : Stand P M). s.device.first)) one)) follows
 
-pub answered_first : (old new : SimulatedWire (List ParameterEntry))
-    → ComesFrom (sim_facts Stores) old new
+pub answered_first : (old new : SimulatedWire (List ParameterEntry) Nothing)
+    → ComesFrom (sim_facts (plain_facts Stores)) old new
     → AnsweredBy new.device.first new.device.far.carried new.device.app
     → old.away ≡ None → AnsweredBy old.device.first new.device.far.carried new.device.app
 answered_first old new from answered one =
     subst (λ (first : List ParameterEntry). AnsweredBy first new.device.far.carried new.device.app)
     (one_first (firsts_of (sim_devices old)) (firsts_of (sim_devices new))
-    (those_now Stores old new from)
-    (ap (option_map (λ (d : Running (List ParameterEntry)). d.first)) one)) answered
+    (those_now (plain_facts Stores) old new from)
+    (ap (option_map (λ (s : Stand (List ParameterEntry) Nothing). s.device.first)) one)) answered

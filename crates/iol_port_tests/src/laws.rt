@@ -36,7 +36,7 @@ pub fn each_app_follows_record<P: App, B: Allocator + Copy, A: Handle>(port: &Po
     ensures device { let device = port.now.wire.device in
         Follows P.carry_out_gives device.first device.far.carried device.app }
     ensures away { IfSome port.now.wire.away (λ away.
-        Follows P.carry_out_gives away.first away.far.carried away.app) }
+        Follows P.carry_out_gives away.device.first away.device.far.carried away.device.app) }
 {
     port.keeps_record();
     port.wire().app_follows_record();

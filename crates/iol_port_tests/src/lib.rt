@@ -37,6 +37,8 @@ mod honest;
 #[cfg(test)]
 mod links;
 #[cfg(test)]
+mod parameters;
+#[cfg(test)]
 mod ports;
 #[cfg(test)]
 mod sim;

@@ -9,3 +9,4 @@ pub mod PairsLemmas
 pub mod PlanLemmas
 pub mod ScriptLemmas
 pub mod FatesLemmas
+pub mod TableLemmas

@@ -6,7 +6,6 @@ use Rattle.std.proofs.lemmas.List.Elements.{All-nil, All-cons}
 use Rattle.iol_script.specs.RunLines.{run_form}
 use Rattle.iol_script.specs.Script.{DraftValue, calls_of, calls_in, script_after, draft_after}
 use Rattle.iol_script.specs.declared.run_line.RunLine.{RunLine}
-use Rattle.iol_script.specs.declared.run_line.RunLine.TheVariants as line
 use Rattle.iol_script.proofs.LinesRead.{stays_bad}
 
 -- A good line

@@ -31,6 +31,7 @@ module _ {A : Type 0} where
     devices = fields.devices;
     limits = fields.limits;
     params = fields.params.items;
+    table = fields.table;
     steps = fields.steps.items;
     calls = fields.calls;
     turns = fields.turns;

@@ -4,6 +4,7 @@ pub mod Numerals
 pub mod CheckLines
 pub mod Cycles
 pub mod RunLines
+pub mod Tables
 pub mod Script
 pub mod DraftInside
 pub mod PlanRanges

@@ -1,6 +1,7 @@
 -- What the lines of `run` make, one after the other.
-use Rattle.std.specs.Prelude.{◌≡◌, ◌≤◌, ℕ, ◌+◌, ◌-◌, Bool, true, false, Option, Some, None, is_none, unwrap_or, option_map, option_and_then, Result, Ok, IsOk, List, [], ◌∷◌, ◌++◌, length, replicate, fold, flat_map, nat_le, nat_lt, ◌&&◌, if◌then◌else◌}
+use Rattle.std.specs.Prelude.{◌≡◌, ◌≤◌, ℕ, ◌+◌, ◌-◌, Bool, true, false, Option, Some, None, is_none, unwrap_or, option_map, option_and_then, Result, Ok, IsOk, List, [], ◌∷◌, ◌++◌, length, replicate, fold, flat_map, nat_le, nat_lt, ◌&&◌, ◌||◌, ◌==◌, if◌then◌else◌}
 use Rattle.std.specs.Option.{ForSome, option_map_or}
+use Rattle.std.specs.List.{list_any}
 use Rattle.std.specs.Vec.{vec_len}
 use Rattle.iol_page.specs.Page.{layouts_of}
 use Rattle.std.specs.Result.{result_ok, result_err}
@@ -14,9 +15,10 @@ use Rattle.iol_sim.specs.Params.{number_at_place}
 use Rattle.iol_sim.specs.declared.params.ParameterEntry.{ParameterEntry}
 use Rattle.iol_sim.specs.declared.script.Fate.TheVariants.{Clean}
 use Rattle.iol_sim.specs.declared.script.Step.{Step}
-use Rattle.iol_sim.specs.declared.script.Step.TheVariants.{Fate, Swap}
+use Rattle.iol_sim.specs.declared.script.Step.TheVariants.{Change, Fate, Swap}
 use Rattle.iol_script.specs.Text.{line_read}
 use Rattle.iol_script.specs.RunLines.{run_form}
+use Rattle.iol_script.specs.Tables.{TableRules, has_no_table, no_table, with_kept_index, with_range, with_rule}
 use Rattle.iol_port.specs.declared.call.Call.{Call}
 use Rattle.iol_port.specs.declared.call.Call.TheVariants.{Turn}
 use Rattle.iol_script.specs.declared.setting.Setting.{Setting}
@@ -42,6 +44,7 @@ pub record DraftValue : Type 0 where
   pub devices : Option Devices
   pub limits : Option Limits
   pub params : List ParameterEntry
+  pub table : TableRules
   pub steps : List Step
   -- how many calls there are, and how many of them are turns
   pub calls : ℕ
@@ -60,6 +63,7 @@ empty_draft = record {
   devices = None;
   limits = None;
   params = [];
+  table = no_table;
   steps = [];
   calls = 0;
   turns = 0;
@@ -95,15 +99,29 @@ abbrev pub line_turns : CallLine → ℕ
 line_turns (Once call) = 0
 line_turns (Turns n) = n
 
+-- or changes a parameter at the device itself
+abbrev pub is_change : WireLine → Bool
+is_change (One (Change place octets)) = true
+is_change other = false
+
 -- one more parameter is taken at a place: it is one of 32 at places of their own
 abbrev pub takes_param : List ParameterEntry → Place → Bool
 takes_param params place = nat_lt (length params) 32 && is_none (number_at_place params place)
+
+-- whether a parameter of an Index can be written
+abbrev pub has_writable : List ParameterEntry → ℕ → Bool
+has_writable params index =
+    list_any (λ param. (param.place.index == index) && param.writable) params
+
+-- a draft with a table, if there is one
+abbrev pub with_table : DraftValue → Option TableRules → Option DraftValue
+with_table draft table = option_map (λ t. record draft { table = t }) table
 
 -- a draft, where a setting of it is not given yet
 abbrev pub once : {T : Type 0} → Option T → DraftValue → Option DraftValue
 once given draft = if is_none given then Some draft else None
 
--- the draft after a setting: each but a parameter is given at most once
+-- the draft after a setting: each but those of parameters is given at most once
 abbrev pub with_setting : DraftValue → Setting → Option DraftValue
 with_setting draft (setting.Page octets) = once draft.page (record draft { page = Some octets })
 with_setting draft (setting.Other octets) = once draft.other (record draft { other = Some octets })
@@ -125,6 +143,13 @@ with_setting draft (setting.Param place writable value) =
           ++ record { place = place; writable = writable; value = value } ∷ [];
     })
     else None
+with_setting draft (setting.Kept index) =
+    if has_writable draft.params index
+    then with_table draft (with_kept_index draft.table index) else None
+with_setting draft (setting.Range range) =
+    if is_none (number_at_place draft.params range.place) then None
+    else with_table draft (with_range draft.table range)
+with_setting draft (setting.AtMost rule) = with_table draft (with_rule draft.table rule)
 
 -- a draft with at most 1,000,000 steps and 1,000,000 calls
 abbrev pub in_bounds : DraftValue → Option DraftValue
@@ -148,14 +173,17 @@ abbrev pub with_calls : DraftValue → ℕ → ℕ → DraftValue
 with_calls draft count turns =
     record draft { calls = draft.calls + count; turns = draft.turns + turns; begun = true }
 
--- the draft after a line, where the line is good in its place: devices are exchanged
--- only where there is a second one
+-- whether a line of the wire lacks what it needs: a second device, or a table
+abbrev pub lacks : DraftValue → WireLine → Bool
+lacks draft wire = (is_swap wire && is_none draft.other)
+    || (is_change wire && has_no_table draft.table)
+
+-- the draft after a line, where the line is good in its place
 abbrev pub script_after : DraftValue → RunLine → Option DraftValue
 script_after draft line.Skip = Some draft
 script_after draft (line.Setting setting) = if draft.begun then None else with_setting draft setting
 script_after draft (line.Wire wire) =
-    if is_swap wire && is_none draft.other then None
-    else in_bounds (with_steps draft wire)
+    if lacks draft wire then None else in_bounds (with_steps draft wire)
 script_after draft (line.Call call) =
     in_bounds (with_calls draft (length (line_calls call)) (line_turns call))
 
@@ -181,6 +209,8 @@ pub record ScriptValue : Type 0 where
   pub kind : Kind
   pub misses_pulses : Bool
   pub params : List ParameterEntry
+  -- what is said of their table
+  pub table : TableRules
   -- for which devices, and with what limits, the port is opened
   pub devices : Devices
   pub limits : Limits
@@ -204,6 +234,7 @@ value_of script = record {
   kind = script.kind;
   misses_pulses = script.misses_pulses;
   params = script.params.items;
+  table = script.table;
   devices = script.devices;
   limits = script.limits;
   steps = script.steps.items;
@@ -218,6 +249,7 @@ script_of draft = record {
   kind = unwrap_or draft.kind own;
   misses_pulses = draft.misses_pulses;
   params = draft.params;
+  table = draft.table;
   devices = unwrap_or draft.devices Own;
   limits = unwrap_or draft.limits
       (record { journal = 1000; busy = 100; queue = 64; given = 0 });

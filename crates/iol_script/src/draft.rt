@@ -1,7 +1,7 @@
 //! A script, as far as its lines are read.
 ghost use Rattle.std.specs.Prelude.{◌≡◌, ◌++◌, ◌+◌, ◌≤◌, ℕ, Some, None, Ok, Err, OnOk, option_map, option_and_then, true, length, replicate, vec_len, vec_capacity};
 ghost use Rattle.iol_script.specs.declared.fault.ScriptFault.TheVariants.{Line};
-ghost use Rattle.iol_script.specs.RunLines.{call_form, devices_form, kind_form, limits_form, one_call, order_form, page_line, page_octets, param_form, pulses_form, run_words, turns_form, wire_form};
+ghost use Rattle.iol_script.specs.RunLines.{at_most_form, call_form, devices_form, kept_form, kind_form, limits_form, one_call, order_form, page_line, page_octets, param_form, pulses_form, range_form, run_words, turns_form, wire_form};
 ghost use Rattle.iol_script.specs.Text.{words_left};
 ghost use Rattle.iol_script.specs.Script.{steps_of};
 ghost use Rattle.iol_sim.specs.Params.{number_at_place};
@@ -13,7 +13,11 @@ use crate::fault::ScriptFault;
 use crate::fields::{end_of, is};
 use crate::parts::Words;
 use crate::script::Script;
-use crate::setting::{devices_of, kind_of, limits_of, order_of, page_of, param_of, pulses_of};
+use crate::setting::{
+    at_most_of, devices_of, kept_of, kind_of, limits_of, order_of, page_of, param_of, pulses_of,
+    range_of,
+};
+use crate::table_lines::TableLines;
 use crate::wire_line::{WireLine, parse_wire};
 use iol_book::Limits;
 use iol_far::Kind;
@@ -49,6 +53,7 @@ pub(crate) struct Draft<A: Allocator> {
     devices: Option<Devices>,
     limits: Option<Limits>,
     params: Vec<ParameterEntry, A>,
+    table: TableLines,
     steps: Vec<Step, A>,
     /// How many of the steps are fates.
     fates: usize,
@@ -75,7 +80,7 @@ impl<A: Allocator> Draft<A> {
     ghost use Rattle.iol_script.specs.DraftInside.{after_form, LineIsTaken};
     ghost use Rattle.iol_script.specs.declared.run_line.RunLine.{RunLine};
     ghost use Rattle.iol_script.specs.declared.setting.Setting.{Setting};
-    ghost use Rattle.iol_script.specs.Script.{IsScript, draft_after, empty_draft, in_bounds, lacking_fates, script_after, script_of, takes_param, value_of, with_calls};
+    ghost use Rattle.iol_script.specs.Script.{IsScript, draft_after, empty_draft, has_writable, in_bounds, lacking_fates, lacks, script_after, script_of, takes_param, value_of, with_calls};
 
     /// No line is read.
     pub(crate) fn new(alloc: A) -> Draft<A>
@@ -92,6 +97,7 @@ impl<A: Allocator> Draft<A> {
             devices: None,
             limits: None,
             params: Vec::new(alloc),
+            table: TableLines::none(),
             steps: Vec::new(alloc),
             fates: 0,
             calls: 0,
@@ -136,6 +142,12 @@ impl<A: Allocator> Draft<A> {
             self.take_limits(words).ok_or(bad)
         } else if is(name, b"param") {
             self.take_param(number, words)
+        } else if is(name, b"kept") {
+            self.take_kept(words).ok_or(bad)
+        } else if is(name, b"range") {
+            self.take_range(words).ok_or(bad)
+        } else if is(name, b"atmost") {
+            self.take_at_most(words).ok_or(bad)
         } else if is(name, b"wire") {
             self.take_wire(number, words)
         } else if is(name, b"turn") {
@@ -277,6 +289,51 @@ impl<A: Allocator> Draft<A> {
         self.params.iter().position(|param| param.place == place)
     }
 
+    /// The words behind `kept`: Data Storage keeps what can be written.
+    fn take_kept(&mut self, words: Words) -> Option<()>
+        ensures { option_map (λ _. self.new) result
+            ≡ after_form RunLine.Setting self.old (kept_form (words_left words.entry)) }
+    {
+        let index = kept_of(words)?;
+        if self.begun || !self.has_writable(index) {
+            return None;
+        }
+        self.table.keep(index)
+    }
+
+    /// Whether a parameter of an Index can be written.
+    fn has_writable(&self, index: u16) -> bool
+        ensures { result ≡ has_writable self.now.params index }
+    {
+        self.params
+            .iter()
+            .any(|param| param.place.index == index && param.writable)
+    }
+
+    /// The words behind `range`: there is such a parameter.
+    fn take_range(&mut self, words: Words) -> Option<()>
+        ensures { option_map (λ _. self.new) result
+            ≡ after_form RunLine.Setting self.old (range_form (words_left words.entry)) }
+    {
+        let range = range_of(words)?;
+        if self.begun || self.number_of(range.place).is_none() {
+            return None;
+        }
+        self.table.limit(range)
+    }
+
+    /// The words behind `atmost`.
+    fn take_at_most(&mut self, words: Words) -> Option<()>
+        ensures { option_map (λ _. self.new) result
+            ≡ after_form RunLine.Setting self.old (at_most_form (words_left words.entry)) }
+    {
+        let rule = at_most_of(words)?;
+        if self.begun {
+            return None;
+        }
+        self.table.order(rule)
+    }
+
     /// The words behind `wire`.
     fn take_wire(&mut self, number: u64, words: Words) -> Result<(), ScriptFault>
         ensures { LineIsTaken
@@ -307,13 +364,13 @@ impl<A: Allocator> Draft<A> {
         self.add_calls(1, 0)
     }
 
-    /// Steps are taken up to 1,000,000, and a swap only with a second device. In order, as many
-    /// clean fates as turns above lack come before them. The memory for all of them is taken
-    /// before the first.
+    /// Steps are taken up to 1,000,000, a swap only with a second device, and a change at the
+    /// device itself only with a table. In order, as many clean fates as turns above lack come
+    /// before them. The memory for all of them is taken before the first.
     fn add_steps(&mut self, number: u64, line: WireLine) -> Result<(), ScriptFault>
         ensures { LineIsTaken (script_after self.old (RunLine.Wire line)) number result self.new }
     {
-        if line.is_swap() && self.other.is_none() {
+        if self.lacks(&line) {
             return Err(ScriptFault::Line(number));
         }
         let lacking = self.lacking_fates();
@@ -327,6 +384,13 @@ impl<A: Allocator> Draft<A> {
         self.fates += fates;
         self.begun = true;
         Ok(())
+    }
+
+    /// Whether a line of the wire lacks a second device, or a table.
+    fn lacks(&self, line: &WireLine) -> bool
+        ensures { result ≡ lacks self.now line.now }
+    {
+        (line.is_swap() && self.other.is_none()) || (line.is_change() && self.table.is_empty())
     }
 
     /// How many of the turns above have no fate, where lines of the wire are in order.
@@ -368,6 +432,7 @@ impl<A: Allocator> Draft<A> {
             kind: self.kind.unwrap_or(Kind::own()),
             misses_pulses: self.misses_pulses,
             params: self.params,
+            table: self.table,
             devices: self.devices.unwrap_or(Devices::Own),
             limits: self.limits.unwrap_or(Limits::default()),
             steps: self.steps,

@@ -23,6 +23,7 @@ mod plan_draft;
 mod run_line;
 mod script;
 mod setting;
+mod table_lines;
 mod wire_line;
 
 pub use call_line::{CallLine, NAMED_CALLS};
@@ -36,4 +37,5 @@ pub use plan::{Plan, ShownCounts};
 pub use run_line::RunLine;
 pub use script::Script;
 pub use setting::Setting;
+pub use table_lines::{NumberOrder, NumberRange, TableLines};
 pub use wire_line::WireLine;

@@ -7,7 +7,8 @@ use crate::call_line::{CallLine, parse_call, turns_of};
 use crate::fields::{end_of, is};
 use crate::parts::Words;
 use crate::setting::{
-    Setting, devices_of, kind_of, limits_of, order_of, page_of, param_of, pulses_of,
+    Setting, at_most_of, devices_of, kept_of, kind_of, limits_of, order_of, page_of, param_of,
+    pulses_of, range_of,
 };
 use crate::wire_line::{WireLine, parse_wire};
 use iol_port::Call;
@@ -72,6 +73,12 @@ fn parse_words(mut words: Words) -> Option<RunLine>
             writable: param.writable,
             value: param.value,
         }))
+    } else if is(name, b"kept") {
+        Some(RunLine::Setting(Setting::Kept(kept_of(words)?)))
+    } else if is(name, b"range") {
+        Some(RunLine::Setting(Setting::Range(range_of(words)?)))
+    } else if is(name, b"atmost") {
+        Some(RunLine::Setting(Setting::AtMost(at_most_of(words)?)))
     } else if is(name, b"wire") {
         Some(RunLine::Wire(parse_wire(words)?))
     } else if is(name, b"turn") {

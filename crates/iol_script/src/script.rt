@@ -3,17 +3,20 @@ ghost use Rattle.std.specs.Prelude.{◌≡◌, ◌≤◌, ℕ, Some, None, Err, 
 ghost use Rattle.iol_script.specs.declared.fault.ScriptFault.TheVariants.{Line};
 ghost use Rattle.iol_script.specs.RunLines.{run_form};
 ghost use Rattle.iol_script.specs.Script.{IsScript, calls_in, first_bad_run, script_in, value_of};
+ghost use Rattle.iol_script.specs.Tables.{AreMembers};
 ghost use Rattle.iol_script.specs.Text.{numbered_lines};
 
 use crate::draft::Draft;
 use crate::fault::ScriptFault;
 use crate::parts::TextLines;
+use crate::table_lines::TableLines;
 use iol_book::Limits;
 use iol_far::Kind;
 use iol_mode::Devices;
 use iol_page::Page;
+use iol_params::Member;
 use iol_sim::{ParameterEntry, Step};
-use std::alloc::{Allocator, Global};
+use std::alloc::{AllocError, Allocator, Global};
 
 /// What the lines of `run` set up: the device, the port and the wire between them.
 ///
@@ -31,6 +34,8 @@ pub struct Script<A: Allocator = Global> {
     pub misses_pulses: bool,
     /// The parameters that each device has, at most 32, each at a place of its own.
     pub params: Vec<ParameterEntry, A>,
+    /// What is said of their table. Where nothing is, the devices have none.
+    pub table: TableLines,
     /// For which devices the port is opened.
     pub devices: Devices,
     /// With what limits it is.
@@ -63,5 +68,15 @@ impl<A: Allocator + Copy> Script<A> {
             draft.take(number, line)?;
         }
         Ok(draft.finish())
+    }
+
+    /// The members of the table, as far as lines say: one for each parameter, in their order.
+    ///
+    /// Nothing says that a table can have them: they may have a flaw.
+    pub fn members(&self, alloc: A) -> Result<Vec<Member<'_>, A>, AllocError>
+        ensures { IfOk result (λ members. AreMembers self.now.table self.now.params.items
+            members.items) }
+    {
+        self.table.members(alloc, &self.params)
     }
 }

@@ -1,13 +1,15 @@
 //! The lines of `run` that set something up.
 ghost use Rattle.std.specs.Prelude.{◌≡◌, IfSome, IsOk, option_map};
 ghost use Rattle.iol_page.specs.Page.{layouts_of};
-ghost use Rattle.iol_script.specs.RunLines.{access_of, devices_form, devices_named, hands_over_of, kind_form, limits_form, order_form, page_octets, param_form, pulses_form, queue_form, recalls_of};
+ghost use Rattle.iol_script.specs.Numerals.{number_in};
+ghost use Rattle.iol_script.specs.RunLines.{access_of, devices_form, devices_named, at_most_form, hands_over_of, kept_form, kind_form, limits_form, order_form, page_octets, param_form, pulses_form, queue_form, range_form, recalls_of};
 ghost use Rattle.iol_script.specs.declared.setting.Setting.{Setting};
 ghost use Rattle.iol_script.specs.Text.{words_left};
 
 use crate::fields::{end_of, is, place_of, value_of};
 use crate::numerals::{decimal_number, parted_octets};
 use crate::parts::Words;
+use crate::table_lines::{NumberOrder, NumberRange};
 use arrayvec::ArrayVec;
 use iol_book::{BusyLimit, JournalLimit, Limits, QueueLimit};
 use iol_far::{HandsOver, Kind, Recalls};
@@ -40,6 +42,12 @@ pub enum Setting {
         /// How many tickets may be outstanding.
         queue: QueueLimit,
     },
+    /// Data Storage keeps the parameter of an Index.
+    Kept(u16),
+    /// A parameter is a number in a range.
+    Range(NumberRange),
+    /// One number is at most another.
+    AtMost(NumberOrder),
     /// One more parameter of the device.
     Param {
         /// Where it lies.
@@ -197,4 +205,41 @@ fn access_of(word: &[u8]) -> Option<bool>
         b"rw" => Some(true),
         _ => None,
     }
+}
+
+/// The word behind `kept`: an Index whose parameter Data Storage keeps.
+pub(crate) fn kept_of(mut words: Words) -> Option<u16>
+    ensures { option_map Setting.Kept result ≡ kept_form (words_left words.entry) }
+{
+    let index = decimal_number(words.next()?, 0, 65_535)? as u16;
+    end_of(words)?;
+    Some(index)
+}
+
+/// The words behind `range`: a place, the least and the most that the number there may be.
+pub(crate) fn range_of(mut words: Words) -> Option<NumberRange>
+    ensures { option_map Setting.Range result ≡ range_form (words_left words.entry) }
+{
+    let place = place_of(words.next()?, words.next()?)?;
+    let least = number_of(words.next()?)?;
+    let most = number_of(words.next()?)?;
+    end_of(words)?;
+    Some(NumberRange { place, least, most })
+}
+
+/// A number of up to four octets.
+fn number_of(word: &[u8]) -> Option<u32>
+    ensures { result ≡ number_in 0 4294967295 word.now }
+{
+    Some(decimal_number(word, 0, u64::from(u32::MAX))? as u32)
+}
+
+/// The words behind `atmost`: the places of two numbers, of which the first is at most the second.
+pub(crate) fn at_most_of(mut words: Words) -> Option<NumberOrder>
+    ensures { option_map Setting.AtMost result ≡ at_most_form (words_left words.entry) }
+{
+    let low = place_of(words.next()?, words.next()?)?;
+    let high = place_of(words.next()?, words.next()?)?;
+    end_of(words)?;
+    Some(NumberOrder { low, high })
 }

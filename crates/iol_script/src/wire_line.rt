@@ -1,15 +1,15 @@
 //! The lines of `run` that make steps of the wire.
 ghost use Rattle.std.specs.Prelude.{◌≡◌, Some};
 ghost use Rattle.std.specs.Option.{option_map_or};
-ghost use Rattle.iol_script.specs.RunLines.{auto_form, fate_named, fates_form, raise_form, wire_form};
+ghost use Rattle.iol_script.specs.RunLines.{auto_form, change_form, fate_named, fates_form, raise_form, wire_form};
 ghost use Rattle.iol_script.specs.Text.{alone, words_left};
 
-use crate::fields::{count_of, end_of, is, parse_image};
-use crate::numerals::{hexadecimal_code, hexadecimal_octet};
+use crate::fields::{count_of, end_of, is, parse_image, place_of};
+use crate::numerals::{hexadecimal_code, hexadecimal_octet, hexadecimal_octets};
 use crate::parts::Words;
 use iol_event::Event;
 use iol_image::Image;
-use iol_sim::{Fate, Step};
+use iol_sim::{ChangeOctets, Fate, Step};
 
 /// A line that makes steps of the wire.
 #[derive(Clone, Debug, PartialEq, Eq, Drop)]
@@ -22,7 +22,7 @@ pub enum WireLine {
 
 impl WireLine {
     ghost use Rattle.std.specs.Prelude.{length};
-    ghost use Rattle.iol_script.specs.Script.{fates_in, is_swap, steps_of};
+    ghost use Rattle.iol_script.specs.Script.{fates_in, is_change, is_swap, steps_of};
 
     /// How many steps it makes.
     pub(crate) fn count(&self) -> u32
@@ -55,6 +55,16 @@ impl WireLine {
             WireLine::One(_) | WireLine::Fates(_, _) => false,
         }
     }
+
+    /// Whether it changes a parameter at the device itself.
+    pub(crate) fn is_change(&self) -> bool
+        ensures { result ≡ is_change self.now }
+    {
+        match self {
+            WireLine::One(Step::Change(_, _)) => true,
+            WireLine::One(_) | WireLine::Fates(_, _) => false,
+        }
+    }
 }
 
 /// The words behind `wire`.
@@ -76,6 +86,8 @@ pub(crate) fn parse_wire(mut words: Words) -> Option<WireLine>
         Some(WireLine::One(parse_auto(words)?))
     } else if is(name, b"raise") {
         Some(WireLine::One(parse_raise(words)?))
+    } else if is(name, b"local") {
+        Some(WireLine::One(parse_change(words)?))
     } else if is(name, b"input") {
         Some(WireLine::One(input_step(parse_image(words)?)))
     } else {
@@ -140,6 +152,16 @@ fn parse_raise(mut words: Words) -> Option<Step>
     let code = hexadecimal_code(words.next()?)?;
     end_of(words)?;
     Some(Step::Raise(Event { qualifier, code }))
+}
+
+/// A place, and up to 32 octets.
+fn parse_change(mut words: Words) -> Option<Step>
+    ensures { result ≡ change_form (words_left words.entry) }
+{
+    let place = place_of(words.next()?, words.next()?)?;
+    let octets: ChangeOctets = hexadecimal_octets(words.next()?)?;
+    end_of(words)?;
+    Some(Step::Change(place, octets))
 }
 
 fn input_step(image: Option<Image>) -> Step

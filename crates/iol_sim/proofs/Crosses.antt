@@ -9,6 +9,8 @@ use Rattle.iol_device.specs.contracts.record.Kept as Kept
 use Rattle.iol_device.specs.declared.record.Record.{Ghosts as Records}
 use Rattle.iol_sim.specs.contracts.sim.Sim as Sim
 use Rattle.iol_sim.specs.contracts.params.Params as Params
+use Rattle.iol_sim.specs.contracts.beside.Nothing as Nothing
+use Rattle.iol_sim.specs.declared.beside.Beside.{Ghosts as Besides}
 use Rattle.iol_sim.specs.contracts.params.ParamsApp.TheImpl as params
 
 -- the device itself, however its record is one
@@ -17,7 +19,9 @@ device_send : (records : Records (Kept.the_row Heap.the_row ghosts).Denot)
     records)
 device_send records = search (crosses, sendable) depth 60 fits 20000
 
--- however the heap's handle is copied
+-- however the heap's handle is copied, and what stands beside the device told
 pub sim_send : (copies : Copies (Heap.the_row).Denot)
-    → IsSend (Sim.the_row Params.the_row Heap.the_row params.ghosts ghosts copies)
-sim_send copies = search (device_send, crosses, sendable) depth 60 fits 20000
+    → (besides : Besides (Nothing.the_row).Denot (Params.the_row).Denot)
+    → IsSend (Sim.the_row Params.the_row Heap.the_row Nothing.the_row params.ghosts ghosts copies
+    besides)
+sim_send copies besides = search (device_send, crosses, sendable) depth 60 fits 20000

@@ -12,16 +12,19 @@
 //! wire. `specs/Tapped`: the wire within, with the note.
 #![tactic(auto)]
 
+mod beside;
 mod fault;
 mod params;
 mod raw;
 mod script;
 mod sim;
+mod stand;
 mod tap;
 
+pub use beside::{Beside, Nothing};
 pub use fault::SimFault;
 pub use params::{ParameterEntry, Params};
 pub use raw::Raw;
-pub use script::{Fate, Step};
+pub use script::{ChangeOctets, Fate, Step};
 pub use sim::Sim;
 pub use tap::{Tap, TapNote};

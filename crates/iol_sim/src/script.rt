@@ -1,6 +1,11 @@
 //! The steps of a script: what happens to each call of the wire, and at the device.
+use arrayvec::ArrayVec;
 use iol_event::Event;
 use iol_image::Image;
+use iol_isdu::Place;
+
+/// The octets of a change at the device itself: at most 32, so that a step stays small.
+pub type ChangeOctets = ArrayVec<u8, 32>;
 
 /// What becomes of one call of the wire. Damage flips bit 0 of the last octet.
 #[derive(Clone, Copy, Debug, PartialEq, Eq)]
@@ -39,6 +44,9 @@ pub enum Step {
     NoInput,
     /// A power cycle of the device.
     Power,
+    /// The device itself gives a parameter these octets; where it may not, nothing happens, and
+    /// neither where nothing stands beside the device.
+    Change(Place, ChangeOctets),
     /// The device's driver says that no message came for longer than it allows.
     Quiet,
     /// The device is pulled, and the other one is plugged in, with a power cycle;

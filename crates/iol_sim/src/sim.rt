@@ -1,13 +1,15 @@
 //! A simulated wire, with a device at its far end.
-ghost use Rattle.std.specs.Prelude.{◌≡◌, ℕ, [], true, None, Option, false, List, Some, IfOk, IfErr, IfSome, MatchBool, length, min, ◌+◌, ◌≤◌, if◌then◌else◌, ◌∷◌, option_copied, option_map};
+ghost use Rattle.std.specs.Prelude.{◌≡◌, ℕ, [], true, None, Option, false, List, Some, IfOk, IfErr, IfSome, OnOk, OnErr, MatchBool, length, min, ◌+◌, ◌≤◌, if◌then◌else◌, ◌∷◌, option_copied, option_map};
 ghost use Rattle.std.specs.Vec.Iter.{into_iter_items};
 ghost use Rattle.iol_octets.specs.Checksum.{AreOctets};
 ghost use Rattle.iol_far.specs.Octets.{octets_in, octets_in_buffer};
 ghost use Rattle.iol_sim.specs.Sim.{damaged_octets};
 
+use crate::beside::{Beside, Nothing};
 use crate::fault::SimFault;
 use crate::params::Params;
 use crate::script::{Fate, Step};
+use crate::stand::DeviceStand;
 use iol_device::{App, Device, Kept};
 use iol_event::Event;
 use iol_far::{page_and_room_stay, replies_are_read};
@@ -34,12 +36,12 @@ const TEST_READ: [u8; 2] = [0xA2, 0x00];
 /// has the application work where that is automatic, as it is at first, and then
 /// goes as the fate says. An ended script is clean.
 #[derive(Drop)]
-pub struct Sim<P: App, A: Allocator + Copy = Global> {
+pub struct Sim<P: App, A: Allocator + Copy = Global, B: Beside<P> = Nothing> {
     line: LineStanding,
     // Apart, since a device is large and a wire is moved with the link that owns it.
-    device: Box<Device<P, Kept<A>>, A>,
-    /// The device that isn't plugged in, where there is a second one.
-    away: Option<Box<Device<P, Kept<A>>, A>>,
+    here: Box<DeviceStand<P, A, B>, A>,
+    /// What isn't plugged in, where there is a second device.
+    away: Option<Box<DeviceStand<P, A, B>, A>>,
     /// The steps of the script that were not used yet.
     steps: IntoIter<Step, A>,
 }
@@ -55,17 +57,18 @@ struct LineStanding {
     refused_events: u64,
 }
 
-impl<P: App, A: Allocator + Copy> Model for Sim<P, A> {
+impl<P: App, A: Allocator + Copy, B: Beside<P>> Model for Sim<P, A, B> {
     ghost use Rattle.std.specs.Prelude.{◌≤◌, option_map};
     ghost use Rattle.std.specs.Vec.Iter.{into_iter_items};
     ghost use Rattle.iol_sim.specs.Sim.{SimulatedWire};
     ghost use Rattle.iol_link.specs.Attempts.{most_attempts};
 
-    ghost Value = { SimulatedWire P };
+    ghost Value = { SimulatedWire P B };
 
     ghost view = { λ sim. record {
-      device = sim.device.value;
-      away = option_map (λ device. device.value) sim.away;
+      device = sim.here.value.device;
+      beside = sim.here.value.beside;
+      away = option_map (λ stand. stand.value) sim.away;
       steps = into_iter_items sim.steps;
       auto = sim.line.auto;
       silent = sim.line.silent;
@@ -77,16 +80,11 @@ impl<P: App, A: Allocator + Copy> Model for Sim<P, A> {
 }
 
 impl<P: App, A: Allocator + Copy> Sim<P, A> {
-    ghost use Rattle.iol_far.specs.Far.{Far, hear};
-    ghost use Rattle.iol_device.specs.App.{Follows};
-    ghost use Rattle.iol_device.specs.Hearing.{device_after_hearing};
-    ghost use Rattle.iol_device.specs.Pulses.{is_orderly};
-    ghost use Rattle.iol_link.specs.Honest.{test_read};
-    ghost use Rattle.iol_link.specs.declared.wire.Rate.{Rate};
+    ghost use Rattle.std.specs.Prelude.{None, Some};
+    ghost use Rattle.iol_sim.specs.declared.beside.Nothing.{Nothing};
     ghost use Rattle.iol_sim.specs.declared.fault.SimFault.{SimFault};
-    ghost use Rattle.iol_sim.specs.declared.script.Fate.{Fate};
-    ghost use Rattle.iol_sim.specs.Script.{fate_of, rest_of, auto_of, devices_after_raise, devices_after_swap, IsDone, AreDone};
-    ghost use Rattle.iol_sim.specs.Sim.{sim_devices, fate_now, wire_before_call, IsReady, misses_pulse, device_after_wake, rate_by, reached_by, rate_found, device_after_exchange, reply_by, silence_by_fate};
+    ghost use Rattle.iol_sim.specs.Beside.{stand};
+    ghost use Rattle.iol_sim.specs.Sim.{first_sim};
 
     /// A wire to this device, with this script, which isn't copied.
     ///
@@ -97,33 +95,15 @@ impl<P: App, A: Allocator + Copy> Sim<P, A> {
         device: Device<P, Kept<A>>,
         steps: Vec<Step, A>,
     ) -> Result<Sim<P, A>, (SimFault, Device<P, Kept<A>>, Vec<Step, A>)>
-        ensures value { IfOk result (λ sim. sim ≡ record {
-          device = device;
-          away = None;
-          steps = steps.items;
-          auto = true;
-          silent = false;
-          silence = 0;
-          refused_events = 0;
-        }) }
+        ensures value { IfOk result (λ sim. sim
+            ≡ first_sim (stand device (record {})) None steps.items) }
         ensures refused { IfErr result (λ e. e.0 ≡ SimFault.OutOfMemory) }
         ensures device { IfErr result (λ e. e.1 ≡ device) }
         ensures script { IfErr result (λ e. e.2 ≡ steps) }
     {
-        match Box::new(alloc, device) {
-            Ok(device) => Ok(Sim {
-                line: LineStanding {
-                    auto: true,
-                    silent: false,
-                    silence: 0,
-                    refused_events: 0,
-                },
-                device,
-                away: None,
-                steps: steps.into_iter(),
-            }),
-            Err(failed) => Err((SimFault::OutOfMemory, failed.value, steps)),
-        }
+        Sim::beside(alloc, device, Nothing, steps).map_err(|(fault, device, _, steps)| (
+            fault, device, steps,
+        ))
     }
 
     /// A wire to this device, and a second one that the script may plug in, with this
@@ -145,30 +125,104 @@ impl<P: App, A: Allocator + Copy> Sim<P, A> {
             Vec<Step, A>,
         ),
     >
-        ensures value { IfOk result (λ sim. sim ≡ record {
-          device = device;
-          away = Some other;
-          steps = steps.items;
-          auto = true;
-          silent = false;
-          silence = 0;
-          refused_events = 0;
-        }) }
+        ensures value { IfOk result (λ sim. sim
+            ≡ first_sim (stand device (record {})) (Some (stand other (record {}))) steps.items) }
         ensures refused { IfErr result (λ e. e.0 ≡ SimFault.OutOfMemory) }
         ensures device { IfErr result (λ e. e.1 ≡ device) }
         ensures other { IfErr result (λ e. e.2 ≡ other) }
         ensures script { IfErr result (λ e. e.3 ≡ steps) }
     {
-        let other = match Box::new(alloc, other) {
+        let other = match Box::new(
+            alloc,
+            DeviceStand {
+                device: other,
+                beside: Nothing,
+            },
+        ) {
             Ok(other) => other,
-            Err(failed) => return Err((SimFault::OutOfMemory, device, failed.value, steps)),
+            Err(failed) => return Err((SimFault::OutOfMemory, device, failed.value.device, steps)),
         };
         match Sim::new(alloc, device, steps) {
             Ok(mut sim) => {
                 sim.away = Some(other);
                 Ok(sim)
             }
-            Err((fault, device, steps)) => Err((fault, device, Box::into_inner(other), steps)),
+            Err((fault, device, steps)) => {
+                Err((fault, device, Box::into_inner(other).device, steps))
+            }
+        }
+    }
+}
+
+impl<P: App, A: Allocator + Copy, B: Beside<P>> Sim<P, A, B> {
+    ghost use Rattle.iol_far.specs.Far.{Far, hear};
+    ghost use Rattle.iol_device.specs.App.{Follows};
+    ghost use Rattle.iol_device.specs.Pulses.{is_orderly};
+    ghost use Rattle.iol_link.specs.Honest.{test_read};
+    ghost use Rattle.iol_link.specs.declared.wire.Rate.{Rate};
+    ghost use Rattle.iol_sim.specs.declared.fault.SimFault.{SimFault};
+    ghost use Rattle.iol_sim.specs.declared.script.Fate.{Fate};
+    ghost use Rattle.iol_sim.specs.Beside.{stand, after_hearing};
+    ghost use Rattle.iol_sim.specs.Script.{fate_of, rest_of, auto_of, devices_after_raise, devices_after_swap, IsDone, AreDone};
+    ghost use Rattle.iol_sim.specs.Sim.{first_sim, here_of, with_here, sim_devices, fate_now, wire_before_call, IsReady, misses_pulse, stand_after_wake, rate_by, reached_by, rate_found, stand_after_exchange, reply_by, silence_by_fate};
+
+    /// A wire to this device and what stands beside it, with this script, which isn't copied.
+    ///
+    /// Refused with 24 OutOfMemory, all of it handed back, where there is no memory for the
+    /// device.
+    pub fn beside(
+        alloc: A,
+        device: Device<P, Kept<A>>,
+        beside: B,
+        steps: Vec<Step, A>,
+    ) -> Result<Sim<P, A, B>, (SimFault, Device<P, Kept<A>>, B, Vec<Step, A>)>
+        ensures value { IfOk result (λ sim. sim
+            ≡ first_sim (stand device beside) None steps.items) }
+        ensures refused { IfErr result (λ e. e.0 ≡ SimFault.OutOfMemory) }
+        ensures device { IfErr result (λ e. e.1 ≡ device) }
+        ensures beside { IfErr result (λ e. e.2 ≡ beside) }
+        ensures script { IfErr result (λ e. e.3 ≡ steps) }
+    {
+        match Box::new(alloc, DeviceStand { device, beside }) {
+            Ok(here) => Ok(Sim {
+                line: LineStanding {
+                    auto: true,
+                    silent: false,
+                    silence: 0,
+                    refused_events: 0,
+                },
+                here,
+                away: None,
+                steps: steps.into_iter(),
+            }),
+            Err(failed) => {
+                let DeviceStand { device, beside } = failed.value;
+                Err((SimFault::OutOfMemory, device, beside, steps))
+            }
+        }
+    }
+
+    /// From now on there is a second device, with what stands beside it, that the script may plug
+    /// in; one that there was goes. It isn't a lossy line then.
+    ///
+    /// Refused with 24 OutOfMemory, and nothing changed, where there is no memory for it.
+    pub fn add_other(
+        &mut self,
+        alloc: A,
+        device: Device<P, Kept<A>>,
+        beside: B,
+    ) -> Result<(), SimFault>
+        ensures added { OnOk result (self.new
+            ≡ record self.old { away = Some (stand device beside) }) }
+        ensures refused { IfErr result (λ e. e ≡ SimFault.OutOfMemory) }
+        ensures unchanged { OnErr result (self.new ≡ self.old) }
+    {
+        match Box::new(alloc, DeviceStand { device, beside }) {
+            Ok(other) => {
+                self.away = Some(other);
+                Ok(())
+            }
+            Err(_) => Err(SimFault::OutOfMemory),
         }
     }
 
@@ -176,15 +230,22 @@ impl<P: App, A: Allocator + Copy> Sim<P, A> {
     pub fn device(&self) -> &Device<P, Kept<A>>
         ensures { result.now ≡ self.now.device }
     {
-        &self.device
+        &self.here.device
+    }
+
+    /// What stands beside it.
+    pub fn beside_device(&self) -> &B
+        ensures { result.now ≡ self.now.beside }
+    {
+        &self.here.beside
     }
 
     /// The device that isn't plugged in, where there is a second one.
     pub fn away(&self) -> Option<&Device<P, Kept<A>>>
-        ensures { option_copied result ≡ self.now.away }
+        ensures { option_copied result ≡ option_map (λ stand. stand.device) self.now.away }
     {
         match &self.away {
-            Some(device) => Some(device.as_ref()),
+            Some(stand) => Some(&stand.device),
             None => None,
         }
     }
@@ -205,16 +266,16 @@ impl<P: App, A: Allocator + Copy> Sim<P, A> {
         ensures { Follows P.carry_out_gives self.now.device.first self.now.device.far.carried
             self.now.device.app }
     {
-        self.device.app_follows_record();
+        self.here.device.app_follows_record();
     }
 
     /// The same law of the device that isn't plugged in, where there is a second one.
     pub fn away_follows_record(&self)
-        ensures { IfSome self.now.away (λ away. Follows P.carry_out_gives away.first
-            away.far.carried away.app) }
+        ensures { IfSome self.now.away (λ away. Follows P.carry_out_gives away.device.first
+            away.device.far.carried away.device.app) }
     {
-        if let Some(device) = &self.away {
-            device.app_follows_record();
+        if let Some(stand) = &self.away {
+            stand.device.app_follows_record();
         }
     }
 
@@ -227,16 +288,18 @@ impl<P: App, A: Allocator + Copy> Sim<P, A> {
 
     /// The device is pulled, and the other one plugged in, with a power cycle.
     fn swap(&mut self)
-        ensures devices { sim_devices self.new ≡ devices_after_swap (sim_devices self.old) }
+        ensures devices { sim_devices self.new ≡ devices_after_swap B.facts
+            (sim_devices self.old) }
         ensures rest { self.new
             ≡ record self.old {
               device = self.new.device;
+              beside = self.new.beside;
               away = self.new.away;
             } }
     {
         if let Some(mut other) = self.away.take() {
             other.power_cycle();
-            self.away = Some(mem::replace(&mut self.device, other));
+            self.away = Some(mem::replace(&mut self.here, other));
         }
     }
 
@@ -246,10 +309,11 @@ impl<P: App, A: Allocator + Copy> Sim<P, A> {
         ensures rest { self.new
             ≡ record self.old {
               device = self.new.device;
+              beside = self.new.beside;
               refused_events = self.new.refused_events;
             } }
     {
-        if self.device.raise(event).is_err() {
+        if self.here.raise(event).is_err() {
             let count = &mut self.line.refused_events;
             *count = count.saturating_add(1);
         }
@@ -257,11 +321,12 @@ impl<P: App, A: Allocator + Copy> Sim<P, A> {
 
     /// Does one step that is no fate.
     fn act(&mut self, step: &Step)
-        ensures devices { IsDone P.carry_out_gives step.now (sim_devices self.old)
+        ensures devices { IsDone B.facts step.now (sim_devices self.old)
             (sim_devices self.new) }
         ensures rest { self.new
             ≡ record self.old {
               device = self.new.device;
+              beside = self.new.beside;
               away = self.new.away;
               refused_events = self.new.refused_events;
               auto = auto_of self.old.auto
@@ -270,16 +335,14 @@ impl<P: App, A: Allocator + Copy> Sim<P, A> {
     {
         match step {
             Step::Fate(_) => {}
-            Step::Work => self.device.work(),
+            Step::Work => self.here.work(),
             Step::Auto(on) => self.line.auto = *on,
             Step::Raise(event) => self.raise(*event),
-            // A refusal changes nothing.
-            Step::Input(image) => {
-                let _ = self.device.set_input(image);
-            }
-            Step::NoInput => self.device.clear_input(),
-            Step::Power => self.device.power_cycle(),
-            Step::Quiet => self.device.silence(),
+            Step::Input(image) => self.here.set_input(image),
+            Step::NoInput => self.here.clear_input(),
+            Step::Power => self.here.power_cycle(),
+            Step::Change(place, octets) => self.here.change(*place, octets),
+            Step::Quiet => self.here.silence(),
             Step::Swap => self.swap(),
         }
     }
@@ -287,11 +350,12 @@ impl<P: App, A: Allocator + Copy> Sim<P, A> {
     /// Does the steps up to and with the next fate, which is answered.
     fn next_fate(&mut self) -> Fate
         ensures fate { result ≡ fate_of self.old.steps }
-        ensures devices { AreDone P.carry_out_gives self.old.steps (sim_devices self.old)
+        ensures devices { AreDone B.facts self.old.steps (sim_devices self.old)
             (sim_devices self.new) }
         ensures rest { self.new
             ≡ record self.old {
               device = self.new.device;
+              beside = self.new.beside;
               away = self.new.away;
               refused_events = self.new.refused_events;
               steps = rest_of self.old.steps;
@@ -312,7 +376,7 @@ impl<P: App, A: Allocator + Copy> Sim<P, A> {
     fn begin(&mut self) -> Fate
         ensures fate { result ≡ fate_now self.old }
         ensures devices { MatchBool self.old.silent (sim_devices self.new
-            ≡ sim_devices self.old) (AreDone P.carry_out_gives self.old.steps (sim_devices self.old)
+            ≡ sim_devices self.old) (AreDone B.facts self.old.steps (sim_devices self.old)
             (sim_devices self.new)) }
         ensures rest { self.new ≡ wire_before_call self.old (sim_devices self.new) }
     {
@@ -327,12 +391,12 @@ impl<P: App, A: Allocator + Copy> Sim<P, A> {
     /// Does all that comes before a call, whose fate is answered.
     fn prepare(&mut self) -> Fate
         ensures fate { result ≡ fate_now self.old }
-        ensures devices { IsReady P.carry_out_gives self.old (sim_devices self.new) }
+        ensures devices { IsReady B.facts self.old (sim_devices self.new) }
         ensures rest { self.new ≡ wire_before_call self.old (sim_devices self.new) }
     {
         let fate = self.begin();
         if self.line.auto {
-            self.device.work();
+            self.here.work();
         }
         fate
     }
@@ -341,15 +405,15 @@ impl<P: App, A: Allocator + Copy> Sim<P, A> {
     fn reach(&mut self, fate: Fate) -> Option<Rate>
         ensures rate { result ≡ rate_by fate }
         ensures device { self.new
-            ≡ record self.old { device = device_after_wake fate self.old.device } }
+            ≡ with_here self.old (stand_after_wake B.facts fate (here_of self.old)) }
     {
         match fate {
             Fate::Clean => {
-                self.device.wake();
+                self.here.wake();
                 Some(Rate::Com2)
             }
             Fate::BackLost | Fate::BackDamaged => {
-                self.device.wake();
+                self.here.wake();
                 None
             }
             Fate::OutLost | Fate::OutDamaged | Fate::NoWake | Fate::Silent => None,
@@ -362,7 +426,7 @@ impl<P: App, A: Allocator + Copy> Sim<P, A> {
             → result ≡ misses_pulse fate before self.now.device.far }
     {
         match fate {
-            Fate::NoWake => orderly && self.device.misses_pulses(),
+            Fate::NoWake => orderly && self.here.device.misses_pulses(),
             Fate::Clean
             | Fate::OutLost
             | Fate::BackLost
@@ -378,10 +442,10 @@ impl<P: App, A: Allocator + Copy> Sim<P, A> {
         ensures rate { result
             ≡ option_map (λ reply. Rate.Com2) (hear self.old.device.far test_read).reply }
         ensures device { self.new
-            ≡ record self.old { device = device_after_hearing self.old.device test_read } }
+            ≡ with_here self.old (after_hearing B.facts (here_of self.old) test_read) }
     {
         let mut reply = Message::new();
-        self.device
+        self.here
             .hear_into(&TEST_READ, &mut reply)
             .then_some(Rate::Com2)
     }
@@ -391,7 +455,7 @@ impl<P: App, A: Allocator + Copy> Sim<P, A> {
         ensures rate { (before : Far) → orderly ≡ is_orderly before
             → result ≡ rate_found fate before self.old.device.far }
         ensures device { (before : Far) → orderly ≡ is_orderly before → self.new
-            ≡ record self.old { device = reached_by fate before self.old.device } }
+            ≡ with_here self.old (reached_by B.facts fate before (here_of self.old)) }
     {
         if self.misses_pulse(fate, orderly) {
             self.miss_pulse()
@@ -405,18 +469,18 @@ impl<P: App, A: Allocator + Copy> Sim<P, A> {
         ensures answer { octets_in_buffer result reply.new
             ≡ reply_by fate self.old.device.far sent.now }
         ensures device { self.new
-            ≡ record self.old { device = device_after_exchange fate self.old.device sent.now } }
+            ≡ with_here self.old (stand_after_exchange B.facts fate (here_of self.old) sent.now) }
         ensures octets { fate ≡ Fate.BackDamaged
             → IfSome (hear self.old.device.far sent.now).reply AreOctets }
     {
         match fate {
-            Fate::Clean => self.device.hear_into(sent, reply),
+            Fate::Clean => self.here.hear_into(sent, reply),
             Fate::BackLost => {
-                let _ = self.device.hear_into(sent, reply);
+                let _ = self.here.hear_into(sent, reply);
                 false
             }
             Fate::BackDamaged => {
-                let comes = self.device.hear_into(sent, reply);
+                let comes = self.here.hear_into(sent, reply);
                 damage(reply);
                 comes
             }
@@ -431,12 +495,12 @@ impl<P: App, A: Allocator + Copy> Sim<P, A> {
         ensures answer { octets_in_buffer result reply.new
             ≡ (hear self.old.device.far (damaged_octets sent.now)).reply }
         ensures device { self.new
-            ≡ record self.old
-            { device = device_after_hearing self.old.device (damaged_octets sent.now) } }
+            ≡ with_here self.old
+            (after_hearing B.facts (here_of self.old) (damaged_octets sent.now)) }
     {
         let mut message = Message::try_from(sent).unwrap();
         damage(&mut message);
-        self.device.hear_into(message.as_slice(), reply)
+        self.here.hear_into(message.as_slice(), reply)
     }
 
     /// Counts an exchange that ended so.
@@ -468,7 +532,8 @@ impl<A: Allocator + Copy> Sim<Params, A> {
     /// The same law of the device that isn't plugged in, where there is a second one.
     #[tactic(auto, using(crate::proofs::Entries::stored_away))]
     pub fn away_is_answered_by_params(&self)
-        ensures { IfSome self.now.away (λ away. AnsweredBy away.first away.far.carried away.app) }
+        ensures { IfSome self.now.away (λ away. AnsweredBy away.device.first
+            away.device.far.carried away.device.app) }
     {
         self.away_follows_record();
     }
@@ -501,19 +566,19 @@ fn are_octets(octets: &[u8])
     let _ = octets;
 }
 
-impl<P: App, A: Allocator + Copy> Wire for Sim<P, A> {
+impl<P: App, A: Allocator + Copy, B: Beside<P>> Wire for Sim<P, A, B> {
     ghost use Rattle.iol_sim.specs.Sim.{sim_facts};
     ghost use Rattle.iol_sim.specs.CleanCalls.{exchanges_cleanly, wakes_cleanly};
 
-    ghost facts = { sim_facts P.carry_out_gives };
+    ghost facts = { sim_facts B.facts };
 
-    ghost clean_exchanges = { exchanges_cleanly P.carry_out_gives };
+    ghost clean_exchanges = { exchanges_cleanly B.facts };
 
-    ghost clean_wakes = { wakes_cleanly P.carry_out_gives };
+    ghost clean_wakes = { wakes_cleanly B.facts };
 
     fn wake(&mut self) -> Option<Rate> {
         page_and_room_stay();
-        let orderly = self.device.is_orderly();
+        let orderly = self.here.is_orderly();
         let fate = self.prepare();
         self.make_wake(fate, orderly)
     }
@@ -523,7 +588,7 @@ impl<P: App, A: Allocator + Copy> Wire for Sim<P, A> {
         replies_are_read();
         damaged_replies_are_unread();
         one_flip_is_seen();
-        self.device.parts_are_regular();
+        self.here.parts_are_regular();
         let fate = self.prepare();
         let mut answer = Some(Message::new());
         let Some(reply) = &mut answer else {

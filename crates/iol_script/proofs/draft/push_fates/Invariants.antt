@@ -1,4 +1,4 @@
-use Rattle.std.proofs.Common.{◌≡◌, ◌+◌, ◌≤◌, ◌++◌, replicate, vec_len, vec_capacity}
+use Rattle.std.proofs.Common.{◌≡◌, ◌+◌, ◌++◌, replicate, vec_len, vec_capacity}
 use Rattle.iol_sim.specs.declared.script.Step.TheVariants.{Fate}
 use Rattle.iol_script.proofs.draft.push_fates.Given as goal
 

@@ -1,7 +1,7 @@
-use Rattle.std.proofs.Common.{rules, arith, ◌≡◌, ◌++◌, ◌+◌, replicate}
+use Rattle.std.proofs.Common.{rules, ◌++◌, replicate}
 use Rattle.iol_sim.specs.declared.script.Fate.TheVariants.{Clean}
 use Rattle.iol_sim.specs.declared.script.Step.TheVariants.{Fate}
-use Rattle.iol_script.specs.Script.{fates_in, steps_of}
+use Rattle.iol_script.specs.Script.{steps_of}
 use Rattle.iol_script.proofs.FatesLemmas.{at_most_all, of_fates, of_both, within}
 use Rattle.iol_script.proofs.draft.Draft.add_steps.Goals as goal
 

@@ -1,5 +1,6 @@
 use Rattle.std.proofs.Common.{true, false}
-use Rattle.iol_device.specs.Device.{Running}
+use Rattle.iol_sim.specs.Beside.{Stand}
+use Rattle.iol_sim.specs.Sim.{with_here}
 use Rattle.iol_sim.proofs.Calls.{by_branch}
 use Rattle.iol_sim.proofs.sim.Sim.make_wake.Goals as goal
 
@@ -10,7 +11,7 @@ returns-then-misses_pulse-clause-rate g c before orderly =
 
 pub returns-then-misses_pulse-clause-device : goal.returns-then-misses_pulse-clause-device
 returns-then-misses_pulse-clause-device g c before orderly =
-    by_branch (λ (d : Running _). record c.args.self.now { device = d }) true _ _ _ _ _
+    by_branch (λ (h : Stand _ _). with_here c.args.self.now h) true _ _ _ _ _
     (c.misses_pulse.ensures before orderly) c.if-misses_pulse.true c.miss_pulse.ensures.device
 
 pub returns-else-misses_pulse-clause-rate : goal.returns-else-misses_pulse-clause-rate
@@ -20,5 +21,5 @@ returns-else-misses_pulse-clause-rate g c before orderly =
 
 pub returns-else-misses_pulse-clause-device : goal.returns-else-misses_pulse-clause-device
 returns-else-misses_pulse-clause-device g c before orderly =
-    by_branch (λ (d : Running _). record c.args.self.now { device = d }) false _ _ _ _ _
+    by_branch (λ (h : Stand _ _). with_here c.args.self.now h) false _ _ _ _ _
     (c.misses_pulse.ensures before orderly) c.if-misses_pulse.false c.reach.ensures.device
