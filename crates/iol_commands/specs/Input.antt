@@ -1,9 +1,10 @@
 -- What a command reads: of a reader whose bytes are known, the whole input, up to its limit.
 use Rattle.std.specs.Prelude.{◌≡◌, ℕ, ◌+◌, ◌<◌, ◌≤◌, List, Option, Result, Err, IfSome, OnOk, length}
 use Rattle.std.specs.Io.KnownBytes.{Appends, Consumes}
+use Rattle.iol_params.specs.declared.table.TableFault.{TableFault}
 use Rattle.iol_script.specs.Text.{numbered_lines}
 use Rattle.iol_commands.specs.declared.fault.ProgramFault.{ProgramFault}
-use Rattle.iol_commands.specs.declared.fault.ProgramFault.TheVariants.{Line, TooLong}
+use Rattle.iol_commands.specs.declared.fault.ProgramFault.TheVariants.{Line, Table, TooLong}
 use Rattle.iol_commands.specs.declared.streams.TheConstants.{LIMIT}
 
 -- the input is longer than the limit
@@ -27,13 +28,18 @@ Writes remaining before after prints = (text : List ℕ) × Appends before after
     × IfSome remaining (λ input. prints (numbered_lines input) text)
 
 -- what a command answers that reads its input whole, and then its lines: of these it is said when
--- one is bad, by its number, when all are good, and what is printed for them
+-- one is bad, by its number, when all are good, which flaw the table has that they make, and what
+-- is printed for them
 pub record AnswersInput (bad_at : List (ℕ × List ℕ) → ℕ → Type 0)
-    (are_good : List (ℕ × List ℕ) → Type 0) (prints : List (ℕ × List ℕ) → List ℕ → Type 0)
+    (are_good : List (ℕ × List ℕ) → Type 0)
+    (bad_table : List (ℕ × List ℕ) → TableFault → Type 0)
+    (prints : List (ℕ × List ℕ) → List ℕ → Type 0)
     (before after written_before written : Option (List ℕ))
     (result : Result (Unit {0}) ProgramFault) : Type 0 where
   pub too_long : result ≡ Err TooLong → IsTooLong before
   pub bad_line : (n : ℕ) → result ≡ Err (Line n) → OfLines before (λ lines. bad_at lines n)
   pub good : OnOk result (OfLines before are_good)
+  pub flaw : (why : TableFault) → result ≡ Err (Table why)
+      → OfLines before (λ lines. bad_table lines why)
   pub taken : TakesInput before after
   pub printed : OnOk result (Writes before written_before written prints)

@@ -2,6 +2,7 @@
 use Rattle.std.specs.Prelude.{◌≡◌, ℕ, List, [], ◌++◌, All, Ok, vec_len, flat_map, codes}
 use Rattle.std.specs.List.{enumerate_from}
 use Rattle.iol_sim.specs.Sim.{SimulatedWire}
+use Rattle.iol_sim.specs.declared.beside.Nothing.{Nothing}
 use Rattle.iol_sim.specs.declared.params.ParameterEntry.{ParameterEntry}
 use Rattle.iol_port.specs.declared.counters.Counters.{Counters}
 use Rattle.iol_clients.specs.Counts.{AddsUp, ClientsAreServed}
@@ -53,6 +54,6 @@ pub record PrintsCounts (lines : List (ℕ × List ℕ)) (text : List ℕ) : Typ
   pub planned : plan_of lines ≡ Ok plan
   pub ports : vec_len counts.ports ≡ plan.ports
   pub up : All (λ port. AddsUp port.requests) counts.ports.items
-  pub served : ClientsAreServed (SimulatedWire (List ParameterEntry)) counts.ports.items
+  pub served : ClientsAreServed (SimulatedWire (List ParameterEntry) Nothing) counts.ports.items
       counts.total
   pub text_is : text ≡ counts_text plan.shown counts

@@ -1,6 +1,8 @@
 -- What `trace` carries out, and what it prints of it.
-use Rattle.std.specs.Prelude.{◌≡◌, ℕ, ◌+◌, false, Option, Some, None, List, [], ◌∷◌, ◌++◌, IsSomeAnd, unwrap_or, Result, Ok, Err}
+use Rattle.std.specs.Prelude.{◌≡◌, ℕ, ◌+◌, false, Option, Some, None, List, [], ◌∷◌, ◌++◌, IsSomeAnd, MatchBool, unwrap_or, Result, Ok, Err}
 use Rattle.std.specs.Io.KnownBytes.{Appends}
+use Rattle.iol_book.specs.declared.limits.Limits.{Limits}
+use Rattle.iol_mode.specs.declared.configuration.Devices.{Devices}
 use Rattle.iol_mseq.specs.Shape.{Shape, startup_shape}
 use Rattle.iol_page.specs.Page.{layouts_of}
 use Rattle.iol_page.specs.declared.fault.PageFault.{PageFault}
@@ -8,8 +10,9 @@ use Rattle.iol_page.specs.declared.page.Layouts.{Layouts}
 use Rattle.iol_link.specs.WireFacts.{WireFacts}
 use Rattle.iol_sim.specs.Tapped.{TappedWire, tap_facts, IsNoteOf}
 use Rattle.iol_sim.specs.declared.tap.TapNote.{TapNote}
+use Rattle.iol_param_sim.specs.Parameters.{parameters_facts}
 use Rattle.iol_sim.specs.Params.{Stores}
-use Rattle.iol_sim.specs.declared.params.ParameterEntry.{ParameterEntry}
+use Rattle.iol_sim.specs.Beside.{BesideFacts, plain_facts}
 use Rattle.iol_sim.specs.Sim.{SimulatedWire, sim_facts}
 use Rattle.iol_app.specs.declared.mode.Mode.{Mode}
 use Rattle.iol_app.specs.declared.mode.Mode.TheVariants.{Down, Startup, Preoperate, Operate}
@@ -19,8 +22,9 @@ use Rattle.iol_port.specs.declared.call.Answered.{Answered}
 use Rattle.iol_port.specs.View.{PortOver, Runs, IsNewFor, status_of}
 use Rattle.iol_port.specs.EveryWire.{PortCallGives, page_shown}
 use Rattle.iol_script.specs.Script.{ScriptValue, script_in, calls_in}
+use Rattle.iol_script.specs.Tables.{has_no_table}
 use Rattle.iol_commands.specs.Passing.{PrintsPassed}
-use Rattle.iol_commands.specs.RunPlayed.{HasItsDevice, RunsAlike, first_wire, ending_text, lacks_memory}
+use Rattle.iol_commands.specs.RunPlayed.{HasItsDevice, OverTable, RunsAlike, first_table_wire, first_wire, ending_text, lacks_memory}
 use Rattle.iol_commands.specs.RunPrinted.{printed_answer}
 
 -- the layout of a mode, if a page asks for these; in down no message is sent
@@ -86,28 +90,37 @@ module _ {W : Type 0} (facts : WireFacts W) where
       × TracesCall s call reply mid first × Traces mid calls replies t later
   Traces s calls replies t text = ⊥
 
--- a tap on the wire of a script at first, with nothing noted
-abbrev pub first_tap : ScriptValue → TappedWire (SimulatedWire (List ParameterEntry))
-first_tap script = record { wire = first_wire script; last = None }
+-- a tap on a wire, with nothing noted
+abbrev pub first_tap : {W : Type 0} → W → TappedWire W
+first_tap wire = record { wire = wire; last = None }
 
 -- What is printed for calls: what passes and what they answer, and then the end. They
--- are made on a new port over a tap on the script's wire; with one device of our own kind the
+-- are made on a new port over a tap on this wire; with one device, as the port wants it, the
 -- abstract port makes them alike.
-pub record TracesOut (script : ScriptValue) (calls : List Call) (text : List ℕ) : Type 0 where
+pub record TracesOut {P M : Type 0} (facts : BesideFacts P M) (devices : Devices)
+    (limits : Limits) (wire : SimulatedWire P M) (calls : List Call) (text : List ℕ)
+    : Type 0 where
   pub answers : List Answered
-  pub first : PortOver (TappedWire (SimulatedWire (List ParameterEntry)))
-  pub opens : IsNewFor script.devices script.limits first.parts
-  pub over_tap : first.wire ≡ first_tap script
-  pub last : TraceStage (SimulatedWire (List ParameterEntry))
+  pub first : PortOver (TappedWire (SimulatedWire P M))
+  pub opens : IsNewFor devices limits first.parts
+  pub over_tap : first.wire ≡ first_tap wire
+  pub last : TraceStage (SimulatedWire P M)
   pub calls_text : List ℕ
-  pub traces : Traces (sim_facts Stores) (trace_stage 1 first) calls answers last calls_text
-  pub alike : HasItsDevice script → RunsAlike script calls answers (wire_at last)
+  pub traces : Traces (sim_facts facts) (trace_stage 1 first) calls answers last calls_text
+  pub alike : HasItsDevice devices wire → RunsAlike devices limits wire calls answers (wire_at last)
   pub text_is : text ≡ calls_text ++ ending_text calls (wire_at last)
+
+-- what `trace` prints for the calls of a script: the device has its parameters alone, or a table
+abbrev pub TracesScript : ScriptValue → List Call → List ℕ → Type 0
+TracesScript script calls text = MatchBool (has_no_table script.table)
+    (TracesOut (plain_facts Stores) script.devices script.limits (first_wire script) calls text)
+    (OverTable script (λ table. TracesOut parameters_facts script.devices script.limits
+    (first_table_wire script table) calls text))
 
 -- what `trace` prints for lines, which are a script
 abbrev pub PrintsTrace : List (ℕ × List ℕ) → List ℕ → Type 0
 PrintsTrace lines text =
-    IsSomeAnd (script_in lines) (λ script. TracesOut script (calls_in lines) text)
+    IsSomeAnd (script_in lines) (λ script. TracesScript script (calls_in lines) text)
 
 -- a text is printed behind what waits to be written: of both, the first part is
 -- written, and the rest waits

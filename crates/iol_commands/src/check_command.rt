@@ -32,7 +32,7 @@ pub fn check<A: Allocator + Copy, R: Read, W: Write>(
     writer: &mut W,
 ) -> Result<(), ProgramFault>
     ensures answers { AnswersInput (λ lines n. first_bad lines ≡ Some n)
-        (λ lines. first_bad lines ≡ None) (PrintsAll startup_shape)
+        (λ lines. first_bad lines ≡ None) (λ lines why. ⊥) (PrintsAll startup_shape)
         (R.remaining reader.old) (R.remaining reader.new)
         (W.contents writer.old) (W.contents writer.new) result }
     ensures nothing { OnErr result (result ≢ Err WriteFailed

@@ -10,16 +10,17 @@ ghost use Rattle.iol_commands.specs.RunPlayed.{ending_text};
 ghost use Rattle.iol_commands.specs.RunPrinted.{is_counters, refused_events_text};
 
 use crate::run_printing::print_records;
+use iol_device::App;
 use iol_port::Call;
 use iol_script::{CallLine, RunLine, TextLines};
-use iol_sim::{Params, Sim};
+use iol_sim::{Beside, Sim};
 use std::alloc::{AllocError, Allocator};
 
 /// What is printed behind the calls of these lines: the records, and how many events were
 /// refused.
-pub(crate) fn print_ending<C: Allocator + Copy, A: Allocator>(
+pub(crate) fn print_ending<P: App, C: Allocator + Copy, B: Beside<P>, A: Allocator>(
     output: &mut String<A>,
-    sim: &Sim<Params, C>,
+    sim: &Sim<P, C, B>,
     input: &[u8],
 ) -> Result<(), AllocError>
     ensures { Prints result output.old output.new

@@ -3,8 +3,10 @@ ghost use Rattle.std.specs.Prelude.{◌≡◌};
 ghost use Rattle.iol_commands.specs.declared.fault.ProgramFault.TheVariants.{OutOfMemory};
 
 use iol_clients::ClientsFault;
+use iol_params::{Flaw, TableFault};
 use iol_script::ScriptFault;
 use std::alloc::{AllocError, AllocFailed};
+use std::fmt;
 use thiserror::Error;
 
 /// Why a command failed. Its text is what stands on standard error behind `iolink: `.
@@ -13,6 +15,9 @@ pub enum ProgramFault {
     /// The line of this number, counted from 1, fits no form of the command.
     #[error("line {0}: bad line")]
     Line(u64),
+    /// The parameters of the script make no table: of one with this flaw no device can be opened.
+    #[error("table: {flaw}", flaw = InTable(.0))]
+    Table(TableFault),
     /// The input has more than 1,048,576 bytes.
     #[error("input too long")]
     TooLong,
@@ -28,6 +33,22 @@ pub enum ProgramFault {
     /// A thread couldn't be started: only `many` says it, which works in threads.
     #[error("no thread")]
     NoThread,
+}
+
+/// A flaw, and among the lines of its kind, counted from 1, the one that has it.
+#[derive(Clone, Copy, Debug)]
+struct InTable<'a>(&'a TableFault);
+
+impl fmt::Display for InTable<'_> {
+    fn fmt<W: fmt::Write>(&self, f: &mut fmt::Formatter<W>) -> fmt::Result {
+        let TableFault { row, flaw } = *self.0;
+        let number = row.saturating_add(1);
+        match flaw {
+            Flaw::TooMuchStored => write!(f, "{flaw}"),
+            Flaw::NoStoredNumber | Flaw::BrokenAtFirst => { write!(f, "{flaw} in atmost {number}") }
+            _ => write!(f, "{flaw} in param {number}"),
+        }
+    }
 }
 
 impl From<AllocError> for ProgramFault {

@@ -36,7 +36,7 @@ pub fn many<T: Threads + Wait + Sync, R: Read, W: Write>(
     writer: &mut W,
 ) -> Result<(), ProgramFault>
     ensures answers { AnswersInput (λ lines n. plan_of lines ≡ Err n)
-        (λ lines. IsOk (plan_of lines)) PrintsCounts
+        (λ lines. IsOk (plan_of lines)) (λ lines why. ⊥) PrintsCounts
         (R.remaining reader.old) (R.remaining reader.new)
         (W.contents writer.old) (W.contents writer.new) result }
     ensures no_thread { result ≡ Err NoThread

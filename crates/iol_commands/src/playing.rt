@@ -11,13 +11,25 @@ ghost use Rattle.iol_commands.specs.RunPlayed.{lacks_memory, PortPlays};
 ghost use Rattle.iol_commands.specs.RunPrinted.{answers_text};
 
 use crate::run_printing::print_answer;
-use iol_book::BookFault;
+use iol_book::{BookFault, Limits};
 use iol_cell::Handle;
 use iol_link::Wire;
+use iol_mode::Devices;
 use iol_port::{Answered, Call, Port, PortFault, runs_join};
 use iol_script::{CallLine, RunLine, TextLines};
 use std::alloc::{AllocError, Allocator};
 use std::slice;
+
+/// What a script says of its port: how it is opened, and the lines that have its calls.
+#[derive(Clone, Copy)]
+pub(crate) struct PortScript<'a> {
+    /// For which devices the port is opened.
+    pub(crate) devices: Devices,
+    /// With what limits it is.
+    pub(crate) limits: Limits,
+    /// The lines of the script.
+    pub(crate) input: &'a [u8],
+}
 
 /// How many turns are made at once.
 const PIECE: usize = 256;

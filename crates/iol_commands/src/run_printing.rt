@@ -18,7 +18,7 @@ ghost use Rattle.iol_commands.specs.RunPlayed.{records_text};
 use crate::counters_printing::{cause_name, print_counters};
 use iol_app::{Mode, OutputFault, Status};
 use iol_book::{BookFault, Outcome, Ticket};
-use iol_device::Carried;
+use iol_device::{App, Carried};
 use iol_event::Event;
 use iol_image::Image;
 use iol_isdu::{Answer, Place, Request};
@@ -26,7 +26,7 @@ use iol_mode::Why;
 use iol_page::Page;
 use iol_port::{Answered, Call, Counting, Drained, PortFault};
 use iol_print::{print_hexadecimal, print_octets};
-use iol_sim::{Params, Sim};
+use iol_sim::{Beside, Sim};
 use std::alloc::{AllocError, Allocator};
 
 /// The octets, each behind a space, or a dash where there is none.
@@ -397,9 +397,9 @@ fn print_entries<A: Allocator>(
 }
 
 /// The records at the end: that of the device that is plugged in, and that of the other one.
-pub(crate) fn print_records<C: Allocator + Copy, A: Allocator>(
+pub(crate) fn print_records<P: App, C: Allocator + Copy, B: Beside<P>, A: Allocator>(
     output: &mut String<A>,
-    sim: &Sim<Params, C>,
+    sim: &Sim<P, C, B>,
 ) -> Result<(), AllocError>
     ensures { Prints result output.old output.new (records_text sim.now) }
 {

@@ -15,6 +15,16 @@ static TRACE: Case = Case {
         ticket 1 done read 41 42\nrecord 1\ncarried read 16 0: read 41 42\n",
 };
 
+/// Two devices with a table, whose saved values take memory too.
+static TABLE: Case = Case {
+    command: Command::Run,
+    input: "param 64 0 rw 0A\nkept 64\nrange 64 0 1 100\nother 17 2D 11 00 00 12 34 00 01 07\n\
+        wire local 64 0 0C\nwrite 64 0 65\nread 64 0\nturn 30\ncollect 1\ncollect 2\nevent\n",
+    output: "ticket 1\nticket 2\nticket 1 done refused 80 30\nticket 2 done read 0C\n\
+        event 54 FF91\nrecord 2\ncarried write 64 0 65: refused 80 30\n\
+        carried read 64 0: read 0C\naway 0\n",
+};
+
 /// Whether a case was refused memory under this order: then it has to say so, and to write
 /// nothing. A trace is written as it comes.
 fn is_refused(
@@ -65,6 +75,7 @@ fn refuse_each(rt: &impl Abort, alloc: Global, case: &Case) -> Result<(), Fail> 
 fn fails_at_each_request_for_memory(rt: HostRuntime) -> Result<(), Fail> {
     refuse_each(&rt, rt.alloc(), &CHECK)?;
     refuse_each(&rt, rt.alloc(), &RUN)?;
+    refuse_each(&rt, rt.alloc(), &TABLE)?;
     refuse_each(&rt, rt.alloc(), &TRACE)
 }
 

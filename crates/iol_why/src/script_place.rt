@@ -1,4 +1,5 @@
 //! Why a line of a script that fits a form is refused in its place.
+use iol_isdu::Place;
 use iol_script::{RunLine, Setting, TextLines, WireLine};
 use iol_sim::Step;
 use std::fmt;
@@ -14,8 +15,16 @@ pub enum PlaceFault {
     SamePlace(u64),
     /// There are 32 parameters.
     TooManyParams,
+    /// There are 32 lines of this setting.
+    TooManyOfIt,
+    /// No line gave a parameter of this Index that may be written.
+    NoWritable,
+    /// No line gave a parameter of this place.
+    NoParam,
     /// Devices are exchanged, and there is no second one.
     NoOther,
+    /// The device changes a parameter, and has no table of them.
+    NoTable,
     /// There would be more than 1,000,000 steps.
     TooManySteps,
     /// There would be more than 1,000,000 calls.
@@ -39,6 +48,16 @@ impl fmt::Display for PlaceFault {
                 )
             }
             PlaceFault::TooManyParams => f.write_str("a 33rd parameter; a device has at most 32"),
+            PlaceFault::TooManyOfIt => f.write_str("a 33rd line of this setting; there may be 32"),
+            PlaceFault::NoWritable => f.write_str(
+                "no such parameter that may be written; wanted above: param INDEX SUB rw H",
+            ),
+            PlaceFault::NoParam => {
+                f.write_str("no parameter there; wanted above: param INDEX SUB ro|rw H")
+            }
+            PlaceFault::NoTable => f.write_str(
+                "no table of parameters; wanted among the settings: kept, range or atmost",
+            ),
             PlaceFault::NoOther => {
                 f.write_str(
                     "no second device to plug in; wanted among the settings: other OCTET ..",
@@ -59,6 +78,9 @@ pub(crate) fn place_fault_of(text: &[u8], number: u64, line: &RunLine) -> Option
         RunLine::Setting(setting) => setting_fault_of(text, number, setting),
         RunLine::Wire(WireLine::One(Step::Swap)) if !has_other(text, number) => {
             Some(PlaceFault::NoOther)
+        }
+        RunLine::Wire(WireLine::One(Step::Change(..))) if !has_table(text, number) => {
+            Some(PlaceFault::NoTable)
         }
         RunLine::Wire(_) => Some(PlaceFault::TooManySteps),
         RunLine::Call(_) => Some(PlaceFault::TooManyCalls),
@@ -81,16 +103,57 @@ fn setting_fault_of(text: &[u8], bad: u64, setting: &Setting) -> Option<PlaceFau
             RunLine::Wire(_) | RunLine::Call(_) => return Some(PlaceFault::Late(number)),
         }
     }
-    Some(PlaceFault::TooManyParams)
+    Some(lacking_for(text, bad, setting))
+}
+
+/// Why a setting is refused that stands among the settings, and was not given before.
+fn lacking_for(text: &[u8], bad: u64, setting: &Setting) -> PlaceFault {
+    match setting {
+        Setting::Kept(index) if !any_above(text, bad, |it| is_writable_at(it, *index)) => {
+            PlaceFault::NoWritable
+        }
+        Setting::Range(range) if !any_above(text, bad, |it| is_param_at(it, range.place)) => {
+            PlaceFault::NoParam
+        }
+        Setting::Kept(_) | Setting::Range(_) | Setting::AtMost(_) => PlaceFault::TooManyOfIt,
+        _ => PlaceFault::TooManyParams,
+    }
+}
+
+/// Whether a setting is a parameter of this Index that may be written.
+fn is_writable_at(setting: &Setting, index: u16) -> bool {
+    matches!(setting, Setting::Param { place, writable: true, .. } if place.index == index)
+}
+
+/// Whether it is a parameter of this place.
+fn is_param_at(setting: &Setting, at: Place) -> bool {
+    matches!(setting, Setting::Param { place, .. } if *place == at)
 }
 
 /// Whether a second device was given above the line of this number.
 fn has_other(text: &[u8], bad: u64) -> bool {
+    any_above(text, bad, |it| matches!(it, Setting::Other(_)))
+}
+
+/// Whether a line above it made the parameters a table.
+fn has_table(text: &[u8], bad: u64) -> bool {
+    any_above(text, bad, |it| {
+        matches!(
+            it,
+            Setting::Kept(_) | Setting::Range(_) | Setting::AtMost(_)
+        )
+    })
+}
+
+/// Whether a setting above the line of this number is such a one.
+fn any_above<F: Fn(&Setting) -> bool>(text: &[u8], bad: u64, is_it: F) -> bool {
     for (number, line) in TextLines::of(text) {
         if number >= bad {
             return false;
         }
-        if let Some(RunLine::Setting(Setting::Other(_))) = RunLine::parse(line) {
+        if let Some(RunLine::Setting(setting)) = RunLine::parse(line)
+            && is_it(&setting)
+        {
             return true;
         }
     }
@@ -102,6 +165,12 @@ fn again(setting: &Setting, before: &Setting, line: u64) -> Option<PlaceFault> {
     match (setting, before) {
         (Setting::Param { place, .. }, Setting::Param { place: taken, .. }) => {
             (place == taken).then_some(PlaceFault::SamePlace(line))
+        }
+        (Setting::Kept(index), Setting::Kept(taken)) => {
+            (index == taken).then_some(PlaceFault::Twice(line))
+        }
+        (Setting::Range(range), Setting::Range(taken)) => {
+            (range.place == taken.place).then_some(PlaceFault::Twice(line))
         }
         (Setting::Page(_), Setting::Page(_))
         | (Setting::Other(_), Setting::Other(_))

@@ -108,6 +108,12 @@ const VALUE: Field = Field {
     },
 };
 
+const CHANGE: Field = Field {
+    letters: "H",
+    name: "value",
+    value: Value::Octets { least: 0, most: 32 },
+};
+
 const DATA: Field = Field {
     letters: "H",
     name: "process data",
@@ -170,8 +176,12 @@ const SHOWN_OCTET: Field = Field {
     value: Value::ShownOctet,
 };
 
+const LOW: Field = number!("LOW", "lowest number", 0, 4_294_967_295);
+
+const HIGH: Field = number!("HIGH", "highest number", 0, 4_294_967_295);
+
 /// The settings of a script.
-pub(crate) static SETTINGS: [LineForm; 8] = [
+pub(crate) static SETTINGS: [LineForm; 11] = [
     form!(
         "direct parameter page 1 of the device, 0x02 to 0x0B",
         word!("page"),
@@ -214,6 +224,27 @@ pub(crate) static SETTINGS: [LineForm; 8] = [
         one!(VALUE)
     ),
     form!(
+        "the parameters are a table, of which Data Storage keeps this Index",
+        word!("kept"),
+        one!(INDEX)
+    ),
+    form!(
+        "and this one is a number, the high octet first, from LOW to HIGH",
+        word!("range"),
+        one!(INDEX),
+        one!(SUB),
+        one!(LOW),
+        one!(HIGH)
+    ),
+    form!(
+        "and of two numbers that it keeps the first is at most the second",
+        word!("atmost"),
+        one!(INDEX),
+        one!(SUB),
+        one!(INDEX),
+        one!(SUB)
+    ),
+    form!(
         "each line of the wire acts behind the turns that stand above it",
         word!("in"),
         word!("order")
@@ -221,7 +252,7 @@ pub(crate) static SETTINGS: [LineForm; 8] = [
 ];
 
 /// The lines of the wire.
-pub(crate) static WIRE: [LineForm; 9] = [
+pub(crate) static WIRE: [LineForm; 10] = [
     form!(
         "what becomes of the next N calls of the wire",
         word!("wire"),
@@ -274,6 +305,14 @@ pub(crate) static WIRE: [LineForm; 9] = [
         "the device's driver says that no message came for too long",
         word!("wire"),
         word!("quiet")
+    ),
+    form!(
+        "the device itself changes a parameter of its table, as by a button",
+        word!("wire"),
+        word!("local"),
+        one!(INDEX),
+        one!(SUB),
+        one!(CHANGE)
     ),
 ];
 

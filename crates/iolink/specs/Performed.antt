@@ -1,11 +1,12 @@
 -- What each command reads and prints.
 use Rattle.std.specs.Prelude.{◌≡◌, ℕ, List, Some, None, Err, IsOk}
 use Rattle.iol_mseq.specs.Shape.{startup_shape}
+use Rattle.iol_params.specs.declared.table.TableFault.{TableFault}
 use Rattle.iol_script.specs.CheckLines.{first_bad}
 use Rattle.iol_script.specs.Script.{first_bad_run}
 use Rattle.iol_script.specs.Plan.{plan_of}
 use Rattle.iol_commands.specs.Checked.{PrintsAll}
-use Rattle.iol_commands.specs.RunPlayed.{PrintsRun}
+use Rattle.iol_commands.specs.RunPlayed.{IsBadTable, PrintsRun}
 use Rattle.iol_commands.specs.TracePrinted.{PrintsTrace}
 use Rattle.iol_commands.specs.ManyPrinted.{PrintsCounts}
 use Rattle.iolink.specs.declared.command.PrintingCommand.{PrintingCommand}
@@ -24,6 +25,13 @@ IsGood Check lines = first_bad lines ≡ None
 IsGood Run lines = first_bad_run lines ≡ None
 IsGood Trace lines = first_bad_run lines ≡ None
 IsGood Many lines = IsOk (plan_of lines)
+
+-- the table that the lines of a command's input make has this flaw
+abbrev pub HasBadTable : PrintingCommand → List (ℕ × List ℕ) → TableFault → Type 0
+HasBadTable Check lines why = ⊥
+HasBadTable Run lines why = IsBadTable lines why
+HasBadTable Trace lines why = IsBadTable lines why
+HasBadTable Many lines why = ⊥
 
 -- a command prints this text for the lines of its input
 abbrev pub CommandPrints : PrintingCommand → List (ℕ × List ℕ) → List ℕ → Type 0

@@ -61,7 +61,11 @@ prints
   carried read 16 0: read 41 42
 
 Limits: 1,048,576 bytes of input, 1,024 bytes a line, 32 parameters, N up to 100,000, 1,000,000 steps of the wire and
-1,000,000 calls in all, QUEUE up to 64, 64 without it, 232 octets a value, 32 octets of process data.
+1,000,000 calls in all, QUEUE up to 64, 64 without it, 232 octets a value, 32 octets of process data, 32 in 'wire local',
+32 lines of kept, range and atmost each.
+
+A table with a flaw is refused, as by 'table: BadDefault in param N' or 'table: BrokenAtFirst in atmost N', where N counts
+such lines from 1.
 
 Exit status: 0, all is printed; 1, the command failed, and a line on standard error says why; 2, the words of
 the command line are wrong, or ask for this help. After 1 and 2 nothing is printed, but where a write failed.

@@ -3,7 +3,7 @@ ghost use Rattle.std.specs.Prelude.{◌≡◌, ◌≢◌, ◌⊎◌, ℕ, Err, O
 ghost use Rattle.std.specs.Io.KnownBytes.{Keeps};
 ghost use Rattle.iolink.specs.declared.command.PrintingCommand.TheVariants.{Many, Trace};
 ghost use Rattle.iol_commands.specs.declared.fault.ProgramFault.TheVariants.{NoThread, OutOfMemory, WriteFailed};
-ghost use Rattle.iolink.specs.Performed.{IsBadAt, IsGood, CommandPrints};
+ghost use Rattle.iolink.specs.Performed.{IsBadAt, IsGood, HasBadTable, CommandPrints};
 ghost use Rattle.iol_commands.specs.Input.{AnswersInput, OfLines};
 
 use crate::command::PrintingCommand;
@@ -25,8 +25,8 @@ pub(crate) fn perform<T: Threads + Wait + Sync, R: Read, W: Write>(
     reader: &mut R,
     writer: &mut W,
 ) -> Result<(), ProgramFault>
-    ensures answers { AnswersInput (IsBadAt mode) (IsGood mode) (CommandPrints mode)
-        (R.remaining reader.old) (R.remaining reader.new)
+    ensures answers { AnswersInput (IsBadAt mode) (IsGood mode) (HasBadTable mode)
+        (CommandPrints mode) (R.remaining reader.old) (R.remaining reader.new)
         (W.contents writer.old) (W.contents writer.new) result }
     ensures threads { mode ≢ Many → result ≢ Err NoThread }
     ensures no_thread { result ≡ Err NoThread → OfLines (R.remaining reader.old) (IsGood mode) }

@@ -11,6 +11,7 @@ returns-clause-answers g c =
       too_long = search rules;
       bad_line = search rules;
       good = search rules;
+      flaw = search rules;
       taken = search rules;
       printed = on_ok_weaker c.traced.result (λ done. (
         done.0,
