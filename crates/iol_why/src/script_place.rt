@@ -146,7 +146,9 @@ fn has_table(text: &[u8], bad: u64) -> bool {
 }
 
 /// Whether a setting above the line of this number is such a one.
-fn any_above<F: Fn(&Setting) -> bool>(text: &[u8], bad: u64, is_it: F) -> bool {
+fn any_above<F: Fn(&Setting) -> bool>(text: &[u8], bad: u64, is_it: F) -> bool
+    requires { F.IsAlwaysCallable is_it }
+{
     for (number, line) in TextLines::of(text) {
         if number >= bad {
             return false;
