@@ -51,14 +51,15 @@ module _ {P M : Type 0} (facts : BesideFacts P M) where
       → AreThose (sim_devices old) (sim_devices new)
   those_now old new (calls, through) = those_through calls old new through
 
-  pub follows_first : (gives : Gives P) (old new : SimulatedWire P M)
-      → ComesFrom (sim_facts facts) old new
-      → Follows gives new.device.first new.device.far.carried new.device.app
-      → old.away ≡ None → Follows gives old.device.first new.device.far.carried new.device.app
-  follows_first gives old new from follows one =
-      subst (λ (first : P). Follows gives first new.device.far.carried new.device.app)
-      (one_first (firsts_of (sim_devices old)) (firsts_of (sim_devices new))
-      (those_now old new from) (ap (option_map (λ (s : Stand P M). s.device.first)) one)) follows
+pub follows_first : {P : Type 0} (gives : Gives P) (old new : SimulatedWire P Nothing)
+    → ComesFrom (sim_facts (plain_facts gives)) old new
+    → Follows gives new.device.first new.device.far.carried new.device.app
+    → old.away ≡ None → Follows gives old.device.first new.device.far.carried new.device.app
+follows_first {P} gives old new from follows one =
+    subst (λ (first : P). Follows gives first new.device.far.carried new.device.app)
+    (one_first (firsts_of (sim_devices old)) (firsts_of (sim_devices new))
+    (those_now (plain_facts gives) old new from)
+    (ap (option_map (λ (s : Stand P Nothing). s.device.first)) one)) follows
 
 pub answered_first : (old new : SimulatedWire (List ParameterEntry) Nothing)
     → ComesFrom (sim_facts (plain_facts Stores)) old new
