@@ -495,20 +495,26 @@ def check_picture_file(room):
     yield "save as SVG", "" if appears(path) and read(path) == saved else "no such file came"
 
 
+def reload(room):
+    """Loads the page again, and waits until the new one has drawn the text that was opened in the one before."""
+    room.window.run("globalThis.isOld = true")
+    room.window.ask("Page.reload")
+    room.window.until("!globalThis.isOld && globalThis.page?.state?.name === 'given'")
+    room.window.rest_drawn()
+
+
 def check_reload(room):
     """The page that is loaded again has the text that was opened, and another page the first example."""
     text = room.row_traces()["requests/trace_read_with_one_fate"]
     room.open_page()
     room.open_text(text)
-    room.window.ask("Page.reload")
-    room.window.until("Boolean(globalThis.page?.show)")
+    reload(room)
     yield "F5 keeps the text", unlike(room.counts(), counted(text))
     # More than a browser keeps of a text as it is.
     text = repeated(room.examples()["one_read"], EXCHANGES)
     room.open_text(text)
     room.window.until("JSON.parse(sessionStorage.given ?? '{}').packed")
-    room.window.ask("Page.reload")
-    room.window.until("Boolean(globalThis.page?.show)")
+    reload(room)
     yield "F5 keeps a large text", unlike(room.counts(), counted(text))
     room.open_page()
     yield "another page has none", unlike(room.window.run("page.state.name"), "example cable_pulled")
