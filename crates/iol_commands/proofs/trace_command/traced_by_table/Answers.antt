@@ -11,17 +11,20 @@ on_ok (Ok a) f h = f h
 on_ok (Err e) f h = h
 
 pub returns-clause-printed : goal.returns-clause-printed
-returns-clause-printed g c = on_ok c.traced_over.result (λ made.
+returns-clause-printed g c =
+    let play = c.args.play.now in
+    let calls = calls_in (numbered_lines play.input.now) in
     let wire_is : c.in_ok-wire.wire
-    ≡ first_table_wire (value_of c.args.script) c.in-Ok.table = search rules in (
+    ≡ first_table_wire (value_of c.args.script) c.in-Ok.table = search rules in
+    on_ok c.traced_over.result (λ made. (
       made.0,
       made.1,
       record {
         table = c.in-Ok.table;
         is_its = record { members = search rules; rules = search rules };
         sound = search rules;
-        holding = subst (λ wire. TracesOut parameters_facts c.args.play.now.devices
-            c.args.play.now.limits wire (calls_in (numbered_lines c.args.play.now.input.now)) made.0)
+        holding =
+            subst (λ wire. TracesOut parameters_facts play.devices play.limits wire calls made.0)
             wire_is made.2;
       },
     )) c.traced_over.ensures.printed
