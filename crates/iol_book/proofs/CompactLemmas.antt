@@ -49,8 +49,8 @@ abandoned-kept k entries (Some line) abandoned held free =
 -- what is the same part by part is the same
 same-state : (a b : BookState) → a.journal ≡ b.journal → a.restated ≡ b.restated
     → a.last ≡ b.last → a.standing ≡ b.standing → a.unsure ≡ b.unsure → a.limit ≡ b.limit
-    → a.queue ≡ b.queue → a ≡ b
-same-state a b journal restated last standing unsure limit queue = λ i. record {
+    → a.queue ≡ b.queue → a.serve ≡ b.serve → a ≡ b
+same-state a b journal restated last standing unsure limit queue serve = λ i. record {
   journal = journal i;
   restated = restated i;
   last = last i;
@@ -58,6 +58,7 @@ same-state a b journal restated last standing unsure limit queue = λ i. record 
   unsure = unsure i;
   limit = limit i;
   queue = queue i;
+  serve = serve i;
 }
 
 -- fewer entries have room where more had it
@@ -150,6 +151,7 @@ module _ {A : Type 0} {old : Inside A} (sound : IsSoundBook old) (doubt : Option
     pub unsure : new.unsure ≡ old.unsure
     pub limit : new.limit ≡ old.limit
     pub queue : new.queue ≡ old.queue
+    pub serve : new.serve ≡ old.serve
 
   module _ {new : Inside A} (does : Drains new) where
     urgent-says : Says has_request_of entry_request (kept_entries is_kept old.journal.items)
@@ -246,7 +248,7 @@ module _ {A : Type 0} {old : Inside A} (sound : IsSoundBook old) (doubt : Option
         does.journal ∙ entries-same is in
         same-state (book_state new) (book_after_drain (book_state old)) entries
         (does.head ∙ ap (λ es. length es) entries) does.last drained-stands does.unsure does.limit
-        does.queue
+        does.queue does.serve
 
   -- and so it is of a book that is sound then
   pub drained-state : {new : Inside A} → IsSoundBook new → Drains new

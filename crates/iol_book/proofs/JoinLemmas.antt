@@ -80,6 +80,7 @@ module _ (earlier : List Entry) (book : BookState)
     collect = collected;
     withdrawal = withdrawn;
     abandon = abandoned;
+    serve = λ which. refl;
     reset = refl;
   }
 

@@ -3,19 +3,22 @@
 -- say, after one more entry and after edits of its lists: the part `lines`, and the clauses that
 -- look a ticket up (`answer` of `collect_into` and of `withdraw`). Last the place of a key in a
 -- list of pairs, and the list without it: the clauses of `place_in` and `outcome_at`.
-use Rattle.std.proofs.Common.{◌≡◌, ℕ, Bool, true, false, List, [], ◌∷◌, ◌++◌, length, Option, None, Some, is_some, refl, ap, cond, drop, suc, zero, arith, ◌+◌, ◌≤◌, sym, nat_lt, add-one, add_comm, get_or, ◌∙◌, Bor}
-use Rattle.std.specs.Prelude.{slice_get, not, IfSome, IfNone}
+use Rattle.std.proofs.Common.{◌≡◌, ℕ, Bool, true, false, List, [], ◌∷◌, ◌++◌, length, Option, None, Some, is_some, refl, ap, cond, suc, zero, arith, ◌+◌, ◌≤◌, ◌<◌, sym, nat_lt, add-one, add_comm, get_or, ◌∙◌, Bor}
+use Rattle.std.specs.Prelude.{slice_get, not, IfSome, IfNone, ◌||◌, find, filter, if◌then◌else◌}
 use Rattle.std.specs.Option.{option_copied, option_map, option_to_list}
 use Rattle.std.specs.Map.{lookup, remove_entry}
 use Rattle.std.proofs.lemmas.Bool.{eq-eqb}
 use Rattle.std.proofs.lemmas.Grind.{common_steps}
+use Rattle.std.proofs.lemmas.List.Folds.{find_at}
 use Rattle.iol_isdu.specs.declared.values.Request.{Request}
 use Rattle.iol_book.specs.declared.entries.Ticket.{Ticket}
 use Rattle.iol_book.specs.declared.entries.Entry.{Entry}
+use Rattle.iol_book.specs.declared.entries.Serve.{Serve}
+use Rattle.iol_book.specs.declared.entries.Serve.TheVariants.{All, Only, Nobody}
 use Rattle.iol_book.specs.Replay.{Standing, nothing, standing_after, replay_from, replay, same_ticket, is_among, without, others_without}
-use Rattle.iol_book.specs.BookModel.{next_taken, others_behind}
+use Rattle.iol_book.specs.BookModel.{is_served}
 use Rattle.iol_book.specs.Drained.{IsInTurn, AreInTurn}
-use Rattle.iol_book.specs.Lines.{entry_ticket, TicketLines, values_at, AllPass, has_request, has_request_of, is_of, entry_request, taken_at, standing_at}
+use Rattle.iol_book.specs.Lines.{entry_ticket, TicketLines, values_at, AllPass, has_request, has_request_of, is_of, entry_request, taken_at}
 use Rattle.std.specs.List.{remove, position, position_or_len}
 
 replay_from-push : (s : Standing) (es : List Entry) (e : Entry)
@@ -86,16 +89,6 @@ module _ {X : Type 0} {test : Ticket → Option Entry → Bool} {value : Option 
 module _ {X : Type 0} {test : Ticket → Option Entry → Bool} {value : Option Entry → X}
     {es : List Entry} where
   -- so it is of a list without one
-  pub says-drop : {ls : TicketLines} {xs : List (Ticket × X)} → Says test value es ls xs
-      → Says test value es (drop 1 ls) (drop 1 xs)
-  says-drop {ls = []} h = rw (← h.said) (record { pass = tt; said = refl })
-  says-drop {ls = l ∷ ls} h = rw (← h.said) (record { pass = h.pass.1; said = refl })
-
-  pub says-behind : {us ws : TicketLines} {ys xs : List (Ticket × X)} → Says test value es us ys
-      → Says test value es ws xs → Says test value es (others_behind us ws) (others_behind ys xs)
-  says-behind {us = []} u h = rw (← u.said) (says-drop h)
-  says-behind {us = l ∷ us} u h = rw (← u.said) h
-
   pub says-without : {ls : TicketLines} {xs : List (Ticket × X)} (t : Ticket)
       → Says test value es ls xs
       → Says test value es (without t ls) (without t xs)
@@ -142,45 +135,159 @@ says-others {test} {value} {es} {us} {ws} {xs} t u h = rw (← u.said, among-val
     (cond b xs (without t xs)))
     [ true ↦ h | false ↦ says-without t h ])
 
--- the first of two lists has a line that passes, and what it says is the first of what they say
-pub head-passes : (test : Ticket → Option Entry → Bool) (es : List Entry) (us ws : TicketLines)
-    (p : Ticket × ℕ)
-    → slice_get (us ++ ws) 0 ≡ Some p → AllPass test es us → AllPass test es ws
-    → test p.0 (slice_get es p.1) ≡ true
-head-passes test es [] [] p head hu hw = absurd (cc)
-head-passes test es [] (w ∷ ws) p head hu hw = let e : w ≡ p = cc in rw (← e) hw.0
-head-passes test es (u ∷ us) ws p head hu hw = let e : u ≡ p = cc in rw (← e) hu.0
+-- the first element that passes heads those that do
+pub find-first : {X : Type 0} (test : X → Bool) (xs : List X)
+    → find test xs ≡ slice_get (filter test xs) 0
+find-first test [] = refl
+find-first {X} test (x ∷ xs) = by (test x) (find-first test xs)
+  where
+    by : (b : Bool) → find test xs ≡ slice_get (filter test xs) 0
+        → cond b (Some x) (find test xs)
+        ≡ slice_get (cond b (x ∷ filter test xs) (filter test xs)) 0
+    by true rest = refl
+    by false rest = rest
 
--- so the first that waits has a request
-pub first-request : (es : List Entry) (us ws : TicketLines) (p : Ticket × ℕ)
-    → slice_get (us ++ ws) 0 ≡ Some p → AllPass has_request_of es us
+-- it is at the first place of one that does
+found-length : {X : Type 0} (test : X → Bool) (xs : List X)
+    → nat_lt (position_or_len test xs) (length xs) ≡ is_some (find test xs)
+found-length test [] = grind (arith, common_steps)
+found-length test (x ∷ xs) = grind (arith, common_steps, found-length test xs)
+
+pub found-place : {X : Type 0} (test : X → Bool) (xs : List X) (r : Option ℕ)
+    → r ≡ position test xs → IfSome r (λ i. find test xs ≡ slice_get xs i)
+found-place test xs None e = tt
+found-place test xs (Some i) e = grind (arith, common_steps, find_at test xs)
+
+pub place-within : {X : Type 0} (test : X → Bool) (xs : List X) (r : Option ℕ)
+    → r ≡ position test xs → IfSome r (λ i. i < length xs)
+place-within test xs None e = tt
+place-within test xs (Some i) e = grind (arith, common_steps)
+
+pub none-found : {X : Type 0} (test : X → Bool) (xs : List X) (r : Option ℕ)
+    → r ≡ position test xs → IfNone r (find test xs ≡ None)
+none-found test xs None e = grind (arith, common_steps, found-length test xs)
+none-found test xs (Some i) e = tt
+
+-- The first of two lists that is served
+
+-- a ticket that is served is none that isn't
+pub unserved : (serve : Serve) (t u : Ticket) → is_served serve t ≡ true
+    → is_served serve u ≡ false → same_ticket t u ≡ false
+unserved All t u on off = absurd (let never : true ≡ false = off in cc)
+unserved (Only own) t u on off = grind (arith, common_steps)
+unserved Nobody t u on off = absurd (let never : false ≡ true = on in cc)
+
+-- it is found under its ticket
+pub record WaitsIn {X : Type 0} (us ws : List (Ticket × X)) (p : Ticket × X) : Type 0 where
+  pub among : (is_among p.0 us || is_among p.0 ws) ≡ true
+  pub request : Some p.1 ≡ (if is_among p.0 us then lookup (same_ticket p.0) us
+      else lookup (same_ticket p.0) ws)
+
+module _ {X : Type 0} (serve : Serve) where
+  -- the first pair of a list whose ticket is served
+  abbrev pub served_in : List (Ticket × X) → Option (Ticket × X)
+  served_in ws = find (λ w. is_served serve w.0) ws
+
+  pub found-served : (ws : List (Ticket × X)) (p : Ticket × X) → served_in ws ≡ Some p
+      → is_served serve p.0 ≡ true
+  found-served [] p found = absurd (cc)
+  found-served (w ∷ ws) p found = by (is_served serve w.0) refl (found-served ws p) found
+    where
+      by : (b : Bool) → is_served serve w.0 ≡ b
+          → (served_in ws ≡ Some p → is_served serve p.0 ≡ true)
+          → cond b (Some w) (served_in ws) ≡ Some p → is_served serve p.0 ≡ true
+      by true on rest is = let e : w ≡ p = cc in rw (← e) on
+      by false off rest is = rest is
+
+  pub found-waits : (us ws : List (Ticket × X)) (p : Ticket × X) → served_in (us ++ ws) ≡ Some p
+      → WaitsIn us ws p
+  found-waits [] [] p found = absurd (cc)
+  found-waits [] (w ∷ ws) p found = by (is_served serve w.0) refl (found-waits [] ws p) found
+    where
+      by : (b : Bool) → is_served serve w.0 ≡ b → (served_in ws ≡ Some p → WaitsIn [] ws p)
+          → cond b (Some w) (served_in ws) ≡ Some p → WaitsIn [] (w ∷ ws) p
+      by true on rest is = let e : w ≡ p = cc in rw (← e) (record {
+        among = grind (arith, common_steps);
+        request = grind (arith, common_steps);
+      })
+      by false off rest is =
+          let apart = unserved serve p.0 w.0 (found-served ws p is) off in
+          record { among = rw apart (rest is).among; request = rw apart (rest is).request }
+  found-waits (u ∷ us) ws p found = by (is_served serve u.0) refl (found-waits us ws p) found
+    where
+      by : (b : Bool) → is_served serve u.0 ≡ b
+          → (served_in (us ++ ws) ≡ Some p → WaitsIn us ws p)
+          → cond b (Some u) (served_in (us ++ ws)) ≡ Some p → WaitsIn (u ∷ us) ws p
+      by true on rest is = let e : u ≡ p = cc in rw (← e) (record {
+        among = grind (arith, common_steps);
+        request = grind (arith, common_steps);
+      })
+      by false off rest is =
+          let apart = unserved serve p.0 u.0 (found-served (us ++ ws) p is) off in
+          record { among = rw apart (rest is).among; request = rw apart (rest is).request }
+
+-- its line passes
+pub found-passes : (serve : Serve) (test : Ticket → Option Entry → Bool) (es : List Entry)
+    (us ws : TicketLines) (p : Ticket × ℕ) → served_in serve (us ++ ws) ≡ Some p
+    → AllPass test es us → AllPass test es ws → test p.0 (slice_get es p.1) ≡ true
+found-passes serve test es [] [] p found hu hw = absurd (cc)
+found-passes serve test es [] (w ∷ ws) p found hu hw = by (is_served serve w.0)
+    (λ is. found-passes serve test es [] ws p is hu hw.1) found
+  where
+    by : (b : Bool) → (served_in serve ws ≡ Some p → test p.0 (slice_get es p.1) ≡ true)
+        → cond b (Some w) (served_in serve ws) ≡ Some p → test p.0 (slice_get es p.1) ≡ true
+    by true rest is = let e : w ≡ p = cc in rw (← e) hw.0
+    by false rest is = rest is
+found-passes serve test es (u ∷ us) ws p found hu hw = by (is_served serve u.0)
+    (λ is. found-passes serve test es us ws p is hu.1 hw) found
+  where
+    by : (b : Bool) → (served_in serve (us ++ ws) ≡ Some p → test p.0 (slice_get es p.1) ≡ true)
+        → cond b (Some u) (served_in serve (us ++ ws)) ≡ Some p
+        → test p.0 (slice_get es p.1) ≡ true
+    by true rest is = let e : u ≡ p = cc in rw (← e) hu.0
+    by false rest is = rest is
+
+-- so it has a request
+pub found-request : (serve : Serve) (es : List Entry) (us ws : TicketLines) (p : Ticket × ℕ)
+    → served_in serve (us ++ ws) ≡ Some p → AllPass has_request_of es us
     → AllPass has_request_of es ws → has_request (slice_get es p.1) ≡ true
-first-request es us ws p head hu hw =
-    request-found p.0 _ (head-passes has_request_of es us ws p head hu hw)
+found-request serve es us ws p found hu hw =
+    request-found p.0 _ (found-passes serve has_request_of es us ws p found hu hw)
 
-pub head-at : {X : Type 0} (value : Option Entry → X) (es : List Entry) (us ws : TicketLines)
-    {p : Ticket × ℕ} → slice_get (us ++ ws) 0 ≡ Some p
-    → slice_get (values_at value es us ++ values_at value es ws) 0
-    ≡ Some (p.0, value (slice_get es p.1))
-head-at value es [] [] head = absurd (cc)
-head-at value es [] (w ∷ ws) {p} head = let e : w ≡ p = cc in rw e refl
-head-at value es (u ∷ us) ws {p} head = let e : u ≡ p = cc in rw e refl
+-- and what it says is what is found of what they say
+pub served-values : {X : Type 0} (serve : Serve) (value : Option Entry → X) (es : List Entry)
+    (us ws : TicketLines)
+    → served_in serve (values_at value es us ++ values_at value es ws)
+    ≡ option_map (λ line. (line.0, value (slice_get es line.1))) (served_in serve (us ++ ws))
+served-values serve value es [] [] = refl
+served-values {X} serve value es [] (w ∷ ws) =
+    by (is_served serve w.0) (served-values serve value es [] ws)
+  where
+    by : (b : Bool) → served_in serve (values_at value es ws)
+        ≡ option_map (λ line. (line.0, value (slice_get es line.1))) (served_in serve ws)
+        → cond b (Some (w.0, value (slice_get es w.1))) (served_in serve (values_at value es ws))
+        ≡ option_map (λ line. (line.0, value (slice_get es line.1)))
+        (cond b (Some w) (served_in serve ws))
+    by true rest = refl
+    by false rest = rest
+served-values {X} serve value es (u ∷ us) ws =
+    by (is_served serve u.0) (served-values serve value es us ws)
+  where
+    by : (b : Bool) → served_in serve (values_at value es us ++ values_at value es ws)
+        ≡ option_map (λ line. (line.0, value (slice_get es line.1))) (served_in serve (us ++ ws))
+        → cond b (Some (u.0, value (slice_get es u.1)))
+        (served_in serve (values_at value es us ++ values_at value es ws))
+        ≡ option_map (λ line. (line.0, value (slice_get es line.1)))
+        (cond b (Some u) (served_in serve (us ++ ws)))
+    by true rest = refl
+    by false rest = rest
 
--- what is copied of a line that has a request, and what is told of the next one
+-- what is copied of a line that has a request
 pub copied-request : (r : Option (Bor Request)) (found : Option Entry)
     → is_some r ≡ has_request found → IfSome r (λ q. q.now ≡ entry_request found)
     → has_request found ≡ true → option_copied r ≡ Some (entry_request found)
 copied-request None found none value has = absurd (let never : false ≡ true = none ∙ has in cc)
 copied-request (Some q) found some value has = ap (λ x. Some x) value
-
-pub next-request : (es : List Entry) (us ws os : TicketLines) (taken : Option (Ticket × ℕ))
-    (given_up : Bool) (p : Ticket × ℕ) (r : Option Request) → is_some taken ≡ false
-    → slice_get (us ++ ws) 0 ≡ Some p
-    → r ≡ Some (entry_request (slice_get es p.1))
-    → r ≡ option_map (λ t. t.1) (next_taken (standing_at es us ws taken given_up os))
-next-request es us ws os None given_up p r none head is =
-    rw (head-at entry_request es us ws head, is) refl
-next-request es us ws os (Some l) given_up p r none head is = absurd (cc)
 
 -- the one that is taken stays in the journal, and is the same
 pub taken-more : (e : Entry) (es : List Entry) (taken : Option (Ticket × ℕ))

@@ -3,9 +3,9 @@
 -- request (`numbered` of `IsSoundBook`), and which have no outcome (the clause `answer` of
 -- `collect_into`). Then that the step of an entry is what its call does to the standing (the clause
 -- `state` of each call), and last a lemma of each call, from what the call did to the fields.
-use Rattle.std.proofs.Common.{◌≡◌, ℕ, ◌+◌, ◌≤◌, Bool, true, false, ◌||◌, refl, cond, List, [], ◌∷◌, ◌++◌, Option, Some, None, ap, arith, is_some, nat_eq, drop, length, sym, ◌∙◌}
-use Rattle.std.specs.Prelude.{slice_get, if◌then◌else◌}
-use Rattle.std.specs.Option.{option_map_or, option_to_list}
+use Rattle.std.proofs.Common.{◌≡◌, ℕ, ◌+◌, ◌≤◌, Bool, true, false, ◌||◌, refl, cond, List, [], ◌∷◌, ◌++◌, Option, Some, None, ap, arith, is_some, nat_eq, length, sym, ◌∙◌}
+use Rattle.std.specs.Prelude.{slice_get}
+use Rattle.std.specs.Option.{option_map, option_map_or, option_to_list}
 use Rattle.std.proofs.lemmas.Bool.{eq-eqb}
 use Rattle.std.proofs.lemmas.Grind.{common_steps}
 use Rattle.std.specs.Map.{lookup, remove_entry}
@@ -15,8 +15,8 @@ use Rattle.iol_book.specs.declared.entries.Ticket.{Ticket}
 use Rattle.iol_book.specs.declared.entries.Outcome.{Outcome}
 use Rattle.iol_book.specs.declared.entries.Outcome.TheVariants.{Done, Unknown, Withdrawn, NoIsdu}
 use Rattle.iol_book.specs.declared.entries.Entry.TheVariants.{Submitted, Urgent, Taken, Answered, Withdrawn as WithdrawnEntry, Collected, Abandoned}
-use Rattle.iol_book.specs.Replay.{Standing, nothing, standing_after, replay_from, same_ticket, waiting_after, is_among, is_taken, without, others_without, without_waiting}
-use Rattle.iol_book.specs.BookModel.{waits, is_awaited, others_behind, without_first}
+use Rattle.iol_book.specs.Replay.{Standing, nothing, standing_after, replay_from, same_ticket, waiting_after, is_among, is_taken, without, others_without, request_waiting, without_waiting}
+use Rattle.iol_book.specs.BookModel.{waits, is_served, next_taken}
 use Rattle.iol_book.specs.Drained.{IsInTurn}
 use Rattle.iol_book.specs.Numbers.{times, times_in, IsNumbered}
 use Rattle.std.specs.VecDeque.{deque_capacity}
@@ -24,9 +24,9 @@ use Rattle.std.specs.declared.collections.VecDeque.{VecDeque}
 use Rattle.std.specs.declared.vec.Vec.{Vec}
 use Rattle.iol_book.specs.declared.entries.Entry.{Entry}
 use Rattle.iol_book.specs.declared.book.Book.TheInside.{Inside}
-use Rattle.iol_book.specs.BookInside.{IsSoundBook, HasRoom, standing_of}
+use Rattle.iol_book.specs.BookInside.{IsSoundBook, HasRoom, book_state, standing_of}
 use Rattle.iol_book.specs.Lines.{TicketLines, AllPass, has_request_of, is_of, entry_request, outcome_in, taken_at}
-use Rattle.iol_book.proofs.LineLemmas.{remove-absent, replay-push, Says, says-more, says-new, says-drop, says-behind, says-without, says-others, among-values, head-passes, head-at, taken-more, request-own, own-entry, in_turn-push, longer}
+use Rattle.iol_book.proofs.LineLemmas.{remove-absent, replay-push, Says, says-more, says-new, says-without, says-others, among-values, WaitsIn, find-first, served_in, found-waits, found-passes, served-values, taken-more, request-own, own-entry, in_turn-push, longer}
 
 abbrev pub one_if : Bool → ℕ
 one_if b = cond b 1 0
@@ -169,30 +169,6 @@ module _ {last : ℕ} {s : Standing} (h : IsNumbered last s) where
   taken-waits p (Unknown c) e = refl
   taken-waits p Withdrawn e = refl
 
--- the first of two lists leaves them, as a ticket does that is looked for
-pub record HeadLeaves {X : Type 0} (us ws : List (Ticket × X)) (p : Ticket × X) : Type 0 where
-  pub urgent : drop 1 us ≡ without p.0 us
-  pub waiting : others_behind us ws ≡ others_without p.0 us ws
-  pub request : Some p.1 ≡ (if is_among p.0 us then lookup (same_ticket p.0) us
-      else lookup (same_ticket p.0) ws)
-  pub waits : (is_among p.0 us || is_among p.0 ws) ≡ true
-
-pub head-leaves : {X : Type 0} (us ws : List (Ticket × X)) (p : Ticket × X)
-    → slice_get (us ++ ws) 0 ≡ Some p → HeadLeaves us ws p
-head-leaves [] [] p head = absurd (cc)
-head-leaves [] (w ∷ ws) p head = let e : w ≡ p = cc in rw (← e) (record {
-  urgent = refl;
-  waiting = grind (arith, common_steps);
-  request = grind (arith, common_steps);
-  waits = grind (arith, common_steps);
-})
-head-leaves (u ∷ us) ws p head = let e : u ≡ p = cc in rw (← e) (record {
-  urgent = grind (arith, common_steps);
-  waiting = grind (arith, common_steps);
-  request = grind (arith, common_steps);
-  waits = grind (arith, common_steps);
-})
-
 -- how often a number stands after each step
 module _ (n : ℕ) (s : Standing) where
   pub times-submitted : (t : Ticket) (r : Request)
@@ -211,12 +187,10 @@ module _ (n : ℕ) (s : Standing) where
       }) ≤ times n s
   times-posted p o e = grind (arith, common_steps, e, times_in-insert_entry n p.0 o s.outcomes)
 
-  pub times-taken : (p : Ticket × Request) → s.taken ≡ None
-      → slice_get (s.urgent ++ s.waiting) 0 ≡ Some p
-      → times n (record (without_first s) { taken = Some p; abandoned = false }) ≤ times n s
-  times-taken p none head = let leaves = head-leaves s.urgent s.waiting p head in
-      let fewer = times_in-leaves n p.0 s.urgent s.waiting leaves.waits in
-      rw (leaves.urgent, leaves.waiting) (grind (arith, common_steps, none, fewer))
+  pub times-taken : (p : Ticket × Request) → s.taken ≡ None → waits s p.0 ≡ true
+      → times n (record (without_waiting s p.0) { taken = Some p; abandoned = false }) ≤ times n s
+  times-taken p none found = grind
+      (arith, common_steps, none, times_in-leaves n p.0 s.urgent s.waiting found)
 
   -- a request that waited has an outcome
   pub times-left : (t : Ticket) (o : Outcome) → waits s t ≡ true
@@ -248,19 +222,17 @@ held-taken s p e = rw (e, eq-eqb p.0.0 p.0.0 refl) refl
 
 -- what is taken, denied and posted is what the step of the entry says
 module _ (s : Standing) (p : Ticket × Request) where
-  pub taken-step : slice_get (s.urgent ++ s.waiting) 0 ≡ Some p
-      → record (without_first s) { taken = Some p; abandoned = false }
+  pub taken-step : Some p.1 ≡ request_waiting s p.0
+      → record (without_waiting s p.0) { taken = Some p; abandoned = false }
       ≡ standing_after s (Taken p.0)
-  taken-step head = let leaves = head-leaves s.urgent s.waiting p head in
-      rw (leaves.urgent, leaves.waiting, ← leaves.request) refl
+  taken-step request = rw (← request) refl
 
-  pub denied-step : s.taken ≡ None → slice_get (s.urgent ++ s.waiting) 0 ≡ Some p
-      → record (without_first s) {
+  pub denied-step : s.taken ≡ None
+      → record (without_waiting s p.0) {
         abandoned = false;
         outcomes = insert_entry same_ticket s.outcomes p.0 NoIsdu;
       } ≡ standing_after s (Answered p.0 NoIsdu)
-  denied-step none head = let leaves = head-leaves s.urgent s.waiting p head in
-      rw (leaves.urgent, leaves.waiting, none) refl
+  denied-step none = rw none refl
 
   pub posted-step : {last : ℕ} (o : Outcome) → s.taken ≡ Some p → IsNumbered last s
       → record s {
@@ -298,6 +270,10 @@ posted-turn : (s : Standing) (o : Outcome) (t : Ticket) (r : Request) → s.take
     → IsInTurn s (Answered t o)
 posted-turn s o t r held = rw held (own-entry (Answered t o))
 
+none-taken : {X : Type 0} (taken : Option X) → is_some taken ≡ false → taken ≡ None
+none-taken None free = refl
+none-taken (Some x) free = absurd (cc)
+
 -- where none waits nothing leaves its queue
 pub sound-same_queues : {A : Type 0} {fields : Inside A} → IsSoundBook fields
     → (urgent waiting : VecDeque (Ticket × ℕ) A) → urgent.items ≡ fields.urgent.items
@@ -320,6 +296,34 @@ sound-same_queues sound urgent waiting us ws urgent_room waiting_room = record {
     limit = sound.room.limit;
   };
 }
+
+-- the request that is next, by its line
+abbrev request_by : {A : Type 0} → Inside A → Ticket × ℕ → Ticket × Request
+request_by fields line = (line.0, entry_request (slice_get fields.journal.items line.1))
+
+values-by : {A : Type 0} (fields : Inside A)
+    → served_in fields.serve ((standing_of fields).urgent ++ (standing_of fields).waiting)
+    ≡ option_map (request_by fields)
+    (served_in fields.serve (fields.urgent.items ++ fields.waiting.items))
+values-by fields = served-values fields.serve entry_request fields.journal.items
+    fields.urgent.items fields.waiting.items
+
+pub next-line : {A : Type 0} (fields : Inside A) (line : Option (Ticket × ℕ))
+    → is_some fields.taken ≡ false
+    → line ≡ served_in fields.serve (fields.urgent.items ++ fields.waiting.items)
+    → next_taken (book_state fields) ≡ option_map (request_by fields) line
+next-line fields line free is = rw (none-taken fields.taken free) (sym (find-first
+    (λ w. is_served fields.serve w.0)
+    ((standing_of fields).urgent ++ (standing_of fields).waiting)) ∙ (values-by fields
+    ∙ ap (option_map (request_by fields)) (sym is)))
+
+-- it waits
+pub next-waits : {A : Type 0} (fields : Inside A) {p : Ticket × ℕ}
+    → served_in fields.serve (fields.urgent.items ++ fields.waiting.items) ≡ Some p
+    → WaitsIn (standing_of fields).urgent (standing_of fields).waiting (request_by fields p)
+next-waits fields {p} found = found-waits fields.serve (standing_of fields).urgent
+    (standing_of fields).waiting (request_by fields p)
+    (values-by fields ∙ ap (option_map (request_by fields)) found)
 
 -- it is sound where it has room, which each call shows by itself
 abbrev IsSoundWithRoom : {A : Type 0} → Inside A → Type 0
@@ -491,11 +495,11 @@ module _ {A : Type 0} {old : Inside A} (sound : IsSoundBook old) where
       posted-tells _ p o n held none free refl refl refl refl
       (rw given_up (kept (Answered p.0 o) n).outcomes) room
 
-  -- the first that waits leaves its queue
+  -- the first that is served leaves its queue
   pub sound-taken : (journal : Vec Entry A) (urgent waiting : VecDeque (Ticket × ℕ) A)
-      {p : Ticket × ℕ} → slice_get (old.urgent.items ++ old.waiting.items) 0 ≡ Some p
-      → old.taken ≡ None → urgent.items ≡ drop 1 old.urgent.items
-      → waiting.items ≡ others_behind old.urgent.items old.waiting.items
+      {p : Ticket × ℕ} → served_in old.serve (old.urgent.items ++ old.waiting.items) ≡ Some p
+      → old.taken ≡ None → urgent.items ≡ without p.0 old.urgent.items
+      → waiting.items ≡ others_without p.0 old.urgent.items old.waiting.items
       → journal.items ≡ old.journal.items ++ Taken p.0 ∷ []
       → IsSoundWithRoom (record old {
         journal = journal;
@@ -504,21 +508,23 @@ module _ {A : Type 0} {old : Inside A} (sound : IsSoundBook old) where
         taken = Some p;
         abandoned = false;
       })
-  sound-taken journal urgent waiting {p} head none u w n room =
+  sound-taken journal urgent waiting {p} found none u w n room =
       let same = kept (Taken p.0) n in
-      let next = head-at entry_request old.journal.items old.urgent.items old.waiting.items head in
+      let waits = next-waits old found in
       let within : AllPass is_of old.journal.items (p ∷ []) = (
-        request-own p.0 _ (head-passes has_request_of old.journal.items old.urgent.items
-            old.waiting.items p head sound.lines.urgent_requests sound.lines.waiting_requests),
+        request-own p.0 _ (found-passes old.serve has_request_of old.journal.items
+            old.urgent.items old.waiting.items p found sound.lines.urgent_requests
+            sound.lines.waiting_requests),
         tt,
       ) in
       sound-entered (Taken p.0) n _ _ refl refl
       (ap (λ found. taken_at old.journal.items found) none)
-      (taken-step (standing_of old) _ next)
-      (numbered-fewer (λ i. times-taken i (standing_of old) _
-      (ap (λ found. taken_at old.journal.items found) none) next) sound.numbered) room (record {
-        urgent = rw u (says-drop same.urgent);
-        waiting = rw w (says-behind same.urgent same.waiting);
+      (taken-step (standing_of old) (request_by old p) waits.request)
+      (numbered-fewer (λ i. times-taken i (standing_of old) (request_by old p)
+      (ap (λ found. taken_at old.journal.items found) none) waits.among) sound.numbered) room
+      (record {
+        urgent = rw u (says-without p.0 same.urgent);
+        waiting = rw w (says-others p.0 same.urgent same.waiting);
         taken = rw n (taken-more (Taken p.0) _ (Some p) within);
         abandoned = refl;
         outcomes = same.outcomes;

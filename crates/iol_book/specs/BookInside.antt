@@ -26,6 +26,7 @@ module _ {A : Type 0} where
     unsure = fields.unsure;
     limit = fields.limit;
     queue = fields.queue;
+    serve = fields.serve;
   }
 
   -- for how many submits the places for outcomes and for entries are there already

@@ -1,11 +1,13 @@
 -- What callers see of a book, and what its calls answer and leave.
-use Rattle.std.specs.Prelude.{◌≡◌, ℕ, ◌+◌, ◌*◌, ◌^◌, ◌≤◌, Bool, true, false, ◌||◌, ◌&&◌, not, List, [], ◌∷◌, ◌++◌, Option, None, Some, Result, is_some, is_ok, length, nat_eq, nat_lt, nat_le, if◌then◌else◌, slice_get, drop}
+use Rattle.std.specs.Prelude.{◌≡◌, ℕ, ◌+◌, ◌*◌, ◌^◌, ◌≤◌, Bool, true, false, ◌||◌, ◌&&◌, not, List, [], ◌∷◌, ◌++◌, Option, None, Some, Result, is_some, is_ok, length, nat_eq, nat_lt, nat_le, if◌then◌else◌, slice_get, filter}
 use Rattle.std.specs.Option.{ok_or}
 use Rattle.std.specs.Map.{lookup}
 use Rattle.indexmap.specs.IndexMap.{insert_entry}
 use Rattle.iol_isdu.specs.declared.values.Request.{Request}
 use Rattle.iol_isdu.specs.declared.values.Cause.TheVariants.{LinkLost, Restarted, BusyTooLong, Protocol, Cancelled}
 use Rattle.iol_book.specs.declared.entries.Ticket.{Ticket}
+use Rattle.iol_book.specs.declared.entries.Serve.{Serve}
+use Rattle.iol_book.specs.declared.entries.Serve.TheVariants.{All, Only, Nobody}
 use Rattle.iol_book.specs.declared.limits.Limits.{Limits}
 use Rattle.iol_book.specs.declared.entries.Outcome.{Outcome}
 use Rattle.iol_book.specs.declared.entries.Outcome.TheVariants.{Done, Unknown, Withdrawn, NoIsdu}
@@ -14,7 +16,7 @@ use Rattle.iol_book.specs.declared.entries.Entry.TheVariants.{Submitted, Urgent,
 use Rattle.iol_book.specs.declared.fault.BookFault.{BookFault}
 use Rattle.iol_book.specs.declared.fault.BookFault.TheVariants.{Full, JournalFull, TicketsSpent, OutOfMemory, UnknownTicket, NotYet, TakenAlready, NotInFlight}
 use Rattle.iol_book.specs.Limits.{request_entries}
-use Rattle.iol_book.specs.Replay.{Standing, nothing, standing_after, replay, same_ticket, is_among, is_taken}
+use Rattle.iol_book.specs.Replay.{Standing, nothing, standing_after, replay, same_ticket, is_among, is_taken, without_waiting}
 
 pub record BookState : Type 0 where
   -- the entries since the book was opened or last archived, or what the last drain left of them
@@ -32,6 +34,8 @@ pub record BookState : Type 0 where
   pub limit : ℕ
   -- the most tickets that may be outstanding
   pub queue : ℕ
+  -- which of the requests that wait may be taken
+  pub serve : Serve
 
 -- the memory that a book has: for so many entries, and so many requests that wait
 pub record BookMemory : Type 0 where
@@ -61,6 +65,7 @@ empty_book limits =
       unsure = false;
       limit = limits.journal;
       queue = limits.queue;
+      serve = All;
     }
 
 -- the book after one more entry
@@ -120,30 +125,35 @@ abbrev pub RefusesFor : Option BookFault → BookFault → ℕ → Type 0
 RefusesFor (Some why) fault room = fault ≡ why
 RefusesFor None fault room = (fault ≡ OutOfMemory) × (room ≡ 0)
 
--- the request that is taken next: the first urgent one, and where no urgent one
--- waits the first of the others
+-- whether the request of a ticket may be taken
+abbrev pub is_served : Serve → Ticket → Bool
+is_served All ticket = true
+is_served (Only own) ticket = same_ticket own ticket
+is_served Nobody ticket = false
+
+-- the book from which these requests alone are taken
+-- BOOK-15
+abbrev pub book_after_serve : BookState → Serve → BookState
+book_after_serve book which = record book { serve = which }
+
+-- the requests that wait and may be taken, in the order in which they are: urgent ones first
+abbrev pub served_waiting : BookState → List (Ticket × Request)
+served_waiting book =
+    filter (λ p. is_served book.serve p.0) (book.standing.urgent ++ book.standing.waiting)
+
+-- the request that is taken next
 -- BOOK-4
-abbrev pub next_taken : Standing → Option (Ticket × Request)
-next_taken standing =
-    if is_some standing.taken then None else slice_get (standing.urgent ++ standing.waiting) 0
-
--- the others, once that request has left the list that it heads
-abbrev pub others_behind : {X : Type 0} → List (Ticket × X) → List (Ticket × X) → List (Ticket × X)
-others_behind [] waiting = drop 1 waiting
-others_behind (first ∷ urgent) waiting = waiting
-
--- where the tickets stand once that request waits no longer
-abbrev pub without_first : Standing → Standing
-without_first standing = record standing {
-  urgent = drop 1 standing.urgent;
-  waiting = others_behind standing.urgent standing.waiting;
-}
+abbrev pub next_taken : BookState → Option (Ticket × Request)
+next_taken book = if is_some book.standing.taken then None else slice_get (served_waiting book) 0
 
 -- the book after that request is taken
 abbrev pub book_after_take : BookState → Ticket × Request → BookState
 book_after_take book taken = record book {
   journal = book.journal ++ Taken taken.0 ∷ [];
-  standing = record (without_first book.standing) { taken = Some taken; abandoned = false };
+  standing = record (without_waiting book.standing taken.0) {
+    taken = Some taken;
+    abandoned = false;
+  };
 }
 
 -- the book after that request, which has this ticket, is denied
@@ -151,7 +161,7 @@ book_after_take book taken = record book {
 abbrev pub book_after_denial : BookState → Ticket → BookState
 book_after_denial book ticket = record book {
   journal = book.journal ++ Answered ticket NoIsdu ∷ [];
-  standing = record (without_first book.standing) {
+  standing = record (without_waiting book.standing ticket) {
     abandoned = false;
     outcomes = insert_entry same_ticket book.standing.outcomes ticket NoIsdu;
   };
@@ -240,11 +250,14 @@ flight_refusal standing ticket =
     else if waits standing ticket || has_outcome standing ticket then Some NotInFlight
     else Some UnknownTicket
 
+-- whether a ticket is outstanding
+abbrev pub is_outstanding : Standing → Ticket → Bool
+is_outstanding standing ticket =
+    waits standing ticket || (is_awaited standing ticket || has_outcome standing ticket)
+
 -- why a ticket can't be abandoned, where it can't
 abbrev pub abandon_refusal : Standing → Ticket → Option BookFault
-abandon_refusal standing ticket =
-    if waits standing ticket || (is_awaited standing ticket || has_outcome standing ticket)
-    then None
+abandon_refusal standing ticket = if is_outstanding standing ticket then None
     else Some UnknownTicket
 
 -- the book after an abandon

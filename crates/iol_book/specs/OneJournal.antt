@@ -2,9 +2,10 @@
 use Rattle.std.specs.Prelude.{◌≡◌, ◌≤◌, List, ◌++◌, length, drop}
 use Rattle.iol_isdu.specs.declared.values.Request.{Request}
 use Rattle.iol_book.specs.declared.entries.Ticket.{Ticket}
+use Rattle.iol_book.specs.declared.entries.Serve.{Serve}
 use Rattle.iol_book.specs.declared.entries.Outcome.{Outcome}
 use Rattle.iol_book.specs.declared.entries.Entry.{Entry}
-use Rattle.iol_book.specs.BookModel.{BookState, book_after_submit, book_after_urgent, book_after_take, book_after_denial, book_after_post, book_after_collect, book_after_withdrawal, book_after_abandon, book_after_wake}
+use Rattle.iol_book.specs.BookModel.{BookState, book_after_submit, book_after_urgent, book_after_take, book_after_denial, book_after_post, book_after_collect, book_after_withdrawal, book_after_abandon, book_after_serve, book_after_wake}
 use Rattle.iol_book.specs.Drained.{book_after_drain}
 
 -- the entries that no drain handed out
@@ -36,6 +37,8 @@ pub record JoinsInto (earlier : List Entry) (book : BookState) : Type 0 where
       ≡ book_after_withdrawal (whole_book earlier book) ticket
   pub abandon : (ticket : Ticket) → whole_book earlier (book_after_abandon book ticket)
       ≡ book_after_abandon (whole_book earlier book) ticket
+  pub serve : (which : Serve) → whole_book earlier (book_after_serve book which)
+      ≡ book_after_serve (whole_book earlier book) which
   pub reset : whole_book earlier (book_after_wake book)
       ≡ book_after_wake (whole_book earlier book)
 

@@ -9,7 +9,8 @@
 //! requests and one of the others, each in the order of its submits, and the next request is
 //! the first urgent one, or the first of the others where no urgent one waits. So the order in
 //! which requests are taken is that of the `Taken` entries, and no longer that of the tickets
-//! once an urgent request overtook another. One that is taken is never overtaken. IEC 61131-9
+//! once an urgent request overtook another. One that is taken is never overtaken. A layer above may
+//! have a single ticket served for a time, or nobody: what waits then waits on. IEC 61131-9
 //! leaves it to the master how requests are queued: all of this is this project's profile.
 //!
 //! Definitions begin in `specs/Replay`; then `BookModel`, `Drained` and `Takings`. A book is the
@@ -25,7 +26,7 @@ mod limits;
 mod lines;
 
 pub use book::Book;
-pub use entries::{Entry, Outcome, Ticket};
+pub use entries::{Entry, Outcome, Serve, Ticket};
 pub use fault::BookFault;
 pub use laws::{abandons_hold, drains_join};
 pub use limits::{BusyLimit, JournalLimit, Limits, QueueLimit};

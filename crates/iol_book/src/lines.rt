@@ -2,15 +2,15 @@
 //! request, or its outcome.
 #![tactic(auto, using(std::proofs::lemmas::Grind::common_steps, crate::proofs::LineLemmas::line_steps))]
 
-ghost use Rattle.std.specs.Prelude.{◌≡◌, ◌<◌, ◌+◌, ◌++◌, ◌||◌, IsTrue, length, remove, position, slice_get, drop, is_some, IfSome, IfNone, false};
+ghost use Rattle.std.specs.Prelude.{◌≡◌, ◌<◌, ◌+◌, ◌++◌, ◌||◌, IsTrue, length, remove, position, find, slice_get, is_some, IfSome, IfNone, false};
 ghost use Rattle.std.specs.Map.{remove_entry};
 ghost use Rattle.std.specs.Option.{option_map_or};
 ghost use Rattle.std.specs.VecDeque.{deque_capacity};
 ghost use Rattle.iol_book.specs.Replay.{same_ticket, is_among, without, others_without};
 ghost use Rattle.iol_book.specs.Lines.{IsLineAt, has_request, entry_request, outcome_in};
-ghost use Rattle.iol_book.specs.BookModel.{others_behind};
+ghost use Rattle.iol_book.specs.BookModel.{is_served};
 
-use crate::{Entry, Outcome, Ticket};
+use crate::{Entry, Outcome, Serve, Ticket};
 use iol_isdu::Request;
 use std::alloc::Allocator;
 use std::collections::VecDeque;
@@ -97,24 +97,58 @@ pub(crate) fn put_outcome(journal: &[Entry], line: usize, into: &mut Outcome)
     }
 }
 
-// The request that is taken next leaves its queue.
+// The first of a queue that is served.
+fn first_served<A: Allocator>(queue: &Queue<A>, serve: Serve) -> Option<(Ticket, usize)>
+    ensures { result ≡ find (λ w. is_served serve w.0) queue.now.items }
+{
+    let place = served_at(queue, serve)?;
+    let line = queue.get(place)?;
+    Some(*line)
+}
+
+fn served_at<A: Allocator>(queue: &Queue<A>, serve: Serve) -> Option<usize>
+    ensures { result ≡ position (λ w. is_served serve w.0) queue.now.items }
+{
+    queue.iter().position(|w| serve.serves(w.0))
+}
+
+// The request that is taken next, by its line.
 /// Rule BOOK-4.
+pub(crate) fn next_of<A: Allocator>(
+    urgent: &Queue<A>,
+    waiting: &Queue<A>,
+    serve: Serve,
+) -> Option<(Ticket, usize)>
+    ensures { result
+        ≡ find (λ w. is_served serve w.0) (urgent.now.items ++ waiting.now.items) }
+{
+    match first_served(urgent, serve) {
+        Some(first) => Some(first),
+        None => first_served(waiting, serve),
+    }
+}
+
+// It leaves its queue.
 pub(crate) fn pop_next<A: Allocator>(
     urgent: &mut Queue<A>,
     waiting: &mut Queue<A>,
+    serve: Serve,
 ) -> Option<(Ticket, usize)>
-    ensures next { result ≡ slice_get (urgent.old.items ++ waiting.old.items) 0 }
+    ensures next { result
+        ≡ find (λ w. is_served serve w.0) (urgent.old.items ++ waiting.old.items) }
     ensures no_urgent { IfNone result (urgent.new.items ≡ urgent.old.items) }
     ensures no_other { IfNone result (waiting.new.items ≡ waiting.old.items) }
-    ensures urgent { urgent.new.items ≡ drop 1 urgent.old.items }
-    ensures waiting { waiting.new.items ≡ others_behind urgent.old.items waiting.old.items }
+    ensures fewer { IfSome result (λ _. length urgent.new.items + length waiting.new.items + 1
+        ≡ length urgent.old.items + length waiting.old.items) }
+    ensures urgent { IfSome result (λ w. urgent.new.items ≡ without w.0 urgent.old.items) }
+    ensures waiting { IfSome result (λ w. waiting.new.items
+        ≡ others_without w.0 urgent.old.items waiting.old.items) }
     ensures urgent_room { deque_capacity urgent.new ≡ deque_capacity urgent.old }
     ensures queue_room { deque_capacity waiting.new ≡ deque_capacity waiting.old }
 {
-    match urgent.pop_front() {
-        Some(first) => Some(first),
-        None => waiting.pop_front(),
-    }
+    let next = next_of(urgent, waiting, serve)?;
+    remove_from(urgent, waiting, next.0);
+    Some(next)
 }
 
 // The ticket's request leaves its queue, that of the urgent ones where it is there.

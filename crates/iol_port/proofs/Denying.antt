@@ -49,14 +49,14 @@ module _ (old next : PortParts) (mid : BookState) (reset : Bool) (said : Said)
   had = let now = rw book at has in grind (arith, common_steps, said_none)
 
   -- where this turn denied one, it is that of the ticket, or another
-  denied_one : (t : Ticket) (q : Request) → next_taken b.standing ≡ Some (t, q)
+  denied_one : (t : Ticket) (q : Request) → next_taken b ≡ Some (t, q)
       → old.core.session.isdu ≡ Some false → reset ≡ false → mid ≡ book_after_denial b t
       → HasNoIsdu b k ⊎ IsDenied old next k
   denied_one t q head told asleep is = by (same_ticket t k) refl
     where
       by : (c : Bool) → same_ticket t k ≡ c → HasNoIsdu b k ⊎ IsDenied old next k
       by true e =
-          let first = next_is b.standing t q head in
+          let first = next_is b t q head in
           let none : mid.standing.taken ≡ None = rw is first.free in
           let quiet : through_steps book_after (cond reset (Reset ∷ []) [] ++ book_said said)
           mid ≡ mid =
@@ -73,12 +73,12 @@ module _ (old next : PortParts) (mid : BookState) (reset : Bool) (said : Said)
 
   pub turn_denies : (ready : Bool)
       → mid ≡ book_after_taking ready (lacks_isdu old.core.session.isdu)
-      (next_taken b.standing) b
+      (next_taken b) b
       → (ready ≡ true → reset ≡ false) → HasNoIsdu b k ⊎ IsDenied old next k
   turn_denies ready mid_is asleep =
-      by (next_taken b.standing) ready (lacks_isdu old.core.session.isdu) refl refl refl mid_is
+      by (next_taken b) ready (lacks_isdu old.core.session.isdu) refl refl refl mid_is
     where
-      by : (head : Option (Ticket × Request)) (r lacks : Bool) → next_taken b.standing ≡ head
+      by : (head : Option (Ticket × Request)) (r lacks : Bool) → next_taken b ≡ head
           → ready ≡ r → lacks_isdu old.core.session.isdu ≡ lacks
           → mid ≡ book_after_taking r lacks head b → HasNoIsdu b k ⊎ IsDenied old next k
       by (Some (t, q)) true true head is_ready told is =

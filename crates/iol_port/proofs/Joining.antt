@@ -54,14 +54,14 @@ module _ {drained : List Entry} {b : BookState} (next : BookState) (e : Entry)
 -- One that is taken, denied or ended
 
 module _ {drained : List Entry} (b : BookState) (says : SaysWhere drained b) where
-  module _ (t : Ticket) (q : Request) (next : next_taken b.standing ≡ Some (t, q)) where
+  module _ (t : Ticket) (q : Request) (next : next_taken b ≡ Some (t, q)) where
     pub took_says : SaysWhere drained (book_after_take b (t, q))
     took_says = grown_says (book_after_take b (t, q)) (Taken t) refl refl
         (took_replayed b t q next says.replayed) says
 
     pub took_takings : takings (drained ++ entries_since (book_after_take b (t, q)))
         ≡ taking_of t q ∷ takings (drained ++ entries_since b)
-    took_takings = rw (next_is b.standing t q next).found at (grown_takings
+    took_takings = rw (next_is b t q next).found at (grown_takings
         (book_after_take b (t, q)) (Taken t) refl refl (took_replayed b t q next says.replayed)
         says)
 
@@ -72,7 +72,7 @@ module _ {drained : List Entry} (b : BookState) (says : SaysWhere drained b) whe
 
     pub denied_takings : takings (drained ++ entries_since (book_after_denial b t))
         ≡ takings (drained ++ entries_since b)
-    denied_takings = rw (next_is b.standing t q next).free at (grown_takings (book_after_denial b t)
+    denied_takings = rw (next_is b t q next).free at (grown_takings (book_after_denial b t)
         (Answered t NoIsdu) refl refl (denied_replayed b t q next says.replayed) says)
 
   module _ (p : Ticket × Request) (o : Outcome) (leaves : LeavesWaiting o)

@@ -31,11 +31,11 @@ use Rattle.iol_port.specs.Sound.{Each, IsOutcome, PortIsSound, times_ever}
 use Rattle.iol_port.specs.CarriesOut.{CarriesOut, IsSubmitted, IsCutOff, Happens, EachDoneHasItsPair, LeavesOut, IsBelow, LateEnds, CutForGoodStaysOut}
 use Rattle.iol_port.specs.Denials.{CarriesNone, IsDeniedWithoutIsdu}
 use Rattle.iol_port.specs.Promises.{OpensSound, PiecesSound, RunsSound}
-use Rattle.iol_port.proofs.PieceLemmas.{Did, Stays, Submits, Urges, Collects, Withdraws, Cancels, Abandons, Restarts, Archives, Drains, Moves, piece_did, told_outcome, pieces_join}
-use Rattle.iol_port.proofs.Replaying.{entered_replayed, free_archive, next_is, next_ticket_is, steps_keep}
+use Rattle.iol_port.proofs.PieceLemmas.{Did, Stays, Submits, Urges, Collects, Withdraws, Cancels, Abandons, Serves, Restarts, Archives, Drains, Moves, piece_did, told_outcome, pieces_join}
+use Rattle.iol_port.proofs.Replaying.{entered_replayed, free_archive, next_is, steps_keep}
 use Rattle.iol_port.proofs.Joining.{grown_says, grown_takings, last_pushed}
 use Rattle.iol_port.proofs.PairLists.{each_removed, each_push, each_inserted, each_looked, waiting_push, waiting_left, counted}
-use Rattle.iol_port.proofs.OwnerSteps.{go_on_then, go_on_each, outcome_on, closed, closed_of, closed_has, Goes, goes_then, goes_itself, goes_book, marked_goes, restart_goes, archive_goes, drain_goes, step_goes}
+use Rattle.iol_port.proofs.OwnerSteps.{go_on_then, go_on_each, outcome_on, closed, closed_of, closed_has, Goes, goes_then, goes_itself, goes_book, serves_goes, marked_goes, restart_goes, archive_goes, drain_goes, step_goes}
 
 -- The pieces
 
@@ -110,6 +110,7 @@ piece_leads a b c reply is sound = by b (piece_did a b c reply is)
           (λ n. omega (arith, waiting_left n t a.book.standing))
           (each_removed Stands (same_ticket t) outcomes sound.outcomes) sound;
     }
+    by _ (Serves which) = record { terms_are = refl; goes = serves_goes which sound }
     by _ (Cancels t e r) = record {
       terms_are = refl;
       goes = marked_goes a.session a.session.job a.session.late a.owners a.owners.current sound;
@@ -195,11 +196,16 @@ module _ (P : Ticket → Request → Type 0) where
       → Each P (without t s.urgent) × Each P (others_without t s.urgent s.waiting)
   asked_left t s asked = grind (arith, each_removed P (same_ticket t))
 
-  asked_next : (s : Standing) (t : Ticket) (q : Request) → next_taken s ≡ Some (t, q)
-      → Each P s.urgent × Each P s.waiting → P t q
-  asked_next s t q next asked =
-      let found : request_waiting s t ≡ Some q = (next_is s t q next).found in
-      grind (arith, common_steps, each_looked P s.urgent t q, each_looked P s.waiting t q)
+  asked_next : (b : BookState) (t : Ticket) (q : Request) → next_taken b ≡ Some (t, q)
+      → Each P b.standing.urgent × Each P b.standing.waiting → P t q
+  asked_next b t q next asked =
+      let found : request_waiting b.standing t ≡ Some q = (next_is b t q next).found in
+      grind (
+        arith,
+        common_steps,
+        each_looked P b.standing.urgent t q,
+        each_looked P b.standing.waiting t q,
+      )
 
   -- the owner that is first has another outcome, or more answers
   asked_first : (change : Owner → Owner)
@@ -227,22 +233,17 @@ module _ (P : Ticket → Request → Type 0) where
       → MayBook step b → MaySession m step s → Asked P b l
       → Asked P (book_after step b) (owners_after step l)
   asked_step m (Take t q) b s l next may (urgent, waiting, taken) =
-      let is = next_is b.standing (ticket_of t) q next in
-      let left = asked_left (ticket_of t) b.standing (urgent, waiting) in
-      rw (is.urgent, is.others) (
+      let left = asked_left (ticket_of t) b.standing (urgent, waiting) in (
         left.0,
         left.1,
         λ x i. elim i [
           | inl same ↦ subst (λ z. P z.taking.ticket z.taking.request) same
-              (asked_next b.standing (ticket_of t) q next (urgent, waiting))
+              (asked_next b (ticket_of t) q next (urgent, waiting))
           | inr i ↦ taken x i
         ],
       )
   asked_step m (Deny t) b s l head may (urgent, waiting, taken) =
-      let (q, next) = next_ticket_is (next_taken b.standing) (ticket_of t) head in
-      let is = next_is b.standing (ticket_of t) q next in
-      let left = asked_left (ticket_of t) b.standing (urgent, waiting) in
-      rw (is.urgent, is.others) (left.0, left.1, taken)
+      let left = asked_left (ticket_of t) b.standing (urgent, waiting) in (left.0, left.1, taken)
   asked_step m (Carry a) b s l next may (urgent, waiting, taken) = (
     urgent,
     waiting,

@@ -8,12 +8,13 @@ use Rattle.iol_isdu.specs.declared.values.Cause.{Cause}
 use Rattle.iol_isdu.specs.declared.values.Cause.TheVariants.{LinkLost, Restarted}
 use Rattle.iol_far.specs.Level.{grown_by}
 use Rattle.iol_book.specs.declared.entries.Ticket.{Ticket}
+use Rattle.iol_book.specs.declared.entries.Serve.{Serve}
 use Rattle.iol_book.specs.declared.entries.Entry.{Entry}
 use Rattle.iol_book.specs.declared.entries.Entry.TheVariants.{Taken, Answered}
 use Rattle.iol_book.specs.declared.entries.Outcome.{Outcome}
 use Rattle.iol_book.specs.declared.entries.Outcome.TheVariants as outcome
 use Rattle.iol_book.specs.Replay.{nothing, replay}
-use Rattle.iol_book.specs.BookModel.{BookState, IsReplayed, next_taken, book_after_take, book_after_post, leaves_unsure}
+use Rattle.iol_book.specs.BookModel.{BookState, IsReplayed, next_taken, book_after_take, book_after_serve, book_after_post, leaves_unsure}
 use Rattle.iol_book.specs.Takings.{takings, taking_of, first_with, taking_with_outcome}
 use Rattle.iol_book.specs.Drained.{last_taken, in_doubt, is_still_open, book_after_drain}
 use Rattle.iol_book.specs.OneJournal.{entries_since}
@@ -29,7 +30,7 @@ use Rattle.iol_port.specs.Run.{job_request}
 use Rattle.iol_port.specs.Sound.{not_under_way, Each, AnswersFitJob, LastTakenIsOpen, IsToldLast, SaysWhere, IsOutcome, times_ever, Sound}
 use Rattle.iol_port.specs.CarriesOut.{OwnerGoesOn, LastGoesOn, GoOn}
 use Rattle.iol_port.proofs.PairLists.{ticket_is, each_more, each_inserted, each_ended, waiting_next, waiting_left}
-use Rattle.iol_port.proofs.Replaying.{told_for, LeavesWaiting, next_is, next_ticket_is}
+use Rattle.iol_port.proofs.Replaying.{told_for, LeavesWaiting, next_ticket_is}
 use Rattle.iol_port.proofs.Joining.{took_says, took_takings, denied_says, denied_takings, posted_says, posted_takings, last_pushed, posted_last, last_stays, drained_says, drained_whole}
 
 -- Owners that go on
@@ -238,6 +239,15 @@ goes_book {allowance} says taken unsure same last fewer outcomes sound = goes_it
   above = λ n low. omega (arith, fewer n, sound.above n low);
   outcomes = outcomes;
 })
+
+-- others are served
+pub serves_goes : {allowance : Allowance} {b : BookState} {s : Session} {l : Owners} (which : Serve)
+    → Sound allowance b s l → Goes allowance s l (book_after_serve b which) s l
+serves_goes which sound = goes_book (record {
+  replayed = sound.says.replayed;
+  whole = sound.says.whole;
+  head = sound.says.head;
+}) refl refl refl refl (λ n. omega arith) sound.outcomes sound
 
 -- The step ends or answers the request that was taken last, or takes one
 
@@ -613,7 +623,7 @@ drain_goes {allowance} {b} s job late l xs replayed sound = record {
 
 -- one more is taken
 take_goes : {allowance : Allowance} {b : BookState} (s : Session) (l : Owners) (t : Ticket)
-    (q : Request) → next_taken b.standing ≡ Some (t, q) → allowance.isdu ≡ true
+    (q : Request) → next_taken b ≡ Some (t, q) → allowance.isdu ≡ true
     → Sound allowance b (record s { job = None; late = None }) l
     → Goes allowance (record s { job = None; late = None }) l (book_after_take b (t, q)) (record s {
       job = Some (record { request = q; answer = None; busy = 0; asked = false });
@@ -654,8 +664,7 @@ take_goes {allowance} {b} s l t q next isdu sound = record {
 
     fewer : (n : ℕ) → times_ever n (book_after_take b (t, q)) (record l { current = x ∷ l.current })
         ≤ times_ever n b l
-    fewer n = let is = next_is b.standing t q next in rw (is.urgent, is.others)
-        (grind (arith, common_steps, waiting_next n b.standing t q next))
+    fewer n = grind (arith, common_steps, waiting_next n b t q next)
 
 pub step_goes : (m : Moment) (step : PortStep) (b : BookState) (s : Session)
     (job : Option Job) (late : Option Request) (l : Owners) (xs : List Owner)
@@ -669,12 +678,11 @@ pub step_goes : (m : Moment) (step : PortStep) (b : BookState) (s : Session)
 step_goes m (Take t q) b s None None l xs next may sound =
     take_goes s (record l { current = xs }) (ticket_of t) q next may.0 sound
 step_goes m (Deny t) b s job late l xs head may sound =
-    let (q, next) = next_ticket_is (next_taken b.standing) (ticket_of t) head in
-    let is = next_is b.standing (ticket_of t) q next in
+    let (q, next) = next_ticket_is (next_taken b) (ticket_of t) head in
     goes_book (denied_says b sound.says (ticket_of t) q next) refl refl
     (denied_takings b sound.says (ticket_of t) q next)
     (last_pushed None b.journal (Answered (ticket_of t) outcome.NoIsdu))
-    (λ n. rw (is.urgent, is.others) (omega (arith, waiting_left n (ticket_of t) b.standing)))
+    (λ n. omega (arith, waiting_left n (ticket_of t) b.standing))
     (each_inserted _ b.standing.outcomes (ticket_of t) outcome.NoIsdu may.0 sound.outcomes) sound
 step_goes m (Carry a) b s (Some job) None l (x ∷ xs) next none sound =
     answers_goes l x xs sound sound.last a

@@ -8,7 +8,8 @@ use Rattle.iol_isdu.specs.declared.values.Request.{Request}
 use Rattle.iol_book.specs.declared.entries.Ticket.{Ticket}
 use Rattle.iol_book.specs.Numbers.{times_in}
 use Rattle.iol_book.specs.Replay.{Standing, same_ticket, without, without_waiting}
-use Rattle.iol_book.specs.BookModel.{next_taken}
+use Rattle.iol_book.specs.BookModel.{BookState, next_taken}
+use Rattle.iol_book.proofs.SoundLemmas.{times_in-leaves}
 use Rattle.iol_port.specs.Sound.{Each}
 use Rattle.iol_port.proofs.Replaying.{next_is}
 
@@ -74,8 +75,9 @@ pub waiting_left : (n : ℕ) (t : Ticket) (s : Standing)
     → waiting_in n (without_waiting s t) ≤ waiting_in n s
 waiting_left n t s = grind (arith, waiting_without n t s.urgent, waiting_without n t s.waiting)
 
--- the request that is taken next leaves the list that it heads
-pub waiting_next : (n : ℕ) (s : Standing) (t : Ticket) (q : Request) → next_taken s ≡ Some (t, q)
-    → waiting_in n s ≡ counted n t.0 + waiting_in n (without_waiting s t)
-waiting_next n s t q next =
-    let is = next_is s t q next in rw (← is.urgent, ← is.others) (grind (arith, common_steps))
+-- the request that is taken next leaves its list
+pub waiting_next : (n : ℕ) (b : BookState) (t : Ticket) (q : Request) → next_taken b ≡ Some (t, q)
+    → counted n t.0 + waiting_in n (without_waiting b.standing t) ≤ waiting_in n b.standing
+waiting_next n b t q next =
+    let found = (next_is b t q next).waits in
+    omega (arith, times_in-leaves n t b.standing.urgent b.standing.waiting found)

@@ -6,10 +6,11 @@ use Rattle.std.specs.Map.{lookup}
 use Rattle.std.specs.List.{list_all}
 use Rattle.iol_isdu.specs.declared.values.Request.{Request}
 use Rattle.iol_book.specs.declared.entries.Ticket.{Ticket}
+use Rattle.iol_book.specs.declared.entries.Serve.{Serve}
 use Rattle.iol_book.specs.declared.entries.Outcome.{Outcome}
 use Rattle.iol_book.specs.declared.entries.Entry.TheVariants.{Collected, Withdrawn, Abandoned}
 use Rattle.iol_book.specs.Replay.{same_ticket}
-use Rattle.iol_book.specs.BookModel.{book_with_entry, book_after_submit, next_ticket, book_after_collect, book_after_withdrawal, book_after_abandon, may_archive, book_after_urgent, flight_refusal, IsReplayed}
+use Rattle.iol_book.specs.BookModel.{book_with_entry, book_after_submit, next_ticket, book_after_collect, book_after_withdrawal, book_after_abandon, book_after_serve, may_archive, book_after_urgent, flight_refusal, IsReplayed}
 use Rattle.iol_book.specs.Drained.{book_after_drain}
 use Rattle.iol_app.specs.Abstract.Session.{Session, session_after, session_cancelling, MaySession}
 use Rattle.iol_app.specs.Abstract.Images.{Images}
@@ -74,6 +75,7 @@ pub data Did (a : PortState) (c : Piece) (reply : Answered) : PortState → Type
       → Did a c reply (record a { book = book_after_withdrawal a.book t })
   Abandons : (t : Ticket) → book_after_abandon a.book t ≡ book_with_entry a.book (Abandoned t)
       → Did a c reply (record a { book = book_after_abandon a.book t })
+  Serves : (which : Serve) → Did a c reply (record a { book = book_after_serve a.book which })
   Cancels : (t : Ticket) → c ≡ Whole (call.Cancel t)
       → (reply ≡ answered.Nothing) × (flight_refusal a.book.standing t ≡ None)
       → Did a c reply (record a { session = session_cancelling a.session })
@@ -118,6 +120,7 @@ module _ (a b : PortState) where
   piece_did (Whole (call.Collect t)) reply e = may_do (Collects t) (grind (arith, common_steps))
   piece_did (Whole (call.Withdraw t)) reply e = may_do (Withdraws t) (grind (arith, common_steps))
   piece_did (Whole (call.Abandon t)) reply e = may_do (Abandons t) (grind (arith, common_steps))
+  piece_did (Whole (call.Serve which)) reply e = did (Serves which) e.1
   piece_did (Whole (call.Cancel t)) reply e = may_do (Cancels t refl) (grind (arith, common_steps))
   piece_did (Whole call.Archive) reply e = may_do Archives (grind (arith, common_steps))
   piece_did (Whole call.Drain) reply (inl (is, replayed)) =

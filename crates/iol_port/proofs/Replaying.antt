@@ -1,8 +1,8 @@
 -- each change of a book keeps it the replay of its journal
-use Rattle.std.proofs.Common.{◌≡◌, Bool, true, List, [], ◌∷◌, ◌++◌, Option, None, Some, drop, refl, sym, ap, ◌∙◌, arith, ◌||◌, ◌⊎◌, inl, inr}
+use Rattle.std.proofs.Common.{◌≡◌, Bool, true, List, [], ◌∷◌, ◌++◌, Option, None, Some, cond, is_some, refl, sym, ap, ◌∙◌, arith, ◌||◌, ◌⊎◌, inl, inr}
 use Rattle.std.proofs.lemmas.Bool.{eq-eqb}
 use Rattle.std.proofs.lemmas.Grind.{common_steps}
-use Rattle.std.specs.Prelude.{IsTrue, false}
+use Rattle.std.specs.Prelude.{IsTrue, false, slice_get}
 use Rattle.std.specs.Option.{option_map}
 use Rattle.iol_isdu.specs.declared.values.Request.{Request}
 use Rattle.iol_isdu.specs.declared.values.Answer.{Answer}
@@ -11,8 +11,9 @@ use Rattle.iol_book.specs.declared.entries.Outcome.{Outcome}
 use Rattle.iol_book.specs.declared.entries.Outcome.TheVariants.{NoIsdu}
 use Rattle.iol_book.specs.declared.entries.Entry.{Entry}
 use Rattle.iol_book.specs.declared.entries.Entry.TheVariants.{Submitted, Urgent, Taken, Answered, Withdrawn, Collected, Abandoned}
-use Rattle.iol_book.specs.Replay.{Standing, nothing, same_ticket, request_waiting, is_taken, without, others_without, waiting_after, standing_after, replay_from}
-use Rattle.iol_book.specs.BookModel.{BookState, IsReplayed, book_with_entry, leaves_unsure, book_after_take, book_after_denial, ended_with, book_after_post, next_taken, may_archive, others_behind, waits}
+use Rattle.iol_book.specs.Replay.{Standing, nothing, request_waiting, is_taken, waiting_after, standing_after, replay_from}
+use Rattle.iol_book.specs.BookModel.{BookState, IsReplayed, book_with_entry, leaves_unsure, book_after_take, book_after_denial, ended_with, book_after_post, is_served, served_waiting, next_taken, may_archive, waits}
+use Rattle.iol_book.proofs.LineLemmas.{find-first, found-waits}
 use Rattle.iol_app.specs.Abstract.Steps.{PortStep, Moment, Terms, may_misread, through_steps, MayAll}
 use Rattle.iol_app.specs.Abstract.Session.{Session, MayTell, MaySession, session_after}
 use Rattle.iol_port.specs.Owners.{Owners, owners_after, IsToldAs}
@@ -27,32 +28,29 @@ pub entered_replayed : (book : BookState) (entry : Entry) → IsReplayed book
     → IsReplayed (book_with_entry book entry)
 entered_replayed book entry h = rw replay_from-push (ap (λ s. standing_after s entry) h)
 
--- where one is taken next, none is taken; it is the one that waits under its ticket, and leaves
--- its list as its entry says
+-- where one is taken next, none is taken, and it is the one that waits under its ticket
 pub record IsNext (s : Standing) (t : Ticket) (q : Request) : Type 0 where
   pub free : s.taken ≡ None
   pub found : request_waiting s t ≡ Some q
   pub waits : waits s t ≡ true
-  pub urgent : drop 1 s.urgent ≡ without t s.urgent
-  pub others : others_behind s.urgent s.waiting ≡ others_without t s.urgent s.waiting
 
-pub next_is : (s : Standing) (t : Ticket) (q : Request) → next_taken s ≡ Some (t, q) → IsNext s t q
-next_is s t q h = by_lists s.taken s.urgent s.waiting (eq-eqb t.0 t.0 refl) h
+pub next_is : (b : BookState) (t : Ticket) (q : Request) → next_taken b ≡ Some (t, q)
+    → IsNext b.standing t q
+next_is b t q h = by b.standing.taken refl h
   where
-    by_lists : (taken : Option (Ticket × Request)) (us ws : List (Ticket × Request))
-        → same_ticket t t ≡ true → next_taken
-        (record s { urgent = us; waiting = ws; taken = taken }) ≡ Some (t, q)
-        → IsNext (record s { urgent = us; waiting = ws; taken = taken }) t q
-    by_lists None [] (w ∷ ws) same h = grind (arith, common_steps)
-    by_lists None (u ∷ us) ws same h = grind (arith, common_steps)
-    by_lists _ _ _ same h = absurd (cc)
+    by : (taken : Option (Ticket × Request)) → b.standing.taken ≡ taken
+        → cond (is_some taken) None (slice_get (served_waiting b) 0) ≡ Some (t, q)
+        → IsNext b.standing t q
+    by None free found =
+        let is = found-waits b.serve b.standing.urgent b.standing.waiting (t, q) (find-first
+        (λ p. is_served b.serve p.0) (b.standing.urgent ++ b.standing.waiting) ∙ found) in
+        record { free = free; found = sym is.request; waits = is.among }
+    by (Some p) free found = absurd (cc)
 
 pub took_replayed : (book : BookState) (t : Ticket) (q : Request)
-    → next_taken book.standing ≡ Some (t, q) → IsReplayed book
-    → IsReplayed (book_after_take book (t, q))
+    → next_taken book ≡ Some (t, q) → IsReplayed book → IsReplayed (book_after_take book (t, q))
 took_replayed book t q next h =
-    let is = next_is book.standing t q next in
-    rw (is.urgent, is.others) (rw is.found at (entered_replayed book (Taken t) h))
+    rw (next_is book t q next).found at (entered_replayed book (Taken t) h)
 
 -- of an outcome that isn't NoIsdu: those that wait stay
 abbrev pub LeavesWaiting : Outcome → Type 0
@@ -77,12 +75,10 @@ next_ticket_is (Some p) t h = (p.1, grind (arith, common_steps))
 
 -- a denied request was the next one
 pub denied_replayed : (book : BookState) (t : Ticket) (q : Request)
-    → next_taken book.standing ≡ Some (t, q) → IsReplayed book
-    → IsReplayed (book_after_denial book t)
+    → next_taken book ≡ Some (t, q) → IsReplayed book → IsReplayed (book_after_denial book t)
 denied_replayed book t q next h =
-    let is = next_is book.standing t q next in
-    rw (is.urgent, is.others, is.free)
-    (rw is.free at (entered_replayed book (Answered t NoIsdu) h))
+    let is = next_is book t q next in
+    rw is.free (rw is.free at (entered_replayed book (Answered t NoIsdu) h))
 
 -- where none is taken none was abandoned
 step_free : (s : Standing) (entry : Entry) → (s.taken ≡ None → s.abandoned ≡ false)

@@ -1,7 +1,8 @@
 -- Turns of a port over a clean wire, one after the other: requests that wait are served in order,
 -- each in its number of turns.
-use Rattle.std.proofs.Common.{◌≡◌, ◌⊎◌, inl, inr, ℕ, zero, suc, ◌+◌, ◌-◌, ◌<◌, ◌≤◌, Bool, true, false, List, [], ◌∷◌, ◌++◌, length, append_assoc, refl, sym, ap, subst, ◌∙◌, Option, Some, take_all, take, get_or, replicate, arith}
-use Rattle.std.specs.Prelude.{IsTrue, is_some, slice_get, drop}
+use Rattle.std.proofs.Common.{◌≡◌, ◌⊎◌, inl, inr, ℕ, zero, suc, ◌+◌, ◌-◌, ◌<◌, ◌≤◌, Bool, true, false, cond, List, [], ◌∷◌, ◌++◌, length, append_assoc, refl, sym, ap, subst, ◌∙◌, Option, Some, take_all, take, get_or, replicate, arith}
+use Rattle.std.specs.Prelude.{IsTrue, is_some, slice_get, drop, filter}
+use Rattle.std.proofs.lemmas.Bool.{eq-eqb}
 use Rattle.std.proofs.lemmas.Bool.Decides.{nat_tests}
 use Rattle.std.proofs.lemmas.Grind.{common_steps}
 use Rattle.std.proofs.lemmas.List.{take_more, length-append}
@@ -16,8 +17,10 @@ use Rattle.iol_link.specs.WireFacts.{WireFacts}
 use Rattle.iol_mode.specs.Stands.{operate_link}
 use Rattle.iol_book.specs.declared.entries.Ticket.{Ticket}
 use Rattle.iol_book.specs.declared.entries.Outcome.TheVariants.{Done}
-use Rattle.iol_book.specs.Replay.{Standing}
-use Rattle.iol_book.specs.BookModel.{BookState, next_taken, others_behind, book_after_take, book_after_post}
+use Rattle.iol_book.specs.declared.entries.Serve.{Serve}
+use Rattle.iol_book.specs.Replay.{same_ticket, without, others_without}
+use Rattle.iol_book.specs.BookModel.{BookState, is_served, served_waiting, next_taken, book_after_take, book_after_post}
+use Rattle.iol_book.proofs.LineLemmas.{find-first, found-served, unserved}
 use Rattle.iol_app.specs.declared.event_work.EventRoom.TheVariants.{Left}
 use Rattle.iol_port.specs.declared.call.Call.{Call}
 use Rattle.iol_port.specs.declared.call.Call.TheVariants as call
@@ -52,18 +55,69 @@ takes_rest room base count request answer h =
 
 -- Requests that wait in a book
 
--- none is taken, these are the first that wait, and the record has room for all of them
+-- none is taken, these are the first that are served, and the record has room for all of them
 record Queue (room : Option ℕ) (base : List Carried) (book : BookState)
     (requests : List (Ticket × Request)) : Type 0 where
   free : is_some book.standing.taken ≡ false
   others : List (Ticket × Request)
-  order : book.standing.urgent ++ book.standing.waiting ≡ requests ++ others
+  order : served_waiting book ≡ requests ++ others
   fits : takes_all room base (length requests) ≡ true
 
-behind : (urgent waiting : List (Ticket × Request)) (first : Ticket × Request)
-    (rest : List (Ticket × Request)) → urgent ++ waiting ≡ first ∷ rest
-    → drop 1 urgent ++ others_behind urgent waiting ≡ rest
-behind urgent waiting first rest given = grind (arith, common_steps)
+-- what heads those that are served is
+first_served : (serve : Serve) (list : List (Ticket × Request)) (first : Ticket × Request)
+    (rest : List (Ticket × Request)) → filter (λ w. is_served serve w.0) list ≡ first ∷ rest
+    → is_served serve first.0 ≡ true
+first_served serve list first rest given = found-served serve list first
+    (find-first (λ w. is_served serve w.0) list ∙ (rw given refl))
+
+-- of a list that has one left out, where the first that is served is
+served_rest : (serve : Serve) (list : List (Ticket × Request)) (first : Ticket × Request)
+    (rest : List (Ticket × Request)) → filter (λ w. is_served serve w.0) list ≡ first ∷ rest
+    → filter (λ w. is_served serve w.0) (without first.0 list) ≡ rest
+served_rest serve [] first rest given = absurd (cc)
+served_rest serve (w ∷ list) first rest given =
+    by (is_served serve w.0) refl (served_rest serve list first rest) given
+  where
+    by : (b : Bool) → is_served serve w.0 ≡ b
+        → (filter (λ w. is_served serve w.0) list ≡ first ∷ rest
+        → filter (λ w. is_served serve w.0) (without first.0 list) ≡ rest)
+        → cond b (w ∷ filter (λ w. is_served serve w.0) list)
+        (filter (λ w. is_served serve w.0) list) ≡ first ∷ rest
+        → filter (λ w. is_served serve w.0) (without first.0 (w ∷ list)) ≡ rest
+    by true on later is =
+        let head : w ≡ first = cc in
+        let more : filter (λ w. is_served serve w.0) list ≡ rest = cc in
+        rw (← head, eq-eqb w.0.0 w.0.0 refl) more
+    by false off later is =
+        let apart : same_ticket first.0 w.0 ≡ false =
+        unserved serve first.0 w.0 (first_served serve list first rest is) off in
+        rw (apart, off) (later is)
+
+behind : (serve : Serve) (urgent waiting : List (Ticket × Request)) (first : Ticket × Request)
+    (rest : List (Ticket × Request))
+    → filter (λ w. is_served serve w.0) (urgent ++ waiting) ≡ first ∷ rest
+    → filter (λ w. is_served serve w.0)
+    (without first.0 urgent ++ others_without first.0 urgent waiting) ≡ rest
+behind serve [] waiting first rest given = served_rest serve waiting first rest given
+behind serve (u ∷ urgent) waiting first rest given =
+    by (is_served serve u.0) refl (behind serve urgent waiting first rest) given
+  where
+    by : (b : Bool) → is_served serve u.0 ≡ b
+        → (filter (λ w. is_served serve w.0) (urgent ++ waiting) ≡ first ∷ rest
+        → filter (λ w. is_served serve w.0)
+        (without first.0 urgent ++ others_without first.0 urgent waiting) ≡ rest)
+        → cond b (u ∷ filter (λ w. is_served serve w.0) (urgent ++ waiting))
+        (filter (λ w. is_served serve w.0) (urgent ++ waiting)) ≡ first ∷ rest
+        → filter (λ w. is_served serve w.0)
+        (without first.0 (u ∷ urgent) ++ others_without first.0 (u ∷ urgent) waiting) ≡ rest
+    by true on later is =
+        let head : u ≡ first = cc in
+        let more : filter (λ w. is_served serve w.0) (urgent ++ waiting) ≡ rest = cc in
+        rw (← head, eq-eqb u.0.0 u.0.0 refl) more
+    by false off later is =
+        let apart : same_ticket first.0 u.0 ≡ false =
+        unserved serve first.0 u.0 (first_served serve (urgent ++ waiting) first rest is) off in
+        rw (apart, off) (later is)
 
 -- the book once the request that is next was taken, and has this answer
 abbrev served : BookState → Ticket × Request → Answer → BookState
@@ -77,8 +131,8 @@ queue_rest {room = room} {base = base} {book = book} {first = first} {rest = res
     record {
       free = refl;
       others = queue.others;
-      order = behind book.standing.urgent book.standing.waiting first (rest ++ queue.others)
-          queue.order;
+      order = behind book.serve book.standing.urgent book.standing.waiting first
+          (rest ++ queue.others) queue.order;
       fits = takes_rest room base (length rest) first.1 answer queue.fits;
     }
 
@@ -86,10 +140,10 @@ headed : (list : List (Ticket × Request)) (first : Ticket × Request)
     → slice_get list 0 ≡ Some first → list ≡ first ∷ drop 1 list
 headed list first given = grind (arith, common_steps)
 
--- what is taken next heads those that wait, and none is taken
-next_heads : (s : Standing) (first : Ticket × Request) → next_taken s ≡ Some first
-    → (is_some s.taken ≡ false) × (s.urgent ++ s.waiting ≡ first ∷ drop 1 (s.urgent ++ s.waiting))
-next_heads s first given = grind (arith, common_steps, headed (s.urgent ++ s.waiting) first)
+-- what is taken next heads those that are served, and none is taken
+next_heads : (b : BookState) (first : Ticket × Request) → next_taken b ≡ Some first
+    → (is_some b.standing.taken ≡ false) × (served_waiting b ≡ first ∷ drop 1 (served_waiting b))
+next_heads b first given = grind (arith, common_steps, headed (served_waiting b) first)
 
 -- Calls
 
@@ -151,7 +205,7 @@ module _ {W : Type 0} (facts : WireFacts W) where
       pub record_is : record_of facts now ≡ base
       pub book_is : now.parts.book.state ≡ book
       pub may : 1 ≤ length rest → (ticket : Ticket) (request : Request)
-          → next_taken now.parts.book.state.standing ≡ Some (ticket, request)
+          → next_taken now.parts.book.state ≡ Some (ticket, request)
           → IsTrue (has_room (far now.wire))
           → MayStart facts layouts ticket request now
 
@@ -250,7 +304,7 @@ module _ {W : Type 0} (facts : WireFacts W) where
       going_more zero (first ∷ rest) base book queue idle =
           let some : has_room (far mid.wire) ≡ true =
           rw (steady.room_is, idle.record_is) (takes_first room base (length rest) queue.fits) in
-          let is_next : next_taken mid.parts.book.state.standing ≡ Some first =
+          let is_next : next_taken mid.parts.book.state ≡ Some first =
           rw (idle.book_is, queue.free, queue.order) refl in
           let after = rw (idle.kind_is, idle.record_is, idle.book_is) at (turn.starts layouts
           first.0 first.1 (idle.may (omega arith) first.0 first.1 is_next some)) in
@@ -384,7 +438,7 @@ module _ {W : Type 0} (facts : WireFacts W) where
         let t = turn found.2 in
         let (steady, going) = so_far (length (take i calls)) found.1 layouts first rest may in
         let queue : Queue ready (record_of facts p) p.parts.book.state (first ∷ rest) = record {
-          free = (next_heads p.parts.book.state.standing first may.starts.next).0;
+          free = (next_heads p.parts.book.state first may.starts.next).0;
           others = may.others;
           order = may.in_order;
           fits = may.room;
@@ -405,12 +459,12 @@ module _ {W : Type 0} (facts : WireFacts W) where
     pub clean_runs : (next : PortOver W) (calls : List Call) → CleanServes facts p calls next
         → CleanRuns facts p calls next
     clean_runs next calls serves n e layouts ticket request may =
-        let s = p.parts.book.state.standing in
+        let b = p.parts.book.state in
         let some : has_room (far p.wire) ≡ true = may.room in
         on_time layouts asked.devices ticket request p n next
         (serves (suc n) e layouts (ticket, request) [] (record {
           starts = may;
-          others = drop 1 (s.urgent ++ s.waiting);
-          in_order = (next_heads s (ticket, request) may.next).1;
+          others = drop 1 (served_waiting b);
+          in_order = (next_heads b (ticket, request) may.next).1;
           room = takes_one ready (record_of facts p) some;
         }))

@@ -30,7 +30,7 @@ to_begin lacks next = if lacks then None else option_map (λ t. t.1) next
 
 -- that of a port
 abbrev pub begun_next : PortParts → Option Request
-begun_next p = to_begin (lacks_isdu p.core.session.isdu) (next_taken p.book.state.standing)
+begun_next p = to_begin (lacks_isdu p.core.session.isdu) (next_taken p.book.state)
 
 -- the one call of the wire in the next turn: that request is begun first, where
 -- nothing else is due

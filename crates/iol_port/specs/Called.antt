@@ -7,6 +7,7 @@ use Rattle.iol_event.specs.declared.event.Event.{Event}
 use Rattle.iol_page.specs.declared.cycle.CycleTime.{CycleTime}
 use Rattle.iol_page.specs.declared.identity.Identity.{Identity}
 use Rattle.iol_book.specs.declared.entries.Ticket.{Ticket}
+use Rattle.iol_book.specs.declared.entries.Serve.{Serve}
 use Rattle.iol_book.specs.declared.entries.Entry.{Entry}
 use Rattle.iol_book.specs.declared.entries.Outcome.{Outcome}
 use Rattle.iol_book.specs.BookModel.{book_after_submit, book_after_urgent}
@@ -27,7 +28,7 @@ use Rattle.iol_port.specs.Replies.{ticket_reply, outcome_reply, nothing_reply, e
 use Rattle.iol_port.specs.View.{PortParts, PortValue, Does, over, writer_after_publish, status_of}
 use Rattle.iol_port.specs.Clean.{CleanTurn}
 use Rattle.iol_port.specs.CorePort.{CoreDoes}
-use Rattle.iol_port.specs.EveryWire.{SubmitGives, CollectGives, WithdrawGives, CancelGives, AbandonGives, ArchiveGives, DrainGives, DrainIntoGives, TakeEventGives, SetOutputGives, ClearOutputGives, ExpectGives, SetCycleGives, RestartGives, PortTurnGives, page_shown}
+use Rattle.iol_port.specs.EveryWire.{SubmitGives, CollectGives, WithdrawGives, CancelGives, AbandonGives, ServeGives, ArchiveGives, DrainGives, DrainIntoGives, TakeEventGives, SetOutputGives, ClearOutputGives, ExpectGives, SetCycleGives, RestartGives, PortTurnGives, page_shown}
 
 -- what is said of a call with its reply, and of what else it gives, at who has the parts
 abbrev pub Carrier : Type 1
@@ -58,6 +59,9 @@ module _ (Carries : Carrier) (p next : PortParts) where
   abbrev pub Abandons : Ticket → Result (Unit {0}) PortFault → Type 0
   Abandons ticket result = Carries (call.Abandon ticket) (nothing_reply result)
       (AbandonGives p ticket result next)
+
+  abbrev pub Serves : Serve → Type 0
+  Serves which = Carries (call.Serve which) answered.Nothing (ServeGives p which next)
 
   abbrev pub Restarts : Type 0
   Restarts = Carries call.Restart answered.Nothing (RestartGives p next)

@@ -26,7 +26,7 @@ use Rattle.iol_link.specs.Honest.{CleanExchange}
 use Rattle.iol_link.specs.WireFacts.{WireFacts}
 use Rattle.iol_book.specs.declared.entries.Ticket.{Ticket}
 use Rattle.iol_book.specs.declared.entries.Outcome.TheVariants.{Done}
-use Rattle.iol_book.specs.BookModel.{BookState, next_taken, book_after_take, book_after_post}
+use Rattle.iol_book.specs.BookModel.{BookState, served_waiting, next_taken, book_after_take, book_after_post}
 use Rattle.iol_mode.specs.declared.states.State.{State}
 use Rattle.iol_mode.specs.declared.states.State.TheVariants.{Operate as AtOperate}
 use Rattle.iol_mode.specs.declared.configuration.Devices.{Devices}
@@ -170,8 +170,7 @@ module _ {W : Type 0} (facts : WireFacts W) where
   -- From here a request takes an exact number of turns, whatever the kind of device: the port is in
   -- OPERATE over a clean wire, which is honest to it, and its next turn would send IDLE 1, with
   -- room for events; both ends are level, the device awake; it has ISDU, as the port was told, and
-  -- no events, and its record has room; the request is the next to be taken: no urgent one waits,
-  -- or it is the first of them
+  -- no events, and its record has room; the request is the next to be taken
   pub record MayStart (layouts : Layouts) (ticket : Ticket) (request : Request)
       (q : PortOver W) : Type 0 where
     pub state_is : q.parts.core.state ≡ resting_in layouts
@@ -186,7 +185,7 @@ module _ {W : Type 0} (facts : WireFacts W) where
     pub told : q.parts.core.session.isdu ≡ Some true
     pub quiet : IsQuiet (far q.wire).events
     pub room : IsTrue (has_room (far q.wire))
-    pub next : next_taken q.parts.book.state.standing ≡ Some (ticket, request)
+    pub next : next_taken q.parts.book.state ≡ Some (ticket, request)
 
   -- how the request stands after so many turns: it is taken, and nothing entered
   -- the record; its answer did, and it is not done; it is done with that answer,
@@ -209,15 +208,14 @@ module _ {W : Type 0} (facts : WireFacts W) where
       × (record_of facts new ≡ grown_by (record_of facts old) request answer ++ more)
       × (turns_needed (kind_of_device facts old).hands_over layouts.run.od request answer < n))
 
-  -- From here requests that wait take the sum of their turns: the first may start, they wait in
-  -- this order before all others, and the device's record has room for the pairs of all of them.
+  -- From here requests that wait take the sum of their turns: the first may start, they are served
+  -- in this order before all others, and the device's record has room for the pairs of all of them.
   -- At a port for any device there is one turn more between two
   pub record MayServe (layouts : Layouts) (first : Ticket × Request)
       (rest : List (Ticket × Request)) (q : PortOver W) : Type 0 where
     pub starts : MayStart layouts first.0 first.1 q
     pub others : List (Ticket × Request)
-    pub in_order : q.parts.book.state.standing.urgent ++ q.parts.book.state.standing.waiting
-        ≡ first ∷ (rest ++ others)
+    pub in_order : served_waiting q.parts.book.state ≡ first ∷ (rest ++ others)
     pub room : IsTrue (takes_all (far q.wire).room (record_of facts q)
         (suc (length rest)))
 

@@ -13,10 +13,11 @@ use Rattle.iol_link.specs.WireFacts.{WireFacts}
 use Rattle.iol_book.specs.declared.entries.Entry.{Entry}
 use Rattle.iol_book.specs.declared.entries.Outcome.{Outcome}
 use Rattle.iol_book.specs.declared.entries.Ticket.{Ticket}
+use Rattle.iol_book.specs.declared.entries.Serve.{Serve}
 use Rattle.iol_book.specs.declared.fault.BookFault.TheVariants.{Outstanding, OutOfMemory}
 use Rattle.iol_book.specs.declared.entries.Outcome.TheVariants.{NoIsdu}
 use Rattle.iol_book.specs.Replay.{same_ticket}
-use Rattle.iol_book.specs.BookModel.{BookState, BookValue, MemoryGrows, memory_archived, RefusesFor, submit_refusal, book_after_submit, book_after_urgent, next_ticket, next_taken, book_after_take, book_after_denial, waits, collect_answer, book_after_collect, withdraw_refusal, abandon_refusal, book_after_abandon, book_after_withdrawal, flight_refusal, may_archive, book_after_archive}
+use Rattle.iol_book.specs.BookModel.{BookState, BookValue, MemoryGrows, memory_archived, RefusesFor, submit_refusal, book_after_submit, book_after_urgent, next_ticket, next_taken, book_after_take, book_after_denial, waits, collect_answer, book_after_collect, withdraw_refusal, abandon_refusal, book_after_abandon, book_after_serve, book_after_withdrawal, flight_refusal, may_archive, book_after_archive}
 use Rattle.iol_book.specs.Drained.{book_after_drain}
 use Rattle.iol_mode.specs.States.{is_reset}
 use Rattle.iol_mode.specs.declared.why.Why.{Why}
@@ -108,6 +109,12 @@ pub record AbandonGives (old : PortParts) (ticket : Ticket)
   pub answer : result_err result
       ≡ option_map (λ why. fault.Book why) (abandon_refusal old.book.state.standing ticket)
   pub book : new.book.state ≡ book_after_abandon old.book.state ticket
+  pub memory : KeepsMemory old new
+  pub rest : IsBookCall old new
+
+-- these requests alone are taken from now on
+pub record ServeGives (old : PortParts) (which : Serve) (new : PortParts) : Type 0 where
+  pub book : new.book.state ≡ book_after_serve old.book.state which
   pub memory : KeepsMemory old new
   pub rest : IsBookCall old new
 
@@ -244,7 +251,7 @@ core_begun p = core_with_request (begun_next p) p.core (event_room p.kept)
 abbrev pub book_begun : PortParts → BookState
 book_begun p =
     book_after_taking (takes_next p) (lacks_isdu p.core.session.isdu)
-    (next_taken p.book.state.standing) p.book.state
+    (next_taken p.book.state) p.book.state
 
 -- The ticket's request waited, none was taken, and a start-up told that the device has no
 -- ISDU; all that the turn does in the book is to give it this outcome, without a taking
@@ -275,6 +282,8 @@ CoreCallGives old (call.Cancel ticket) reply new =
 CoreCallGives old (call.Abandon ticket) reply new =
     (result : Result (Unit {0}) PortFault) × (reply ≡ nothing_reply result)
     × AbandonGives old ticket result new
+CoreCallGives old (call.Serve which) reply new = (reply ≡ answered.Nothing)
+    × ServeGives old which new
 CoreCallGives old call.Restart reply new = (reply ≡ answered.Nothing) × RestartGives old new
 CoreCallGives old (call.SetOutput image) reply new =
     (result : Result (Unit {0}) PortFault) × (reply ≡ nothing_reply result)

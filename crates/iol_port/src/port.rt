@@ -7,13 +7,13 @@ ghost use Rattle.std.specs.Option.{option_copied};
 ghost use Rattle.std.specs.Result.{result_map_both};
 ghost use Rattle.iol_book.specs.declared.fault.BookFault.TheVariants.{OutOfMemory};
 ghost use Rattle.iol_book.specs.BookModel as book;
-ghost use Rattle.iol_book.specs.BookModel.{IsReplayed};
+ghost use Rattle.iol_book.specs.BookModel.{IsReplayed, is_outstanding};
 ghost use Rattle.iol_port.specs.declared.fault.PortFault.TheVariants as fault;
 ghost use Rattle.iol_port.specs.declared.call.Call.TheVariants as call;
 ghost use Rattle.iol_port.specs.declared.call.Answered.TheVariants as answered;
 ghost use Rattle.iol_port.specs.Run.{port_at_opening};
 ghost use Rattle.iol_port.specs.Asks.{asks_of, IsWireCall};
-ghost use Rattle.iol_port.specs.Called.{Submits, SubmitsUrgent, Collects, Withdraws, Cancels, Abandons, Restarts, SetsOutput};
+ghost use Rattle.iol_port.specs.Called.{Submits, SubmitsUrgent, Collects, Withdraws, Cancels, Abandons, Serves, Restarts, SetsOutput};
 ghost use Rattle.iol_port.specs.Called.{ClearsOutput, Expects, SetsCycle, TakesEvent, Archives, Drains, DrainsInto, Turns, PublishesAfter};
 ghost use Rattle.iol_port.specs.Called.{ShowsPage, ShowsCounters, ShowsLastLoss, ShowsImage, ShowsStatus, CoreCalled, MakesCall};
 ghost use Rattle.iol_port.specs.Claim.{Claim};
@@ -30,7 +30,7 @@ use crate::laws::clean_laws;
 use crate::port_core::PortCore;
 use crate::{Answered, Call, Counters, Counting, Drained, PortFault};
 use iol_app::{Asked, Status};
-use iol_book::{BookFault, Entry, Limits, Outcome, Ticket};
+use iol_book::{BookFault, Entry, Limits, Outcome, Serve, Ticket};
 use iol_cell::{Handle, ImageWriter};
 use iol_event::Event;
 use iol_image::Image;
@@ -190,6 +190,20 @@ impl<W: Wire, A: Handle> Port<W, A> {
             ticket result }
     {
         self.core.abandon(ticket)
+    }
+
+    /// As [`PortCore::is_outstanding`].
+    pub fn is_outstanding(&self, ticket: Ticket) -> bool
+        ensures { result ≡ is_outstanding self.now.parts.book.state.standing ticket }
+    {
+        self.core.is_outstanding(ticket)
+    }
+
+    /// As [`PortCore::serve`].
+    pub fn serve(&mut self, which: Serve)
+        ensures { Serves (MakesCall self.old self.new) self.old.parts self.new.parts which }
+    {
+        self.core.serve(which);
     }
 
     /// As [`PortCore::restart`]. Between two calls nothing is out.
@@ -364,6 +378,10 @@ impl<W: Wire, A: Handle> Port<W, A> {
             Call::Withdraw(ticket) => nothing_or(self.withdraw(*ticket)),
             Call::Cancel(ticket) => nothing_or(self.cancel(*ticket)),
             Call::Abandon(ticket) => nothing_or(self.abandon(*ticket)),
+            Call::Serve(which) => {
+                self.serve(*which);
+                Answered::Nothing
+            }
             Call::Restart => {
                 self.restart();
                 Answered::Nothing

@@ -1,12 +1,13 @@
 //! A port without the wire: it gives the octets to send, and takes what came.
-ghost use Rattle.std.specs.Prelude.{◌≡◌, ◌<◌, ◌≤◌, ◌+◌, None, true, false, IfOk, IfErr, OnErr, IsTrue, length, is_some};
+ghost use Rattle.std.specs.Prelude.{◌≡◌, ◌<◌, ◌≤◌, ◌+◌, None, true, false, IfOk, IfErr, IfSome, OnErr, IsTrue, length, is_some};
 ghost use Rattle.std.specs.Vec.{vec_len, vec_capacity};
 ghost use Rattle.std.specs.Option.{option_copied};
 ghost use Rattle.std.specs.Result.{result_map_both};
+ghost use Rattle.iol_isdu.specs.Texts.{IsRequest};
 ghost use Rattle.iol_far.specs.Octets.{octets_in};
 ghost use Rattle.iol_app.specs.Seen.{LinkStands};
 ghost use Rattle.iol_book.specs.declared.fault.BookFault.TheVariants.{OutOfMemory};
-ghost use Rattle.iol_book.specs.BookModel.{IsReplayed};
+ghost use Rattle.iol_book.specs.BookModel.{IsReplayed, is_outstanding};
 ghost use Rattle.iol_app.specs.Asking.{IsCall};
 ghost use Rattle.iol_app.specs.Pieces.{IsAskedOut};
 ghost use Rattle.iol_port.specs.declared.fault.PortFault.TheVariants as fault;
@@ -14,14 +15,14 @@ ghost use Rattle.iol_port.specs.declared.call.Call.TheVariants as call;
 ghost use Rattle.iol_port.specs.declared.call.Answered.TheVariants as answered;
 ghost use Rattle.iol_port.specs.declared.awaited.AwaitedAnswer.{AwaitedAnswer};
 ghost use Rattle.iol_port.specs.View.{Does, IsNew, IsNewFor, on_wire};
-ghost use Rattle.iol_port.specs.Asks.{asks_of, event_room};
+ghost use Rattle.iol_port.specs.Asks.{asks_of, begun_next, event_room};
 ghost use Rattle.iol_port.specs.EveryWire.{PortTurnGives};
-ghost use Rattle.iol_port.specs.EveryWire.{page_shown};
+ghost use Rattle.iol_port.specs.EveryWire.{page_shown, takes_next};
 ghost use Rattle.iol_port.specs.RightDevice.{IsForRightDevice};
 ghost use Rattle.iol_port.specs.Run.{counting_of};
 ghost use Rattle.iol_port.specs.Clean.{CleanTurn};
 ghost use Rattle.iol_port.specs.CorePort.{CoreOpens, CoreOpensFor, CoreKeeps, awaited_answer, PortSendGives, SendDoes, PortReceiveGives, ReceiveDoes, WakeGives, WakeDoes};
-ghost use Rattle.iol_port.specs.Called.{Submits, SubmitsUrgent, Collects, Withdraws, Cancels, Abandons, Restarts, SetsOutput};
+ghost use Rattle.iol_port.specs.Called.{Submits, SubmitsUrgent, Collects, Withdraws, Cancels, Abandons, Serves, Restarts, SetsOutput};
 ghost use Rattle.iol_port.specs.Called.{ClearsOutput, Expects, SetsCycle, TakesEvent, Archives, Drains, DrainsInto, CoreCalled};
 ghost use Rattle.iol_port.specs.Called.{ShowsPage, ShowsCounters, ShowsLastLoss, ShowsImage, ShowsStatus};
 
@@ -34,7 +35,7 @@ use crate::loss::loss_after;
 use crate::settle::{KEPT, ROOM, begin_next, by_book, by_output, lacks_isdu, resets, settle};
 use arrayvec::ArrayVec;
 use iol_app::{Asked, Core, EventRoom, Mode, Said, Status, WireResult};
-use iol_book::{Book, Entry, Limits, Outcome, Ticket};
+use iol_book::{Book, Entry, Limits, Outcome, Serve, Ticket};
 use iol_event::Event;
 use iol_image::Image;
 use iol_isdu::{Cause, Request};
@@ -242,6 +243,26 @@ impl<A: Allocator + Copy> PortCore<A> {
             ticket result }
     {
         by_book(self.book.abandon(ticket))
+    }
+
+    /// Whether a ticket is outstanding: its request waits, or is under way and was not abandoned,
+    /// or has an outcome that wasn't collected.
+    pub fn is_outstanding(&self, ticket: Ticket) -> bool
+        ensures { result ≡ is_outstanding self.now.book.state.standing ticket }
+    {
+        self.book.is_outstanding(ticket)
+    }
+
+    /// Has these requests alone taken from now on, and the others wait on, urgent ones too: a layer
+    /// above keeps clients out while a job of several requests is under way.
+    ///
+    /// A port is opened with `Serve::All`. What is served stays so until the next call of this,
+    /// whatever comes. A request under way isn't touched; clients may submit, withdraw and abandon
+    /// as before. The journal has no entry of it.
+    pub fn serve(&mut self, which: Serve)
+        ensures { Serves (CoreCalled self.old self.new) self.old self.new which }
+    {
+        self.book.serve(which);
     }
 
     /// Cuts off the request under way, if any, and leaves the link in down, without an image.
@@ -475,10 +496,11 @@ impl<A: Allocator + Copy> PortCore<A> {
 
     /// What goes out: the octets of one message, or a wake-up request, where the link is down.
     ///
-    /// In OPERATE, where nothing else is to be sent, the next request is taken: the urgent one that
-    /// waits longest, or where none is urgent the other one that does. Its first segment goes out
-    /// then; where the device has no ISDU it is denied, never taken, and IDLE 1 goes out. At most
-    /// 64 events are kept, and a list of events is read only where there is room for it.
+    /// In OPERATE, where nothing else is to be sent, the next request is taken: of those that are
+    /// served the urgent one that waits longest, or where none is urgent the other one that does.
+    /// Its first segment goes out then; where the device has no ISDU it is denied, never taken, and
+    /// IDLE 1 goes out. At most 64 events are kept, and a list of events is read only where there
+    /// is room for it.
     ///
     /// Until what goes out is answered it is given again, and nothing changes.
     ///
@@ -487,6 +509,8 @@ impl<A: Allocator + Copy> PortCore<A> {
         ensures says { IsAskedOut result self.new.core.state }
         ensures asked { result ≡ asks_of self.old }
         ensures again { IsTrue self.old.sent → self.new ≡ self.old }
+        ensures begun { self.old.sent ≡ false → IsTrue (takes_next self.old)
+            → IfSome (begun_next self.old) IsRequest }
         ensures gives { PortSendGives self.old self.new }
         ensures does { SendDoes self.old self.new }
     {
@@ -552,6 +576,7 @@ impl<A: Allocator + Copy> PortCore<A> {
         ensures does { Does W.facts (on_wire self.old wire.old) call.Turn answered.Nothing
             (on_wire self.new wire.new) }
         ensures asked { IsCall W.facts (asks_of self.old) wire.old wire.new }
+        ensures begun { IsTrue (takes_next self.old) → IfSome (begun_next self.old) IsRequest }
         ensures clean { CleanTurn W.facts (on_wire self.old wire.old) (on_wire self.new wire.new) }
         ensures gives { PortTurnGives W.facts (on_wire self.old wire.old)
             (on_wire self.new wire.new) }

@@ -1,6 +1,6 @@
 //! The pieces of a turn: the next request is begun, and what the turn says goes to
 //! the book and to the kept events.
-ghost use Rattle.std.specs.Prelude.{◌≡◌, ◌≢◌, ◌+◌, ◌≤◌, ◌&&◌, [], ◌∷◌, ◌++◌, cond, not, length, None, Some, false, IsSome, IfSome};
+ghost use Rattle.std.specs.Prelude.{◌≡◌, ◌≢◌, ◌+◌, ◌≤◌, ◌&&◌, [], ◌∷◌, ◌++◌, cond, not, length, None, Some, false, IsSome, IfSome, IsTrue};
 ghost use Rattle.iol_isdu.specs.Texts.{IsRequest};
 ghost use Rattle.iol_book.specs.BookModel.{next_taken, book_after_take};
 ghost use Rattle.iol_app.specs.Asking.{core_with_request};
@@ -72,12 +72,15 @@ pub(crate) fn lacks_isdu(told: Option<bool>) -> bool
 pub(crate) fn begin_next<A: Allocator + Copy>(core: &mut Core, book: &mut Book<A>, room: EventRoom)
     ensures next { BeginsNext core.old book.old.state core.new book.new.state }
     ensures exact { core.new ≡ core_with_request
-        (to_begin (lacks_isdu core.old.session.isdu) (next_taken book.old.state.standing))
+        (to_begin (lacks_isdu core.old.session.isdu) (next_taken book.old.state))
         core.old room }
     ensures taken { book.new.state ≡ book_after_taking
         (operates core.old.state && is_ready core.old.session room)
-        (lacks_isdu core.old.session.isdu) (next_taken book.old.state.standing) book.old.state }
+        (lacks_isdu core.old.session.isdu) (next_taken book.old.state) book.old.state }
     ensures takes { TakesNext room core.old book.old.state core.new book.new.state }
+    ensures begun { IsTrue (operates core.old.state && is_ready core.old.session room)
+        → IfSome (to_begin (lacks_isdu core.old.session.isdu) (next_taken book.old.state))
+        IsRequest }
     ensures memory { book.new.memory ≡ book.old.memory }
 {
     // Most turns find no request that waits.
@@ -99,14 +102,14 @@ fn take_next<A: Allocator + Copy>(core: &mut Core, book: &mut Book<A>)
     requires operate { mode_in core.old.state ≡ mode.Operate }
     requires free { core.old.session.current ≡ None }
     requires isdu { core.old.session.isdu ≢ Some false }
-    requires waits { IsSome (next_taken book.old.state.standing) }
-    ensures core { IfSome (next_taken book.old.state.standing) (λ next. core.new
+    requires waits { IsSome (next_taken book.old.state) }
+    ensures core { IfSome (next_taken book.old.state) (λ next. core.new
         ≡ record core.old { session = session_after_begin next.1 core.old.session }) }
-    ensures book { IfSome (next_taken book.old.state.standing) (λ next. book.new.state
+    ensures book { IfSome (next_taken book.old.state) (λ next. book.new.state
         ≡ book_after_take book.old.state next) }
-    ensures steps { IfSome (next_taken book.old.state.standing) (λ next.
+    ensures steps { IfSome (next_taken book.old.state) (λ next.
         BeginSteps next.1 core.old core.new) }
-    ensures request { IfSome (next_taken book.old.state.standing) (λ next. IsRequest next.1) }
+    ensures request { IfSome (next_taken book.old.state) (λ next. IsRequest next.1) }
     ensures memory { book.new.memory ≡ book.old.memory }
 {
     let (_, request) = book.take().unwrap();

@@ -41,6 +41,8 @@ mod parameters;
 #[cfg(test)]
 mod ports;
 #[cfg(test)]
+mod serves;
+#[cfg(test)]
 mod sim;
 #[cfg(test)]
 mod small;

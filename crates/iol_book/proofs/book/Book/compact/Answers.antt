@@ -26,6 +26,7 @@ invariant_of-self g c = sound-drained c.self.invariant c.doubt-doubt.result (rec
   unsure = refl;
   limit = refl;
   queue = refl;
+  serve = refl;
 })
 
 pub returns-clause-state : goal.returns-clause-state
@@ -52,6 +53,7 @@ returns-clause-state g c = rw (← c.self.view_is) (drained-state c.self.invaria
       unsure = refl;
       limit = refl;
       queue = refl;
+      serve = refl;
     }) (rw (← c.self.view_is) at c.doubt-doubt.ensures))
 
 pub returns-clause-replayed : goal.returns-clause-replayed

@@ -1,18 +1,28 @@
-use Rattle.std.proofs.Common.{◌≡◌, ◌++◌, Some, slice_get}
-use Rattle.iol_book.proofs.LineLemmas.{entry_steps, first-request, copied-request, next-request}
+use Rattle.std.proofs.Common.{◌≡◌, ◌++◌, Option, None, Some, ap, sym, ◌∙◌}
+use Rattle.std.specs.Option.{option_copied, option_map}
+use Rattle.iol_isdu.specs.declared.values.Request.{Request}
+use Rattle.iol_book.specs.declared.entries.Ticket.{Ticket}
+use Rattle.iol_book.proofs.LineLemmas.{entry_steps, served_in, found-request, copied-request}
+use Rattle.iol_book.proofs.SoundLemmas.{next-line}
 use Rattle.iol_book.proofs.book.Book.next.Goals as goal
 
-pub returns-in-Some-get : goal.returns-in-Some-get
-returns-in-Some-get g c =
-    let head : slice_get (c.self.inside.urgent.items ++ c.self.inside.waiting.items) 0
-    ≡ Some c.in-Some-get.field-0.now = grind entry_steps in
-    let has = first-request c.self.inside.journal.items c.self.inside.urgent.items
-    c.self.inside.waiting.items _ head c.self.invariant.lines.urgent_requests
-    c.self.invariant.lines.waiting_requests in
-    rw (← c.self.view_is) (next-request c.self.inside.journal.items c.self.inside.urgent.items
-    c.self.inside.waiting.items c.self.inside.outcomes.items c.self.inside.taken
-    c.self.inside.abandoned c.in-Some-get.field-0.now _ (grind entry_steps) head (copied-request
-    c.request_at-in-Some-get.result _ (grind entry_steps) (grind entry_steps) has))
+pub returns-in_err-line : goal.returns-in_err-line
+returns-in_err-line g c =
+    let none = next-line c.self.inside None (grind entry_steps) (grind entry_steps) in
+    let left : option_copied c.from_residual.result ≡ None = grind entry_steps in
+    rw (← c.self.view_is)
+    (left ∙ ap (λ (o : Option (Ticket × Request)). option_map (λ t. t.1) o) (sym none))
 
-pub returns-in-None : goal.returns-in-None
-returns-in-None g c = grind entry_steps
+pub returns : goal.returns
+returns g c =
+    let found : served_in c.self.inside.serve
+    (c.self.inside.urgent.items ++ c.self.inside.waiting.items)
+    ≡ Some (c.in_ok-line.field-0-0, c.in_ok-line.line) = grind entry_steps in
+    let some = next-line c.self.inside (Some (c.in_ok-line.field-0-0, c.in_ok-line.line))
+    (grind entry_steps) (sym found) in
+    let has = found-request c.self.inside.serve c.self.inside.journal.items
+    c.self.inside.urgent.items c.self.inside.waiting.items _ found
+    c.self.invariant.lines.urgent_requests c.self.invariant.lines.waiting_requests in
+    rw (← c.self.view_is) (copied-request c.request_at.result _ (grind entry_steps)
+    (grind entry_steps) has
+    ∙ ap (λ (o : Option (Ticket × Request)). option_map (λ t. t.1) o) (sym some))

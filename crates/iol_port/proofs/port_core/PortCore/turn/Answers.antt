@@ -117,7 +117,7 @@ returns-clause-gives g c =
     let p : PortParts = parts_in c.self.inside in
     let said = c.turn-brought.new.said in
     let next : Option Request = to_begin (lacks_isdu p.core.session.isdu)
-    (next_taken p.book.state.standing) in
+    (next_taken p.book.state) in
     let turned = turned_at g.W.Wire.facts {has = event_room p.kept} {begun = core_begun p}
     c.turn-brought.ensures.turn (room g c)
     (c.begin_next.ensures.exact ∙ (rw (room g c) refl)) in
