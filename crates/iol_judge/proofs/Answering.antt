@@ -34,12 +34,11 @@ use Rattle.iol_mseq.specs.Replies.{reply_in}
 use Rattle.iol_mseq.specs.declared.reply.Reply.{Reply}
 use Rattle.iol_event.specs.Memory.{IsEventMemory, is_empty}
 use Rattle.iol_judge.specs.declared.verdict.Odd.{Odd}
-use Rattle.iol_judge.specs.declared.taken.TakenMessage.{TakenMessage}
-use Rattle.iol_judge.specs.declared.taken.Explanation.TheVariants.{By, Not}
 use Rattle.iol_judge.specs.declared.events.ShownEvents.{ShownEvents}
 use Rattle.iol_judge.specs.Seen.{is_of_page, page_noted}
 use Rattle.iol_judge.specs.State.{KnownState}
-use Rattle.iol_judge.specs.Replies.{cycle_told, data_fault, data_oddity, explanation_of, held_against, state_after_reply, no_zeros, page_fault, page_oddity, fault_in_reply, reply_oddity, shown_told}
+use Rattle.iol_judge.specs.Taking.{Taken}
+use Rattle.iol_judge.specs.Replies.{By, Not, cycle_told, data_fault, data_oddity, explanation_of, held_against, state_after_reply, no_zeros, page_fault, page_oddity, fault_in_reply, reply_oddity, shown_told}
 use Rattle.iol_judge.specs.Judged.{page_after_reply, noted_at}
 use Rattle.iol_judge.specs.Octets.{Agrees, are_as_known, with_octets}
 use Rattle.iol_judge.specs.Admitted.{Admits, AreAsKnown}
@@ -292,7 +291,7 @@ module _ (seen : List (Option ℕ)) (there : Far) (octets : List ℕ) (message :
       → reply_oddity state.cycle message.mc its_answer ≡ None
   no_oddity state admits = grind (arith, common_steps, neither, invalid_zeros, data_even)
 
-  pub explains : (odd : Odd) (found : TakenMessage) (reply : List ℕ) → found.message ≡ message
+  pub explains : (odd : Odd) (found : Taken) (reply : List ℕ) → found.message ≡ message
       → found.layout ≡ layout_of there → Admits found.kept worked_far
       → reply_in (layout_of there) message.mc.read reply ≡ Some its_answer
       → explanation_of odd seen (Some found) reply

@@ -6,7 +6,7 @@ use Rattle.iol_mseq.specs.Shape.{Shape}
 use Rattle.iol_mseq.specs.Replies.{reply_in}
 use Rattle.iol_mseq.specs.declared.master.MasterMsg.{MasterMsg}
 use Rattle.iol_link.specs.Honest.{IsUnread, HonestExchange, Passage, OutLost, BackLost, Clean, IsAnswer, far_after}
-use Rattle.iol_judge.specs.Replies.{is_read_in, can_be_read, explanation_of, state_after_reply}
+use Rattle.iol_judge.specs.Replies.{Explanation, By, Not, is_read_in, can_be_read, explanation_of, state_after_reply}
 use Rattle.std.proofs.lemmas.Bool.{cond_both}
 use Rattle.iol_page.specs.Page.{PagesAskForLayouts}
 use Rattle.iol_page.specs.declared.page.Layouts.{Layouts}
@@ -20,10 +20,7 @@ use Rattle.iol_far.specs.Laws.{IsRegular, IsSized, MuchStays, RepliesAreRead}
 use Rattle.iol_far.specs.Regular.{RegularStays}
 use Rattle.iol_judge.specs.declared.open.Open.{Open}
 use Rattle.iol_judge.specs.declared.reason.Reason.{Reason}
-use Rattle.iol_judge.specs.declared.taken.Explanation.{Explanation}
-use Rattle.iol_judge.specs.declared.taken.Explanation.TheVariants.{By, Not}
 use Rattle.iol_judge.specs.declared.taken.NextStates.{NextStates}
-use Rattle.iol_judge.specs.declared.taken.TakenMessage.{TakenMessage}
 use Rattle.iol_judge.specs.declared.verdict.Verdict.{Verdict}
 use Rattle.iol_judge.specs.declared.verdict.Verdict.TheVariants.{Honest, NotHonest}
 use Rattle.iol_judge.specs.declared.verdict.Wake.{Wake}
@@ -37,7 +34,7 @@ use Rattle.iol_judge.specs.State.{KnownState, parts, powered_state, startup_stat
 use Rattle.iol_judge.specs.Events.{shown_after}
 use Rattle.iol_judge.specs.declared.events.ShownEvents.{ShownEvents}
 use Rattle.iol_judge.specs.declared.events.ShownEvents.TheVariants.{Held, Any, Fresh, Filled}
-use Rattle.iol_judge.specs.Taking.{mode_layout, taken_by_state}
+use Rattle.iol_judge.specs.Taking.{Taken, mode_layout, taken_by_state}
 use Rattle.iol_judge.specs.Judged.{JudgeState, states_with, added_taken, each_in_turn, lost_into, lost_part, explained_into, replied_part, replied_into, concluded_lost, concluded_replied, odd_for_all, judge_without_reply, judge_after_answer, one_more, judge_after_exchange, woken_states, woken_into, judge_after_wake, kinds_left, kinds_with}
 use Rattle.iol_judge.specs.Judged as judging
 use Rattle.iol_judge.specs.Octets.{Agrees}
@@ -136,7 +133,7 @@ follows_heard far sent = elim (hears far sent) [
 -- what one of its parts makes of the message is what the device does
 part_fits : (known : Result Layouts Open) (sent : List ℕ) (far : Far) → AllTexts
     → Knows known far.page → (part : KnownState) → IsPart far sent part → (work : Works far sent)
-    → (found : Option TakenMessage) → taken_by_state known part sent ≡ Ok found
+    → (found : Option Taken) → taken_by_state known part sent ≡ Ok found
     → Fits work.there sent (Some work.message) found
 part_fits known sent far texts knows part is_part work found e = rw work.spells at (state_fits known
     far work.there sent part texts knows work.accepting is_part.0 is_part.1 found e)
@@ -155,7 +152,7 @@ module _ (known : Result Layouts Open) (sent : List ℕ) (far new : Far)
       let s = bound (taken_by_state known part sent) (added_taken mid) h in
       inner s.0 s.2 (part_fits known sent far texts knows part is_part work s.0 s.1)
     where
-      inner : (found : Option TakenMessage) → added_taken mid found ≡ Ok more
+      inner : (found : Option Taken) → added_taken mid found ≡ Ok more
           → Fits work.there sent (Some work.message) found → Left new more
       inner None h fits = absurd fits
       inner (Some taken) h fits = added_admits texts new mid taken.kept more h (rw is fits.2)
@@ -252,7 +249,7 @@ module _ (law : Laws) (reads : RepliesAreRead) (judged : JudgeState)
       inner s.0 (part_fits known sent far law.texts
       (knows law.pages _ _ agrees) state a work s.0 s.1) s.2
     where
-      inner : (found : Option TakenMessage) → Fits work.there sent (Some work.message) found
+      inner : (found : Option Taken) → Fits work.there sent (Some work.message) found
           → explained_into next (explanation_of judged.odd judged.seen found its_reply) ≡ Ok more
           → AdmitsNext more
       inner None fits h = absurd fits

@@ -13,7 +13,7 @@ use Rattle.iol_judge.specs.declared.open.Open.{Open}
 use Rattle.iol_judge.specs.declared.open.Open.TheVariants.{PageRefused}
 use Rattle.std.specs.Result.{result_map_both}
 use Rattle.iol_judge.specs.Seen.{layouts_by, layouts_known, layouts_seen}
-use Rattle.iol_judge.specs.Taking.{and_then, mode_layout, mode_known, cycle_after, state_after, taken_message}
+use Rattle.iol_judge.specs.Taking.{Taken, and_then, mode_layout, mode_known, cycle_after, state_after, taken_message}
 use Rattle.iol_judge.specs.Transfers.{isdu_known, is_apart, transfer_after, transfer_in}
 use Rattle.iol_judge.specs.Octets.{Agrees}
 use Rattle.iol_judge.specs.Admitted.{Admits, AreAsKnown, One}
@@ -25,7 +25,6 @@ use Rattle.iol_octets.specs.declared.control.Channel.TheVariants.{Isdu}
 use Rattle.iol_mseq.specs.declared.master.MasterMsg.{MasterMsg}
 use Rattle.iol_far.specs.declared.kind.Kind.{Kind}
 use Rattle.iol_far.specs.Level.{FarLink, link_of, accepting_link, taken_by}
-use Rattle.iol_judge.specs.declared.taken.TakenMessage.{TakenMessage}
 use Rattle.iol_judge.specs.declared.transfer.Transfer.{Transfer}
 use Rattle.iol_judge.specs.declared.transfer.Transfer.TheVariants.{Quiet}
 use Rattle.iol_judge.specs.Family.{admits_kind, kind_in, all_kinds, has_by, only_by, only_kind}
@@ -147,7 +146,7 @@ accepting far octets awake =
     )
 
 -- what a state makes of octets fits what the device makes of them
-unfoldable pub Fits : Far → List ℕ → Option MasterMsg → Option TakenMessage → Type 0
+unfoldable pub Fits : Far → List ℕ → Option MasterMsg → Option Taken → Type 0
 Fits there octets None found = found ≡ None
 Fits there octets (Some message) None = ⊥
 Fits there octets (Some message) (Some found) = (found.message ≡ message)
@@ -234,21 +233,21 @@ module _ (known : Result Layouts Open) (far there : Far) (octets : List ℕ) (st
   fits_asked : (layout : Shape) (message : MasterMsg) (asked : Result (Option DeviceMode) Open)
       → message.mc ≡ control_of (slice_index octets 0)
       → mode_known known (mode_asked (command_in message)) ≡ asked → layout ≡ layout_of there
-      → (found : Option TakenMessage) → and_then asked (λ mode. Ok (Some (record {
+      → (found : Option Taken) → and_then asked (λ mode. Ok (Some (record {
         kept = state_after known its_link state octets layout message mode;
         layout = layout;
         message = message;
       }))) ≡ Ok found → Fits there octets (Some message) found
   unfolding Fits
   fits_asked layout message (Ok asked) mc e l (Some found) h =
-      let is : ◌≡◌ {A = TakenMessage} (record {
+      let is : ◌≡◌ {A = Taken} (record {
         kept = state_after known its_link state octets layout message asked;
         layout = layout;
         message = message;
       }) found = cc in (
-        ap (λ (t : TakenMessage). t.message) (sym is),
-        ap (λ (t : TakenMessage). t.layout) (sym is) ∙ l,
-        subst (λ (t : TakenMessage). Admits t.kept (far_after_message there octets message)) is
+        ap (λ (t : Taken). t.message) (sym is),
+        ap (λ (t : Taken). t.layout) (sym is) ∙ l,
+        subst (λ (t : Taken). Admits t.kept (far_after_message there octets message)) is
             (record {
               kind = rw accepting.by.kind admits.kind;
               link = worked_link there its_link octets asked message at
@@ -265,7 +264,7 @@ module _ (known : Result Layouts Open) (far there : Far) (octets : List ℕ) (st
   fits_asked layout message asked mc e l found h = absurd (cc)
 
   fits_message : (layout : Shape) (message : Option MasterMsg) → message_in layout octets ≡ message
-      → layout ≡ layout_of there → (found : Option TakenMessage)
+      → layout ≡ layout_of there → (found : Option Taken)
       → taken_message known its_link state
       octets layout message ≡ Ok found → Fits there octets message found
   unfolding Fits
@@ -274,7 +273,7 @@ module _ (known : Result Layouts Open) (far there : Far) (octets : List ℕ) (st
       fits_asked layout message _ (control_is layout octets message e) refl l found h
 
   -- a state that stands for the device makes of the octets what it makes of them
-  pub state_fits : (found : Option TakenMessage) → take.taken_by_state known state octets ≡ Ok found
+  pub state_fits : (found : Option Taken) → take.taken_by_state known state octets ≡ Ok found
       → Fits there octets (message_in (layout_of there) octets) found
   state_fits found h =
       let s = bound _ _ h in

@@ -4,6 +4,7 @@ mod Transferring
 mod Sets
 mod Hearing
 mod Answering
+mod Concluding
 pub mod Fairness
 mod WatchFair
 pub mod Resuming

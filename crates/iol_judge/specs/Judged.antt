@@ -8,14 +8,11 @@ use Rattle.iol_octets.specs.declared.control.Channel.{Channel}
 use Rattle.iol_octets.specs.declared.control.Channel.TheVariants.{Page}
 use Rattle.iol_page.specs.declared.page.Layouts.{Layouts}
 use Rattle.iol_judge.specs.declared.taken.TheConstants.{MAX_STATES}
-use Rattle.iol_judge.specs.declared.taken.TakenMessage.{TakenMessage}
 use Rattle.iol_judge.specs.declared.taken.NextStates.{NextStates}
 use Rattle.iol_judge.specs.declared.open.Open.{Open}
 use Rattle.iol_judge.specs.declared.open.Open.TheVariants.{TooManyStates}
 use Rattle.iol_judge.specs.declared.reason.Reason.{Reason}
 use Rattle.iol_judge.specs.declared.reason.Reason.TheVariants.{NotTaken}
-use Rattle.iol_judge.specs.declared.taken.Explanation.{Explanation}
-use Rattle.iol_judge.specs.declared.taken.Explanation.TheVariants.{By, Not}
 use Rattle.iol_judge.specs.declared.verdict.Verdict.{Verdict}
 use Rattle.iol_judge.specs.declared.verdict.Verdict.TheVariants.{Unjudged, Honest, NotHonest, CantSay}
 use Rattle.iol_judge.specs.declared.verdict.Odd.{Odd}
@@ -28,8 +25,8 @@ use Rattle.iol_judge.specs.Family.{all_kinds, both_kinds, no_kinds}
 use Rattle.iol_judge.specs.Numbers.{later}
 use Rattle.iol_judge.specs.Seen.{nothing_seen, layouts_seen, page_noted}
 use Rattle.iol_judge.specs.State.{KnownState, are_alike, first_state, parts, resumed_state, woken_state, powered_state, covers}
-use Rattle.iol_judge.specs.Taking.{and_then, taken_by_state}
-use Rattle.iol_judge.specs.Replies.{can_be_read, explanation_of}
+use Rattle.iol_judge.specs.Taking.{Taken, and_then, taken_by_state}
+use Rattle.iol_judge.specs.Replies.{Explanation, By, Not, can_be_read, explanation_of}
 
 pub record JudgeState : Type 0 where
   -- what is known of the page, of whichever state
@@ -99,7 +96,7 @@ result_with result written = result_and result (Ok written)
 
 -- Without a reply that can be read
 
-abbrev pub added_taken : List KnownState → Option TakenMessage → Result (List KnownState) Open
+abbrev pub added_taken : List KnownState → Option Taken → Result (List KnownState) Open
 added_taken next None = Ok next
 added_taken next (Some taken) = states_with next taken.kept
 
@@ -167,7 +164,7 @@ with_oddity judged (Some reason) =
 -- where no state is left, none explains the reply
 abbrev pub concluded_replied : JudgeState → List ℕ → List ℕ → Result NextStates Open → JudgeState
 concluded_replied judged sent reply (Ok next) = elim next.states.items [
-  | [] ↦ record judged { verdict = NotHonest judged.exchanges next.reason }
+  | [] ↦ record judged { states = []; verdict = NotHonest judged.exchanges next.reason }
   | states ↦
       with_oddity (record judged {
         seen = page_after_reply judged.seen sent reply;

@@ -15,19 +15,18 @@ use Rattle.iol_far.specs.Codec.{message_in}
 use Rattle.iol_judge.specs.declared.open.Open.{Open}
 use Rattle.iol_judge.specs.declared.reason.Reason.{Reason}
 use Rattle.iol_judge.specs.declared.reason.Reason.TheVariants.{NotTaken, ReplyLength, StatusWithoutData, InvalidNotZero, PageChanged, PageZero, CycleTime, ProcessNotZero, RestNotZero}
-use Rattle.iol_judge.specs.declared.taken.TakenMessage.{TakenMessage}
 use Rattle.iol_judge.specs.declared.verdict.Odd.{Odd}
 use Rattle.iol_judge.specs.declared.verdict.Odd.TheVariants.{Blamed, PassedOver}
 use Rattle.iol_judge.specs.Numbers.{earlier}
-use Rattle.iol_judge.specs.declared.taken.Explanation.{Explanation}
-use Rattle.iol_judge.specs.declared.taken.Explanation.TheVariants.{By, Not}
+use Rattle.iol_judge.specs.declared.taken.Heard.{Heard}
+use Rattle.iol_judge.specs.declared.taken.Heard.TheVariants.{Explained, Refused}
 use Rattle.iol_judge.specs.declared.events.ShownEvents.{ShownEvents}
 use Rattle.iol_judge.specs.Octets.{is_other}
 use Rattle.iol_judge.specs.Transfers.{transfer_fault, transfer_told}
 use Rattle.iol_judge.specs.Events.{flag_fault, flag_told, events_fault, events_told}
 use Rattle.iol_judge.specs.Seen.{is_of_page, octet_seen}
 use Rattle.iol_judge.specs.State.{KnownState}
-use Rattle.iol_judge.specs.Taking.{mode_layout}
+use Rattle.iol_judge.specs.Taking.{Taken, mode_layout}
 
 -- Which can be read
 
@@ -119,6 +118,20 @@ state_after_reply state mc reply = record state {
 
 -- Whether a state explains a reply
 
+-- it does, with the state afterwards and what is odd then; or it doesn't, with why
+pub data Explanation : Type 0 where
+  By : KnownState → Option Reason → Explanation
+  Not : Reason → Explanation
+
+-- what a call says that changes a state in its place, with what the state is then
+abbrev pub explanation_with : Heard → KnownState → Explanation
+explanation_with (Explained oddity) state = By state oddity
+explanation_with (Refused reason) state = Not reason
+
+abbrev pub explained_as : Result Heard Open → KnownState → Result Explanation Open
+explained_as (Err why) state = Err why
+explained_as (Ok heard) state = Ok (explanation_with heard state)
+
 abbrev pub earlier_reason : Option Reason → Option Reason → Option Reason
 earlier_reason None b = b
 earlier_reason (Some a) None = Some a
@@ -140,7 +153,7 @@ explained_by odd seen state layout message (Some reply) =
     ]
 
 -- whether a state explains the reply that came, by what it makes of the message
-abbrev pub explanation_of : Odd → List (Option ℕ) → Option TakenMessage → List ℕ → Explanation
+abbrev pub explanation_of : Odd → List (Option ℕ) → Option Taken → List ℕ → Explanation
 explanation_of odd seen None reply = Not NotTaken
 explanation_of odd seen (Some taken) reply =
     explained_by odd seen taken.kept taken.layout taken.message

@@ -17,6 +17,12 @@ use Rattle.iol_judge.specs.Family.{kind_in}
 use Rattle.iol_judge.specs.Transfers.{isdu_known, transfer_after, transfer_in}
 use Rattle.iol_judge.specs.State.{KnownState}
 
+-- a message that a state took, with the state once it worked it, and the layout
+pub record Taken : Type 0 where
+  pub kept : KnownState
+  pub layout : Shape
+  pub message : MasterMsg
+
 -- what goes on with a result, where there is one
 abbrev pub and_then : {A B : Type 0} → Result A Open → (A → Result B Open) → Result B Open
 and_then (Ok found) go = go found
@@ -59,7 +65,7 @@ state_after known link state octets layout message asked = record {
 }
 
 abbrev pub taken_message : Result Layouts Open → FarLink → KnownState → List ℕ → Shape
-    → Option MasterMsg → Result (Option TakenMessage) Open
+    → Option MasterMsg → Result (Option Taken) Open
 taken_message known link state octets layout None = Ok None
 taken_message known link state octets layout (Some message) =
     and_then (mode_known known (mode_asked (command_in message))) (λ asked. Ok (Some (record {
@@ -71,8 +77,15 @@ taken_message known link state octets layout (Some message) =
 -- what a state makes of octets, none where it doesn't take them; open where the page's layouts
 -- would have to be known
 abbrev pub taken_by_state : Result Layouts Open → KnownState → List ℕ
-    → Result (Option TakenMessage) Open
+    → Result (Option Taken) Open
 taken_by_state known state octets =
     let link = accepting_link state.link octets in
     and_then (mode_layout known link.mode)
     (λ layout. taken_message known link state octets layout (message_in layout octets))
+
+-- a call that changes a state in its place says what it took, with what the state is then
+abbrev pub worked_by : Result (Option TakenMessage) Open → KnownState → Result (Option Taken) Open
+worked_by (Err why) state = Err why
+worked_by (Ok None) state = Ok None
+worked_by (Ok (Some taken)) state =
+    Ok (Some (record { kept = state; layout = taken.layout; message = taken.message }))

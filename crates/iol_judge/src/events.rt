@@ -58,6 +58,26 @@ impl ShownEvents {
         }
     }
 
+    /// A message is worked, in place.
+    pub fn pass(&mut self, confirm: bool)
+        ensures { self.new ≡ shown_after self.old confirm }
+    {
+        if confirm {
+            *self = ShownEvents::Held;
+        } else if matches!(self, ShownEvents::Held) {
+            *self = ShownEvents::Any;
+        }
+    }
+
+    /// A reply has this Event flag: the same in place.
+    pub fn hear_flag(&mut self, flag: bool)
+        ensures { self.new ≡ flag_told self.old flag }
+    {
+        if flag || matches!(self, ShownEvents::Any) {
+            *self = self.flag_told(flag);
+        }
+    }
+
     /// Why the reply to that can't have this Event flag, none where it can.
     pub fn flag_fault(&self, flag: bool) -> Option<Reason>
         ensures { result ≡ flag_fault self.now flag }

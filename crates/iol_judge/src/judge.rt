@@ -1,22 +1,25 @@
 //! The judge.
-ghost use Rattle.std.specs.Prelude.{◌≡◌, option_copied, [], Ok, Err};
+ghost use Rattle.std.specs.Prelude.{◌≡◌, ◌∷◌, option_copied, [], Ok, Err, OnErr, IsTrue, length};
 ghost use Rattle.iol_judge.specs.Seen.{whole_page};
 ghost use Rattle.iol_judge.specs.Family.{no_kinds};
+ghost use Rattle.iol_judge.specs.State.{KnownState, parts};
+ghost use Rattle.iol_judge.specs.Taking.{and_then, taken_by_state};
+ghost use Rattle.iol_judge.specs.Replies.{explained_as, explanation_of};
 ghost use Rattle.iol_judge.specs.Judged.{concluded_lost, judge_after_exchange, judge_resumed, kinds_left, kinds_with, new_judge, page_after_reply, judge_after_wake};
 
 use crate::events::ShownEvents;
 use crate::kept::KeptState;
 use crate::kinds::Kinds;
-use crate::next::{lose, move_states, reply, wake};
+use crate::next::{copy_states, lose, reply, wake};
 use crate::octets::first_octet;
 use crate::open::Open;
 use crate::readable::is_readable;
 use crate::reason::Reason;
-use crate::seen::SeenPage;
-use crate::taken::{NextStates, States};
+use crate::seen::{KnownLayouts, SeenPage};
+use crate::taken::{Heard, NextStates, States};
 use crate::verdict::{Odd, Verdict, Wake};
 use iol_far::DeviceMode;
-use iol_octets::Mc;
+use iol_octets::{Channel, Mc};
 use std::marker::Model;
 
 /// A judge of one capture. It is told what went over the line, in its order, and has a verdict at
@@ -28,6 +31,8 @@ use std::marker::Model;
 #[derive(Drop)]
 pub struct Judge {
     seen: SeenPage,
+    /// The layouts that it asks for.
+    layouts: KnownLayouts,
     states: States,
     /// Where those after an exchange are put together, so that no turn makes room anew.
     next: NextStates,
@@ -39,7 +44,9 @@ pub struct Judge {
 }
 
 impl Model for Judge {
+    ghost use Rattle.std.specs.Prelude.{◌≡◌};
     ghost use Rattle.iol_judge.specs.Judged.{JudgeState};
+    ghost use Rattle.iol_judge.specs.Seen.{layouts_seen};
 
     ghost Value = { JudgeState };
 
@@ -52,6 +59,8 @@ impl Model for Judge {
       oddity = j.oddity;
       oddities = j.oddities;
     } };
+
+    ghost invariant = { λ j. j.layouts ≡ layouts_seen j.seen };
 }
 
 impl Judge {
@@ -59,8 +68,10 @@ impl Judge {
     pub fn new(odd: Odd) -> Judge
         ensures { result ≡ new_judge odd }
     {
+        let seen = SeenPage::nothing();
         Judge {
-            seen: SeenPage::nothing(),
+            seen,
+            layouts: seen.layouts(),
             states: States::new(),
             next: NextStates::none(),
             verdict: Verdict::Unjudged,
@@ -75,7 +86,7 @@ impl Judge {
     pub fn page(&mut self, octets: &[u8; 10])
         ensures { self.new ≡ record self.old { seen = whole_page octets.now } }
     {
-        self.seen = SeenPage::whole(octets);
+        self.see(SeenPage::whole(octets));
     }
 
     /// A wake-up request was sent.
@@ -98,9 +109,10 @@ impl Judge {
         if self.verdict != Verdict::Honest {
             return;
         }
-        let layouts = self.seen.layouts();
         match answer {
-            Some(octets) if is_readable(&layouts, sent, octets) => self.hear_reply(sent, octets),
+            Some(octets) if is_readable(&self.layouts, sent, octets) => {
+                self.hear_reply(sent, octets);
+            }
             _ => self.hear_nothing(sent),
         }
     }
@@ -156,10 +168,9 @@ impl Judge {
 }
 
 impl Judge {
-    ghost use Rattle.std.specs.Prelude.{◌∷◌};
     ghost use Rattle.iol_judge.specs.State.{first_state};
     ghost use Rattle.iol_judge.specs.Judged.{each_in_turn, judge_after_reply, judge_without_reply, with_oddity, woken_into};
-    ghost use Rattle.iol_judge.specs.declared.verdict.Verdict.TheVariants.{Honest};
+    ghost use Rattle.iol_judge.specs.declared.verdict.Verdict.TheVariants.{Honest, NotHonest};
 
     /// The first answered wake-up request.
     fn begin(&mut self)
@@ -177,7 +188,7 @@ impl Judge {
     {
         self.next.clear();
         match wake(&self.states, answer, &mut self.next.states) {
-            Ok(()) => move_states(&mut self.next.states, &mut self.states),
+            Ok(()) => copy_states(&self.next.states, &mut self.states),
             Err(why) => self.verdict = Verdict::CantSay(self.exchanges, why),
         }
     }
@@ -187,9 +198,8 @@ impl Judge {
         ensures { self.new ≡ judge_without_reply self.old sent.now }
     {
         self.next.clear();
-        let layouts = self.seen.layouts();
-        match lose(&self.states, &layouts, sent, &mut self.next.states) {
-            Ok(()) => move_states(&mut self.next.states, &mut self.states),
+        match lose(&self.states, &self.layouts, sent, &mut self.next.states) {
+            Ok(()) => copy_states(&self.next.states, &mut self.states),
             Err(why) => self.verdict = Verdict::CantSay(self.exchanges, why),
         }
     }
@@ -198,11 +208,49 @@ impl Judge {
     fn hear_reply(&mut self, sent: &[u8], octets: &[u8])
         ensures { self.new ≡ judge_after_reply self.old sent.now octets.now }
     {
+        if self.is_alone(sent) {
+            self.hear_alone(sent, octets);
+        } else {
+            self.hear_all(sent, octets);
+        }
+    }
+
+    /// Whether one state alone is left, of which all devices do the same on these octets.
+    fn is_alone(&self, sent: &[u8]) -> bool
+        ensures { IsTrue result → (kept : KnownState) × (self.now.states ≡ kept ∷ [])
+            × (parts kept sent.now ≡ kept ∷ []) }
+    {
+        match self.states.as_slice() {
+            [kept] => !kept.tells_apart(sent),
+            _ => false,
+        }
+    }
+
+    /// That state hears the reply where it lies.
+    fn hear_alone(&mut self, sent: &[u8], octets: &[u8])
+        requires { (kept : KnownState) × (self.old.states ≡ kept ∷ [])
+            × (parts kept sent.now ≡ kept ∷ []) }
+        ensures { self.new ≡ judge_after_reply self.old sent.now octets.now }
+    {
+        let (layouts, seen) = (&self.layouts, &self.seen);
+        match explain_alone(&mut self.states, layouts, self.odd, seen, sent, octets) {
+            Err(why) => self.verdict = Verdict::CantSay(self.exchanges, why),
+            Ok(Heard::Refused(reason)) => self.blame(Reason::NotTaken.or_later(reason)),
+            Ok(Heard::Explained(oddity)) => {
+                self.note(sent, octets);
+                self.pass_over(oddity);
+            }
+        }
+    }
+
+    /// Each of the states hears the reply.
+    fn hear_all(&mut self, sent: &[u8], octets: &[u8])
+        ensures { self.new ≡ judge_after_reply self.old sent.now octets.now }
+    {
         self.next.clear();
-        let layouts = self.seen.layouts();
         match reply(
             &self.states,
-            &layouts,
+            &self.layouts,
             self.odd,
             &self.seen,
             sent,
@@ -211,15 +259,27 @@ impl Judge {
         ) {
             Err(why) => self.verdict = Verdict::CantSay(self.exchanges, why),
             Ok(()) if self.next.states.is_empty() => {
-                self.verdict = Verdict::NotHonest(self.exchanges, self.next.reason);
+                let reason = self.next.reason;
+                self.blame(reason);
             }
             Ok(()) => {
                 let oddity = self.next.oddity;
-                move_states(&mut self.next.states, &mut self.states);
+                copy_states(&self.next.states, &mut self.states);
                 self.note(sent, octets);
                 self.pass_over(oddity);
             }
         }
+    }
+
+    /// No state is left.
+    fn blame(&mut self, reason: Reason)
+        ensures { self.new ≡ record self.old {
+          states = [];
+          verdict = NotHonest self.old.exchanges reason;
+        } }
+    {
+        self.states.clear();
+        self.verdict = Verdict::NotHonest(self.exchanges, reason);
     }
 
     /// What is odd in the reply is counted.
@@ -238,8 +298,39 @@ impl Judge {
             ≡ record self.old { seen = page_after_reply self.old.seen sent.now octets.now } }
     {
         let mc = Mc::from_octet(first_octet(sent));
-        self.seen.note_reply(mc, octets);
+        if mc.read && mc.channel == Channel::Page {
+            let mut seen = self.seen;
+            seen.note_reply(mc, octets);
+            self.see(seen);
+        }
     }
+
+    /// This is known of the page.
+    fn see(&mut self, seen: SeenPage)
+        ensures { self.new ≡ record self.old { seen = seen } }
+    {
+        self.seen = seen;
+        self.layouts = seen.layouts();
+    }
+}
+
+/// The one state hears a reply.
+fn explain_alone(
+    states: &mut States,
+    layouts: &KnownLayouts,
+    odd: Odd,
+    seen: &SeenPage,
+    sent: &[u8],
+    octets: &[u8],
+) -> Result<Heard, Open>
+    requires { length states.old.items ≡ 1 }
+    ensures { (kept : KnownState) → states.old.items ≡ kept ∷ []
+        → (left : KnownState) × (states.new.items ≡ left ∷ [])
+        × (explained_as result left ≡ and_then (taken_by_state layouts.now kept sent.now)
+        (λ taken. Ok (explanation_of odd seen.now taken octets.now)))
+        × OnErr result (left ≡ kept) }
+{
+    states[0].explain(layouts, odd, seen, sent, octets)
 }
 
 /// The kinds that states stand for.

@@ -186,11 +186,7 @@ impl MasterState {
             Channel::Page => self.send_to_page(message),
             Channel::Diagnosis if self.events.is_due(mc.read, mc.address) => Ok(()),
             Channel::Diagnosis => Err(Blame::NotDue),
-            Channel::Isdu => {
-                let transfer = replace(&mut self.transfer, MasterTransfer::Quiet);
-                self.transfer = transfer.moved(layouts.isdu, message)?;
-                Ok(())
-            }
+            Channel::Isdu => self.transfer.send(layouts.isdu, message),
         }
     }
 
@@ -299,10 +295,7 @@ impl MasterState {
             Channel::Page if mc.read => self.seen.note(mc.address, first(reply.od())),
             Channel::Page => self.enter(command_in(message)),
             Channel::Diagnosis => self.events.go_on(mc.read, first(reply.od())),
-            Channel::Isdu if mc.read => {
-                let transfer = replace(&mut self.transfer, MasterTransfer::Quiet);
-                self.transfer = transfer.told(reply);
-            }
+            Channel::Isdu if mc.read => self.transfer.hear(reply),
             Channel::Isdu => {}
         }
     }

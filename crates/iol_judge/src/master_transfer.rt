@@ -1,7 +1,9 @@
 //! The ISDU transfer of a master.
-ghost use Rattle.std.specs.Prelude.{◌≡◌, ◌≤◌, ◌++◌, length};
+ghost use Rattle.std.specs.Prelude.{◌≡◌, ◌≤◌, ◌↔◌, ◌++◌, IsTrue, length};
 ghost use Rattle.iol_isdu.specs.Parse.{request_of};
 ghost use Rattle.iol_far.specs.Codec.{flow_of};
+ghost use Rattle.iol_judge.specs.BlameResults.{result_or_blame};
+ghost use Rattle.iol_judge.specs.declared.master_transfer.MasterTransfer.TheVariants.{Quiet};
 ghost use Rattle.iol_judge.specs.MasterTransfers.{abort_sent, answer_begun, answer_joined, transfer_in_answer, transfer_after_repeat, asked_after_reply, asks_instead, request_begun, count_asked, count_sent, transfer_in_doubt, doubted_told, ended_by_zeros, idle_sent, repeated_told, transfer_after_message, start_asked, start_sent, transfer_after_reply, request_joined, transfer_in_request};
 
 use crate::answer::request_of;
@@ -11,7 +13,8 @@ use arrayvec::ArrayVec;
 use iol_far::flow_of;
 use iol_isdu::{IsduFault, Request, Text, read_answer, read_request, total_of};
 use iol_mseq::{MasterView, ReplyView, first};
-use iol_octets::{Flow, Mc, are_zeros};
+use iol_octets::{Flow, are_zeros};
+use std::mem::replace;
 
 /// How many octets the longest text has.
 const LONGEST: usize = 238;
@@ -59,16 +62,40 @@ pub(crate) enum MasterTransfer {
 }
 
 impl MasterTransfer {
-    /// Once a new message is sent on the ISDU channel, to a device that has ISDU or not.
+    /// A new message is sent on the ISDU channel, to a device that has ISDU or not.
     ///
     /// Refusals: 6 NotDue, 7 RequestText, 8 NotInLine.
-    pub fn moved(self, isdu: bool, message: &MasterView<'_>) -> Result<MasterTransfer, Blame>
-        ensures { result
-            ≡ transfer_after_message isdu self message.now.mc.read (flow_of message.now.mc.address)
+    pub fn send(&mut self, isdu: bool, message: &MasterView<'_>) -> Result<(), Blame>
+        ensures { result_or_blame result self.new
+            ≡ transfer_after_message isdu self.old message.now.mc.read
+            (flow_of message.now.mc.address) message.now.od.items }
+    {
+        let flow = flow_of(message.mc());
+        if self.is_quiet() && matches!(flow, Flow::Idle1 | Flow::Idle2) {
+            return Ok(());
+        }
+        let old = replace(self, MasterTransfer::Quiet);
+        *self = old.moved(isdu, flow, message)?;
+        Ok(())
+    }
+
+    fn is_quiet(&self) -> bool
+        ensures { IsTrue result ↔ (self.now ≡ Quiet) }
+    {
+        matches!(self, MasterTransfer::Quiet)
+    }
+
+    fn moved(
+        self,
+        isdu: bool,
+        flow: Flow,
+        message: &MasterView<'_>,
+    ) -> Result<MasterTransfer, Blame>
+        ensures { result ≡ transfer_after_message isdu self message.now.mc.read flow
             message.now.od.items }
     {
         let mc = message.mc();
-        match flow_of(mc) {
+        match flow {
             Flow::Start if mc.read => self.start_asked(),
             Flow::Start => self.start_sent(isdu, message.od()),
             Flow::Count(count) if mc.read => self.count_asked(count),
@@ -185,8 +212,18 @@ impl MasterTransfer {
         }
     }
 
-    /// Once this good reply to a read on the ISDU channel came.
-    pub fn told(self, reply: &ReplyView<'_>) -> MasterTransfer
+    /// This good reply to a read on the ISDU channel came.
+    pub fn hear(&mut self, reply: &ReplyView<'_>)
+        ensures { self.new ≡ transfer_after_reply self.old reply.now.od.items }
+    {
+        if !self.is_quiet() {
+            let old = replace(self, MasterTransfer::Quiet);
+            *self = old.told(reply);
+        }
+    }
+
+    /// Once it did.
+    fn told(self, reply: &ReplyView<'_>) -> MasterTransfer
         ensures { result ≡ transfer_after_reply self reply.now.od.items }
     {
         let octets = reply.od();

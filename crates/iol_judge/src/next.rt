@@ -1,27 +1,30 @@
 //! The states that come of an exchange.
-ghost use Rattle.std.specs.Prelude.{◌≡◌, [], Ok, Err};
+ghost use Rattle.std.specs.Prelude.{◌≡◌, ◌≤◌, [], Ok, Err, length};
 ghost use Rattle.iol_judge.specs.State.{all_parts};
-ghost use Rattle.iol_judge.specs.Judged.{states_with, added_whole, each_in_turn, has_state, lost_into, lost_part, replied_into, replied_part, result_with, uncovered_states, united_state, woken_into};
+ghost use Rattle.iol_judge.specs.Judged.{states_with, each_in_turn, has_state, lost_into, lost_part, replied_into, replied_part, result_with, uncovered_states, united_state, woken_into};
 
 use crate::kept::KeptState;
 use crate::open::Open;
 use crate::reason::Reason;
-use crate::reply::explain;
 use crate::seen::{KnownLayouts, SeenPage};
-use crate::taken::{Explanation, MAX_STATES, NextStates, States};
+use crate::taken::{Heard, MAX_STATES, NextStates, States};
 use crate::verdict::{Odd, Wake};
 
 /// Puts a state to the others, where none of them covers it: in the place of those that it covers,
 /// and, for their kinds too, of those that are alike.
-pub(crate) fn add(states: &mut States, kept: KeptState) -> Result<(), Open>
+pub(crate) fn add(states: &mut States, mut kept: KeptState) -> Result<(), Open>
     ensures { result_with result states.new.items ≡ states_with states.old.items kept }
 {
     if has_state(states, &kept) {
         return Ok(());
     }
-    let mut kept = kept;
     unite(states, &mut kept);
-    add_whole(states, kept)
+    remove_covered(states, &kept);
+    if states.len() == MAX_STATES {
+        return Err(Open::TooManyStates);
+    }
+    states.push(kept);
+    Ok(())
 }
 
 /// Gives a state the kinds of those that are alike.
@@ -35,27 +38,14 @@ fn unite(states: &[KeptState], kept: &mut KeptState)
     }
 }
 
-/// Puts a state to the others, in the place of those that it covers.
-fn add_whole(states: &mut States, kept: KeptState) -> Result<(), Open>
-    ensures { result_with result states.new.items ≡ added_whole states.old.items kept }
-{
-    remove_covered(states, &kept);
-    if states.len() == MAX_STATES {
-        return Err(Open::TooManyStates);
-    }
-    states.push(kept);
-    Ok(())
-}
-
-/// Moves states into the place of others, one by one: most often they are few.
-pub(crate) fn move_states(from: &mut States, into: &mut States)
-    ensures { into.new.items ≡ from.old.items }
+/// Copies states into the place of others, one by one: most often they are few.
+pub(crate) fn copy_states(from: &[KeptState], into: &mut States)
+    requires { length from.now ≤ MAX_STATES }
+    ensures { into.new.items ≡ from.now }
 {
     into.clear();
-    // A length is at most the room of either.
-    let count = from.len();
-    for kept in from.drain(..count) {
-        into.push(kept);
+    for kept in from {
+        into.push(kept.copy());
     }
 }
 
@@ -137,15 +127,16 @@ fn lose_part(
     ensures { result_with result next.new.items
         ≡ lost_part layouts.now sent.now next.old.items part.now }
 {
-    match part.take(layouts, sent)? {
-        Some(taken) => add(next, taken.kept),
+    let mut kept = part.copy();
+    match kept.work(layouts, sent)? {
+        Some(_) => add(next, kept),
         None => Ok(()),
     }
 }
 
 impl NextStates {
     ghost use Rattle.iol_judge.specs.Judged.{explained_into, no_next};
-    ghost use Rattle.iol_judge.specs.declared.taken.Explanation.TheVariants.{By};
+    ghost use Rattle.iol_judge.specs.Replies.{By};
 
     /// None yet.
     pub fn none() -> NextStates
@@ -251,10 +242,10 @@ fn reply_part(
     ensures { result_with result next.new
         ≡ replied_part layouts.now odd seen.now sent.now octets.now next.old part.now }
 {
-    let taken = part.take(layouts, sent)?;
-    match explain(odd, seen, taken, octets) {
-        Explanation::By(after, oddity) => next.add(after, oddity),
-        Explanation::Not(reason) => {
+    let mut kept = part.copy();
+    match kept.explain(layouts, odd, seen, sent, octets)? {
+        Heard::Explained(oddity) => next.add(kept, oddity),
+        Heard::Refused(reason) => {
             next.reason = next.reason.or_later(reason);
             Ok(())
         }

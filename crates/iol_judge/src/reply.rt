@@ -1,52 +1,75 @@
 //! Which replies a device in a kept state may have sent.
-ghost use Rattle.std.specs.Prelude.{◌≡◌};
+ghost use Rattle.std.specs.Prelude.{◌≡◌, Ok, OnErr};
 ghost use Rattle.iol_mseq.specs.Replies.{reply_in};
-ghost use Rattle.iol_judge.specs.Replies.{data_fault, data_oddity, explanation_of, explained_by, earlier_reason, held_against, state_after_reply, no_zeros, page_fault, page_oddity, fault_in_reply, reply_oddity};
+ghost use Rattle.iol_judge.specs.Replies.{data_fault, data_oddity, explained_as, explanation_of, explained_by, earlier_reason, explanation_with, held_against, state_after_reply, no_zeros, page_fault, page_oddity, fault_in_reply, reply_oddity};
+ghost use Rattle.iol_judge.specs.Taking.{and_then, taken_by_state};
 
 use crate::kept::KeptState;
 use crate::octets::{first_octet, rest_of};
+use crate::open::Open;
 use crate::reason::Reason;
-use crate::seen::SeenPage;
-use crate::taken::{Explanation, TakenMessage};
+use crate::seen::{KnownLayouts, SeenPage};
+use crate::taken::{Heard, TakenMessage};
 use crate::verdict::Odd;
-use iol_mseq::{Layout, MasterView, ReplyView, view_reply};
+use iol_mseq::{Layout, ReplyView, view_reply};
 use iol_octets::{Channel, Mc, are_zeros};
 
-/// Whether a state explains the reply that came, by what it makes of the message.
-pub(crate) fn explain(
-    odd: Odd,
-    seen: &SeenPage,
-    taken: Option<TakenMessage<'_>>,
-    reply: &[u8],
-) -> Explanation
-    ensures { result ≡ explanation_of odd seen.now taken.entry reply.now }
-{
-    match taken {
-        None => Explanation::Not(Reason::NotTaken),
-        Some(taken) => explain_by(odd, seen, taken.kept, &taken.layout, &taken.message, reply),
+impl KeptState {
+    /// Works what was sent, and hears the reply that came: whether it explains it. Where it doesn't
+    /// what is left is no state. Open, and as before, where the page's layouts would have to be
+    /// known.
+    pub fn explain(
+        &mut self,
+        layouts: &KnownLayouts,
+        odd: Odd,
+        seen: &SeenPage,
+        sent: &[u8],
+        reply: &[u8],
+    ) -> Result<Heard, Open>
+        ensures value { explained_as result self.new ≡ and_then
+            (taken_by_state layouts.now self.old sent.now)
+            (λ taken. Ok (explanation_of odd seen.now taken reply.now)) }
+        ensures open { OnErr result (self.new ≡ self.old) }
+    {
+        match self.work(layouts, sent)? {
+            None => Ok(Heard::Refused(Reason::NotTaken)),
+            Some(taken) => Ok(self.hear(odd, seen, &taken, reply)),
+        }
     }
-}
 
-/// Whether the state once it worked the message, in this layout, explains the reply.
-fn explain_by(
-    odd: Odd,
-    seen: &SeenPage,
-    kept: KeptState,
-    layout: &Layout,
-    message: &MasterView<'_>,
-    octets: &[u8],
-) -> Explanation
-    ensures { result ≡ explained_by odd seen.now kept layout.now message.now
-        (reply_in layout.now message.now.mc.read octets.now) }
-{
-    let Ok(reply) = view_reply(layout, message.mc().read, octets) else {
-        return Explanation::Not(Reason::ReplyLength);
-    };
-    let fault = fault_of(seen, &kept, layout, message.mc(), &reply);
-    let oddity = oddity_of(kept.cycle, message.mc(), &reply);
-    match held_against(odd, fault, oddity) {
-        Some(reason) => Explanation::Not(reason),
-        None => Explanation::By(learned(kept, message.mc(), &reply), oddity),
+    /// Once it worked the message: whether it explains the reply.
+    fn hear(&mut self, odd: Odd, seen: &SeenPage, taken: &TakenMessage<'_>, octets: &[u8]) -> Heard
+        ensures { explanation_with result self.new ≡ explained_by odd seen.now self.old
+            taken.now.layout taken.now.message
+            (reply_in taken.now.layout taken.now.message.mc.read octets.now) }
+    {
+        let mc = taken.message.mc();
+        let Ok(reply) = view_reply(&taken.layout, mc.read, octets) else {
+            return Heard::Refused(Reason::ReplyLength);
+        };
+        let fault = fault_of(seen, self, &taken.layout, mc, &reply);
+        let oddity = oddity_of(self.cycle, mc, &reply);
+        match held_against(odd, fault, oddity) {
+            Some(reason) => Heard::Refused(reason),
+            None => {
+                self.learn(mc, &reply);
+                Heard::Explained(oddity)
+            }
+        }
+    }
+
+    /// Once its reply was had.
+    fn learn(&mut self, mc: Mc, reply: &ReplyView<'_>)
+        ensures { self.new ≡ state_after_reply self.old mc reply.now }
+    {
+        self.events.hear_flag(reply.event());
+        let octet = first_octet(reply.od());
+        match mc.channel {
+            Channel::Page if mc.read && mc.address == 1 => self.cycle = self.cycle.or(Some(octet)),
+            Channel::Diagnosis if mc.read => self.events = self.events.told(mc.address, octet),
+            Channel::Isdu if mc.read => self.transfer.hear(reply),
+            _ => {}
+        }
     }
 }
 
@@ -69,22 +92,6 @@ fn first_of(fault: Option<Reason>, oddity: Option<Reason>) -> Option<Reason>
         (_, None) => fault,
         (Some(a), Some(b)) => Some(a.or_earlier(b)),
     }
-}
-
-/// The state, once its reply was had.
-fn learned(kept: KeptState, mc: Mc, reply: &ReplyView<'_>) -> KeptState
-    ensures { result ≡ state_after_reply kept mc reply.now }
-{
-    let mut kept = kept;
-    kept.events = kept.events.flag_told(reply.event());
-    let octet = first_octet(reply.od());
-    match mc.channel {
-        Channel::Page if mc.read && mc.address == 1 => kept.cycle = kept.cycle.or(Some(octet)),
-        Channel::Diagnosis if mc.read => kept.events = kept.events.told(mc.address, octet),
-        Channel::Isdu if mc.read => kept.transfer = kept.transfer.told(reply),
-        _ => {}
-    }
-    kept
 }
 
 /// Why the state can't have sent the reply, none where it can, but for what is odd.

@@ -1,9 +1,12 @@
 //! What a message makes of a kept state.
-ghost use Rattle.std.specs.Prelude.{◌≡◌, ◌≤◌, length, slice_index};
+ghost use Rattle.std.specs.Prelude.{◌≡◌, ◌≤◌, None, OnErr, length, slice_index};
+ghost use Rattle.std.specs.Option.{option_map_or};
 ghost use Rattle.iol_far.specs.Far.{waits_after};
 ghost use Rattle.iol_far.specs.Level.{accepting_link};
 ghost use Rattle.iol_judge.specs.Transfers.{isdu_known, transfer_in};
-ghost use Rattle.iol_judge.specs.Taking.{cycle_after, mode_known, mode_layout, taken_by_state};
+ghost use Rattle.iol_judge.specs.Taking.{cycle_after, mode_known, mode_layout, state_after, taken_by_state, worked_by};
+ghost use Rattle.iol_judge.specs.declared.transfer.Transfer.{Transfer};
+ghost use Rattle.iol_judge.specs.declared.transfer.Transfer.TheVariants.{Quiet};
 
 use crate::kept::KeptState;
 use crate::open::Open;
@@ -15,63 +18,100 @@ use iol_mseq::{Layout, MasterView, Message, first};
 use iol_octets::Channel;
 
 impl KeptState {
-    /// The mode in whose layout it takes these octets, with the command that waits there.
-    fn taking(&self, octets: &[u8]) -> (DeviceMode, Option<ModeCommand>)
-        ensures mode { result.0 ≡ (accepting_link self.now.link octets.now).mode }
-        ensures waits { result.1 ≡ (accepting_link self.now.link octets.now).waits }
+    /// The mode that it changes to before it takes these octets: they aren't those of the command
+    /// that waits there.
+    fn change_due(&self, octets: &[u8]) -> Option<DeviceMode>
+        ensures link { accepting_link self.now.link octets.now ≡ option_map_or
+            (λ mode. record { mode = mode; waits = None }) result self.now.link }
+        ensures transfer { (transfer : Transfer) → transfer_in self.now.link.waits octets.now
+            transfer ≡ option_map_or (λ mode. Quiet) result transfer }
     {
         match &self.waits {
-            None => (self.mode, None),
-            Some(command) if octets == command.octets.as_slice() => {
-                (self.mode, Some(command.copy()))
-            }
-            Some(command) => (command.into, None),
+            Some(command) if octets != command.octets.as_slice() => Some(command.into),
+            _ => None,
         }
     }
 
-    /// The transfer there: a device that changes its mode drops it.
-    fn transfer_in(&self, octets: &[u8]) -> Transfer
-        ensures { result ≡ transfer_in self.now.link.waits octets.now self.now.transfer }
+    /// The mode in whose layout it takes these octets.
+    fn mode_for(&self, octets: &[u8]) -> DeviceMode
+        ensures { result ≡ (accepting_link self.now.link octets.now).mode }
     {
-        match &self.waits {
-            Some(command) if octets != command.octets.as_slice() => Transfer::Quiet,
-            _ => self.transfer.copy(),
-        }
+        self.change_due(octets).unwrap_or(self.mode)
     }
 
-    /// What it makes of octets, none where it doesn't take them; open where the page's layouts
-    /// would have to be known.
-    pub fn take<'a>(
-        &self,
+    /// Works octets, where it takes them. Open, and as before, where the page's layouts would have
+    /// to be known.
+    pub fn work<'a>(
+        &mut self,
         layouts: &KnownLayouts,
         octets: &'a [u8],
     ) -> Result<Option<TakenMessage<'a>>, Open>
-        ensures { result ≡ taken_by_state layouts.now self.now octets.now }
+        ensures value { worked_by result self.new ≡ taken_by_state layouts.now self.old octets.now }
+        ensures open { OnErr result (self.new ≡ self.old) }
     {
-        let (mode, waits) = self.taking(octets);
-        let layout = layout_in(layouts, mode)?;
+        let layout = layout_in(layouts, self.mode_for(octets))?;
         let Some(message) = message_in(&layout, octets) else {
             return Ok(None);
         };
         let asked = known_mode(layouts, mode_asked(command_in(&message)))?;
-        let kept = KeptState {
-            kinds: self.kinds,
-            mode,
-            waits: waits_after(mode, waits, octets, asked),
-            cycle: cycle_after(self.cycle, &message),
-            events: self.events.after(is_confirm(message.mc())),
-            transfer: self.transfer_in(octets).after(
-                self.kinds.one(),
-                isdu_of(layouts),
-                layout.od().get(),
-                &message,
-            ),
-        };
-        Ok(Some(TakenMessage {
-            kept,
-            layout,
-            message,
-        }))
+        self.turn(layouts, octets, &layout, &message, asked);
+        Ok(Some(TakenMessage { layout, message }))
+    }
+
+    /// Once it worked this message, which asks for this mode.
+    fn turn(
+        &mut self,
+        layouts: &KnownLayouts,
+        octets: &[u8],
+        layout: &Layout,
+        message: &MasterView<'_>,
+        asked: Option<DeviceMode>,
+    )
+        requires { length octets.now ≤ 66 }
+        ensures { self.new ≡ state_after layouts.now (accepting_link self.old.link octets.now)
+            self.old octets.now layout.now message.now asked }
+    {
+        self.change_mode(octets);
+        self.await_mode(octets, asked);
+        self.cycle = cycle_after(self.cycle, message);
+        self.events.pass(is_confirm(message.mc()));
+        let kind = self.kinds.one();
+        self.transfer
+            .pass(kind, isdu_of(layouts), layout.od().get(), message);
+    }
+
+    /// It takes these octets: a device that changes its mode drops the transfer.
+    fn change_mode(&mut self, octets: &[u8])
+        ensures { self.new ≡ record self.old {
+          link = accepting_link self.old.link octets.now;
+          transfer = transfer_in self.old.link.waits octets.now self.old.transfer;
+        } }
+    {
+        if let Some(mode) = self.change_due(octets) {
+            self.mode = mode;
+            self.waits = None;
+            self.transfer = Transfer::Quiet;
+        }
+    }
+
+    /// The command that waits there once one asked for this mode.
+    fn await_mode(&mut self, octets: &[u8], asked: Option<DeviceMode>)
+        requires { length octets.now ≤ 66 }
+        ensures { self.new ≡ record self.old {
+          link = record self.old.link {
+            waits = waits_after self.old.link.mode self.old.link.waits octets.now asked;
+          };
+        } }
+    {
+        match asked {
+            Some(into) if into != self.mode => {
+                self.waits = Some(ModeCommand {
+                    into,
+                    octets: Message::try_from(octets).unwrap(),
+                });
+            }
+            _ => {}
+        }
     }
 }
 
@@ -106,25 +146,6 @@ fn known_mode(layouts: &KnownLayouts, asked: Option<DeviceMode>) -> Result<Optio
         (Some(DeviceMode::Preoperate), Ok(layouts)) if layouts.pre.is_none() => Ok(None),
         (_, Ok(_)) => Ok(asked),
         (_, Err(why)) => Err(*why),
-    }
-}
-
-/// The command that waits once one asked for this mode.
-fn waits_after(
-    mode: DeviceMode,
-    waits: Option<ModeCommand>,
-    octets: &[u8],
-    asked: Option<DeviceMode>,
-) -> Option<ModeCommand>
-    requires { length octets.now ≤ 66 }
-    ensures { result ≡ waits_after mode waits octets.now asked }
-{
-    match asked {
-        Some(into) if into != mode => Some(ModeCommand {
-            into,
-            octets: Message::try_from(octets).unwrap(),
-        }),
-        _ => waits,
     }
 }
 

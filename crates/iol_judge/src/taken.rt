@@ -11,22 +11,20 @@ pub(crate) const MAX_STATES: usize = 128;
 /// The states of a device that the exchanges so far admit.
 pub(crate) type States = ArrayVec<KeptState, MAX_STATES>;
 
-/// What a state makes of a message that it takes.
+/// A message that a state took, and in which layout.
 #[derive(Drop)]
 pub(crate) struct TakenMessage<'a> {
-    pub kept: KeptState,
     pub layout: Layout,
     pub message: MasterView<'a>,
 }
 
 /// Whether a state explains a reply.
-#[derive(Drop)]
-pub(crate) enum Explanation {
-    /// It does, and this is the state afterwards; with it what is odd in the reply, and passed
-    /// over.
-    By(KeptState, Option<Reason>),
+#[derive(Clone, Copy, Debug, PartialEq, Eq)]
+pub(crate) enum Heard {
+    /// It does, with what is odd in the reply, and passed over.
+    Explained(Option<Reason>),
     /// It doesn't.
-    Not(Reason),
+    Refused(Reason),
 }
 
 /// The states after a reply, and why the others can't have sent it.

@@ -1,6 +1,7 @@
 //! What is known of an ISDU transfer.
 ghost use Rattle.std.specs.Prelude.{◌≡◌, ◌≤◌, ◌++◌, None, Some};
 ghost use Rattle.iol_isdu.specs.Parse.{request_of};
+ghost use Rattle.iol_judge.specs.declared.transfer.Transfer.TheVariants.{Quiet};
 ghost use Rattle.iol_segment.specs.Join.{next_count};
 ghost use Rattle.iol_far.specs.Codec.{flow_of};
 ghost use Rattle.iol_judge.specs.Transfers.{answered_read, asked_again, transfer_of_request, count_read, count_written, covers_transfer, first_again, goes_further, is_apart_at, is_quiet, transfer_fault, or_ended, perhaps_told, transfer_of_octets, transfer_receiving, sent_again, start_read, transfer_told_by, transfer_after, transfer_on, transfer_unknown, whole_read};
@@ -13,6 +14,7 @@ use iol_far::{HandsOver, Kind, Recalls};
 use iol_isdu::{IsduFault, Request, Text, read_request, total_of};
 use iol_mseq::{MasterView, ReplyView};
 use iol_octets::{Channel, Mc, are_zeros, segment_number};
+use std::mem::replace;
 
 /// The address of START on the ISDU channel. Below it are those of COUNT.
 const START: u8 = 0x10;
@@ -107,57 +109,62 @@ impl Transfer {
 
     /// Once a message was worked by a device of this kind, by whether it has ISDU, where that is
     /// known, and the size of a segment.
-    pub fn after(
-        self,
-        kind: Kind,
-        isdu: Option<bool>,
-        size: u8,
-        message: &MasterView<'_>,
-    ) -> Transfer
-        ensures { result ≡ transfer_after kind isdu size self message.now.mc.channel
+    #[tactic(auto, unfolding(iol_far::specs::Codec::flow_of))]
+    pub fn pass(&mut self, kind: Kind, isdu: Option<bool>, size: u8, message: &MasterView<'_>)
+        ensures { self.new ≡ transfer_after kind isdu size self.old message.now.mc.channel
             message.now.mc.read (flow_of message.now.mc.address) message.now.od.items }
     {
-        if message.mc().channel != Channel::Isdu {
-            return self;
+        let mc = message.mc();
+        if mc.channel != Channel::Isdu {
+            return;
         }
-        match isdu {
-            Some(true) => self.moved(kind, size, message),
+        if mc.address > START {
+            self.quieten();
+            return;
+        }
+        let old = replace(self, Transfer::Quiet);
+        *self = match isdu {
+            Some(true) => old.moved(kind, size, message),
             Some(false) => Transfer::Quiet,
-            None => self.perhaps(message.mc()),
+            None => old.perhaps(mc),
+        };
+    }
+
+    /// None is under way any more.
+    fn quieten(&mut self)
+        ensures { self.new ≡ Quiet }
+    {
+        if !self.is_quiet() {
+            *self = Transfer::Quiet;
         }
     }
 
-    /// Once a device without known layouts worked a message on the ISDU channel.
+    /// Once a device without known layouts worked a message of a transfer.
     #[tactic(auto, unfolding(iol_far::specs::Codec::flow_of))]
     fn perhaps(self, mc: Mc) -> Transfer
+        requires { mc.address ≤ START }
         ensures { result ≡ transfer_unknown self mc.read (flow_of mc.address) }
     {
-        if mc.address > START || (self.is_quiet() && (mc.read || mc.address < START)) {
+        if self.is_quiet() && (mc.read || mc.address < START) {
             Transfer::Quiet
         } else {
             Transfer::Free
         }
     }
 
-    /// Once a device with ISDU worked a message on the ISDU channel.
+    /// Once a device with ISDU worked a message of a transfer.
     #[tactic(auto, unfolding(iol_far::specs::Codec::flow_of))]
     fn moved(self, kind: Kind, size: u8, message: &MasterView<'_>) -> Transfer
+        requires { message.now.mc.address ≤ START }
         ensures { result ≡ transfer_on kind size self message.now.mc.read
             (flow_of message.now.mc.address) message.now.od.items }
     {
         let mc = message.mc();
-        if mc.address > START {
-            Transfer::Quiet
-        } else if mc.address == START {
-            if mc.read {
-                self.start_read(kind, size)
-            } else {
-                received(message.od(), None)
-            }
-        } else if mc.read {
-            self.count_read(kind.recalls, size, mc.address)
-        } else {
-            self.count_written(kind.hands_over, mc.address, message)
+        match (mc.read, mc.address == START) {
+            (true, true) => self.start_read(kind, size),
+            (true, false) => self.count_read(kind.recalls, size, mc.address),
+            (false, true) => received(message.od(), None),
+            (false, false) => self.count_written(kind.hands_over, mc.address, message),
         }
     }
 
@@ -249,8 +256,21 @@ impl Transfer {
         }
     }
 
-    /// Once a read of the ISDU channel brought this reply.
-    pub fn told(self, reply: &ReplyView<'_>) -> Transfer
+    /// A read of the ISDU channel brought this reply.
+    pub fn hear(&mut self, reply: &ReplyView<'_>)
+        ensures { self.new ≡ transfer_told_by self.old reply.now.od.items }
+    {
+        if matches!(
+            self,
+            Transfer::Asked(..) | Transfer::Answered(_) | Transfer::Perhaps(_)
+        ) {
+            let old = replace(self, Transfer::Quiet);
+            *self = old.told(reply);
+        }
+    }
+
+    /// Once it did.
+    fn told(self, reply: &ReplyView<'_>) -> Transfer
         ensures { result ≡ transfer_told_by self reply.now.od.items }
     {
         match self {
