@@ -1,78 +1,61 @@
--- A run of a start-up, and its watch: for `start_ups_are_by_the_rules`. Begin at the end, with
--- `start_ups`.
-use Rattle.std.proofs.Common.{◌≡◌, ◌≢◌, cond, ℕ, Bool, true, false, List, [], ◌∷◌, length, refl, ap, sym, subst, ◌∙◌, inl, inr, arith}
-use Rattle.std.specs.Prelude.{Option, Some, None, Ok, ⊤}
+-- A run of a port, and its watch: for `ports_are_by_the_rules`. Begin at the end, with
+-- `ports_are_fair`.
+use Rattle.std.proofs.Common.{◌≡◌, cond, ℕ, ◌≤◌, ◌<◌, Bool, true, false, ◌==◌, ◌+◌, if◌then◌else◌, List, [], ◌∷◌, length, refl, ap, sym, subst, ◌∙◌, inl, inr, arith}
+use Rattle.std.proofs.lemmas.Bool.Decides.{nat_tests}
+use Rattle.std.proofs.lemmas.Grind.{common_steps}
+use Rattle.std.specs.Prelude.{Option, Some, None, Ok}
+use Rattle.iol_mseq.specs.Shape.{startup_shape}
+use Rattle.iol_mseq.specs.Texts.{master_text}
+use Rattle.iol_mseq.specs.declared.reply.Reply.{Reply}
 use Rattle.iol_page.specs.Page.{PagesAskForLayouts}
 use Rattle.iol_page.specs.declared.page.Layouts.{Layouts}
+use Rattle.iol_segment.specs.TextLaws.{TextLaws}
 use Rattle.iol_far.specs.Linked.{TextsAreHeard}
-use Rattle.iol_link.specs.Attempts.{Sending}
-use Rattle.iol_mode.specs.declared.configuration.Configuration.{Configuration}
+use Rattle.iol_link.specs.Attempts.{Sending, attempt_of, good_reply}
+use Rattle.iol_link.specs.declared.handler.Attempt.TheVariants.{Again, Lost}
+use Rattle.iol_mode.specs.Exchanges.{text_out}
+use Rattle.iol_mode.specs.Next.{step_layouts}
 use Rattle.iol_mode.specs.declared.configuration.Devices.{Devices}
 use Rattle.iol_mode.specs.declared.configuration.Devices.TheVariants.{Own, Any}
 use Rattle.iol_mode.specs.declared.states.State.{State}
 use Rattle.iol_mode.specs.declared.states.State.TheVariants.{Down as AtDown, Startup as AtStartup, Preoperate as AtPreoperate, Operate as AtOperate}
-use Rattle.iol_mode.specs.Exchanges.{text_out, mode_after_reply}
-use Rattle.iol_mode.specs.States.{IsDown, next_state, mode_after_wake}
+use Rattle.iol_mode.specs.States.{IsDown, NextMode, next_state, mode_after_wake, operate_by, preoperate_turned, sending_after_try, startup_turned}
 use Rattle.iol_judge.specs.declared.verdict.Wake.{Wake}
 use Rattle.iol_judge.specs.declared.verdict.Wake.TheVariants.{Answered as WakeAnswered}
 use Rattle.iol_judge.specs.declared.master.MasterState.{MasterState}
+use Rattle.iol_judge.specs.declared.master_output.CarriedOutput.{CarriedOutput}
+use Rattle.iol_judge.specs.declared.master_output.Output.{Output}
 use Rattle.iol_judge.specs.declared.master_verdict.MasterVerdict.{MasterVerdict}
 use Rattle.iol_judge.specs.declared.master_verdict.MasterVerdict.TheVariants.{ByTheRules}
-use Rattle.iol_judge.specs.Watched.{WatchState, watch_after_exchange, watch_after_wake, master_after_sending, master_after_answer, master_after_wake}
-use Rattle.iol_app.specs.declared.mode.Mode.TheVariants.{Operate}
-use Rattle.iol_app.specs.declared.event_work.EventRoom.{EventRoom}
+use Rattle.iol_judge.specs.MasterOutputs.{aged_output, allows_octets, woken_output}
+use Rattle.iol_judge.specs.MasterPhases.{phase_layout}
+use Rattle.iol_judge.specs.Watched.{WatchState, watch_after_exchange, watch_after_wake, master_after_sending, master_after_answer, master_after_reply, master_after_wake, master_without_reply, heard_reply}
+use Rattle.iol_app.specs.declared.output.OutputState.{OutputState}
+use Rattle.iol_app.specs.declared.session.Purpose.{Purpose}
 use Rattle.iol_app.specs.Core.{CoreState, after_exchange, after_wake, came_of}
-use Rattle.iol_app.specs.Pieces.{SentBy, OutAfter}
-use Rattle.iol_app.specs.State.{SessionState}
-use Rattle.iol_app.specs.StationState.{missed_state, mode_in, settled_session}
+use Rattle.iol_app.specs.State.{SessionState, checking_in, checks, missed_by, missed_in, new_session, session_after_exchange, session_after_reply, session_after_reply_to, session_at_startup}
+use Rattle.iol_app.specs.StationState.{missed_session, missed_state, settled_session}
 use Rattle.iol_port.specs.declared.awaited.AwaitedAnswer.TheVariants as awaits
 use Rattle.iol_port.specs.Asks.{event_room}
-use Rattle.iol_port.specs.CorePort.{awaited_in}
+use Rattle.iol_port.specs.CorePort.{PortReceiveGives, WakeGives, awaited_answer, awaited_in}
 use Rattle.iol_port.specs.EveryWire.{core_begun}
 use Rattle.iol_port.specs.View.{PortParts}
-use Rattle.iol_by_the_rules.specs.Line.{Deed, Sends, Receives, Wakes, Calls, DeedGives, watch_after_deed, wake_seen, blames, IsOfStartUp, StartsUp, StartUpsAreByTheRules}
-use Rattle.iol_by_the_rules.proofs.Calls.{ModeAfter, mode_after}
-use Rattle.iol_by_the_rules.proofs.StartUps.{ModeFair, startup_fair, preoperate_fair, woken_fair}
-
--- in a start-up the watch judges, and has nothing against the message that goes out next
-abbrev Fair : State → MasterVerdict → MasterState → Type 0
-Fair (AtStartup s) verdict m = (verdict ≡ ByTheRules) × ModeFair (AtStartup s) m
-Fair (AtPreoperate s) verdict m = (verdict ≡ ByTheRules) × ModeFair (AtPreoperate s) m
-Fair state verdict m = ⊤
+use Rattle.iol_by_the_rules.specs.Line.{Deed, Sends, Receives, Wakes, Calls, DeedGives, watch_after_deed, wake_seen, blames, IsWatchedRun, PortsAreByTheRules}
+use Rattle.iol_by_the_rules.proofs.Calls.{CallLeaves, call_leaves, down_of}
+use Rattle.iol_by_the_rules.proofs.Telling.{told_reply}
+use Rattle.iol_by_the_rules.proofs.StartUps.{startup_answer, preoperate_answer, step_came, pre_came, woken_fair}
+use Rattle.iol_by_the_rules.proofs.Ties.{OperateOut, OperateRests, valid_out}
+use Rattle.iol_by_the_rules.proofs.Made.{send_in, sent_state}
+use Rattle.iol_by_the_rules.proofs.Heard.{reply_rests}
+use Rattle.iol_by_the_rules.proofs.Missed.{may_carry, missed_fair}
+use Rattle.iol_by_the_rules.proofs.Standing.{DownFair, Judges, OperateFair, StandsIn, StartSession, call_stands, left_down}
+use Rattle.iol_by_the_rules.proofs.Rising.{heard_output, preoperate_rises, risen, startup_rises}
 
 record LineFair (p : PortParts) (w : WatchState) : Type 0 where
   places : length w.told ≡ 10
   unblamed : blames w.verdict ≡ false
-  fair : Fair p.core.state w.verdict w.master
-
--- A sending changes no start-up
-
-operate_sent : (layouts : Layouts) (out : Option Sending) (t : SessionState) (room : EventRoom)
-    (old new : CoreState) (verdict : MasterVerdict) (m : MasterState)
-    → old.state ≡ AtOperate (record { out = out; layouts = layouts })
-    → OutAfter out layouts t room old new → Fair new.state verdict m
-operate_sent layouts None t room old new verdict m is after =
-    subst (λ (c : CoreState). Fair c.state verdict m) (sym after.is) tt
-operate_sent layouts (Some out) t room old new verdict m is after =
-    subst (λ (c : CoreState). Fair c.state verdict m) (sym after)
-    (subst (λ (s : State). Fair s verdict m) (sym is) tt)
-
-sent_by : (state : State) (room : EventRoom) (old new : CoreState) (verdict : MasterVerdict)
-    (m : MasterState) → old.state ≡ state → SentBy state room old new
-    → Fair old.state verdict m → Fair new.state verdict m
-sent_by (AtOperate s) room old new verdict m is sends fair =
-    operate_sent s.layouts s.out old.session room old new verdict m is sends
-sent_by state room old new verdict m is sends fair =
-    subst (λ (c : CoreState). Fair c.state verdict m) (sym sends) fair
-
--- What came
-
-came_fair : (state : State) (t : SessionState) (verdict : MasterVerdict) (m : MasterState)
-    → verdict ≡ ByTheRules → ModeFair state m → Fair (missed_state state t) verdict m
-came_fair (AtDown s) t verdict m judged fair = tt
-came_fair (AtStartup s) t verdict m judged fair = (judged, fair)
-came_fair (AtPreoperate s) t verdict m judged fair = (judged, fair)
-came_fair (AtOperate s) t verdict m judged fair = tt
+  judges : Judges p.core.state w.verdict
+  stands : StandsIn p.sent p.core.state p.core.session w.master
 
 -- the watch that is told an exchange in which it has nothing against the message
 module _ (w : WatchState) (text : List ℕ) (came : Option (List ℕ)) (next : MasterState)
@@ -87,16 +70,6 @@ module _ (w : WatchState) (text : List ℕ) (came : Option (List ℕ)) (next : M
     told_places : (watch_after_exchange w text came).told ≡ w.told
     told_places = grind (arith, judged, sent)
 
-not_blamed : (verdict : MasterVerdict) → verdict ≡ ByTheRules → blames verdict ≡ false
-not_blamed verdict judged = ap blames judged
-
-down_fair : (state : State) (verdict : MasterVerdict) (m : MasterState) → IsDown state
-    → Fair state verdict m
-down_fair (AtDown s) verdict m down = tt
-down_fair (AtStartup s) verdict m down = absurd down
-down_fair (AtPreoperate s) verdict m down = absurd down
-down_fair (AtOperate s) verdict m down = tt
-
 -- a wake-up request is never blamed
 woken_watch : (verdict : MasterVerdict) (w : WatchState) (wake : Wake) → w.verdict ≡ verdict
     → blames w.verdict ≡ false
@@ -104,141 +77,359 @@ woken_watch : (verdict : MasterVerdict) (w : WatchState) (wake : Wake) → w.ver
     ≡ record w { master = master_after_wake w.master w.told wake; verdict = ByTheRules }
 woken_watch verdict w wake is unblamed = grind arith
 
+judges_any : (state : State) (verdict : MasterVerdict) → verdict ≡ ByTheRules
+    → Judges state verdict
+judges_any (AtDown d) verdict judged = tt
+judges_any (AtStartup d) verdict judged = judged
+judges_any (AtPreoperate d) verdict judged = judged
+judges_any (AtOperate d) verdict judged = judged
+
+judges_down : (state : State) (verdict : MasterVerdict) → IsDown state → Judges state verdict
+judges_down (AtDown d) verdict down = tt
+judges_down (AtStartup d) verdict down = absurd down
+judges_down (AtPreoperate d) verdict down = absurd down
+judges_down (AtOperate d) verdict down = absurd down
+
+stands_down : (sent : Bool) (state : State) (s : SessionState) (m : MasterState) → IsDown state
+    → DownFair s m → StandsIn sent state s m
+stands_down sent (AtDown d) s m down fair = fair
+stands_down sent (AtStartup d) s m down fair = absurd down
+stands_down sent (AtPreoperate d) s m down fair = absurd down
+stands_down sent (AtOperate d) s m down fair = absurd down
+
+-- What waits for an answer
+
+sent_reply : (sent : Bool) (state : State)
+    → cond sent (awaited_in state) awaits.Nothing ≡ awaits.Reply
+    → (sent ≡ true) × (awaited_in state ≡ awaits.Reply)
+sent_reply true state waits = (refl, waits)
+sent_reply false state waits = grind (arith, waits)
+
+up_judges : (state : State) (verdict : MasterVerdict) → awaited_in state ≡ awaits.Reply
+    → Judges state verdict → verdict ≡ ByTheRules
+up_judges (AtDown d) verdict waits judges = grind (arith, waits)
+up_judges (AtStartup d) verdict waits judges = judges
+up_judges (AtPreoperate d) verdict waits judges = judges
+up_judges (AtOperate d) verdict waits judges = judges
+
+wake_down : (sent : Bool) (state : State) (s : SessionState) (m : MasterState)
+    → cond sent (awaited_in state) awaits.Nothing ≡ awaits.Wake → StandsIn sent state s m
+    → DownFair s m
+wake_down sent (AtDown d) s m waits fair = fair
+wake_down sent (AtStartup d) s m waits fair = grind (arith, waits)
+wake_down sent (AtPreoperate d) s m waits fair = grind (arith, waits)
+wake_down sent (AtOperate d) s m waits fair = grind (arith, waits)
+
+-- What came to a message of OPERATE
+
+operate_after : (layouts : Layouts) (s : SessionState) (reply : Reply) (m : MasterState)
+    (exchange : Purpose) → s.exchange ≡ Some exchange
+    → OperateRests layouts (session_after_exchange exchange reply s) m
+    → OperateRests layouts (session_after_reply reply s) m
+operate_after layouts s reply m exchange busy rests =
+    subst (λ (e : Option Purpose). OperateRests layouts (session_after_reply_to e reply s) m)
+    (sym busy) rests
+
+-- what goes out again carries the same output
+carried_missed : (s : SessionState) → (missed_in s).output ≡ s.output
+carried_missed s = by (checks s)
+  where
+    by : (checking : Bool) → (if checking then checking_in s else record s {
+      current = missed_by s.configuration.devices s.exchange s.current;
+    }).output ≡ s.output
+    by true = refl
+    by false = refl
+
+module _ (heard : TextsAreHeard) (layouts : Layouts) (sent : Sending) (exchange : Purpose)
+    (s : SessionState) (m : MasterState) (out : OperateOut layouts sent exchange s m)
+  where
+    abbrev text : List ℕ
+    text = master_text layouts.run sent.message
+
+    -- by how often it was sent in vain before
+    lost_by : (lost : Bool) → (sent.tries == 2) ≡ lost
+        → let outcome : NextMode = operate_by
+        (record { message = sent.message; tries = if lost then 0 else sent.tries + 1 }) layouts
+        (if lost then Lost else Again) in
+        StandsIn false (missed_state (next_state outcome) (settled_session outcome s))
+        (missed_session (next_state outcome) (settled_session outcome s))
+        (master_without_reply m text)
+    lost_by true is = record {
+      current = refl;
+      exchange = refl;
+      carry = ap (λ (o : Output). allows_octets (aged_output o.carried) s.output.carried.items)
+          (heard_output m text sent.message None)
+          ∙ may_carry (valid_out exchange s.output.told) m.output s.output out.output;
+    }
+    lost_by false is =
+        let few : sent.tries < 2 = grind (arith, nat_tests, is, out.few) in
+        let missed = missed_fair layouts sent exchange s m out few heard in record {
+          exchange = missed.0;
+          next = missed.1;
+          told = missed.2;
+          stands = missed.3;
+          carry = λ idle. ap (λ (t : OutputState). allows_octets
+              (aged_output (master_without_reply m text).output.carried) t.carried.items)
+              (carried_missed s)
+              ∙ ap (λ (o : Output). allows_octets (aged_output o.carried) s.output.carried.items)
+              (heard_output m text sent.message None)
+              ∙ may_carry (valid_out exchange s.output.told) m.output s.output out.output;
+        }
+
+    operate_came : (r : Option Reply)
+        → let outcome : NextMode = operate_by (sending_after_try sent r) layouts
+        (attempt_of sent.tries r) in
+        StandsIn false (missed_state (next_state outcome) (settled_session outcome s))
+        (missed_session (next_state outcome) (settled_session outcome s))
+        (heard_reply m text sent.message r)
+    operate_came (Some reply) = (
+      refl,
+      operate_after layouts s reply
+          (master_after_reply m sent.message reply) exchange out.busy
+          (reply_rests layouts sent exchange s m reply out),
+    )
+    operate_came None = lost_by (sent.tries == 2) refl
+
 module _ (heard : TextsAreHeard) (asks : PagesAskForLayouts) where
-  woken_by : (devices : Devices) (c : Configuration) (m : MasterState)
-      (seen : List (Option ℕ)) → length seen ≡ 10
-      → Fair (next_state (mode_after_wake devices true)) ByTheRules
-      (master_after_wake m seen WakeAnswered)
-  woken_by Own c m seen places = (refl, woken_fair heard asks c Own m seen places)
-  woken_by Any c m seen places = (refl, woken_fair heard asks c Any m seen places)
+  -- what stands once the message that is out was told with what came
+  abbrev CameTo : CoreState → MasterState → Option (List ℕ) → Type 0
+  CameTo c m came = (next : MasterState) × (master_after_sending m (text_out c.state) ≡ Ok next)
+      × StandsIn false (after_exchange (came_of c came) c.session).state
+      (after_exchange (came_of c came) c.session).session
+      (master_after_answer next (text_out c.state) came)
 
-  woken_mode : (answered : Bool) (t : SessionState) (m : MasterState) (seen : List (Option ℕ))
-      → length seen ≡ 10
-      → Fair (after_wake answered t).state ByTheRules
-      (master_after_wake m seen (wake_seen answered))
-  woken_mode false t m seen places = tt
-  woken_mode true t m seen places =
-      woken_by t.configuration.devices t.configuration m seen places
-
-  -- what a start-up has, once its message was told with what came
-  abbrev CameTo : Configuration → State → MasterState → Option (List ℕ) → Type 0
-  CameTo c state m came = (next : MasterState)
-      × (master_after_sending m (text_out state) ≡ Ok next)
-      × ModeFair (next_state (mode_after_reply c state came))
-      (master_after_answer next (text_out state) came)
-
-  came_to : (c : Configuration) (state : State) (sent : Bool) (verdict : MasterVerdict)
-      (m : MasterState) (came : Option (List ℕ))
-      → cond sent (awaited_in state) awaits.Nothing ≡ awaits.Reply → mode_in state ≢ Operate
-      → Fair state verdict m → (verdict ≡ ByTheRules) × CameTo c state m came
-  came_to c (AtDown s) sent verdict m came waits starts fair = grind arith
-  came_to c (AtStartup s) sent verdict m came waits starts fair = (
-    fair.0,
-    (fair.1.0, fair.1.1, startup_fair heard asks c s fair.1.0 came fair.1.2),
+  came_operate : (out : Option Sending) (layouts : Layouts) (s : SessionState) (m : MasterState)
+      (came : Option (List ℕ)) → OperateFair true out layouts s m
+      → CameTo (record {
+        state = AtOperate (record { out = out; layouts = layouts });
+        session = s;
+      }) m came
+  came_operate None layouts s m came fair = grind (arith, fair.0)
+  came_operate (Some out) layouts s m came fair = (
+    fair.next,
+    fair.told,
+    subst (StandsIn false (after_exchange outcome s).state (after_exchange outcome s).session)
+        (sym (told_reply heard layouts.run fair.next (ap phase_layout fair.stands.phase)
+        out.message fair.stands.parts came))
+        (operate_came heard layouts out fair.exchange s fair.next fair.stands
+        (good_reply layouts.run out.message came)),
   )
-  came_to c (AtPreoperate s) sent verdict m came waits starts fair = (
-    fair.0,
-    (fair.1.0, fair.1.1, preoperate_fair heard asks c s fair.1.0 came fair.1.2),
-  )
-  came_to c (AtOperate s) sent verdict m came waits starts fair = absurd (starts refl)
+    where
+      outcome : NextMode
+      outcome = operate_by (sending_after_try out (good_reply layouts.run out.message came))
+          layouts (attempt_of out.tries (good_reply layouts.run out.message came))
 
-  received : (c : CoreState) (new : CoreState) (w : WatchState) (came : Option (List ℕ))
-      → length w.told ≡ 10 → w.verdict ≡ ByTheRules
-      → CameTo c.session.configuration c.state w.master came
-      → new ≡ after_exchange (came_of c came) c.session
-      → (p : PortParts) → p.core ≡ new
-      → LineFair p (watch_after_exchange w (text_out c.state) came)
-  received c new w came places judged fair is p core =
-      let v : WatchState = watch_after_exchange w (text_out c.state) came in
+  came_to : (state : State) (s : SessionState) (m : MasterState) (came : Option (List ℕ))
+      → awaited_in state ≡ awaits.Reply → StandsIn true state s m
+      → CameTo (record { state = state; session = s }) m came
+  came_to (AtDown d) s m came waits fair = grind (arith, waits)
+  came_to (AtStartup d) s m came waits fair =
+      let o : Output = fair.0 in
+      let told = fair.1.2 in
+      let r : Option Reply = good_reply startup_shape d.sent.message came in
+      let text : List ℕ = master_text startup_shape d.sent.message in
+      let after : MasterState = heard_reply fair.1.0 text d.sent.message r in
+      let outcome : NextMode = startup_turned s.configuration d r in (
+        fair.1.0,
+        fair.1.1,
+        subst (StandsIn false (after_exchange outcome s).state (after_exchange outcome s).session)
+            (sym (startup_answer heard asks o s.configuration d fair.1.0 came told))
+            (risen o (step_layouts d.step) s m after fair.2
+            (heard_output fair.1.0 text d.sent.message r ∙ told.still.0) outcome
+            (startup_rises s.configuration d fair.1.0 text r)
+            (step_came heard asks o s.configuration r d fair.1.0 told)),
+      )
+  came_to (AtPreoperate d) s m came waits fair =
+      let o : Output = fair.0 in
+      let told = fair.1.2 in
+      let r : Option Reply = good_reply d.pre d.sent.message came in
+      let text : List ℕ = master_text d.pre d.sent.message in
+      let after : MasterState = heard_reply fair.1.0 text d.sent.message r in
+      let outcome : NextMode = preoperate_turned d r in (
+        fair.1.0,
+        fair.1.1,
+        subst (StandsIn false (after_exchange outcome s).state (after_exchange outcome s).session)
+            (sym (preoperate_answer heard asks o s.configuration d fair.1.0 came told))
+            (risen o (Some d.layouts) s m after fair.2
+            (heard_output fair.1.0 text d.sent.message r ∙ told.still.0) outcome
+            (preoperate_rises d fair.1.0 text r)
+            (pre_came heard asks o s.configuration r d fair.1.0 told)),
+      )
+  came_to (AtOperate d) s m came waits fair = came_operate d.out d.layouts s m came fair
+
+  received : (p next : PortParts) (w : WatchState) (came : Option (List ℕ))
+      → awaited_answer p ≡ awaits.Reply → PortReceiveGives p came next → LineFair p w
+      → LineFair next (watch_after_exchange w (text_out p.core.state) came)
+  received p next w came waits gives fair =
+      let text : List ℕ = text_out p.core.state in
+      let v : WatchState = watch_after_exchange w text came in
+      let sent = sent_reply p.sent p.core.state waits in
+      let judged : w.verdict ≡ ByTheRules = up_judges p.core.state w.verdict sent.1 fair.judges in
+      let after : CameTo p.core w.master came =
+      came_to p.core.state p.core.session w.master came sent.1
+      (subst (λ b. StandsIn b p.core.state p.core.session w.master) sent.0 fair.stands) in
       let verdict : v.verdict ≡ ByTheRules =
-      told_verdict w (text_out c.state) came fair.0 judged fair.1 in
-      let after : Fair (after_exchange (came_of c came) c.session).state v.verdict v.master =
-      subst (λ (m : MasterState). Fair (after_exchange (came_of c came) c.session).state
-      v.verdict m)
-      (sym (told_master w (text_out c.state) came fair.0 judged fair.1))
-      (came_fair (next_state (came_of c came)) (settled_session (came_of c came) c.session)
-      v.verdict (master_after_answer fair.0 (text_out c.state) came) verdict fair.2) in
+      told_verdict w text came after.0 judged after.1 in
       record {
-        places = ap length (told_places w (text_out c.state) came fair.0 judged fair.1) ∙ places;
-        unblamed = not_blamed v.verdict verdict;
-        fair = subst (λ (k : CoreState). Fair k.state v.verdict v.master) (sym (core ∙ is))
-            after;
+        places = ap length (told_places w text came after.0 judged after.1) ∙ fair.places;
+        unblamed = ap blames verdict;
+        judges = judges_any next.core.state v.verdict verdict;
+        stands = subst (λ b. StandsIn b next.core.state next.core.session v.master)
+            (sym gives.sent)
+            (subst (λ (c : CoreState). StandsIn false c.state c.session v.master)
+            (sym gives.core)
+            (subst (StandsIn false (after_exchange (came_of p.core came) p.core.session).state
+            (after_exchange (came_of p.core came) p.core.session).session)
+            (sym (told_master w text came after.0 judged after.1)) after.2));
       }
 
   -- A wake-up request
 
-  woken : (answered : Bool) (c new : CoreState) (w : WatchState) (p : PortParts)
-      → length w.told ≡ 10 → blames w.verdict ≡ false
-      → new ≡ after_wake answered c.session → p.core ≡ new
-      → LineFair p (watch_after_wake w (wake_seen answered))
-  woken answered c new w p places unblamed is core =
-      let v : WatchState = watch_after_wake w (wake_seen answered) in
-      let woke : v ≡ record w {
+  aged_twice : (o : Output) → aged_output (aged_output o.carried) ≡ aged_output o.carried
+  aged_twice o = grind arith
+
+  woken_session : (s : SessionState) (m : MasterState) (seen : List (Option ℕ)) → DownFair s m
+      → StartSession (woken_output m.output) None (session_at_startup s)
+      (master_after_wake m seen WakeAnswered)
+  woken_session s m seen fair = record {
+    current = fair.current;
+    exchange = fair.exchange;
+    untold = refl;
+    reading = refl;
+    page = tt;
+    aged = aged_twice m.output;
+    invalid = refl;
+    carry = fair.carry;
+    watched = refl;
+  }
+
+  woken_by : (devices : Devices) (s : SessionState) (m : MasterState) (seen : List (Option ℕ))
+      → length seen ≡ 10 → DownFair s m
+      → StandsIn false (next_state (mode_after_wake devices true))
+      (settled_session (mode_after_wake devices true) (session_at_startup s))
+      (master_after_wake m seen WakeAnswered)
+  woken_by Own s m seen places fair = (
+    woken_output m.output,
+    woken_fair heard asks (woken_output m.output) s.configuration Own m seen places refl,
+    woken_session s m seen fair,
+  )
+  woken_by Any s m seen places fair = (
+    woken_output m.output,
+    woken_fair heard asks (woken_output m.output) s.configuration Any m seen places refl,
+    woken_session s m seen fair,
+  )
+
+  woken_stands : (answered : Bool) (s : SessionState) (m : MasterState) (seen : List (Option ℕ))
+      → length seen ≡ 10 → DownFair s m
+      → StandsIn false (after_wake answered s).state (after_wake answered s).session
+      (master_after_wake m seen (wake_seen answered))
+  woken_stands false s m seen places fair = record {
+    current = refl;
+    exchange = refl;
+    carry = ap (λ (c : CarriedOutput). allows_octets c s.output.carried.items)
+        (aged_twice m.output) ∙ fair.carry;
+  }
+  woken_stands true s m seen places fair =
+      woken_by s.configuration.devices s m seen places fair
+
+  woken : (p next : PortParts) (w : WatchState) (answered : Bool)
+      → awaited_answer p ≡ awaits.Wake → WakeGives p answered next → LineFair p w
+      → LineFair next (watch_after_wake w (wake_seen answered))
+  woken p next w answered waits gives fair =
+      let v : WatchState = record w {
         master = master_after_wake w.master w.told (wake_seen answered);
         verdict = ByTheRules;
-      } = woken_watch w.verdict w (wake_seen answered) refl unblamed in
-      subst (LineFair p) (sym woke) (record {
-        places = places;
+      } in
+      let down : DownFair p.core.session w.master =
+      wake_down p.sent p.core.state p.core.session w.master waits fair.stands in
+      subst (LineFair next)
+      (sym (woken_watch w.verdict w (wake_seen answered) refl fair.unblamed)) (record {
+        places = fair.places;
         unblamed = refl;
-        fair = subst (λ (k : CoreState). Fair k.state ByTheRules
-            (master_after_wake w.master w.told (wake_seen answered))) (sym (core ∙ is))
-            (woken_mode answered c.session w.master w.told places);
+        judges = judges_any next.core.state ByTheRules refl;
+        stands = subst (λ b. StandsIn b next.core.state next.core.session v.master)
+            (sym gives.sent)
+            (subst (λ (c : CoreState). StandsIn false c.state c.session v.master)
+            (sym gives.core)
+            (woken_stands answered p.core.session w.master w.told fair.places down));
       })
 
-  -- Each happening, and all of them
+  -- A call
 
-  call_fair : (p next : PortParts) (w : WatchState) → ModeAfter p next → LineFair p w
+  called : (p next : PortParts) (w : WatchState) → CallLeaves p next → LineFair p w
       → LineFair next w
-  call_fair p next w (inl same) fair = record {
+  called p next w (inl up) fair = record {
     places = fair.places;
     unblamed = fair.unblamed;
-    fair = subst (λ (s : State). Fair s w.verdict w.master) (sym same) fair.fair;
+    judges = subst (λ (x : State). Judges x w.verdict) (sym up.state) fair.judges;
+    stands = subst (λ b. StandsIn b next.core.state next.core.session w.master) (sym up.sent)
+        (subst (λ (x : State). StandsIn p.sent x next.core.session w.master) (sym up.state)
+        (call_stands p.sent p.core.state p.core.session next.core.session w.master up.session
+        fair.stands));
   }
-  call_fair p next w (inr down) fair = record {
+  called p next w (inr down) fair = record {
     places = fair.places;
     unblamed = fair.unblamed;
-    fair = down_fair next.core.state w.verdict w.master down;
+    judges = judges_down next.core.state w.verdict down.down;
+    stands = stands_down next.sent next.core.state next.core.session w.master down.down
+        (subst (λ (s : SessionState). DownFair s w.master) (sym down.session)
+        (left_down p.sent p.core.state p.core.session w.master down.idle fair.stands));
   }
 
-  send_fair : (sent : Bool) (p next : PortParts) (w : WatchState) → p.sent ≡ sent
-      → DeedGives p Sends next → LineFair p w → LineFair next w
-  send_fair true p next w is sends fair =
-      subst (λ (q : PortParts). LineFair q w) (sym (sends.0 is)) fair
-  send_fair false p next w is sends fair = record {
-    places = fair.places;
-    unblamed = fair.unblamed;
-    fair = sent_by (core_begun p).state (event_room p.kept) (core_begun p) next.core w.verdict
-        w.master refl (sends.1.core is) fair.fair;
-  }
+  -- Each deed, and all of them
 
-  deed_fair : (it : Deed) (p next : PortParts) (w : WatchState)
-      → DeedGives p it next → IsOfStartUp p it → LineFair p w
-      → LineFair next (watch_after_deed w p it)
-  deed_fair Sends p next w gives starts fair =
-      send_fair p.sent p next w refl gives fair
-  deed_fair (Receives came) p next w gives starts fair =
-      let came_in : (w.verdict ≡ ByTheRules)
-      × CameTo p.core.session.configuration p.core.state w.master came =
-      came_to p.core.session.configuration p.core.state p.sent w.verdict w.master came
-      gives.0 starts fair.fair in
-      received p.core next.core w came fair.places came_in.0 came_in.1 gives.1.core next refl
-  deed_fair (Wakes answered) p next w gives starts fair =
-      woken answered p.core next.core w next fair.places fair.unblamed gives.1.core refl
-  deed_fair (Calls call reply) p next w gives starts fair =
-      call_fair p next w (mode_after p next call reply gives.1) fair
+  module _ (laws : (size : ℕ) → 1 ≤ size → TextLaws size) where
+    send_fair : (sent : Bool) (p next : PortParts) (w : WatchState) → p.sent ≡ sent
+        → DeedGives p Sends next → LineFair p w → LineFair next w
+    send_fair true p next w is sends fair =
+        subst (λ (q : PortParts). LineFair q w) (sym (sends.0 is)) fair
+    send_fair false p next w is sends fair = record {
+      places = fair.places;
+      unblamed = fair.unblamed;
+      judges = sent_state p.core.state (event_room p.kept) (core_begun p) next.core refl
+          (sends.1.core is) w.verdict fair.judges;
+      stands = subst (λ b. StandsIn b next.core.state next.core.session w.master)
+          (sym sends.1.sent)
+          (send_in heard laws p.core.state p next.core w.master refl is (sends.2 is)
+          (sends.1.core is)
+          (subst (λ b. StandsIn b p.core.state p.core.session w.master) is fair.stands));
+    }
 
-  all_fair : (all : List Deed) (p q : PortParts) (w v : WatchState)
-      → StartsUp p w all q v → LineFair p w → blames v.verdict ≡ false
-  all_fair [] p q w v starts fair =
-      subst (λ (x : WatchState). blames x.verdict ≡ false) (sym starts.1) fair.unblamed
-  all_fair (it ∷ more) p q w v starts fair =
-      all_fair more starts.0 q (watch_after_deed w p it) v starts.3
-      (deed_fair it p starts.0 w starts.1 starts.2 fair)
+    deed_fair : (it : Deed) (p next : PortParts) (w : WatchState) → DeedGives p it next
+        → LineFair p w → LineFair next (watch_after_deed w p it)
+    deed_fair Sends p next w gives fair = send_fair p.sent p next w refl gives fair
+    deed_fair (Receives came) p next w gives fair =
+        received p next w came gives.0 gives.1 fair
+    deed_fair (Wakes answered) p next w gives fair =
+        woken p next w answered gives.0 gives.1 fair
+    deed_fair (Calls call reply) p next w gives fair =
+        called p next w (call_leaves p next call reply gives.0 gives.1) fair
 
-  pub start_ups : StartUpsAreByTheRules
-  start_ups p q w v all down places unblamed starts =
-      all_fair all p q w v starts (record {
-        places = places;
-        unblamed = unblamed;
-        fair = down_fair p.core.state w.verdict w.master down;
-      })
+    all_fair : (all : List Deed) (p q : PortParts) (w v : WatchState)
+        → IsWatchedRun p w all q v → LineFair p w → blames v.verdict ≡ false
+    all_fair [] p q w v run fair =
+        subst (λ (x : WatchState). blames x.verdict ≡ false) (sym run.1) fair.unblamed
+    all_fair (it ∷ more) p q w v run fair =
+        all_fair more run.0 q (watch_after_deed w p it) v run.2
+        (deed_fair it p run.0 w run.1 fair)
+
+    -- a port as it is opened
+    new_carries : (o : Output) → allows_octets (aged_output o.carried) [] ≡ true
+    new_carries o = grind (arith, common_steps)
+
+    new_down : (devices : Devices) (busy : ℕ) (m : MasterState)
+        → DownFair (new_session devices busy) m
+    new_down devices busy m =
+        record { current = refl; exchange = refl; carry = new_carries m.output }
+
+    pub ports_are_fair : PortsAreByTheRules
+    ports_are_fair devices limits p q w v all new places unblamed run =
+        let down : IsDown p.core.state = down_of p.core.state new.mode in
+        all_fair all p q w v run (record {
+          places = places;
+          unblamed = unblamed;
+          judges = judges_down p.core.state w.verdict down;
+          stands = stands_down p.sent p.core.state p.core.session w.master down
+              (subst (λ (s : SessionState). DownFair s w.master) (sym new.session_is)
+              (new_down devices limits.busy w.master));
+        })

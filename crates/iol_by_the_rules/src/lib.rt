@@ -8,4 +8,4 @@
 
 mod laws;
 
-pub use laws::start_ups_are_by_the_rules;
+pub use laws::ports_are_by_the_rules;
