@@ -1,0 +1,4 @@
+pub mod Spans
+pub mod Downloads
+pub mod Uploads
+pub mod Sets

@@ -1,0 +1,5 @@
+use Rattle.iol_storage.proofs.Downloads.{applied-whole}
+use Rattle.iol_storage.proofs.laws.applied_is_whole.Goals as goal
+
+pub returns : goal.returns
+returns c = applied-whole

@@ -1,0 +1,5 @@
+use Rattle.iol_storage.proofs.Downloads.{others-cut}
+use Rattle.iol_storage.proofs.laws.others_are_cut_off.Goals as goal
+
+pub returns : goal.returns
+returns c = others-cut

@@ -1,0 +1,5 @@
+use Rattle.iol_storage.proofs.Uploads.{sets-whole}
+use Rattle.iol_storage.proofs.laws.sets_are_whole.Goals as goal
+
+pub returns : goal.returns
+returns c = sets-whole

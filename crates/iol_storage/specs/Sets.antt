@@ -1,0 +1,20 @@
+-- The octets of a set.
+use Rattle.std.specs.Prelude.{ℕ, ◌/◌, ◌%◌, List, [], ◌∷◌, ◌++◌, length}
+use Rattle.iol_isdu.specs.declared.values.Place.{Place}
+use Rattle.iol_storage.specs.declared.set.Set.{Set}
+
+-- one parameter: Index, Subindex, the length of its value, and the value
+abbrev pub object_image : Place × List ℕ → List ℕ
+object_image object = (object.0.index / 256) ∷ ((object.0.index % 256)
+    ∷ (object.0.sub ∷ (length object.1 ∷ object.1)))
+
+abbrev pub objects_image : List (Place × List ℕ) → List ℕ
+objects_image [] = []
+objects_image (object ∷ objects) = object_image object ++ objects_image objects
+
+-- the checksum, VendorID and DeviceID, and a FunctionID 0
+abbrev pub set_header : Set → List ℕ
+set_header set = set.checksum ++ (set.device ++ 0 ∷ (0 ∷ []))
+
+abbrev pub set_image : Set → List ℕ
+set_image set = set_header set ++ objects_image set.objects
