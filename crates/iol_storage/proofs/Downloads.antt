@@ -1,5 +1,5 @@
 -- A download, whatever comes of its requests: the laws.
-use Rattle.std.proofs.Common.{◌≡◌, ◌≤◌, ◌+◌, ◌∷◌, ◌++◌, ◌∙◌, [], ℕ, suc, List, Option, Some, Bool, true, false, refl, sym, ap, arith, length, get_or, drop, subst}
+use Rattle.std.proofs.Common.{◌≡◌, ◌≤◌, ◌+◌, ◌∷◌, ◌++◌, ◌∙◌, [], ℕ, suc, List, Option, Some, Bool, true, false, refl, sym, ap, arith, length, get_or, take, drop, subst}
 use Rattle.std.specs.Prelude.{slice_get, nat_lt, not}
 use Rattle.std.specs.Option.{option_map_or}
 use Rattle.std.proofs.lemmas.List.{drop_more, length-append, length-map}
@@ -227,6 +227,70 @@ module _ (purpose : DownloadPurpose) (objects : List (Place × List ℕ)) where
       (λ w d. cut-from (index + 1) os result other w d) done in
       with-asked index o os
       (λ rs asked. IsDownloadCut purpose objects index rs asked result) at.0 at.1 at.2 cut
+
+  -- what was taken where so many of them were
+  record IsTaken (index until : ℕ) (rs : List Request) (asked : List (Request × Outcome)) :
+      Type 0 where
+    count : ℕ
+    is : until ≡ index + count
+    taken : AreTaken purpose index (take count rs) asked
+
+  asking-more : (index until : ℕ) (o : Outcome) (os : List Outcome) (r : Request)
+      (goes_on more : Bool) → outcome_taken purpose index o ≡ goes_on
+      → nat_lt index last ≡ more → index ≤ last
+      → (index + 1 ≤ last → final (Asking (index + 1)) os ≡ Asking until
+      → IsTaken (index + 1) until (drop (index + 1) requests) (asked-from (Asking (index + 1)) os))
+      → final (stage_after purpose objects (Asking index) o) os ≡ Asking until
+      → IsTaken index until (r ∷ drop (index + 1) requests)
+      ((r, o) ∷ asked-from (stage_after purpose objects (Asking index) o) os)
+  asking-more index until o os r false more taken lt within next done =
+      let failed = failed-step index o taken in
+      let kept = failed-stays (stage_after purpose objects (Asking index) o) os failed in
+      let wrong : false ≡ true =
+      sym (ap (λ s. result_failed (stage_result s)) done) ∙ (ap result_failed kept ∙ failed) in
+      absurd (cc)
+  asking-more index until o os r true true taken lt within next done =
+      let step = taken-step index o taken in
+      let to : stage_after purpose objects (Asking index) o ≡ Asking (index + 1) =
+      step.1 ∙ rw lt refl in
+      let t = next (omega (arith, ltb-true _ _ lt))
+      (subst (λ s. final s os ≡ Asking until) to done) in
+      subst (λ s. IsTaken index until (r ∷ drop (index + 1) requests) ((r, o) ∷ asked-from s os))
+      (sym to) (record {
+        count = suc t.count;
+        is = omega (arith, t.is);
+        taken = (refl, step.0, t.taken);
+      })
+  asking-more index until o os r true false taken lt within next done =
+      let step = taken-step index o taken in
+      let to : stage_after purpose objects (Asking index) o ≡ Over Applied =
+      step.1 ∙ rw lt refl in
+      let wrong : Some Applied ≡ stage_result (Asking until) =
+      sym (ap (λ s. stage_result (final s os)) to ∙ ap stage_result (over-stays Applied os).0)
+      ∙ ap stage_result done in
+      absurd (cc)
+
+  asking-from : (index until : ℕ) (os : List Outcome) → index ≤ last
+      → final (Asking index) os ≡ Asking until
+      → IsTaken index until (drop index requests) (asked-from (Asking index) os)
+  asking-from index until [] within done =
+      let same : index ≡ until = cc in
+      record { count = 0; is = omega (arith, same); taken = refl }
+  asking-from index until (o ∷ os) within done =
+      let at = asked-at index within in
+      let taken = asking-more index until o os at.0 (outcome_taken purpose index o)
+      (nat_lt index last) refl refl within (λ w d. asking-from (index + 1) until os w d) done in
+      with-asked index o os (IsTaken index until) at.0 at.1 at.2 taken
+
+  -- a download that asks the request of an index has had those before it taken
+  pub asking-taken : (index : ℕ) (os : List Outcome)
+      → stage_behind_all purpose objects (Asking 0) os ≡ Asking index
+      → AreTaken purpose 0 (take index (download_requests purpose objects))
+      (all_asked purpose objects (Asking 0) os)
+  asking-taken index os done =
+      let t = asking-from 0 index os (omega arith) done in
+      let same : t.count ≡ index = omega (arith, t.is) in
+      subst (λ n. AreTaken purpose 0 (take n requests) (asked-from (Asking 0) os)) same t.taken
 
 pub applied-whole : AppliedIsWhole
 applied-whole purpose objects outcomes done =

@@ -6,7 +6,7 @@ use Rattle.std.proofs.lemmas.List.{take_more, append-nil, take-append-drop}
 use Rattle.std.proofs.lemmas.Option.{slice_get_within, get_or_from_slice_get}
 use Rattle.iol_isdu.specs.declared.values.Place.{Place}
 use Rattle.iol_storage.specs.Objects.{values_size}
-use Rattle.iol_storage.specs.Sets.{object_image, objects_image}
+use Rattle.iol_storage.specs.Sets.{object_image, objects_image, unit_image}
 
 abbrev Values : Type 0
 Values = List (Place × List ℕ)
@@ -52,10 +52,10 @@ image-room os i o is =
 pub next-image : (os : Values) (i : ℕ) (o : Place × List ℕ) (image next : List ℕ)
     (header : List ℕ) → slice_get os i ≡ Some o
     → image ≡ header ++ objects_image (take i os)
-    → length image ≡ 11 + length (objects_image (take i os))
+    → length image ≤ 31 + length (objects_image (take i os))
     → next ≡ image ++ object_image o
     → (next ≡ header ++ objects_image (take (i + 1) os))
-    × (length next ≡ 11 + length (objects_image (take (i + 1) os)))
+    × (length next ≤ 31 + length (objects_image (take (i + 1) os)))
 next-image os i o image next header is items size one =
     let more = image-more os i o is in
     let grown = ap length more ∙ length-append (objects_image (take i os)) (object_image o) in (
@@ -63,6 +63,25 @@ next-image os i o image next header is items size one =
           ∙ (append_assoc header (objects_image (take i os)) (object_image o)
           ∙ sym (ap (λ x. header ++ x) more))),
       omega (arith, ap length one ∙ length-append image (object_image o), size, grown),
+    )
+
+pub header-image : (checksum device unit one two three next : List ℕ)
+    → length checksum ≡ 4 → length device ≡ 5
+    → one ≡ checksum → two ≡ one ++ device → three ≡ two ++ 0 ∷ (0 ∷ [])
+    → next ≡ three ++ unit_image unit → length next ≤ length three + 20
+    → (next ≡ (checksum ++ (device ++ (0 ∷ (0 ∷ unit_image unit)))) ++ [])
+    × (length next ≤ 31)
+header-image checksum device unit one two three next first second are-one are-two are-three is
+    short = (
+      is ∙ (ap (λ x. x ++ unit_image unit) (are-three
+          ∙ ap (λ x. x ++ 0 ∷ (0 ∷ [])) (are-two ∙ ap (λ x. x ++ device) are-one))
+          ∙ simp (append_assoc, append-nil)),
+      omega (
+        arith,
+        ap length are-three ∙ length-append two (0 ∷ (0 ∷ [])),
+        ap length are-two ∙ length-append one device,
+        ap length are-one,
+      ),
     )
 
 -- one parameter more of those that have these octets

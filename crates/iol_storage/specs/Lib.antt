@@ -4,3 +4,9 @@ pub mod Downloads
 pub mod Laws
 pub mod Uploads
 pub mod Sets
+pub mod Attempts
+pub mod AttemptLaws
+pub mod Stored
+pub mod StoredFaults
+pub mod StoredPort
+pub mod StoredLaws

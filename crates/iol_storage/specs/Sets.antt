@@ -12,9 +12,15 @@ abbrev pub objects_image : List (Place × List ℕ) → List ℕ
 objects_image [] = []
 objects_image (object ∷ objects) = object_image object ++ objects_image objects
 
--- the checksum, VendorID and DeviceID, and a FunctionID 0
-abbrev pub set_header : Set → List ℕ
-set_header set = set.checksum ++ (set.device ++ 0 ∷ (0 ∷ []))
+-- a unit stands in front of the parameters, as 21/0
+abbrev pub unit_image : List ℕ → List ℕ
+unit_image [] = []
+unit_image (octet ∷ octets) = object_image (record { index = 21; sub = 0 }, octet ∷ octets)
 
+-- the checksum, VendorID and DeviceID, a FunctionID 0, and the unit
+abbrev pub set_header : Set → List ℕ
+set_header set = set.checksum ++ (set.device ++ (0 ∷ (0 ∷ unit_image set.unit.items)))
+
+-- STO-2
 abbrev pub set_image : Set → List ℕ
 set_image set = set_header set ++ objects_image set.objects

@@ -1,5 +1,7 @@
-//! What a reader may conclude of a download, and of an upload: laws, without code.
+//! What a reader may conclude of a download, of an upload, and of an attempt: laws, without code.
+ghost use Rattle.iol_storage.specs.StoredLaws.{StepsAreCalls, MovesAreRuns, JobsAreAlone, AttemptsAreForTheDevice};
 ghost use Rattle.iol_storage.specs.Laws.{AppliedIsWhole, OthersAreCutOff, SetsAreWhole};
+ghost use Rattle.iol_storage.specs.AttemptLaws.{UnsavedSetsAreWhole, ToldSetsAreSaved, RestoredSetsAreTaken, AttemptsAskNoMore};
 
 /// A law of the definitions: a download ends as Applied only if the device took each of its
 /// requests, each once, in order, and if nothing else was asked. For a restore the state that was
@@ -13,8 +15,6 @@ pub fn applied_is_whole()
 /// A law of the definitions: a download with any other result was cut off at one of its requests,
 /// which gives the result, and behind which only a break was asked. All requests before it were
 /// taken, so the end never was. `Unknown` is said of the end alone.
-///
-/// Rule JOB-4.
 pub fn others_are_cut_off()
     ensures { OthersAreCutOff }
 {}
@@ -26,4 +26,55 @@ pub fn others_are_cut_off()
 /// Rule STO-7.
 pub fn sets_are_whole()
     ensures { SetsAreWhole }
+{}
+
+/// A law of the definitions: where a set that an attempt fetched waits to be saved, it is a whole
+/// one, by the last upload that was asked, whatever was asked before.
+pub fn unsaved_sets_are_whole()
+    ensures { UnsavedSetsAreWhole }
+{}
+
+/// A law of the definitions: an attempt tells the device that an upload ends only if the set that
+/// waited was saved, and if nothing was asked since. The kept set is one that writes no DS_Command.
+pub fn told_sets_are_saved()
+    ensures { ToldSetsAreSaved }
+{}
+
+/// A law of the definitions: an attempt ends as Restored only if the device took, behind the looks,
+/// each request of the restore of the kept set, each once, in order, and if nothing else was asked.
+pub fn restored_sets_are_taken()
+    ensures { RestoredSetsAreTaken }
+{}
+
+/// A law of the definitions: an attempt asks only reads of Data Storage's own places, reads of
+/// those that the device's Index_List names, DS_Commands 01 to 05, and writes of the kept set's
+/// values. Such a write is the next one of a restore, behind the looks and all requests before it.
+pub fn attempts_ask_no_more()
+    ensures { AttemptsAskNoMore }
+{}
+
+/// A law of each stored port: it is the port within. A job's step is a list of calls of that port,
+/// and whatever happens at it is a run, in pieces, of each abstract port that it stands for. So all
+/// that is promised of a port is promised of a stored one.
+#[tactic(auto, using(crate::proofs::StoredSteps::steps_are_calls))]
+pub fn stored_ports_are_ports()
+    ensures steps { StepsAreCalls }
+    ensures runs { MovesAreRuns }
+{}
+
+/// A law of each stored port: behind a job's step, a request that may be taken is the job's own, if
+/// a job is under way; and none may be taken until Data Storage has its standing.
+///
+/// Rules JOB-2, STO-14.
+pub fn jobs_are_alone()
+    ensures { JobsAreAlone }
+{}
+
+/// A law of the definitions: an attempt begins in a session alone, whose device is the one of the
+/// kept set, if one is kept.
+///
+/// Rule STO-4.
+#[tactic(auto, using(crate::proofs::StoredSteps::attempts_are_for_the_device))]
+pub fn attempts_are_for_the_device()
+    ensures { AttemptsAreForTheDevice }
 {}

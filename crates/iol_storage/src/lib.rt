@@ -4,19 +4,31 @@
 //! A job is what many requests do together. Each of them is asked once, in order, when the one
 //! before it has its outcome; a job says what is asked next, and hears what came of it.
 //!
-//! Definitions: `specs/Objects`, `Downloads`, `Uploads`, `Sets`; the theorems in `Laws`.
+//! Definitions: `specs/Objects`, `Downloads`, `Uploads`, `Sets`, `Attempts`; the theorems in `Laws`
+//! and `AttemptLaws`.
 #![tactic(auto)]
 
+mod attempt;
 mod download;
 mod fault;
 mod laws;
 mod objects;
 mod set;
+mod stored;
 mod upload;
 
+pub use attempt::{AttemptPurpose, AttemptResult, AttemptStage, StorageAttempt, StorageMode};
 pub use download::{Download, DownloadPurpose, DownloadResult, DownloadStage, Flag, Keep, Refusal};
 pub use fault::StorageFault;
-pub use laws::{applied_is_whole, others_are_cut_off, sets_are_whole};
+pub use laws::{
+    applied_is_whole, attempts_are_for_the_device, attempts_ask_no_more, jobs_are_alone,
+    others_are_cut_off, restored_sets_are_taken, sets_are_whole, stored_ports_are_ports,
+    told_sets_are_saved, unsaved_sets_are_whole,
+};
 pub use objects::{MOST_OBJECTS, MOST_OCTETS, Object, Objects};
-pub use set::{Set, SetImage};
+pub use set::{SerialNumber, Set, SetImage};
+pub use stored::{
+    BlockTicket, Retry, Served, Storage, StorageJob, StorageStanding, StoredFault, StoredPort,
+    Trouble,
+};
 pub use upload::{Upload, UploadResult, UploadStage};

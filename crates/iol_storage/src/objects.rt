@@ -13,7 +13,7 @@ pub const MOST_OBJECTS: usize = 76;
 /// The most octets of a set, with four of each parameter beside its value.
 pub const MOST_OCTETS: usize = 2048;
 /// The octets of a parameter in a set beside its value: Index, Subindex and length.
-const HEADER: usize = 4;
+pub(crate) const HEADER: usize = 4;
 /// The most octets of one value: those of one ISDU.
 const MOST_VALUE: usize = 232;
 

@@ -1,18 +1,25 @@
 //! What Data Storage keeps of a device, and its octets, by which a program keeps it over a restart
 //! (IEC 61131-9, Annex G).
-ghost use Rattle.std.specs.Prelude.{◌≡◌, ◌<◌, ◌≤◌, ◌+◌, ◌*◌, ◌++◌, length, take, IfOk, IfErr};
+ghost use Rattle.std.specs.Prelude.{◌≡◌, ◌<◌, ◌≤◌, ◌+◌, ◌*◌, ◌++◌, [], length, take, IfOk, IfErr};
 ghost use Rattle.iol_storage.specs.Objects.{values_size};
-ghost use Rattle.iol_storage.specs.Sets.{set_image, set_header, object_image, objects_image};
+ghost use Rattle.iol_storage.specs.Sets.{set_image, set_header, unit_image, object_image, objects_image};
 
 use crate::StorageFault;
-use crate::objects::{MOST_OCTETS, Object, Objects};
+use crate::objects::{HEADER, MOST_OCTETS, Object, Objects};
 use arrayvec::ArrayVec;
 use iol_isdu::Place;
 
-/// The octets of a set before its values: the checksum, VendorID, DeviceID and FunctionID.
+/// Where a device has its SerialNumber, by which units of one type differ (B.2.8).
+pub(crate) const SERIAL_NUMBER: Place = Place { index: 21, sub: 0 };
+/// The most octets of a SerialNumber.
+pub(crate) const MOST_SERIAL: usize = 16;
+/// The octets of a set before its unit: the checksum, VendorID, DeviceID and FunctionID.
 const SET_HEADER: usize = 11;
 /// The most octets of a set.
-const MOST_IMAGE: usize = SET_HEADER + MOST_OCTETS;
+const MOST_IMAGE: usize = SET_HEADER + HEADER + MOST_SERIAL + MOST_OCTETS;
+
+/// The SerialNumber of a unit; empty where it has none.
+pub type SerialNumber = ArrayVec<u8, MOST_SERIAL>;
 
 /// The octets of a set, as a program keeps them.
 pub type SetImage = ArrayVec<u8, MOST_IMAGE>;
@@ -25,13 +32,18 @@ pub struct Set {
     pub checksum: [u8; 4],
     /// VendorID and DeviceID, as the device's page has them at 0x07 to 0x0B (B.1.8, B.1.9).
     pub device: [u8; 5],
+    /// The unit that it was fetched of, where that counts: in mode Own. Empty, it is no unit's.
+    pub unit: SerialNumber,
     /// The values, as the device's Index_List names them.
     pub objects: Objects,
 }
 
 impl Set {
     /// Puts the octets of the set in place of others: the checksum, VendorID, DeviceID, two octets
-    /// 0, and of each parameter its Index, Subindex, the length of its value, and the value.
+    /// 0, and of each parameter its Index, Subindex, the length of its value, and the value. The
+    /// unit, if there is one, stands in front of them, as a parameter 21/0.
+    ///
+    /// Rule STO-2.
     pub fn write_into(&self, image: &mut SetImage)
         ensures { image.new.items ≡ set_image self.now }
     {
@@ -39,6 +51,7 @@ impl Set {
         image.try_extend_from_slice(&self.checksum).unwrap();
         image.try_extend_from_slice(&self.device).unwrap();
         image.try_extend_from_slice(&[0, 0]).unwrap();
+        write_unit(&self.unit, image);
         self.objects.are_few();
         for index in 0..self.objects.len() {
             write_object(&self.objects.get(index).unwrap(), image);
@@ -57,12 +70,46 @@ impl Set {
         let [a, b, c, d, e, f, g, h, i, 0, 0, rest @ ..] = image else {
             return Err(StorageFault::NoSet);
         };
+        let mut unit = SerialNumber::new();
+        let values = read_unit(rest, &mut unit);
         Ok(Set {
             checksum: [*a, *b, *c, *d],
             device: [*e, *f, *g, *h, *i],
-            objects: read_objects(rest)?,
+            unit,
+            objects: read_objects(values)?,
         })
     }
+}
+
+/// Takes the unit off the octets, if they begin with one, and answers those behind it.
+fn read_unit<'a>(image: &'a [u8], unit: &mut SerialNumber) -> &'a [u8]
+    requires { unit.old.items ≡ [] }
+    ensures { unit_image unit.new.items ++ result.now ≡ image.now }
+{
+    match image {
+        [0, 21, 0, size @ 1..=16, rest @ ..] if usize::from(*size) <= rest.len() => {
+            let (value, rest) = rest.split_at(usize::from(*size));
+            unit.try_extend_from_slice(value).unwrap();
+            rest
+        }
+        _ => image,
+    }
+}
+
+/// Puts the octets of the unit behind others, if there is one.
+fn write_unit(unit: &SerialNumber, image: &mut SetImage)
+    requires room { length image.old.items ≤ 11 }
+    ensures written { image.new.items ≡ image.old.items ++ unit_image unit.now.items }
+    ensures short { length image.new.items ≤ length image.old.items + 20 }
+{
+    if unit.is_empty() {
+        return;
+    }
+    let object = Object {
+        place: SERIAL_NUMBER,
+        octets: unit,
+    };
+    write_object(&object, image);
 }
 
 /// The values that have these octets.
@@ -106,7 +153,7 @@ fn read_object<'a>(image: &'a [u8], objects: &mut Objects) -> Result<&'a [u8], S
 /// Puts the octets of one parameter behind others.
 fn write_object(object: &Object, image: &mut SetImage)
     requires short { length object.now.octets.now ≤ 232 }
-    requires room { length image.old.items + 4 + length object.now.octets.now ≤ 2059 }
+    requires room { length image.old.items + 4 + length object.now.octets.now ≤ 2079 }
     ensures { image.new.items ≡ image.old.items
         ++ object_image (object.now.place, object.now.octets.now) }
 {

@@ -8,14 +8,15 @@ use iol_book::Outcome;
 use iol_isdu::{Answer, Octets, Place, Request};
 
 /// The checksum of the device's parameters (B.2.3).
-const STORAGE_CHECKSUM: Place = Place { index: 3, sub: 4 };
+pub(crate) const STORAGE_CHECKSUM: Place = Place { index: 3, sub: 4 };
 /// The Index_List, which names the parameters of the set (B.2.3).
 const STORAGE_LIST: Place = Place { index: 3, sub: 5 };
 
 /// DS_Commands.
 const UPLOAD_START: u8 = 1;
 
-const BREAK: u8 = 5;
+/// The DS_Command that breaks an upload off.
+pub(crate) const BREAK: u8 = 5;
 
 /// The octets of one place in the list: Index and Subindex.
 const PLACE: usize = 3;
@@ -55,7 +56,7 @@ pub enum UploadStage {
 
 /// An upload under way. Its values go into objects of the caller, which are the set in the end.
 ///
-/// Rules JOB-3, STO-7.
+/// Rule STO-7.
 #[derive(Drop)]
 pub struct Upload {
     /// The checksum that the device had before.
@@ -231,7 +232,7 @@ fn is_list(octets: &[u8]) -> bool
 }
 
 /// A DS_Command.
-fn command(octet: u8) -> Request
+pub(crate) fn command(octet: u8) -> Request
     ensures { result ≡ storage_command octet }
 {
     let mut octets = Octets::new();

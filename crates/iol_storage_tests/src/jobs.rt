@@ -1,5 +1,5 @@
 //! What becomes of a block, of a restore and of a fetch, by what the device answers.
-use crate::sensor::{MEMBERS, RULES, at};
+use crate::sensor::{MEMBERS, RULES, at, has, limits};
 use iol_book::Outcome;
 use iol_isdu::{Answer, Cause, Place, Request};
 use iol_params::{Manager, Table};
@@ -68,22 +68,6 @@ fn checksum<A: Allocator + Copy>(manager: &mut Manager<A>) -> [u8; 4] {
         },
         _ => [0; 4],
     }
-}
-
-/// Whether a place of a device has these octets.
-fn has<A: Allocator + Copy>(manager: &Manager<A>, index: u16, octets: &[u8]) -> bool {
-    match manager.read(at(index)) {
-        Answer::Read(value) => value.as_slice() == octets,
-        _ => false,
-    }
-}
-
-/// The two limits, which only a block can write in this order.
-fn limits(low: u8, high: u8) -> Result<Objects, StorageFault> {
-    let mut objects = Objects::new();
-    objects.push(at(64), &[low])?;
-    objects.push(at(65), &[high])?;
-    Ok(objects)
 }
 
 #[test]

@@ -1,6 +1,6 @@
-use Rattle.std.proofs.Common.{◌∙◌, ap, sym, arith}
+use Rattle.std.proofs.Common.{◌∙◌, ◌++◌, ap, sym, arith}
 use Rattle.std.specs.Option.{option_map}
-use Rattle.iol_storage.proofs.Sets.{image-room, image-length, next-image}
+use Rattle.iol_storage.proofs.Sets.{header-image, image-room, image-length, next-image}
 use Rattle.iol_storage.proofs.set.Set.write_into.Goals as goal
 
 pub loop-index-preserved : goal.loop-index-preserved
@@ -27,3 +27,16 @@ write_object-requires-clause-room c =
       image-length c.args.self.now.objects,
       c.are_few.ensures,
     )
+
+pub loop-index-init : goal.loop-index-init
+loop-index-init c =
+    let own = c.args.self.now in
+    let first = rw c.unwrap.ensures at c.try_extend_from_slice.ensures.ok in
+    let second = rw c.unwrap-2.ensures at c.try_extend_from_slice-2.ensures.ok in
+    let third = rw c.unwrap-3.ensures at c.try_extend_from_slice-3.ensures.ok in
+    let header = header-image own.checksum own.device own.unit.items
+    c.try_extend_from_slice.new.self.items c.try_extend_from_slice-2.new.self.items
+    c.try_extend_from_slice-3.new.self.items c.write_unit.new.image.items
+    (omega arith) (omega arith) (first ∙ ap (λ x. x ++ own.checksum) c.clear.ensures) second
+    third c.write_unit.ensures.written c.write_unit.ensures.short in
+    record { items = header.0; size = header.1 }

@@ -1,0 +1,159 @@
+-- What the calls of a stored port rest on.
+use Rattle.std.proofs.Common.{◌≡◌, ◌∙◌, ℕ, ◌+◌, Bool, true, false, ◌||◌, List, [], ◌∷◌, drop, Some, Option, Result, Ok, Err, sym, ap, refl, subst}
+use Rattle.std.specs.Prelude.{slice_get, is_ok}
+use Rattle.std.specs.Result.{result_map_both}
+use Rattle.std.proofs.lemmas.List.{drop_more}
+use Rattle.std.proofs.lemmas.Option.{get_or_from_slice_get, slice_get_within}
+use Rattle.iol_isdu.specs.declared.values.Place.{Place}
+use Rattle.iol_isdu.specs.declared.values.Request.{Request}
+use Rattle.iol_book.specs.declared.entries.Outcome.{Outcome}
+use Rattle.iol_book.specs.declared.entries.Serve.{Serve}
+use Rattle.iol_book.specs.declared.entries.Ticket.{Ticket}
+use Rattle.iol_book.specs.BookModel.{book_after_submit}
+use Rattle.iol_app.specs.Abstract.Steps.{ImageOctets}
+use Rattle.iol_port.specs.declared.call.Call.{Call}
+use Rattle.iol_port.specs.declared.call.Call.TheVariants as call
+use Rattle.iol_port.specs.declared.call.Answered.{Answered}
+use Rattle.iol_port.specs.declared.call.Answered.TheVariants as answered
+use Rattle.iol_port.specs.declared.fault.PortFault.{PortFault}
+use Rattle.iol_port.specs.Called.{CoreCalled}
+use Rattle.iol_port.specs.EveryWire.{SubmitGives, CollectGives, WithdrawGives, ServeGives, SetOutputGives, ClearOutputGives}
+use Rattle.iol_port.specs.Replies.{ticket_reply, outcome_reply, nothing_reply}
+use Rattle.iol_port.specs.View.{PortParts}
+use Rattle.iol_storage.specs.declared.stored.storage.Storage.{Storage}
+use Rattle.iol_storage.specs.Stored.{is_command_place, any_owned, storage_heard}
+use Rattle.iol_storage.specs.StoredPort.{StoredParts, CoreMakes, CoreCalls, CollectsOf, storage_told, storage_submitted}
+
+-- of the writes from an index on: whether one is owned, if none before was
+module _ (writes : List (Place × List ℕ)) (index : ℕ) (write : Place × List ℕ)
+    (found : slice_get writes index ≡ Some write)
+    (rest : any_owned (drop index writes) ≡ any_owned writes) where
+  owned-next : any_owned (drop index writes)
+      ≡ (is_command_place write.0 || any_owned (drop (index + 1) writes))
+  owned-next =
+      let more = drop_more writes index write (slice_get_within writes index write found) in
+      rw (more, get_or_from_slice_get writes index write write found) refl
+
+  pub owned-here : is_command_place write.0 ≡ true → true ≡ any_owned writes
+  owned-here owned = sym (ap (λ b. b || any_owned (drop (index + 1) writes)) owned)
+      ∙ sym owned-next ∙ rest
+
+  pub owned-later : is_command_place write.0 ≡ false
+      → any_owned (drop (index + 1) writes) ≡ any_owned writes
+  owned-later free = sym (ap (λ b. b || any_owned (drop (index + 1) writes)) free)
+      ∙ sym owned-next ∙ rest
+
+-- A call of the port within, in all that is said of it
+
+module _ (p q : PortParts) where
+  pub made-submit : (request : Request) (result : Result Ticket PortFault)
+      → CoreCalled p q (call.Submit request) (ticket_reply result)
+      (SubmitGives p (book_after_submit p.book.state request) result q)
+      → CoreMakes p (call.Submit request) (ticket_reply result) q
+  made-submit request result called =
+      record { does = called.does; gives = (result, refl, called.gives) }
+
+  pub made-collect : (ticket : Ticket) (result : Result Outcome PortFault)
+      → CoreCalled p q (call.Collect ticket) (outcome_reply result)
+      (CollectGives p ticket result q)
+      → CoreMakes p (call.Collect ticket) (outcome_reply result) q
+  made-collect ticket result called =
+      record { does = called.does; gives = (result, refl, called.gives) }
+
+  pub made-withdraw : (ticket : Ticket) (result : Result (Unit {0}) PortFault)
+      → CoreCalled p q (call.Withdraw ticket) (nothing_reply result)
+      (WithdrawGives p ticket result q)
+      → CoreMakes p (call.Withdraw ticket) (nothing_reply result) q
+  made-withdraw ticket result called =
+      record { does = called.does; gives = (result, refl, called.gives) }
+
+  pub made-serve : (which : Serve)
+      → CoreCalled p q (call.Serve which) answered.Nothing (ServeGives p which q)
+      → CoreMakes p (call.Serve which) answered.Nothing q
+  made-serve which called = record { does = called.does; gives = (refl, called.gives) }
+
+  pub made-output : (image : ImageOctets) (result : Result (Unit {0}) PortFault)
+      → CoreCalled p q (call.SetOutput image) (nothing_reply result)
+      (SetOutputGives p image result q)
+      → CoreMakes p (call.SetOutput image) (nothing_reply result) q
+  made-output image result called =
+      record { does = called.does; gives = (result, refl, called.gives) }
+
+  pub made-output-taken : (image : ImageOctets) (result : Result (Unit {0}) PortFault)
+      (unit : Unit {0}) → result ≡ Ok unit
+      → CoreCalled p q (call.SetOutput image) (nothing_reply result)
+      (SetOutputGives p image result q)
+      → CoreMakes p (call.SetOutput image) answered.Nothing q
+  made-output-taken image result unit taken called =
+      subst (λ (r : Result (Unit {0}) PortFault).
+      CoreMakes p (call.SetOutput image) (nothing_reply r) q) taken
+      (made-output image result called)
+
+  pub made-clear : CoreCalled p q call.ClearOutput answered.Nothing (ClearOutputGives p q)
+      → CoreMakes p call.ClearOutput answered.Nothing q
+  made-clear called = record { does = called.does; gives = (refl, called.gives) }
+
+  pub one-call : (c : Call) (reply : Answered) → CoreMakes p c reply q
+      → CoreCalls p ((c, reply) ∷ []) q
+  one-call c reply made = (q, made, refl)
+
+-- what is heard of a request is its outcome, if there is one
+pub heard-one : (result : Result (Unit {0}) PortFault) (outcome : Outcome) (s heard : Storage)
+    → is_ok result ≡ true → heard ≡ storage_heard s outcome
+    → heard ≡ storage_told s
+    (outcome_reply (result_map_both (λ _. outcome) (λ why. why) result))
+heard-one (Ok _) outcome s heard ok is = is
+heard-one (Err why) outcome s heard ok is = absurd (cc)
+
+pub heard-none : (result : Result (Unit {0}) PortFault) (outcome : Outcome) (s : Storage)
+    → is_ok result ≡ false
+    → s ≡ storage_told s (outcome_reply (result_map_both (λ _. outcome) (λ why. why) result))
+heard-none (Ok _) outcome s none = absurd (cc)
+heard-none (Err why) outcome s none = refl
+
+-- of what is submitted, the ticket, if it gets one
+pub submitted-one : (result : Result Ticket PortFault) (ticket : Ticket) (s : Storage)
+    → result ≡ Ok ticket
+    → record s { asked = Some ticket } ≡ storage_submitted s (ticket_reply result)
+submitted-one result ticket s is = rw is refl
+
+pub submitted-none : (result : Result Ticket PortFault) (s : Storage)
+    → ((ticket : Ticket) → result ≡ Ok ticket → ⊥) → s ≡ storage_submitted s (ticket_reply result)
+submitted-none (Ok ticket) s none = absurd (none ticket refl)
+submitted-none (Err why) s none = refl
+
+-- what came of a job's request, out of a session and in one
+module _ (old : StoredParts) (asked : Option Ticket) (ticket : Ticket)
+    (is : asked ≡ Some ticket) (session : Bool) (q : PortParts) (s : Storage)
+    (collected : Result Outcome PortFault)
+    (told : s ≡ storage_told old.storage (outcome_reply collected)) where
+  pub collected-out : (mid : PortParts) (withdrawn : Result (Unit {0}) PortFault)
+      → CoreCalled old.port mid (call.Withdraw ticket) (nothing_reply withdrawn)
+      (WithdrawGives old.port ticket withdrawn mid)
+      → CoreCalled mid q (call.Collect ticket) (outcome_reply collected)
+      (CollectGives mid ticket collected q)
+      → session ≡ false → CollectsOf asked session old (record old { port = q; storage = s })
+  collected-out mid withdrawn withdraws collects out = rw (is, out) (
+    nothing_reply withdrawn,
+    outcome_reply collected,
+    record {
+      made = (
+        mid,
+        made-withdraw old.port mid ticket withdrawn withdraws,
+        (q, made-collect mid q ticket collected collects, refl),
+      );
+      rest = rw (told) refl;
+    },
+  )
+
+  pub collected-in : CoreCalled old.port q (call.Collect ticket) (outcome_reply collected)
+      (CollectGives old.port ticket collected q)
+      → session ≡ true → CollectsOf asked session old (record old { port = q; storage = s })
+  collected-in collects in-one = rw (is, in-one) (
+    answered.Nothing,
+    outcome_reply collected,
+    record {
+      made = (q, made-collect old.port q ticket collected collects, refl);
+      rest = rw (told) refl;
+    },
+  )

@@ -1,0 +1,5 @@
+use Rattle.iol_storage.proofs.AttemptAsks.{asks-no-more}
+use Rattle.iol_storage.proofs.laws.attempts_ask_no_more.Goals as goal
+
+pub returns : goal.returns
+returns c = asks-no-more
