@@ -1,0 +1,93 @@
+//! A sensor is exchanged, and its parameters come back without a tool: a port with Data Storage at
+//! a simulated line.
+//!
+//! Of its input the program takes the last line `set ..`: the set that it saved before. Then
+//! somebody changes sensor A at its key; A breaks; B comes in its place, then C, which is of
+//! another type, then B again; at last a client writes parameters of B as blocks.
+//!
+//! A set that the port has fetched is saved as a line `set ..`. Each write that a sensor carries
+//! out is printed. At 3/1 are the commands of Data Storage: 01 begins a fetch and 02 ends it, 03
+//! begins a restore and 04 ends it. At 2/0 are those of a block: 03 begins it, 05 ends it and has
+//! it stored.
+#![tactic(auto)]
+
+mod cable;
+mod client;
+mod gateway;
+mod kept;
+mod parameters;
+
+use crate::cable::Sensor;
+use crate::client::{read_limit, write_limits};
+use crate::gateway::Gateway;
+use crate::kept::read_kept;
+use crate::parameters::{LOWER_LIMIT, OTHER_TYPE, RULES, THERMOMETER, UPPER_LIMIT, members};
+use anyhow::{Context, Result};
+use iol_page::Page;
+use iol_params::Table;
+
+/// Plugs a sensor in.
+fn plug_in<'a>(rt: &impl Print, gateway: &mut Gateway<'a>, sensor: Sensor<'a>) -> Result<()> {
+    println!(rt; "{} is plugged in", sensor.name)?;
+    gateway.cable.plug_in(sensor)
+}
+
+/// Pulls the sensor out, and goes on until the port has noticed.
+fn pull_out<'a>(rt: &impl Print, gateway: &mut Gateway<'a>) -> Result<Sensor<'a>> {
+    let sensor = gateway.cable.sensor.take();
+    let sensor = sensor.context("nothing is plugged in")?;
+    println!(rt;
+        "{} is gone; {} requests carried out",
+        sensor.name, sensor.carried
+    )?;
+    gateway.turns(rt)?;
+    Ok(sensor)
+}
+
+/// Presses the key of the sensor that is plugged in.
+fn press_key(rt: &impl Print, gateway: &mut Gateway<'_>) -> Result<()> {
+    let sensor = gateway.cable.sensor.as_mut();
+    let sensor = sensor.context("nothing is plugged in")?;
+    let limit = sensor.press_key()?;
+    println!(rt; "key of {}: the upper limit is {limit} tenths", sensor.name)?;
+    gateway.turns(rt)
+}
+
+fn main(rt: HostRuntime) -> Result<()> {
+    let kept = read_kept(&rt)?;
+    println!(rt;
+        "{}",
+        if kept.is_some() {
+            "a set was saved"
+        } else {
+            "no set was saved"
+        }
+    )?;
+    let members = members();
+    let table = Table::new(&members, &RULES).map_err(|fault| fault.flaw)?;
+    let thermometer = Page::from_octets(&THERMOMETER);
+    let a = Sensor::new(rt.alloc(), "A", &table, thermometer)?;
+    let b = Sensor::new(rt.alloc(), "B", &table, thermometer)?;
+    let c = Sensor::new(rt.alloc(), "C", &table, Page::from_octets(&OTHER_TYPE))?;
+    let mut gateway = Gateway::open(rt.alloc(), kept)?;
+
+    plug_in(&rt, &mut gateway, a)?;
+    gateway.turns(&rt)?;
+    press_key(&rt, &mut gateway)?;
+    let _broken = pull_out(&rt, &mut gateway)?;
+
+    plug_in(&rt, &mut gateway, b)?;
+    read_limit(&rt, &mut gateway, UPPER_LIMIT)?;
+    let b = pull_out(&rt, &mut gateway)?;
+
+    plug_in(&rt, &mut gateway, c)?;
+    gateway.turns(&rt)?;
+    let _of_another_type = pull_out(&rt, &mut gateway)?;
+
+    plug_in(&rt, &mut gateway, b)?;
+    gateway.turns(&rt)?;
+    write_limits(&rt, &mut gateway, 250, 300)?;
+    write_limits(&rt, &mut gateway, 400, 350)?;
+    read_limit(&rt, &mut gateway, LOWER_LIMIT)?;
+    read_limit(&rt, &mut gateway, UPPER_LIMIT)
+}
