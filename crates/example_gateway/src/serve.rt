@@ -7,7 +7,7 @@ use iol_book::Ticket;
 use iol_cell::image_cell;
 use iol_isdu::Request;
 use iol_link::Wire;
-use iol_master::{Gate, Master, MasterFault};
+use iol_master::{Desk, Gate, Master, MasterFault};
 use iol_sim::{Params, Sim};
 use std::alloc::Global;
 use std::sync::Wait;
@@ -27,16 +27,33 @@ impl Gate for Open {
     }
 }
 
-/// A client: it opens a desk at a port, and submits a read there.
+/// A client: its desk at a port, and the ticket of its read there.
+type Client<L> = (Desk<L>, Ticket);
+
+/// A client opens a desk at a port, and submits a read there.
 fn submit<W: Wire, L: Ledger, K: Ledger, R: Wait>(
     rt: &R,
     master: &Master<W, L, K>,
     port: u32,
-) -> Result<Ticket, MasterFault> {
+) -> Result<Client<L>, MasterFault> {
     let mut desk = master.desk(rt, port)?;
-    let ticket = master.submit(rt, &mut desk, Request::read(PLACE));
+    let ticket = master.submit(rt, &mut desk, Request::read(PLACE))?;
+    Ok((desk, ticket))
+}
+
+/// A client collects and prints what it read, and closes its desk: a ticket that it left would be
+/// abandoned then.
+fn finish<W: Wire, L: Ledger, K: Ledger, R: Print + Wait>(
+    rt: &R,
+    master: &Master<W, L, K>,
+    client: Client<L>,
+) -> Result<()> {
+    let (desk, ticket) = client;
+    let port = desk.port();
+    let outcome = master.lock(rt, port)?.collect(ticket)?;
+    println!(rt; "port {port}: {outcome:?}")?;
     master.settle(rt, desk);
-    ticket
+    Ok(())
 }
 
 /// The threads of two clients submit, while the workers make their turns.
@@ -47,7 +64,7 @@ fn submit_beside<
     L: Ledger + Sync,
     K: Ledger + Sync,
     R: Threads + Wait + Sync,
->(scope: &Scope<'s, E>, rt: &'s R, master: &'s Master<W, L, K>) -> Result<[Ticket; 2]> {
+>(scope: &Scope<'s, E>, rt: &'s R, master: &'s Master<W, L, K>) -> Result<(Client<L>, Client<L>)> {
     let Ok(first) = scope.spawn(move || submit(rt, master, 1)) else {
         bail!("no thread");
     };
@@ -55,18 +72,18 @@ fn submit_beside<
         bail!("no thread");
     };
     master.serve(rt, &Open, TURNS)?;
-    Ok([first.join(rt)?, second.join(rt)?])
+    Ok((first.join(rt)?, second.join(rt)?))
 }
 
-/// The tickets of two clients, each in a thread of its own.
+/// Two clients, each of which submitted in a thread of its own.
 fn submit_both<W: Wire + Send, L: Ledger + Sync, K: Ledger + Sync, R: Threads + Wait + Sync>(
     rt: &R,
     master: &Master<W, L, K>,
-) -> Result<[Ticket; 2]> {
+) -> Result<(Client<L>, Client<L>)> {
     thread::scope(
         thread::scope_env(),
         rt,
-        move |scope| -> Result<[Ticket; 2]> { submit_beside(scope, rt, master) },
+        move |scope| -> Result<(Client<L>, Client<L>)> { submit_beside(scope, rt, master) },
     )
 }
 
@@ -89,12 +106,10 @@ pub fn serve<L: Ledger + Sync, K: Ledger + Sync, R: Print + Threads + Wait + Syn
     let Ok(master) = opened else {
         bail!("no memory");
     };
-    let tickets = submit_both(rt, &master)?;
+    let (one, two) = submit_both(rt, &master)?;
     master.serve(rt, &Open, TURNS)?;
-    for (ticket, port) in tickets.into_iter().zip(1..) {
-        let outcome = master.lock(rt, port)?.collect(ticket)?;
-        println!(rt; "port {port}: {outcome:?}")?;
-    }
+    finish(rt, &master, one)?;
+    finish(rt, &master, two)?;
     for mut seat in seats {
         println!(rt; "process data of port 1: {:?}", seat.read(rt))?;
     }

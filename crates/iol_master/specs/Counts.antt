@@ -1,5 +1,6 @@
 -- What desks and the master count.
-use Rattle.std.specs.Prelude.{◌≡◌, ℕ, ◌+◌, ◌<◌, ◌≤◌, Option, Some, None}
+use Rattle.std.specs.Prelude.{◌≡◌, ℕ, ◌+◌, ◌<◌, ◌≤◌, List, [], Option, Some, None}
+use Rattle.iol_book.specs.declared.entries.Ticket.{Ticket}
 use Rattle.iol_master.specs.declared.accounts.Settled.{Settled}
 use Rattle.iol_master.specs.declared.accounts.Settled.TheVariants.{Part, Last}
 use Rattle.iol_master.specs.declared.accounts.Tally.{Tally}
@@ -8,6 +9,12 @@ pub record DeskState : Type 0 where
   pub port : ℕ
   -- the accepted submits, which are the amount of its share
   pub accepted : ℕ
+  -- the tickets that it was given and that may be outstanding
+  pub tickets : List Ticket
+
+-- a desk at this port, with no submit
+abbrev pub new_desk : ℕ → DeskState
+new_desk port = record { port = port; accepted = 0; tickets = [] }
 
 pub record AccountState : Type 0 where
   -- the open desks
@@ -20,8 +27,7 @@ pub record AccountState : Type 0 where
 -- A desk is opened where fewer than 1,024 are open.
 abbrev pub Opens : AccountState → ℕ → Option DeskState → AccountState → Type 0
 Opens a port (Some d) b =
-    (a.desks < 1024) × (d ≡ record { port = port; accepted = 0 })
-    × (b ≡ record a { desks = a.desks + 1 })
+    (a.desks < 1024) × (d ≡ new_desk port) × (b ≡ record a { desks = a.desks + 1 })
 Opens a port None b = (a.desks ≡ 1024) × (b ≡ a)
 
 -- a desk with so many submits was put to the settled ones

@@ -1,5 +1,5 @@
 -- What the calls of a master answer. A master is seen as the number of its ports.
-use Rattle.std.specs.Prelude.{◌≡◌, ◌⊎◌, ℕ, ◌+◌, ◌≤◌, Some, None, Result, Ok, Err}
+use Rattle.std.specs.Prelude.{◌≡◌, ◌⊎◌, ℕ, ◌+◌, ◌≤◌, List, [], ◌∷◌, ◌++◌, Some, None, Result, Ok, Err}
 use Rattle.iol_book.specs.declared.entries.Ticket.{Ticket}
 use Rattle.iol_book.specs.declared.fault.BookFault.TheVariants.{Full, JournalFull, TicketsSpent, OutOfMemory as NoMemory}
 use Rattle.iol_port.specs.declared.fault.PortFault.{PortFault}
@@ -8,7 +8,7 @@ use Rattle.iol_master.specs.declared.fault.MasterFault.{MasterFault}
 use Rattle.iol_master.specs.declared.fault.MasterFault.TheVariants.{Port, OutOfMemory, NoSuchPort, NoThread, DesksFull}
 use Rattle.iol_master.specs.declared.accounts.Settled.{Settled}
 use Rattle.iol_master.specs.declared.accounts.Settled.TheVariants.{Part, Last}
-use Rattle.iol_master.specs.Counts.{DeskState, AccountState, Opens, Settles}
+use Rattle.iol_master.specs.Counts.{DeskState, AccountState, new_desk, Opens, Settles}
 
 -- ports are numbered from 1
 abbrev pub IsPortNumber : ℕ → ℕ → Type 0
@@ -16,7 +16,7 @@ IsPortNumber ports port = (1 ≤ port) × (port ≤ ports)
 
 -- a desk is opened with no submit
 abbrev pub Desks : ℕ → ℕ → Result DeskState MasterFault → Type 0
-Desks ports port (Ok desk) = IsPortNumber ports port × (desk ≡ record { port = port; accepted = 0 })
+Desks ports port (Ok desk) = IsPortNumber ports port × (desk ≡ new_desk port)
 Desks ports port (Err NoSuchPort) = ¬ IsPortNumber ports port
 Desks ports port (Err DesksFull) = IsPortNumber ports port
 Desks ports port (Err (Port why)) = ⊥
@@ -38,10 +38,15 @@ abbrev pub IsSubmitRefusal : PortFault → Type 0
 IsSubmitRefusal why = (why ≡ Book Full) ⊎ (why ≡ Book JournalFull) ⊎ (why ≡ Book TicketsSpent)
     ⊎ (why ≡ Book NoMemory)
 
+-- a desk that counts one more, and has that ticket behind others
+abbrev pub CountsTicket : DeskState → Ticket → DeskState → Type 0
+CountsTicket d ticket d' = (others : List Ticket)
+    × (d' ≡ record d { accepted = d.accepted + 1; tickets = others ++ ticket ∷ [] })
+
 -- A desk counts one more exactly where a ticket is answered. Tickets are numbered from 1.
 abbrev pub DeskCountsSubmit : ℕ → DeskState → Result Ticket MasterFault → DeskState → Type 0
 DeskCountsSubmit ports d (Ok ticket) d' =
-    IsPortNumber ports d.port × (1 ≤ ticket.0) × (d' ≡ record d { accepted = d.accepted + 1 })
+    IsPortNumber ports d.port × (1 ≤ ticket.0) × CountsTicket d ticket d'
 DeskCountsSubmit ports d (Err NoSuchPort) d' = (¬ IsPortNumber ports d.port) × (d' ≡ d)
 DeskCountsSubmit ports d (Err (Port why)) d' = IsPortNumber ports d.port × IsSubmitRefusal why
     × (d' ≡ d)

@@ -1,8 +1,9 @@
 -- The tickets of a port, and a submit at a desk.
-use Rattle.std.specs.Prelude.{◌≡◌, ℕ, ◌+◌, ◌^◌, ◌<◌, ◌⊎◌, List, [], ◌∷◌, length, Result, Ok, Err, IfErr}
+use Rattle.std.specs.Prelude.{◌≡◌, ℕ, ◌+◌, ◌^◌, ◌<◌, ◌⊎◌, List, [], ◌∷◌, ◌++◌, filter, length, Result, Ok, Err, IfErr}
 use Rattle.iol_isdu.specs.declared.values.Request.{Request}
 use Rattle.iol_book.specs.declared.entries.Ticket.{Ticket}
-use Rattle.iol_book.specs.declared.fault.BookFault.TheVariants.{TicketsSpent, OutOfMemory as NoMemory}
+use Rattle.iol_book.specs.BookModel.{is_outstanding}
+use Rattle.iol_book.specs.declared.fault.BookFault.TheVariants.{Full, TicketsSpent, OutOfMemory as NoMemory}
 use Rattle.iol_port.specs.declared.fault.PortFault.{PortFault}
 use Rattle.iol_port.specs.declared.fault.PortFault.TheVariants.{Book}
 use Rattle.iol_port.specs.Called.{Submits, SubmitsUrgent, MakesCall}
@@ -49,26 +50,41 @@ abbrev pub SubmitsAs : {W : Type 0} → PortValue W → DeskUrgency → Request 
 SubmitsAs p kind request answer p' = SubmitsBy kind p request answer p'
     × IfErr answer (λ why. why ≡ Book NoMemory → p.parts.book.room ≡ 0)
 
+-- those of a desk's tickets that are outstanding at its port
+abbrev pub tickets_left : {W : Type 0} → PortValue W → DeskState → List Ticket
+tickets_left p d = filter (is_outstanding p.parts.book.state.standing) d.tickets
+
+-- where 64 of them are, no port has room for another, and this one isn't asked; else as the port
+-- refuses it
+abbrev pub PortRefuses : {W : Type 0} → PortValue W → DeskState → DeskUrgency → Request → PortFault
+    → PortValue W
+    → Type 0
+PortRefuses p d kind request why p' =
+    ((length (tickets_left p d) ≡ 64) × (why ≡ Book Full) × (p' ≡ p))
+    ⊎ ((length (tickets_left p d) < 64) × SubmitsAs p kind request (Err why) p')
+
 -- because the tally is as large as it can be, and then the port isn't asked; or
--- as the port refuses it
-abbrev pub SubmitIsRefused : {W : Type 0} → PortValue W → AccountState → DeskUrgency → Request
+-- as above
+abbrev pub SubmitIsRefused : {W : Type 0} → PortValue W → AccountState → DeskState → DeskUrgency
+    → Request
     → PortFault
     → PortValue W → Type 0
-SubmitIsRefused p a kind request why p' =
+SubmitIsRefused p a d kind request why p' =
     ((a.total + 1 ≡ 2 ^ 64) × (why ≡ Book TicketsSpent) × (p' ≡ p))
-    ⊎ ((a.total + 1 < 2 ^ 64) × SubmitsAs p kind request (Err why) p')
+    ⊎ ((a.total + 1 < 2 ^ 64) × PortRefuses p d kind request why p')
 
 -- A submit at a desk: the port, the tally and the desk, before and after.
--- Where a ticket is answered, each counts one more; else none does.
+-- Where a ticket is answered, each counts one more, and the desk has that ticket behind those that
+-- were left; else nothing changes.
 abbrev pub Enters : {W : Type 0} → PortValue W → AccountState → DeskState → DeskUrgency → Request
     → Result Ticket MasterFault
     → PortValue W → AccountState → DeskState → Type 0
 Enters p a d kind request (Ok ticket) p' a' d' =
     (a.total + 1 < 2 ^ 64) × SubmitsAs p kind request (Ok ticket) p'
     × (a' ≡ record a { total = a.total + 1 })
-    × (d' ≡ record d { accepted = d.accepted + 1 })
+    × (d' ≡ record d { accepted = d.accepted + 1; tickets = tickets_left p d ++ ticket ∷ [] })
 Enters p a d kind request (Err (OfPort why)) p' a' d' = (a' ≡ a) × (d' ≡ d)
-    × SubmitIsRefused p a kind request why p'
+    × SubmitIsRefused p a d kind request why p'
 Enters p a d kind request (Err OutOfMemory) p' a' d' = ⊥
 Enters p a d kind request (Err NoSuchPort) p' a' d' = ⊥
 Enters p a d kind request (Err NoThread) p' a' d' = ⊥

@@ -8,22 +8,25 @@ ghost use Rattle.std.specs.Prelude.{◌≡◌, ◌+◌, ◌<◌, ◌^◌, true, 
 ghost use Rattle.iol_master.specs.Counts.{Opens, Settles, IsClosed};
 ghost use Rattle.iol_master.specs.Ledgers.{IsBlankFor};
 
+use crate::tickets::Tickets;
 use std::marker::Model;
 use std::sync::ledger::{Blank, Book, Ledger, Share};
 
 /// The most desks that are open at one time: the parts of their ledger but one.
 const MOST_DESKS: u32 = 1024;
 
-/// A client's place at a port, with its share of the accepted submits.
+/// A client's place at a port, with its share of the accepted submits, and those of its tickets
+/// that may be outstanding.
 ///
 /// It may go to the client's thread and needs no lock to be read. One that is dropped, and not
-/// settled, stays open: its place is lost, and what it counted is in the total and in no settled
-/// sum.
+/// settled, stays open: its place is lost, what it counted is in the total and in no settled sum,
+/// and its tickets stay outstanding until they are collected or abandoned.
 #[derive(Drop)]
 pub struct Desk<L: Ledger> {
     port: u32,
     accepted: u64,
     share: Share<L>,
+    tickets: Tickets,
 }
 
 impl<L: Ledger> Model for Desk<L> {
@@ -32,7 +35,11 @@ impl<L: Ledger> Model for Desk<L> {
 
     ghost Value = { DeskState };
 
-    ghost view = { λ d. record { port = d.port; accepted = d.share.amount } };
+    ghost view = { λ d. record {
+      port = d.port;
+      accepted = d.share.amount;
+      tickets = d.tickets;
+    } };
 
     ghost invariant = { λ d. (d.share.parts ≡ 1) × (d.share.amount ≡ d.accepted) };
 }
@@ -50,6 +57,20 @@ impl<L: Ledger> Desk<L> {
         ensures { result ≡ self.now.accepted }
     {
         self.accepted
+    }
+
+    /// The tickets that it was given and that may be outstanding.
+    pub(crate) fn tickets(&self) -> &Tickets
+        ensures { result.now ≡ self.now.tickets }
+    {
+        &self.tickets
+    }
+
+    /// Has these tickets from now on.
+    pub(crate) fn keep(&mut self, tickets: Tickets)
+        ensures { self.new ≡ record self.old { tickets = tickets } }
+    {
+        self.tickets = tickets;
     }
 }
 
@@ -135,6 +156,7 @@ impl<L: Ledger, K: Ledger> Accounts<L, K> {
             port,
             accepted: 0,
             share,
+            tickets: Tickets::none(),
         })
     }
 
@@ -167,6 +189,7 @@ impl<L: Ledger, K: Ledger> Accounts<L, K> {
             port: _,
             accepted,
             share,
+            tickets: _,
         } = desk;
         submits.audit(share);
         submits.add(share, 1);
@@ -184,6 +207,7 @@ impl<L: Ledger, K: Ledger> Accounts<L, K> {
             port: _,
             accepted,
             share,
+            tickets: _,
         } = desk;
         let Accounts {
             submits,

@@ -12,9 +12,11 @@ ghost use Rattle.iol_port.specs.WireCalls.{ComesFrom};
 ghost use Rattle.iol_port.specs.RightDevice.{IsForRightDevice};
 ghost use Rattle.iol_port.specs.Clean.{IsLevelBetween};
 ghost use Rattle.iol_master.specs.Tickets.{HasGiven, SubmitsAs, Enters};
+ghost use Rattle.iol_master.specs.Left.{LeavesNone};
 
 use crate::accounts::{Accounts, Desk};
 use crate::fault::MasterFault;
+use crate::tickets::{Tickets, abandon_each, outstanding_of};
 use iol_app::Status;
 use iol_book::{BookFault, Entry, Outcome, Ticket};
 use iol_cell::Handle;
@@ -104,9 +106,10 @@ impl<W: Wire, K: Ledger, A: Handle> Held<W, K, A> {
 
     /// A submit at a desk, with the port's lock and the tally's held.
     ///
-    /// This has the exact clause: which request is entered, which ticket is answered, and who
-    /// counts it. Outside, a lock hides the port and the tally, and [`crate::Master::submit`] can
-    /// say what the desk did alone, as can [`crate::Master::submit_urgent`].
+    /// This has the exact clause: which request is entered, which ticket is answered, who counts
+    /// it, and which tickets the desk has then. Outside, a lock hides the port and the tally, and
+    /// [`crate::Master::submit`] can say what the desk did alone, as can
+    /// [`crate::Master::submit_urgent`].
     pub(crate) fn submit<L: Ledger>(
         &mut self,
         accounts: &mut Accounts<L, K>,
@@ -126,8 +129,14 @@ impl<W: Wire, K: Ledger, A: Handle> Held<W, K, A> {
             share,
             apart: _,
         } = self;
+        let mut left = outstanding_of(port, desk.tickets());
+        if left.is_full() {
+            return Err(MasterFault::Port(PortFault::Book(BookFault::Full)));
+        }
         match submit_as(port, urgency, request) {
             Ok(ticket) => {
+                left.push(ticket);
+                desk.keep(left);
                 accounts.count(desk, share);
                 *tickets += 1;
                 Ok(ticket)
@@ -166,6 +175,14 @@ impl<W: Wire, K: Ledger, A: Handle> Held<W, K, A> {
             ticket result }
     {
         self.port.abandon(ticket)
+    }
+
+    /// Abandons those of a desk's tickets that are outstanding. None of them is then, and each
+    /// other ticket stands where it did.
+    pub(crate) fn leave(&mut self, tickets: &Tickets)
+        ensures { LeavesNone self.old tickets.now self.new }
+    {
+        abandon_each(&mut self.port, tickets.as_slice());
     }
 
     /// As [`Port::restart_shown`].

@@ -17,6 +17,7 @@ mod held;
 mod line;
 mod master;
 mod serve;
+mod tickets;
 mod worker;
 
 pub use accounts::{Desk, Settled, Tally};

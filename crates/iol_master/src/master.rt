@@ -6,6 +6,7 @@ ghost use Rattle.iol_master.specs.Tickets.{HasGiven, WasEntered, WasClosed};
 ghost use Rattle.iol_master.specs.Master.{IsPortNumber, Desks, DeskCountsSubmit, SettledAs};
 ghost use Rattle.iol_master.specs.Master.{WasOpened, WasSettled};
 ghost use Rattle.iol_master.specs.Counts.{IsClosed};
+ghost use Rattle.iol_master.specs.Left.{WasLeft};
 ghost use Rattle.iol_master.specs.Ledgers.{IsBlankFor};
 
 use crate::accounts::{Accounts, Desk, Settled, Tally};
@@ -27,11 +28,11 @@ use std::sync::{Mutex, MutexGuard, Wait};
 /// and of the tickets that were given, by port.
 ///
 /// A port's lock is taken first, then the tally's: both submits take both in this order,
-/// [`Master::lock`] and each worker's turn a port's only, [`Master::desk`] and [`Master::settle`]
-/// the tally's only. No call takes the locks of two ports. So a thread that holds a port's guard
-/// may open and settle desks, and must let go of the guard before it submits at that port, takes
-/// its lock again or waits for `serve`. What a port publishes is read at a seat of crate iol_cell,
-/// without any lock.
+/// [`Master::settle`] one after the other, [`Master::lock`] and each worker's turn a port's only,
+/// [`Master::desk`] the tally's only. No call takes the locks of two ports, and none waits for a
+/// port's while it has the tally's. So a thread that holds a port's guard may open desks, and must
+/// let go of the guard before it submits or settles at that port, takes its lock again or waits for
+/// `serve`. What a port publishes is read at a seat of crate iol_cell, without any lock.
 ///
 /// No call but `open`, both submits and `serve` asks for memory.
 ///
@@ -125,12 +126,15 @@ impl<W: Wire, L: Ledger, K: Ledger, A: Handle> Master<W, L, K, A> {
     /// Submits a request at a desk's port. The desk counts one more exactly where a ticket is
     /// answered.
     ///
-    /// Memory is asked for by the port's book alone, for the ticket's place and its entries.
+    /// The desk has that ticket from then on, as long as it may be outstanding: at each submit that
+    /// is accepted it forgets those that are not. Memory is asked for by the port's book alone, for
+    /// the ticket's place and its entries.
+    ///
     /// Refused, with nothing changed, by the first of 31 where there is no such port, 23 where the
-    /// master's ports gave 2^64 - 1 tickets, and then as the port refuses it: 21 where as many
-    /// tickets are outstanding there as it was opened for, 22 where its journal has no room for
-    /// the request's entries, 23 where its last ticket was 2^64 - 1, and 24 where a growth was
-    /// refused.
+    /// master's ports gave 2^64 - 1 tickets, 21 where 64 of the desk's tickets are outstanding, as
+    /// many as any port is opened for, and then as the port refuses it: 21 where as many tickets
+    /// are outstanding there as it was opened for, 22 where its journal has no room for the
+    /// request's entries, 23 where its last ticket was 2^64 - 1, and 24 where a growth was refused.
     pub fn submit<R: Wait>(
         &self,
         rt: &R,
@@ -201,11 +205,26 @@ impl<W: Wire, L: Ledger, K: Ledger, A: Handle> Master<W, L, K, A> {
 
     /// Closes a desk, whose place another may take, and tells what it counted; of the last one open
     /// also what all desks counted.
+    ///
+    /// Before that its tickets that are outstanding at its port are abandoned, as by
+    /// [`PortCore::abandon`](iol_port::PortCore::abandon): what nobody will collect keeps no place
+    /// there. For that it waits for the port's lock, and has no other then.
     pub fn settle<R: Wait>(&self, rt: &R, desk: Desk<L>) -> Settled
         ensures told { SettledAs desk.accepted result }
         ensures settled { WasSettled desk result }
+        ensures left { (¬ IsPortNumber self.now desk.port) ⊎ WasLeft W desk.tickets }
     {
+        self.leave(rt, &desk);
         self.accounts.lock(rt).settle(desk)
+    }
+
+    /// Abandons a desk's tickets at its port, whose lock alone is held meanwhile.
+    fn leave<R: Wait>(&self, rt: &R, desk: &Desk<L>)
+        ensures { (¬ IsPortNumber self.now desk.now.port) ⊎ WasLeft W desk.now.tickets }
+    {
+        if let Some(port) = self.port(desk.port()) {
+            port.lock(rt).leave(desk.tickets());
+        }
     }
 
     /// Closes the master, drops its ports and tells what was counted.

@@ -14,6 +14,8 @@ mod calls;
 #[cfg(test)]
 mod desks;
 #[cfg(test)]
+mod left;
+#[cfg(test)]
 mod lines;
 #[cfg(test)]
 mod locks;

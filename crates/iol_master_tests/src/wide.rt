@@ -9,7 +9,7 @@ use crate::opening::{numbered, numbered_port, open_master, open_one};
 use iol_book::{BookFault, Entry, Outcome, Ticket};
 use iol_isdu::{Place, Request};
 use iol_link::Wire;
-use iol_master::{Desk, Gate, Held, Master, Settled, Tally};
+use iol_master::{Desk, Gate, Held, Master, MasterFault, Settled, Tally};
 use iol_port::{Port, PortFault};
 use std::alloc::Global;
 use std::marker::Brand;
@@ -57,21 +57,33 @@ impl Gate for Closing {
     }
 }
 
-/// A client of the port of this number submits a read and settles.
-fn submits<W: Wire, L: Ledger, K: Ledger, R: Wait>(
+/// A client of the port of this number submits a read.
+fn client<W: Wire, L: Ledger, K: Ledger, R: Wait + Abort>(
     rt: &R,
     master: &Master<W, L, K>,
     number: u8,
+) -> Result<Desk<L>, MasterFault> {
+    let mut desk = master.desk(rt, u32::from(number))?;
+    check(rt, desk.port() == u32::from(number));
+    check(rt, master.submit(rt, &mut desk, read()) == Ok(Ticket(1)));
+    Ok(desk)
+}
+
+/// Settles desks of one submit each. The last one is told what all counted.
+fn settle_all<W: Wire, L: Ledger, K: Ledger, R: Wait>(
+    rt: &R,
+    master: &Master<W, L, K>,
+    desks: Vec<Desk<L>>,
 ) -> bool {
-    let Ok(mut desk) = master.desk(rt, u32::from(number)) else {
-        return false;
-    };
-    let given = master.submit(rt, &mut desk, read());
-    let port = desk.port();
-    let told = master.settle(rt, desk);
-    given == Ok(Ticket(1))
-        && port == u32::from(number)
-        && told == Settled::Last(1, u64::from(number))
+    let mut total = 0;
+    for desk in desks {
+        match master.settle(rt, desk) {
+            Settled::Part(1) => {}
+            Settled::Last(1, all) => total = all,
+            _ => return false,
+        }
+    }
+    total == u64::from(PORTS)
 }
 
 /// The port of this index was served up to its own turn, and has its own answer.
@@ -87,19 +99,22 @@ fn was_served<W: Wire, L: Ledger, K: Ledger, R: Wait>(
     Ok(gate.last_asked(index) == Some(last) && gives(rt, master, port, Ticket(1), &wanted))
 }
 
-/// Submits at each port, serves all of them, and looks at each.
+/// Submits at each port, serves all of them, looks at each and settles.
 fn serve_all<W: Wire + Send, L: Ledger, K: Ledger + Sync, R: Threads + Wait + Abort + Sync>(
     rt: &R,
+    alloc: Global,
     master: &Master<W, L, K>,
     gate: &Closing,
 ) -> Result<(), Fail> {
+    let mut desks = Vec::new(alloc);
     for index in 0..PORTS {
-        check(rt, submits(rt, master, index + 1));
+        desks.push(client(rt, master, index + 1)?)?;
     }
     check(rt, master.serve(rt, gate, 2_000) == Ok(()));
     for index in 0..PORTS {
         check(rt, was_served(rt, master, gate, index)?);
     }
+    check(rt, settle_all(rt, master, desks));
     Ok(())
 }
 
@@ -127,7 +142,7 @@ where
     requires fresh { All (λ p. HasGiven p 0) ports.items }
 {
     let master = open_master::<W, L, K, Global, R>(rt, alloc, ports, clients, tickets);
-    serve_all(rt, &master, gate)?;
+    serve_all(rt, alloc, &master, gate)?;
     let open = master.desk(rt, u32::from(PORTS))?;
     check(rt, master.close() == WIDE);
     drop(open);
