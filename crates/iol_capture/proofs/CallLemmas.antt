@@ -1,6 +1,6 @@
 -- What the lines of a capture tell, by what a `ReaderState` makes of one more octet and of the end.
 -- The calls of `CaptureReader` need them.
-use Rattle.std.proofs.Common.{◌≡◌, ℕ, ◌<◌, Bool, false, ◌==◌, Option, None, Result, Ok, Err, OnOk, List, [], ◌∷◌, ◌++◌, length, refl, append-nil, length-append, arith}
+use Rattle.std.proofs.Common.{◌≡◌, ℕ, ◌+◌, ◌<◌, Bool, false, ◌==◌, Option, None, Result, Ok, Err, OnOk, List, [], ◌∷◌, ◌++◌, length, refl, append-nil, append_assoc, length-append, arith}
 use Rattle.std.proofs.lemmas.Bool.Decides.{nat_tests}
 use Rattle.std.specs.Result.{result_and, result_unwrap_or}
 use Rattle.iol_script.specs.Text.{lines_of}
@@ -10,17 +10,19 @@ use Rattle.iol_capture.specs.declared.telling.Telling.{Telling}
 use Rattle.iol_capture.specs.declared.telling.Telling.TheVariants.{Trace, Octets}
 use Rattle.iol_capture.specs.declared.timed_call.TimedCall.{TimedCall}
 use Rattle.iol_capture.specs.Capture.{IsOpenLine, ReadPart, ReaderState, calls_of_lines, calls_of_rest, capture_after_line, line_call, line_told, told_before}
-use Rattle.iol_capture.proofs.ReadLemmas.{BeginsWith, lines_ended, lines_last, lines_longer}
+use Rattle.iol_capture.proofs.ReadLemmas.{BeginsWith, lines_begun, lines_ended, lines_last, open_both}
 
--- a line feed ends a line, by a call with this result
-pub fed_calls : (result : Result (Option TimedCall) CaptureFault) (old new : ReaderState) (c : ℕ)
-    → c ≡ 10 → IsOpenLine old.line
-    → result_and result (Ok new.reading) ≡ capture_after_line (Ok old.reading) old.line
-    → result_unwrap_or result None ≡ line_call old.reading.telling old.line
+-- a line feed ends the line that is open, with these bytes behind it, by a call with this result
+pub ended_calls : (result : Result (Option TimedCall) CaptureFault) (old mid new : ReaderState)
+    (end : List ℕ) → mid.reading ≡ old.reading → mid.line ≡ old.line ++ end → IsOpenLine mid.line
+    → result_and result (Ok new.reading) ≡ capture_after_line (Ok mid.reading) mid.line
+    → result_unwrap_or result None ≡ line_call mid.reading.telling mid.line
     → OnOk result (new.line ≡ []) → (rest : List ℕ)
-    → told_before result (calls_of_rest new rest) ≡ calls_of_rest old (c ∷ rest)
-fed_calls (Ok call) old new c h read tells empty rest = grind (arith, lines_ended)
-fed_calls (Err fault) old new c h read tells empty rest = grind (arith, lines_ended)
+    → told_before result (calls_of_rest new rest) ≡ calls_of_rest old (end ++ 10 ∷ rest)
+ended_calls (Ok call) old mid new end same longer h read tells empty rest =
+    grind (arith, lines_ended, append_assoc {A = ℕ})
+ended_calls (Err fault) old mid new end same longer h read tells empty rest =
+    grind (arith, lines_ended, append_assoc {A = ℕ})
 
 -- a line of more than 1,024 bytes tells nothing, and is bad
 long_tells_nothing : (telling : Telling) (line : List ℕ) → 1024 < length line
@@ -38,20 +40,20 @@ long_ends : (reading : ReadPart) (line : List ℕ) (others : List (List ℕ)) �
 long_ends reading line others long =
     rw (long_tells_nothing reading.telling line long, long_is_bad reading.telling line long) refl
 
--- another one, behind 1,024: no room is left
-pub overfull_calls : (inside old : ReaderState) (c : ℕ) → inside ≡ old → IsOpenLine inside.line
-    → (c ≡ 10 → ⊥) → length inside.line ≡ 1024 → (rest : List ℕ)
-    → calls_of_rest old (c ∷ rest) ≡ []
-overfull_calls inside old c same h other full rest =
-    let no_feed : (c == 10) ≡ false = grind (arith, nat_tests) in
-    let front : List ℕ = inside.line ++ c ∷ [] in
-    let begins : BeginsWith (lines_of (inside.line ++ c ∷ rest)) front =
-    lines_longer inside.line c rest h no_feed in
+-- no room is left for more of a line
+pub overfull_calls : (inside old : ReaderState) (more : List ℕ) → inside ≡ old
+    → IsOpenLine inside.line → IsOpenLine more → 1024 < length inside.line + length more
+    → (rest : List ℕ) → calls_of_rest old (more ++ rest) ≡ []
+overfull_calls inside old more same h g full rest =
+    let front : List ℕ = inside.line ++ more in
+    let some : 1024 < length front = omega (arith, length-append inside.line more) in
+    let begins : BeginsWith (lines_of (front ++ rest)) front =
+    lines_begun front rest (open_both inside.line more h g) (omega arith) in
     let long : 1024 < length (front ++ begins.more) =
-    omega (arith, length-append inside.line (c ∷ []), length-append front begins.more) in
+    omega (arith, length-append front begins.more) in
     let ends : calls_of_lines (Ok inside.reading) ((front ++ begins.more) ∷ begins.others) ≡ [] =
     long_ends inside.reading (front ++ begins.more) begins.others long in
-    rw (← same, begins.is) ends
+    rw (← same, ← append_assoc inside.line more rest, begins.is) ends
 
 -- a line that isn't empty ends with the text
 pub end_line_calls : (inside opened : ReaderState) (empty : Bool) → inside ≡ opened

@@ -7,3 +7,4 @@ pub mod ReadLemmas
 pub mod CallLemmas
 pub mod OctetLemmas
 pub mod Cutting
+pub mod WordLemmas

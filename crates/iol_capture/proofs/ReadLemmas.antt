@@ -1,9 +1,13 @@
 -- A capture that is read in pieces: the line that is open, and what a `ReaderState` makes of one
 -- more octet, of the end, and of one more piece of a reader. The calls of `CaptureReader`, and
 -- `judge_capture`, need them.
-use Rattle.std.proofs.Common.{◌≡◌, ℕ, ◌<◌, Bool, false, ◌==◌, Option, Result, Ok, Err, OnOk, List, [], ◌∷◌, ◌++◌, length, fold, refl, append-nil, append_assoc, length-append, arith}
-use Rattle.std.proofs.lemmas.Bool.{or_parts}
+use Rattle.std.proofs.Common.{◌≡◌, ℕ, suc, ◌+◌, ◌<◌, Bool, true, false, ◌==◌, Option, Result, Ok, Err, OnOk, List, [], ◌∷◌, ◌++◌, length, get_or, take, drop, fold, refl, ◌∙◌, add-one, append-nil, drop-cons, append_assoc, length-append, length-take, arith}
+use Rattle.std.proofs.lemmas.Bool.{false_from_ne_true, or_parts}
 use Rattle.std.proofs.lemmas.Bool.Decides.{nat_tests}
+use Rattle.std.proofs.lemmas.List.{get_or-take, nil_from_length, take-append-drop}
+use Rattle.std.proofs.lemmas.List.Elements.{All-from_get_or}
+use Rattle.std.proofs.lemmas.List.Folds.{list_any-append, list_any_none}
+use Rattle.memchr.specs.Find.{NoneBefore, Nowhere, Passes}
 use Rattle.std.specs.Io.KnownBytes.{Consumes}
 use Rattle.std.specs.List.{list_any, onto_first}
 use Rattle.std.specs.Result.{result_and, result_map_both}
@@ -44,16 +48,45 @@ onto_begins : (c : ℕ) (lines : List (List ℕ)) → BeginsWith (onto_first c l
 onto_begins c [] = record { more = []; others = []; is = refl }
 onto_begins c (first ∷ others) = record { more = first; others = others; is = refl }
 
--- it goes on in the first line of what follows
-pub lines_longer : (line : List ℕ) (c : ℕ) (rest : List ℕ) → IsOpenLine line → (c == 10) ≡ false
-    → BeginsWith (lines_of (line ++ c ∷ rest)) (line ++ c ∷ [])
-lines_longer [] c rest h e =
+-- the first line begins with all that has no line feed
+pub lines_begun : (line rest : List ℕ) → IsOpenLine line → 0 < length line
+    → BeginsWith (lines_of (line ++ rest)) line
+lines_begun [] rest h some = absurd (omega arith)
+lines_begun (c ∷ []) rest h some =
     let begins = onto_begins c (lines_of rest) in
     record { more = begins.more; others = begins.others; is = grind (arith, begins.is) }
-lines_longer (d ∷ line) c rest h e =
-    let parts = or_parts (d == 10) (list_any (λ b. b == 10) line) h in
-    let later = lines_longer line c rest parts.1 e in
+lines_begun (c ∷ d ∷ line) rest h some =
+    let parts = or_parts (c == 10) (list_any (λ b. b == 10) (d ∷ line)) h in
+    let later = lines_begun (d ∷ line) rest parts.1 (omega arith) in
     record { more = later.more; others = later.others; is = grind (arith, later.is) }
+
+-- no line feed is in two pieces, if in neither
+pub open_both : (line more : List ℕ) → IsOpenLine line → IsOpenLine more
+    → IsOpenLine (line ++ more)
+open_both line more h g = grind (arith, list_any-append {X = ℕ})
+
+-- A text that is cut at its first line feed
+
+abbrev is_feed : ℕ → Bool
+is_feed b = b == 10
+
+pub cut_at : (text : List ℕ) (i : ℕ)
+    → NoneBefore (Passes is_feed text) 0 (length text) i × Passes is_feed text i
+    → IsOpenLine (take i text) × (text ≡ take i text ++ 10 ∷ drop (i + 1) text)
+cut_at text i is =
+    let within : i < length text = is.0.high in
+    let parts : take i text ++ drop i text ≡ text = take-append-drop i text in
+    let feed : get_or text i 0 ≡ 10 = grind (arith, nat_tests, is.1) in
+    let behind : drop i text ≡ get_or text i 0 ∷ drop (suc i) text = drop-cons text i 0 within in (
+      list_any_none is_feed (take i text) (All-from_get_or (λ x. is_feed x ≡ false) (take i text) 0
+          (λ k lt. let early : k < i = omega (arith, length-take i text) in
+          rw get_or-take (false_from_ne_true _ (is.0.before k (omega arith) early)))),
+      grind (arith, add-one),
+    )
+
+pub uncut : (text : List ℕ) → Nowhere (Passes is_feed text) 0 (length text) → IsOpenLine text
+uncut text none = list_any_none is_feed text (All-from_get_or (λ x. is_feed x ≡ false) text 0
+    (λ k lt. false_from_ne_true _ (none k (omega arith) lt)))
 
 -- Bad lines
 
@@ -70,29 +103,48 @@ pub stays_bad : (fault : CaptureFault) (lines : List (List ℕ))
 stays_bad fault [] = refl
 stays_bad fault (line ∷ lines) = stays_bad fault lines
 
--- One more octet
+-- More of a text
 
--- a line feed ends a line, by a call with this result
-pub fed : {U : Type 0} (result : Result U CaptureFault) (old new : ReaderState) (c : ℕ) → c ≡ 10
-    → IsOpenLine old.line
-    → result_and result (Ok new.reading) ≡ capture_after_line (Ok old.reading) old.line
+pub on_ok : {U E : Type 0} {P : Type 0} (result : Result U E) → P → OnOk result P
+on_ok (Ok done) p = p
+on_ok (Err fault) p = tt
+
+-- a line feed ends the line that is open, with these bytes behind it, by a call with this result
+pub ended : {U : Type 0} (result : Result U CaptureFault) (old mid new : ReaderState)
+    (end : List ℕ) → mid.reading ≡ old.reading → mid.line ≡ old.line ++ end → IsOpenLine mid.line
+    → result_and result (Ok new.reading) ≡ capture_after_line (Ok mid.reading) mid.line
     → OnOk result (new.line ≡ []) → (rest : List ℕ)
-    → result_and result (judging_after_rest new rest) ≡ judging_after_rest old (c ∷ rest)
-fed (Ok done) old new c is h read empty rest = grind (arith, lines_ended)
-fed (Err fault) old new c is h read empty rest = grind (arith, lines_ended, stays_bad)
+    → result_and result (judging_after_rest new rest) ≡ judging_after_rest old (end ++ 10 ∷ rest)
+ended (Ok done) old mid new end same longer h read empty rest =
+    grind (arith, lines_ended, append_assoc {A = ℕ})
+ended (Err fault) old mid new end same longer h read empty rest =
+    grind (arith, lines_ended, stays_bad, append_assoc {A = ℕ})
 
--- another one, behind 1,024: no room is left
-pub overfull : (inside old : ReaderState) (c number : ℕ) → inside ≡ old → IsOpenLine inside.line
-    → (c ≡ 10 → ⊥) → length inside.line ≡ 1024 → number ≡ one_more inside.reading.lines
-    → (rest : List ℕ) → judging_after_rest old (c ∷ rest) ≡ Err (Line number BadForm)
-overfull inside old c number same h other full is rest =
-    let no_feed : (c == 10) ≡ false = grind (arith, nat_tests) in
-    let front : List ℕ = inside.line ++ c ∷ [] in
-    let begins : BeginsWith (lines_of (inside.line ++ c ∷ rest)) front =
-    lines_longer inside.line c rest h no_feed in
+-- the same, where nothing is kept of that line
+pub ended_whole : {U : Type 0} (result : Result U CaptureFault) (inside old new : ReaderState)
+    (empty : Bool) (end : List ℕ) → inside ≡ old → empty ≡ (length inside.line == 0)
+    → empty ≡ true → IsOpenLine end
+    → result_and result (Ok new.reading) ≡ capture_after_line (Ok inside.reading) end
+    → new.line ≡ inside.line → (rest : List ℕ)
+    → result_and result (judging_after_rest new rest) ≡ judging_after_rest old (end ++ 10 ∷ rest)
+ended_whole result inside old new empty end same is none h read still =
+    let nothing : inside.line ≡ [] = nil_from_length inside.line (grind (arith, nat_tests)) in
+    ended result old (record { reading = inside.reading; line = end }) new end (grind arith)
+    (grind arith) h read (on_ok result (still ∙ nothing))
+
+-- no room is left for more of a line
+pub overfull : (inside old : ReaderState) (more : List ℕ) (number : ℕ) → inside ≡ old
+    → IsOpenLine inside.line → IsOpenLine more → 1024 < length inside.line + length more
+    → number ≡ one_more inside.reading.lines → (rest : List ℕ)
+    → judging_after_rest old (more ++ rest) ≡ Err (Line number BadForm)
+overfull inside old more number same h g full is rest =
+    let front : List ℕ = inside.line ++ more in
+    let some : 1024 < length front = omega (arith, length-append inside.line more) in
+    let begins : BeginsWith (lines_of (front ++ rest)) front =
+    lines_begun front rest (open_both inside.line more h g) (omega arith) in
     let long : 1024 < length (front ++ begins.more) =
-    omega (arith, length-append inside.line (c ∷ []), length-append front begins.more) in
-    grind (arith, nat_tests, stays_bad)
+    omega (arith, length-append front begins.more) in
+    grind (arith, nat_tests, stays_bad, append_assoc {A = ℕ})
 
 -- The end
 

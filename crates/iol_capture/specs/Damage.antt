@@ -9,7 +9,7 @@ use Rattle.iol_capture.specs.declared.split_fault.SplitFault.TheVariants as faul
 use Rattle.iol_capture.specs.declared.gap.Gap.{Gap}
 use Rattle.iol_capture.specs.declared.gap.Gap.TheVariants as gap
 use Rattle.iol_capture.specs.declared.message.Meaning.{Meaning}
-use Rattle.iol_capture.specs.declared.message.Meaning.TheVariants.{Part, Whole, TestRead, ReadOrTest}
+use Rattle.iol_capture.specs.declared.message.Meaning.TheVariants.{Part, TestRead}
 use Rattle.iol_capture.specs.declared.passed.SplitItem.{SplitItem}
 use Rattle.iol_capture.specs.declared.passed.SplitItem.TheVariants as passed
 use Rattle.iol_capture.specs.declared.splitter.Phase.{Phase}

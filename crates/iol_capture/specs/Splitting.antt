@@ -1,5 +1,5 @@
 -- What a splitter makes of an octet.
-use Rattle.std.specs.Prelude.{ℕ, ◌-◌, Bool, true, false, ◌==◌, nat_lt, if◌then◌else◌, List, [], ◌∷◌, ◌++◌, length, Option, Some, None, is_some, Result, Ok, Err}
+use Rattle.std.specs.Prelude.{ℕ, ◌-◌, Bool, true, false, ◌==◌, nat_lt, if◌then◌else◌, [], ◌∷◌, ◌++◌, length, Option, Some, None, is_some, Result, Ok, Err}
 use Rattle.iol_mseq.specs.Shape.{Shape}
 use Rattle.iol_mseq.specs.Master.{master_in}
 use Rattle.iol_mseq.specs.Replies.{reply_in}
@@ -7,7 +7,6 @@ use Rattle.iol_judge.specs.declared.open.Open.{Open}
 use Rattle.iol_judge.specs.declared.verdict.Wake.TheVariants.{Unanswered}
 use Rattle.iol_judge.specs.Seen.{layouts_seen}
 use Rattle.iol_judge.specs.Judged.{noted_by}
-use Rattle.iol_judge.specs.Taking.{mode_layout}
 use Rattle.iol_capture.specs.declared.split_fault.SplitFault.TheVariants as fault
 use Rattle.iol_capture.specs.declared.gap.Gap.{Gap}
 use Rattle.iol_capture.specs.declared.gap.Gap.TheVariants as gap

@@ -1,5 +1,5 @@
 -- The lines of a trace.
-use Rattle.std.specs.Prelude.{ℕ, ◌-◌, ◌^◌, Bool, false, ◌==◌, ◌||◌, ◌&&◌, nat_le, Option, Some, None, option_map, option_and_then, List, [], ◌∷◌, length, take, if◌then◌else◌, codes}
+use Rattle.std.specs.Prelude.{ℕ, ◌-◌, ◌^◌, Bool, false, ◌==◌, ◌||◌, ◌&&◌, nat_le, Option, Some, None, option_copied, option_map, option_and_then, List, [], ◌∷◌, length, take, if◌then◌else◌, codes}
 use Rattle.std.specs.List.{position}
 use Rattle.std.specs.Option.{option_map_or}
 use Rattle.std.specs.Str.{bytes_eq}
@@ -7,9 +7,11 @@ use Rattle.arrayvec.specs.ArrayVec.{ArrayVec}
 use Rattle.iol_judge.specs.declared.verdict.Wake.{Wake as WakeAnswer}
 use Rattle.iol_judge.specs.declared.verdict.Wake.TheVariants as wake
 use Rattle.iol_script.specs.Numerals.{octets_of_words, number_in, octets_within}
-use Rattle.iol_script.specs.Text.{text_words}
+use Rattle.iol_script.specs.Text.{text_words, words_of}
 use Rattle.iol_capture.specs.declared.trace_line.TraceLine.{TraceLine}
 use Rattle.iol_capture.specs.declared.trace_line.TraceLine.TheVariants.{Other, Skipped, Page, Wake, Sent, Came}
+use Rattle.iol_capture.specs.declared.trace_line.WordedLine.{WordedLine}
+use Rattle.iol_capture.specs.declared.trace_line.WordedLine.TheVariants as worded
 
 -- The words of a line
 
@@ -23,10 +25,14 @@ abbrev pub are_none : List (List ℕ) → Bool
 are_none (word ∷ []) = bytes_eq word (codes "none")
 are_none words = false
 
+-- octets, where there are ten
+abbrev pub ten_of : List ℕ → Option (List ℕ)
+ten_of octets = if length octets == 10 then Some octets else None
+
 -- the ten octets of a page
 abbrev pub ten_octets : List (List ℕ) → Option (List ℕ)
-ten_octets words = option_and_then (λ (octets : ArrayVec ℕ).
-    if length octets.items == 10 then Some octets.items else None) (octets_form words)
+ten_octets words = option_and_then (λ (octets : ArrayVec ℕ). ten_of octets.items)
+    (octets_form words)
 
 -- the words behind `page`: ten octets; without them the line says nothing of a page
 abbrev pub page_form : List (List ℕ) → Option TraceLine
@@ -79,3 +85,34 @@ before_colon line = option_map_or (λ place. take place line) (position (λ b. b
 abbrev pub trace_form : List ℕ → Option TraceLine
 trace_form line =
     if nat_le (length line) 1024 then trace_words_form (text_words (before_colon line)) else None
+
+-- Words that are still to be read
+
+-- a word ends so: at a space, or with the text at a colon
+abbrev pub ends_word : ℕ → Bool
+ends_word b = (b == 32) || (b == 58)
+
+-- the words of a text up to its first colon
+abbrev pub colon_words : List ℕ → List (List ℕ)
+colon_words text = words_of (before_colon text)
+
+-- those behind a space, where there is one
+abbrev pub words_behind : Option (List ℕ) → List (List ℕ)
+words_behind text = option_map_or colon_words text []
+
+-- the octets of words behind the two digits of one
+abbrev pub octets_after : List ℕ → Option (List ℕ)
+octets_after [] = Some []
+octets_after (c ∷ text) = if c == 58 then Some [] else
+    if c == 32 then octets_of_words (colon_words text) else None
+
+-- what a line says, once its octets are read
+abbrev pub octets_read : WordedLine → Option TraceLine
+octets_read worded.Other = Some Other
+octets_read worded.Skipped = Some Skipped
+octets_read (worded.Page octets) = Some (Page octets)
+octets_read (worded.Wake number answer) = Some (Wake number answer)
+octets_read (worded.Sent number words) =
+    option_map (Sent number) (octets_form (words_behind (option_copied words)))
+octets_read (worded.Came number words) =
+    option_map (Came number) (came_form (words_behind (option_copied words)))

@@ -11,8 +11,8 @@ use crate::octet_line::{
     OctetLine, PLACES, digits_behind, octet_of, parse_octet, parse_parts, parse_time, place_of,
 };
 use crate::trace_event::{EVENTS, parse_event};
-use crate::trace_line::{are_none, parse_page_octets};
-use iol_script::{Words, decimal_number};
+use crate::trace_line::ten_of;
+use iol_script::{LineOctets, Words, decimal_number, parted_octets};
 
 /// A second, in nanoseconds.
 const SECOND: u64 = 1_000_000_000;
@@ -74,9 +74,19 @@ fn parse_page(words: Words) -> Option<OctetLine>
     if are_none(words) {
         Some(OctetLine::Other)
     } else {
-        Some(OctetLine::Page(parse_page_octets(words)?))
+        let octets: LineOctets = parted_octets(words)?;
+        Some(OctetLine::Page(ten_of(octets.as_slice())?))
     }
 }
+
+/// Whether they are the one word `none`.
+fn are_none(mut words: Words) -> bool
+    ensures { result ≡ are_none (words_left words.entry) }
+{
+    matches!((words.next(), words.next()), (Some(b"none"), None))
+}
+
+ghost use Rattle.iol_capture.specs.TraceLines.{are_none};
 
 /// A line without a byte order mark and a carriage return.
 fn bare_line(line: &[u8]) -> &[u8]

@@ -1,19 +1,14 @@
-//! A judge, told the lines of a trace.
-ghost use Rattle.std.specs.Prelude.{◌≡◌, ◌<◌, ◌==◌, Ok, is_some, option_copied};
-ghost use Rattle.std.specs.Result.{result_and};
-ghost use Rattle.iol_far.specs.Octets.{octets_in};
+//! A judge of the device and a watch of the master, told what went over the line.
+ghost use Rattle.std.specs.Prelude.{◌≡◌, ◌==◌, option_copied};
 ghost use Rattle.iol_judge.specs.Judged.{one_more};
-ghost use Rattle.iol_capture.specs.Judging.{judging_after_exchange, judging_at_next_call, judging_in_call, came_to, counts_after_exchange, is_call_number, is_verdict_open, maybe_woken, new_judging, no_counts, judging_with_page, passed_next, line_skipped, passed_on, judging_in_mode, judging_after_line, wake_told, with_odd};
+ghost use Rattle.iol_capture.specs.Judging.{judging_after_exchange, judging_in_call, counts_after_exchange, is_verdict_open, maybe_woken, new_judging, no_counts, judging_with_page, passed_next, line_skipped, passed_on, judging_in_mode, wake_told, with_odd};
 
-use crate::fault::LineFault;
 use crate::passed::SplitItem;
 use crate::spacing::RateDoubt;
-use crate::trace_line::TraceLine;
 use crate::watching::CallWatch;
 use arrayvec::ArrayVec;
 use iol_far::DeviceMode;
 use iol_judge::{Judge, Odd, Reason, Verdict, Wake};
-use iol_script::LineOctets;
 use std::marker::Model;
 
 /// How many exchanges there were. Each count stops at 2^64 - 1.
@@ -87,16 +82,14 @@ impl Default for OddExchange {
 /// The first odd exchanges.
 pub(crate) type OddExchanges = ArrayVec<OddExchange, ODD_SHOWN>;
 
-/// What a judge of the device, and a watch of the master, make of the lines of a trace.
+/// What a judge of the device, and a watch of the master, make of a capture.
 #[derive(Drop)]
 pub struct Judgement {
     pub(crate) judge: Judge,
     /// The same of the master.
     pub(crate) watching: CallWatch,
     /// The number of the last call of the wire, 0 before the first.
-    call: u64,
-    /// What was sent in it, until it's told what came back.
-    sent: Option<LineOctets>,
+    pub(crate) call: u64,
     /// The call on which the verdict rests.
     pub(crate) decided: u64,
     pub(crate) counts: ExchangeCounts,
@@ -111,7 +104,7 @@ pub struct Judgement {
 
 impl Model for Judgement {
     ghost use Rattle.iol_capture.specs.Judging.{Judging};
-    ghost use Rattle.iol_far.specs.Octets.{octets_in};
+    ghost use Rattle.std.specs.Prelude.{None};
 
     ghost Value = { Judging };
 
@@ -119,7 +112,7 @@ impl Model for Judgement {
       judged = j.judge;
       watching = j.watching;
       call = j.call;
-      sent = octets_in j.sent;
+      sent = None;
       decided = j.decided;
       counts = j.counts;
       odd = j.odd.items;
@@ -138,48 +131,12 @@ impl Judgement {
             judge: Judge::new(odd),
             watching: CallWatch::new(),
             call: 0,
-            sent: None,
             decided: 0,
             counts: ExchangeCounts::none(),
             odd: OddExchanges::new(),
             passed_over: 0,
             skipped: 0,
             rate_doubt: None,
-        }
-    }
-
-    /// Whether a message waits for what came back.
-    pub(crate) fn waits(&self) -> bool
-        ensures { result ≡ is_some self.now.sent }
-    {
-        self.sent.is_some()
-    }
-
-    /// What one more line says.
-    pub(crate) fn tell(&mut self, line: TraceLine) -> Result<(), LineFault>
-        ensures { result_and result (Ok self.new) ≡ judging_after_line self.old line }
-    {
-        match line {
-            TraceLine::Other => Ok(()),
-            TraceLine::Skipped => {
-                self.skip();
-                Ok(())
-            }
-            TraceLine::Page(octets) => {
-                self.tell_page(&octets);
-                Ok(())
-            }
-            TraceLine::Wake(number, answer) => {
-                self.begin(number)?;
-                self.wake(answer);
-                Ok(())
-            }
-            TraceLine::Sent(number, octets) => {
-                self.begin(number)?;
-                self.sent = Some(octets);
-                Ok(())
-            }
-            TraceLine::Came(number, came) => self.tell_came(number, came),
         }
     }
 
@@ -194,7 +151,7 @@ impl Judgement {
     }
 
     /// A wake-up request was made.
-    fn wake(&mut self, answer: Wake)
+    pub(crate) fn wake(&mut self, answer: Wake)
         ensures { self.new ≡ wake_told self.old answer }
     {
         self.judge.wake(answer);
@@ -231,22 +188,8 @@ impl Judgement {
         self.watching.miss(one_more(self.call));
     }
 
-    /// A call of the wire begins.
-    fn begin(&mut self, number: u64) -> Result<(), LineFault>
-        ensures { result_and result (Ok self.new) ≡ judging_at_next_call self.old number }
-    {
-        if self.sent.is_some() {
-            return Err(LineFault::ReplyMissing);
-        }
-        if !is_next(self.call, number) {
-            return Err(LineFault::WrongNumber);
-        }
-        self.call(number);
-        Ok(())
-    }
-
     /// The call of this number has begun.
-    fn call(&mut self, number: u64)
+    pub(crate) fn call(&mut self, number: u64)
         ensures { self.new ≡ judging_in_call self.old number }
     {
         self.call = number;
@@ -255,29 +198,10 @@ impl Judgement {
         }
     }
 
-    /// What came back to the message that waits.
-    fn tell_came(&mut self, number: u64, came: Option<LineOctets>) -> Result<(), LineFault>
-        ensures { result_and result (Ok self.new)
-            ≡ came_to self.old.sent self.old number (octets_in came) }
-    {
-        let Some(sent) = self.sent.take() else {
-            return Err(LineFault::MessageMissing);
-        };
-        if number != self.call {
-            return Err(LineFault::WrongNumber);
-        }
-        self.exchange(
-            sent.as_slice(),
-            came.as_ref().map(|octets| octets.as_slice()),
-        );
-        Ok(())
-    }
-
     /// A message, and what came back.
-    fn exchange(&mut self, sent: &[u8], came: Option<&[u8]>)
+    pub(crate) fn exchange(&mut self, sent: &[u8], came: Option<&[u8]>)
         ensures { self.new ≡ judging_after_exchange self.old sent.now (option_copied came.entry) }
     {
-        self.sent = None;
         self.counts = self.counts.with(self.judge.verdict(), came);
         self.judge.exchange(sent, came);
         self.watching.exchange(self.call, sent, came);
@@ -325,11 +249,4 @@ fn is_open(verdict: Verdict) -> bool
     ensures { result ≡ is_verdict_open verdict }
 {
     matches!(verdict, Verdict::Unjudged | Verdict::Honest)
-}
-
-/// Whether a call may have this number: the first any, each other the next.
-fn is_next(call: u64, number: u64) -> bool
-    ensures { result ≡ is_call_number call number }
-{
-    call == 0 || call.checked_add(1) == Some(number)
 }

@@ -51,6 +51,7 @@ mod test_read;
 mod timed_call;
 mod trace_event;
 mod trace_line;
+mod tracing;
 mod watching;
 
 pub use capture::judge_capture;

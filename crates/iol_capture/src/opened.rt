@@ -1,5 +1,5 @@
 //! A capture that is read in pieces: the lines that ended, and the line that is open.
-ghost use Rattle.std.specs.Prelude.{◌≡◌, ◌≢◌, ◌∷◌, ◌++◌, [], ℕ, List, None, Ok, Err, OnOk, OnErr, MatchResult};
+ghost use Rattle.std.specs.Prelude.{◌≡◌, ◌∷◌, ◌++◌, [], ℕ, List, None, Ok, Err, OnOk, OnErr, MatchOption, MatchResult};
 ghost use Rattle.std.specs.Result.{result_and, result_unwrap_or};
 ghost use Rattle.iol_capture.specs.Capture.{IsOpenLine, calls_of_rest, capture_after_line, judging_after_rest, judging_at_end, last_call, line_call, new_opened, told_before};
 
@@ -10,7 +10,56 @@ use crate::timed_call::TimedCall;
 use crate::trace_line::LONGEST;
 use arrayvec::ArrayVec;
 use iol_judge::Odd;
+use memchr::memchr;
 use std::marker::Model;
+
+/// The lines that ended.
+#[derive(Drop)]
+struct EndedLines {
+    /// How many.
+    count: u64,
+    telling: Telling,
+}
+
+impl Model for EndedLines {
+    ghost use Rattle.iol_capture.specs.Capture.{ReadPart};
+
+    ghost Value = { ReadPart };
+
+    ghost view = { λ e. record { lines = e.count; telling = e.telling } };
+}
+
+impl EndedLines {
+    /// One more line, whose call isn't shown.
+    fn judge_line(&mut self, line: &[u8]) -> Result<(), CaptureFault>
+        ensures { result_and result (Ok self.new) ≡ capture_after_line (Ok self.old) line.now }
+    {
+        let number = one_more(self.count);
+        match self.telling.judge_line(line) {
+            Ok(()) => {
+                self.count = number;
+                Ok(())
+            }
+            Err(fault) => Err(CaptureFault::Line(number, fault)),
+        }
+    }
+
+    /// One more line, and the call that it tells.
+    fn tell_line(&mut self, line: &[u8]) -> Result<Option<TimedCall>, CaptureFault>
+        ensures read { result_and result (Ok self.new)
+            ≡ capture_after_line (Ok self.old) line.now }
+        ensures told { result_unwrap_or result None ≡ line_call self.old.telling line.now }
+    {
+        let number = one_more(self.count);
+        match self.telling.tell_line(line) {
+            Ok(call) => {
+                self.count = number;
+                Ok(call)
+            }
+            Err(fault) => Err(CaptureFault::Line(number, fault)),
+        }
+    }
+}
 
 /// A capture, as far as it is read. It takes no memory, and keeps one line at a time.
 ///
@@ -19,10 +68,8 @@ use std::marker::Model;
 /// [`judge_capture`](crate::judge_capture) reads it.
 #[derive(Drop)]
 pub struct CaptureReader {
-    /// How many lines ended.
-    lines: u64,
-    telling: Telling,
-    /// The bytes of the line that is open.
+    ended: EndedLines,
+    /// What is kept of the line that is open.
     line: ArrayVec<u8, LONGEST>,
 }
 
@@ -31,10 +78,7 @@ impl Model for CaptureReader {
 
     ghost Value = { ReaderState };
 
-    ghost view = { λ o. record {
-      reading = record { lines = o.lines; telling = o.telling };
-      line = o.line.items;
-    } };
+    ghost view = { λ o. record { reading = o.ended; line = o.line.items } };
 
     ghost invariant = { λ o. IsOpenLine o.line.items };
 }
@@ -45,35 +89,26 @@ impl CaptureReader {
         ensures { result ≡ new_opened form odd }
     {
         CaptureReader {
-            lines: 0,
-            telling: Telling::new(form, odd),
+            ended: EndedLines {
+                count: 0,
+                telling: Telling::new(form, odd),
+            },
             line: ArrayVec::new(),
         }
     }
 
-    /// More of the text is read, of which no call is shown.
+    /// More of the text is read, of which no call is shown. A line that lies whole in it is told
+    /// where it lies.
     pub(crate) fn take(&mut self, text: &[u8]) -> Result<(), CaptureFault>
         ensures { (rest : List ℕ) → result_and result (judging_after_rest self.new rest)
             ≡ judging_after_rest self.old (text.now ++ rest) }
     {
-        for octet in text {
-            self.judge_octet(*octet)?;
+        let mut left = text;
+        while let Some((line, later)) = cut_line(left) {
+            self.judge_line(line)?;
+            left = later;
         }
-        Ok(())
-    }
-
-    /// One more octet of the text is read, and its call isn't shown.
-    fn judge_octet(&mut self, octet: u8) -> Result<(), CaptureFault>
-        ensures { (rest : List ℕ) → result_and result (judging_after_rest self.new rest)
-            ≡ judging_after_rest self.old (octet ∷ rest) }
-    {
-        if octet == b'\n' {
-            return match self.end_line() {
-                Ok(_) => Ok(()),
-                Err(fault) => Err(fault),
-            };
-        }
-        self.keep(octet)
+        self.keep(left)
     }
 
     /// One more octet of the text is read. Where it ends a line, that may tell a call. The first
@@ -85,32 +120,62 @@ impl CaptureReader {
             ≡ calls_of_rest self.old (octet ∷ rest) }
     {
         if octet == b'\n' {
-            return self.end_line();
+            return self.end_line(&[]);
         }
-        self.keep(octet)?;
+        self.keep(&[octet])?;
         Ok(None)
     }
 
-    /// One more octet of the line that is open.
+    /// More of the line that is open.
     #[tactic(auto, using(crate::proofs::ReadLemmas::overfull, crate::proofs::CallLemmas::overfull_calls))]
-    fn keep(&mut self, octet: u8) -> Result<(), CaptureFault>
-        requires { octet ≢ 10 }
+    fn keep(&mut self, more: &[u8]) -> Result<(), CaptureFault>
+        requires { IsOpenLine more.now }
         ensures judged { (rest : List ℕ) → result_and result (judging_after_rest self.new rest)
-            ≡ judging_after_rest self.old (octet ∷ rest) }
+            ≡ judging_after_rest self.old (more.now ++ rest) }
         ensures told { OnOk result ((rest : List ℕ) → calls_of_rest self.new rest
-            ≡ calls_of_rest self.old (octet ∷ rest)) }
+            ≡ calls_of_rest self.old (more.now ++ rest)) }
         ensures tells_none { OnErr result ((rest : List ℕ)
-            → calls_of_rest self.old (octet ∷ rest) ≡ []) }
+            → calls_of_rest self.old (more.now ++ rest) ≡ []) }
+        ensures line { OnOk result (self.new.line ≡ self.old.line ++ more.now) }
+        ensures ended { OnOk result (self.new.reading ≡ self.old.reading) }
     {
-        if self.line.is_full() {
-            return Err(CaptureFault::Line(one_more(self.lines), LineFault::BadForm));
+        if self.line.try_extend_from_slice(more).is_err() {
+            let number = one_more(self.ended.count);
+            return Err(CaptureFault::Line(number, LineFault::BadForm));
         }
-        self.line.push(octet);
         Ok(())
     }
 
-    /// The open line ends.
-    fn end_line(&mut self) -> Result<Option<TimedCall>, CaptureFault>
+    /// The open line ends with these bytes, and its call isn't shown.
+    fn judge_line(&mut self, end: &[u8]) -> Result<(), CaptureFault>
+        requires { IsOpenLine end.now }
+        ensures { (rest : List ℕ) → result_and result (judging_after_rest self.new rest)
+            ≡ judging_after_rest self.old (end.now ++ 10 ∷ rest) }
+    {
+        let lies_whole = self.line.is_empty();
+        if lies_whole {
+            return self.ended.judge_line(end);
+        }
+        match self.end_line(end) {
+            Ok(_) => Ok(()),
+            Err(fault) => Err(fault),
+        }
+    }
+
+    /// The open line ends with these bytes.
+    fn end_line(&mut self, end: &[u8]) -> Result<Option<TimedCall>, CaptureFault>
+        requires { IsOpenLine end.now }
+        ensures judged { (rest : List ℕ) → result_and result (judging_after_rest self.new rest)
+            ≡ judging_after_rest self.old (end.now ++ 10 ∷ rest) }
+        ensures told { (rest : List ℕ) → told_before result (calls_of_rest self.new rest)
+            ≡ calls_of_rest self.old (end.now ++ 10 ∷ rest) }
+    {
+        self.keep(end)?;
+        self.end_kept()
+    }
+
+    /// The open line ends with what is kept of it.
+    fn end_kept(&mut self) -> Result<Option<TimedCall>, CaptureFault>
         ensures line { result_and result (Ok self.new.reading)
             ≡ capture_after_line (Ok self.old.reading) self.old.line }
         ensures told { result_unwrap_or result None
@@ -118,15 +183,9 @@ impl CaptureReader {
         ensures empty { OnOk result (self.new.line ≡ []) }
         ensures no_feed { IsOpenLine self.old.line }
     {
-        let number = one_more(self.lines);
-        match self.telling.tell_line(self.line.as_slice()) {
-            Ok(call) => {
-                self.lines = number;
-                self.line.clear();
-                Ok(call)
-            }
-            Err(fault) => Err(CaptureFault::Line(number, fault)),
-        }
+        let call = self.ended.tell_line(self.line.as_slice())?;
+        self.line.clear();
+        Ok(call)
     }
 
     /// The text has ended, and with it the line that is open, which may tell a call.
@@ -141,7 +200,7 @@ impl CaptureReader {
         if self.line.is_empty() {
             return Ok(None);
         }
-        self.end_line()
+        self.end_kept()
     }
 
     /// What is judged of the lines that have ended, once the text has, and the last call.
@@ -151,13 +210,22 @@ impl CaptureReader {
         ensures told { MatchResult result (λ whole. last_call self.reading.telling ≡ whole.1)
             (λ fault. last_call self.reading.telling ≡ None) }
     {
-        if self.telling.is_untold() {
-            return Err(CaptureFault::NothingTold(self.lines));
+        if self.ended.telling.is_untold() {
+            return Err(CaptureFault::NothingTold(self.ended.count));
         }
-        let number = one_more(self.lines);
-        match self.telling.finish() {
+        let number = one_more(self.ended.count);
+        match self.ended.telling.finish() {
             Ok(whole) => Ok(whole),
             Err(fault) => Err(CaptureFault::Line(number, fault)),
         }
     }
+}
+
+/// The bytes up to the first line feed, and those behind it.
+fn cut_line(text: &[u8]) -> Option<(&[u8], &[u8])>
+    ensures { MatchOption result (IsOpenLine text.now) (λ parts. IsOpenLine parts.0.now
+        × (text.now ≡ parts.0.now ++ 10 ∷ parts.1.now)) }
+{
+    let place = memchr(b'\n', text)?;
+    Some((&text[..place], &text[place + 1..]))
 }

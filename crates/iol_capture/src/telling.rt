@@ -1,15 +1,13 @@
 //! A judge, told the lines of a capture in one form or the other.
 ghost use Rattle.std.specs.Prelude.{◌≡◌, MatchResult, Ok};
 ghost use Rattle.std.specs.Result.{result_and, result_unwrap_or};
-ghost use Rattle.iol_capture.specs.Judging.{or_bad_form, judging_after_line};
-ghost use Rattle.iol_capture.specs.TraceLines.{trace_form};
 ghost use Rattle.iol_capture.specs.Capture.{is_untold, judging_if_whole, last_call, line_call, line_told, new_telling};
 
 use crate::fault::LineFault;
 use crate::hearing::OctetJudgement;
 use crate::judgement::Judgement;
 use crate::timed_call::TimedCall;
-use crate::trace_line::TraceLine;
+use crate::tracing::TraceJudgement;
 use iol_judge::Odd;
 use iol_link::Rate;
 
@@ -25,7 +23,7 @@ pub enum CaptureForm {
 /// What a judge makes of the lines of a capture.
 #[derive(Drop)]
 pub(crate) enum Telling {
-    Trace(Judgement),
+    Trace(TraceJudgement),
     Octets(OctetJudgement),
 }
 
@@ -35,8 +33,21 @@ impl Telling {
         ensures { result ≡ new_telling form odd }
     {
         match form {
-            CaptureForm::Trace => Telling::Trace(Judgement::new(odd)),
+            CaptureForm::Trace => Telling::Trace(TraceJudgement::new(odd)),
             CaptureForm::Octets(rate) => Telling::Octets(OctetJudgement::new(rate, odd)),
+        }
+    }
+
+    /// One more line, whose call isn't shown.
+    pub fn judge_line(&mut self, line: &[u8]) -> Result<(), LineFault>
+        ensures { result_and result (Ok self.new) ≡ line_told self.old line.now }
+    {
+        match self {
+            Telling::Trace(tracing) => tracing.tell_line(line),
+            Telling::Octets(hearing) => match hearing.tell_line(line) {
+                Ok(_) => Ok(()),
+                Err(fault) => Err(fault),
+            },
         }
     }
 
@@ -46,8 +57,8 @@ impl Telling {
         ensures told { result_unwrap_or result None ≡ line_call self.old line.now }
     {
         match self {
-            Telling::Trace(judgement) => {
-                tell_trace(judgement, line)?;
+            Telling::Trace(tracing) => {
+                tracing.tell_line(line)?;
                 Ok(None)
             }
             Telling::Octets(hearing) => hearing.tell_line(line),
@@ -59,7 +70,7 @@ impl Telling {
         ensures { result ≡ is_untold self.now }
     {
         match self {
-            Telling::Trace(judgement) => judgement.is_untold(),
+            Telling::Trace(tracing) => tracing.is_untold(),
             Telling::Octets(_) => false,
         }
     }
@@ -72,20 +83,9 @@ impl Telling {
             (λ fault. last_call self ≡ None) }
     {
         match self {
-            Telling::Trace(judgement) if judgement.waits() => Err(LineFault::ReplyMissing),
-            Telling::Trace(judgement) => Ok((judgement, None)),
+            Telling::Trace(tracing) if tracing.waits() => Err(LineFault::ReplyMissing),
+            Telling::Trace(tracing) => Ok((tracing.finish(), None)),
             Telling::Octets(hearing) => Ok(hearing.finish()),
         }
-    }
-}
-
-/// One more line of a trace.
-fn tell_trace(judgement: &mut Judgement, line: &[u8]) -> Result<(), LineFault>
-    ensures { result_and result (Ok judgement.new)
-        ≡ or_bad_form (judging_after_line judgement.old) (trace_form line.now) }
-{
-    match TraceLine::parse(line) {
-        Some(line) => judgement.tell(line),
-        None => Err(LineFault::BadForm),
     }
 }

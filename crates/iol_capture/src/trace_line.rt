@@ -1,11 +1,12 @@
 //! What a line of a trace says.
-ghost use Rattle.std.specs.Prelude.{◌≡◌, ◌==◌};
+ghost use Rattle.std.specs.Prelude.{◌≡◌, ◌<◌, ◌≤◌, ◌∷◌, IfSome, MatchOption, if◌then◌else◌, length, option_and_then, option_copied, option_map};
 ghost use Rattle.std.specs.List.{position};
-ghost use Rattle.iol_script.specs.Text.{words_left};
-ghost use Rattle.iol_capture.specs.TraceLines.{before_colon, trace_call_form, came_form, named_form, octets_form, page_form, ten_octets, rate_form, trace_words_form};
+ghost use Rattle.iol_script.specs.Numerals.{before, octet_of_digits, octets_of_words};
+ghost use Rattle.iol_capture.specs.TraceLines.{are_none, came_form, colon_words, ends_word, octets_after, octets_form, octets_read, page_form, rate_form, ten_of, trace_call_form, trace_form, trace_words_form, words_behind};
 
+use arrayvec::ArrayVec;
 use iol_judge::Wake;
-use iol_script::{LineOctets, Words, decimal_number, parted_octets};
+use iol_script::{LineOctets, decimal_number, hexadecimal_octet};
 
 /// The most bytes of a line, its line feed not counted.
 pub(crate) const LONGEST: usize = 1024;
@@ -27,98 +28,121 @@ pub enum TraceLine {
     Came(u64, Option<LineOctets>),
 }
 
-impl TraceLine {
-    ghost use Rattle.iol_capture.specs.TraceLines.{trace_form};
+/// The same, where octets are still words: those that stand behind the words before them.
+#[derive(Clone, Copy, Debug)]
+pub(crate) enum WordedLine<'a> {
+    Other,
+    Skipped,
+    Page([u8; 10]),
+    Wake(u64, Wake),
+    Sent(u64, Option<&'a [u8]>),
+    Came(u64, Option<&'a [u8]>),
+}
 
+impl TraceLine {
     /// What a line of at most 1,024 bytes says, where it fits a form. What stands behind a colon
     /// isn't read.
     pub fn parse(line: &[u8]) -> Option<TraceLine>
         ensures { result ≡ trace_form line.now }
     {
+        Some(match WordedLine::parse(line)? {
+            WordedLine::Other => TraceLine::Other,
+            WordedLine::Skipped => TraceLine::Skipped,
+            WordedLine::Page(octets) => TraceLine::Page(octets),
+            WordedLine::Wake(number, answer) => TraceLine::Wake(number, answer),
+            WordedLine::Sent(number, words) => TraceLine::Sent(number, parse_octets(words)?),
+            WordedLine::Came(number, words) => TraceLine::Came(number, parse_came(words)?),
+        })
+    }
+}
+
+impl<'a> WordedLine<'a> {
+    /// What a line of at most 1,024 bytes says, where the words before its octets fit a form. What
+    /// stands behind a colon isn't read.
+    pub fn parse(line: &'a [u8]) -> Option<WordedLine<'a>>
+        ensures { option_and_then octets_read result ≡ trace_form line.now }
+    {
         if line.len() > LONGEST {
             return None;
         }
-        parse_words(Words::of(before_colon(line))?)
+        match line {
+            [] | [b'#' | b':', ..] => Some(WordedLine::Other),
+            _ => parse_words(line),
+        }
     }
 }
 
-/// Where the first colon stands.
-fn colon_in(line: &[u8]) -> Option<usize>
-    ensures { result ≡ position (λ b. b == 58) line.now }
+/// Where the first word of a text ends: at a space, or at a colon, which ends the text.
+fn word_end(text: &[u8]) -> Option<usize>
+    ensures { result ≡ position ends_word text.now }
 {
-    line.iter().position(|octet| *octet == b':')
+    text.iter()
+        .position(|octet| *octet == b' ' || *octet == b':')
 }
 
-/// The octets before the first colon.
-fn before_colon(line: &[u8]) -> &[u8]
-    ensures { result.now ≡ before_colon line.now }
+/// The first word of a text, and what stands behind the space after it if there is one.
+fn first_word(text: &[u8]) -> (&[u8], Option<&[u8]>)
+    ensures { colon_words text.now ≡ result.0.now ∷ words_behind (option_copied result.1) }
 {
-    match colon_in(line) {
-        Some(place) => &line[..place],
-        None => line,
+    match word_end(text) {
+        Some(place) if text[place] == b' ' => (&text[..place], Some(&text[place + 1..])),
+        Some(place) => (&text[..place], None),
+        None => (text, None),
     }
 }
 
-fn parse_words(mut words: Words) -> Option<TraceLine>
-    ensures { result ≡ trace_words_form (words_left words.entry) }
+fn parse_words(text: &[u8]) -> Option<WordedLine<'_>>
+    ensures { option_and_then octets_read result ≡ trace_words_form (colon_words text.now) }
 {
-    match words.next() {
-        Some(name) => parse_named(name, words),
-        None => Some(TraceLine::Other),
-    }
-}
-
-fn parse_named(name: &[u8], words: Words) -> Option<TraceLine>
-    ensures { result ≡ named_form name.now (words_left words.entry) }
-{
+    let (name, behind) = first_word(text);
     match name {
-        b"page" => parse_page(words),
-        [b'0'..=b'9', ..] => parse_call(decimal_number(name, 1, u64::MAX)?, words),
-        _ => Some(TraceLine::Skipped),
+        b"page" => parse_page(behind),
+        [b'0'..=b'9', ..] => parse_call(decimal_number(name, 1, u64::MAX)?, behind),
+        _ => Some(WordedLine::Skipped),
     }
 }
 
 /// The words behind `page`: ten octets, or `none`.
-fn parse_page(words: Words) -> Option<TraceLine>
-    ensures { result ≡ page_form (words_left words.entry) }
+fn parse_page(words: Option<&[u8]>) -> Option<WordedLine<'_>>
+    ensures { option_and_then octets_read result
+        ≡ page_form (words_behind (option_copied words.entry)) }
 {
     if are_none(words) {
-        return Some(TraceLine::Other);
+        return Some(WordedLine::Other);
     }
-    Some(TraceLine::Page(parse_page_octets(words)?))
+    let octets = parse_octets(words)?;
+    Some(WordedLine::Page(ten_of(octets.as_slice())?))
 }
 
-/// The ten octets of a page.
-pub(crate) fn parse_page_octets(words: Words) -> Option<[u8; 10]>
-    ensures { result ≡ ten_octets (words_left words.entry) }
+/// Octets, where there are ten.
+pub(crate) fn ten_of(octets: &[u8]) -> Option<[u8; 10]>
+    ensures { result ≡ ten_of octets.now }
 {
-    let octets = parse_octets(words)?;
-    match octets.as_slice() {
-        [a, b, c, d, e, f, g, h, i, j] => Some([*a, *b, *c, *d, *e, *f, *g, *h, *i, *j]),
-        _ => None,
-    }
+    <[u8; 10]>::try_from(octets).ok()
 }
 
 /// The words behind the number of a call.
-fn parse_call(number: u64, mut words: Words) -> Option<TraceLine>
-    ensures { result ≡ trace_call_form number (words_left words.entry) }
+fn parse_call(number: u64, words: Option<&[u8]>) -> Option<WordedLine<'_>>
+    ensures { option_and_then octets_read result
+        ≡ trace_call_form number (words_behind (option_copied words.entry)) }
 {
-    match words.next()? {
-        b"wake" => Some(TraceLine::Wake(number, parse_rate(words)?)),
-        b">" => Some(TraceLine::Sent(number, parse_octets(words)?)),
-        b"<" => Some(TraceLine::Came(number, parse_came(words)?)),
+    let (way, behind) = first_word(words?);
+    match way {
+        b"wake" => Some(WordedLine::Wake(number, parse_rate(behind)?)),
+        b">" => Some(WordedLine::Sent(number, behind)),
+        b"<" => Some(WordedLine::Came(number, behind)),
         _ => None,
     }
 }
 
 /// Whether a wake-up request was answered, by the rate.
-fn parse_rate(mut words: Words) -> Option<Wake>
-    ensures { result ≡ rate_form (words_left words.entry) }
+#[tactic(auto, using(crate::proofs::WordLemmas::no_rate))]
+fn parse_rate(words: Option<&[u8]>) -> Option<Wake>
+    ensures { result ≡ rate_form (words_behind (option_copied words.entry)) }
 {
-    let rate = words.next()?;
-    if words.next().is_some() {
+    let (rate, None) = first_word(words?) else {
         return None;
-    }
+    };
     match rate {
         b"none" => Some(Wake::Unanswered),
         b"COM1" | b"COM2" | b"COM3" => Some(Wake::Answered),
@@ -126,29 +150,108 @@ fn parse_rate(mut words: Words) -> Option<Wake>
     }
 }
 
-/// Words of two digits each, up to 128.
-fn parse_octets(words: Words) -> Option<LineOctets>
-    ensures { result ≡ octets_form (words_left words.entry) }
+/// Whether they are the one word `none`.
+#[tactic(auto, using(crate::proofs::WordLemmas::not_none))]
+pub(crate) fn are_none(words: Option<&[u8]>) -> bool
+    ensures { result ≡ are_none (words_behind (option_copied words.entry)) }
 {
-    parted_octets(words)
-}
-
-/// The same, or `none`.
-fn parse_came(words: Words) -> Option<Option<LineOctets>>
-    ensures { result ≡ came_form (words_left words.entry) }
-{
-    if are_none(words) {
-        Some(None)
-    } else {
-        Some(Some(parse_octets(words)?))
+    match words {
+        Some(text) => match first_word(text) {
+            (word, None) => word == b"none".as_slice(),
+            (_, Some(_)) => false,
+        },
+        None => false,
     }
 }
 
-/// Whether they are the one word `none`.
-pub(crate) fn are_none(mut words: Words) -> bool
-    ensures { result ≡ are_none (words_left words.entry) }
+/// Words of two digits each, up to 128.
+fn parse_octets(words: Option<&[u8]>) -> Option<LineOctets>
+    ensures { result ≡ octets_form (words_behind (option_copied words.entry)) }
 {
-    matches!((words.next(), words.next()), (Some(b"none"), None))
+    let mut octets = LineOctets::new();
+    read_octets(words, &mut octets)?;
+    Some(octets)
 }
 
-ghost use Rattle.iol_capture.specs.TraceLines.{are_none};
+/// The same, or `none`.
+fn parse_came(words: Option<&[u8]>) -> Option<Option<LineOctets>>
+    ensures { result ≡ came_form (words_behind (option_copied words.entry)) }
+{
+    let mut octets = LineOctets::new();
+    Some(if read_came(words, &mut octets)? {
+        Some(octets)
+    } else {
+        None
+    })
+}
+
+/// Whether anything came back: octets, which are put in the place of others, or `none`.
+pub(crate) fn read_came(words: Option<&[u8]>, octets: &mut LineOctets) -> Option<bool>
+    ensures { option_map (λ any. if any then Some octets.new else None) result
+        ≡ came_form (words_behind (option_copied words.entry)) }
+{
+    if are_none(words) {
+        return Some(false);
+    }
+    read_octets(words, octets)?;
+    Some(true)
+}
+
+/// Words of two digits each, up to 128: the octets are put in the place of others.
+pub(crate) fn read_octets(words: Option<&[u8]>, octets: &mut LineOctets) -> Option<()>
+    ensures { option_map (λ done. octets.new) result
+        ≡ octets_form (words_behind (option_copied words.entry)) }
+{
+    octets.clear();
+    let mut left = words;
+    while let Some(text) = left {
+        let Some((octet, behind)) = first_octet(text) else {
+            return None;
+        };
+        if octets.is_full() {
+            return None;
+        }
+        octets.push(octet);
+        left = behind;
+    }
+    Some(())
+}
+
+/// The octet of a text's first word, and what stands behind the space after it if there is one.
+fn first_octet(text: &[u8]) -> Option<(u8, Option<&[u8]>)>
+    ensures octet { MatchOption result (octets_of_words (colon_words text.now) ≡ None)
+        (λ first. octets_of_words (colon_words text.now) ≡ before (Some first.0)
+        (octets_of_words (words_behind (option_copied first.1)))) }
+    ensures shorter { IfSome result (λ first. IfSome first.1 (λ later. length later.now
+        < length text.now)) }
+{
+    let [high, low, later @ ..] = text else {
+        return None;
+    };
+    let octet = octet_of(*high, *low)?;
+    Some((octet, behind_digits(later)?))
+}
+
+/// What stands behind the space after a word's two digits, if there is one.
+fn behind_digits(later: &[u8]) -> Option<Option<&[u8]>>
+    ensures octets { MatchOption result (octets_after later.now ≡ None) (λ behind.
+        octets_after later.now ≡ octets_of_words (words_behind (option_copied behind))) }
+    ensures shorter { IfSome result (λ behind. IfSome behind (λ words. length words.now
+        ≤ length later.now)) }
+{
+    match later {
+        [] => Some(None),
+        [mark, words @ ..] => match *mark {
+            b':' => Some(None),
+            b' ' => Some(Some(words)),
+            _ => None,
+        },
+    }
+}
+
+/// The octet of two digits.
+fn octet_of(high: u8, low: u8) -> Option<u8>
+    ensures { result ≡ octet_of_digits high low }
+{
+    hexadecimal_octet(&[high, low])
+}

@@ -13,9 +13,10 @@ use iol_mseq::{Layout, view_reply};
 pub(crate) fn is_readable(layouts: &KnownLayouts, sent: &[u8], reply: &[u8]) -> bool
     ensures { result ≡ can_be_read layouts.now sent.now reply.now }
 {
-    is_read_in(layout_in(layouts, DeviceMode::Startup), sent, reply)
+    // Most often it is in OPERATE.
+    is_read_in(layout_in(layouts, DeviceMode::Operate), sent, reply)
+        || is_read_in(layout_in(layouts, DeviceMode::Startup), sent, reply)
         || is_read_in(layout_in(layouts, DeviceMode::Preoperate), sent, reply)
-        || is_read_in(layout_in(layouts, DeviceMode::Operate), sent, reply)
 }
 
 /// Whether a reply can be read in this layout, where it is known.
