@@ -1,10 +1,9 @@
 -- What an attempt asks, whatever came of its requests: the laws of that.
-use Rattle.std.proofs.Common.{◌≡◌, ◌≤◌, ◌⊎◌, inl, inr, ◌∷◌, ◌++◌, ◌∙◌, [], ℕ, zero, suc, List, Option, Some, None, Bool, true, false, refl, sym, ap, arith, subst}
+use Rattle.std.proofs.Common.{◌≡◌, ◌≤◌, ◌⊎◌, inl, inr, ◌∷◌, ◌++◌, ◌∙◌, [], ℕ, zero, suc, List, Option, Some, Bool, true, false, refl, sym, ap, arith, subst}
 use Rattle.std.specs.Prelude.{map, slice_get, if◌then◌else◌}
 use Rattle.iol_isdu.specs.declared.values.Place.{Place}
 use Rattle.iol_isdu.specs.declared.values.Request.{Request}
 use Rattle.iol_isdu.specs.declared.values.Request.TheVariants.{Read as ReadRequest, Write as WriteRequest}
-use Rattle.iol_book.specs.declared.entries.Outcome.{Outcome}
 use Rattle.iol_storage.specs.declared.download.Flag.{Flag}
 use Rattle.iol_storage.specs.declared.download.Flag.TheVariants.{Ignored, Counts}
 use Rattle.iol_storage.specs.declared.download.DownloadPurpose.TheVariants.{Restore as RestorePurpose}
@@ -13,7 +12,6 @@ use Rattle.iol_storage.specs.declared.download.DownloadStage.TheVariants as down
 use Rattle.iol_storage.specs.declared.upload.UploadStage.{UploadStage}
 use Rattle.iol_storage.specs.declared.upload.UploadStage.TheVariants as upload_stage
 use Rattle.iol_storage.specs.declared.set.Set.{Set}
-use Rattle.iol_storage.specs.declared.attempt.StorageMode.{StorageMode}
 use Rattle.iol_storage.specs.declared.attempt.AttemptStage.{AttemptStage}
 use Rattle.iol_storage.specs.declared.attempt.AttemptStage.TheVariants.{State, Size, Checksum, SerialNumber, Fetching, Unsaved, Ending, Confirming, Restoring, Breaking, Over}
 use Rattle.iol_storage.specs.declared.attempt.StorageAttempt.{StorageAttempt}
@@ -21,7 +19,7 @@ use Rattle.iol_storage.specs.Downloads.{object_write, place_or, download_request
 use Rattle.iol_storage.specs.Uploads.{storage_place, storage_command, names_more, place_read, upload_stage_asks}
 use Rattle.iol_storage.specs.Laws.{all_asked}
 use Rattle.iol_storage.specs.Attempts.{serial_place, counts_flag, attempt_stage_asks, restore_purpose, restore_asks}
-use Rattle.iol_storage.specs.AttemptLaws.{Values, AttemptEvent, AttemptRun, run_begun, run_asked, run_behind, IsSavedSince, HoldNoCommand, KeepsNoCommand, IsNextOfRestore, IsOwnPlace, IsNamed, IsCommand, IsAllowed, ToldSetsAreSaved, AttemptsAskNoMore}
+use Rattle.iol_storage.specs.AttemptLaws.{Values, AttemptEvent, AttemptRun, run_begun, run_asked, run_behind, IsSavedSince, HoldNoCommand, KeepsNoCommand, IsOwnPlace, IsNamed, IsAllowed, ToldSetsAreSaved, AttemptsAskNoMore}
 use Rattle.iol_storage.proofs.Attempts.{Asked, IsRestoring, At, runs}
 use Rattle.iol_storage.proofs.Downloads.{asking-taken}
 

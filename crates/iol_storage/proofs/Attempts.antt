@@ -1,6 +1,6 @@
 -- An attempt, whatever comes of its requests, and whenever its set is saved: the laws.
-use Rattle.std.proofs.Common.{◌≡◌, ◌≤◌, ◌⊎◌, ◌+◌, ◌*◌, ◌∷◌, ◌++◌, ◌∙◌, [], ℕ, suc, List, Option, Some, None, Bool, true, false, refl, sym, ap, arith, length, subst, append_assoc}
-use Rattle.std.specs.Prelude.{map, bytes_eq, ◌&&◌, nat_le, nat_lt, if◌then◌else◌}
+use Rattle.std.proofs.Common.{◌≡◌, ◌+◌, ◌*◌, ◌∷◌, ◌++◌, ◌∙◌, [], ℕ, List, Option, Some, None, Bool, true, false, refl, sym, ap, subst, append_assoc}
+use Rattle.std.specs.Prelude.{bytes_eq, ◌&&◌, nat_le, nat_lt, if◌then◌else◌}
 use Rattle.std.proofs.lemmas.List.{append-nil, map-append}
 use Rattle.iol_isdu.specs.declared.values.Place.{Place}
 use Rattle.iol_isdu.specs.declared.values.Request.{Request}
@@ -10,7 +10,6 @@ use Rattle.iol_book.specs.declared.entries.Outcome.{Outcome}
 use Rattle.iol_book.specs.declared.entries.Outcome.TheVariants.{Done, Unknown, Withdrawn, NoIsdu}
 use Rattle.iol_storage.specs.declared.download.DownloadPurpose.{DownloadPurpose}
 use Rattle.iol_storage.specs.declared.download.Refusal.{Refusal}
-use Rattle.iol_storage.specs.declared.download.DownloadResult.{DownloadResult}
 use Rattle.iol_storage.specs.declared.download.DownloadResult.TheVariants as download
 use Rattle.iol_storage.specs.declared.download.DownloadStage.{DownloadStage}
 use Rattle.iol_storage.specs.declared.download.DownloadStage.TheVariants as download_stage
@@ -23,17 +22,17 @@ use Rattle.iol_storage.specs.declared.attempt.StorageMode.{StorageMode}
 use Rattle.iol_storage.specs.declared.attempt.StorageMode.TheVariants.{Off, Restore, Both, Own}
 use Rattle.iol_storage.specs.declared.attempt.AttemptPurpose.{AttemptPurpose}
 use Rattle.iol_storage.specs.declared.attempt.AttemptResult.{AttemptResult}
-use Rattle.iol_storage.specs.declared.attempt.AttemptResult.TheVariants.{Unsupported, Locked, TooLarge, BadList, Empty, Same, Unchanged, Restored, Fetched, Refused, Again}
+use Rattle.iol_storage.specs.declared.attempt.AttemptResult.TheVariants.{Unsupported, Locked, TooLarge, Same, Unchanged, Restored, Fetched, Refused, Again}
 use Rattle.iol_storage.specs.declared.attempt.AttemptStage.{AttemptStage}
 use Rattle.iol_storage.specs.declared.attempt.AttemptStage.TheVariants.{State, Size, Checksum, SerialNumber, Fetching, Unsaved, Ending, Confirming, Restoring, Breaking, Over}
 use Rattle.iol_storage.specs.declared.attempt.StorageAttempt.{StorageAttempt}
-use Rattle.iol_storage.specs.Downloads.{download_requests, stage_asks, stage_after, session_lasts}
+use Rattle.iol_storage.specs.Downloads.{stage_asks, stage_after, session_lasts}
 use Rattle.iol_storage.specs.Uploads.{storage_place, upload_asks, upload_after, behind_upload, behind_start, behind_list, behind_read}
 use Rattle.iol_storage.specs.Laws.{asked_with, stage_behind_all, all_asked, upload_begun, upload_behind_all, upload_asked, IsWholeSet}
-use Rattle.iol_storage.specs.Attempts.{attempt_after, behind_attempt, attempt_stage_asks, with_attempt_stage, with_upload_begun, with_upload, decision, decision_without, decision_beside, counts_flag, is_in_service, next_look, restore_purpose, restore_asks, behind_restore, behind_download, restore_result, fetch_result, behind_fetch, behind_end, is_unsaved, passes, refusal_result, look_result, state_refused, is_unsupported, state_read, is_locked, size_read, checksum_octets, checksum_read, checksum_confirmed, unit_looked, serial_number_read, serial_place, after_state, behind_size, after_checksum, after_serial_number, after_confirmed}
-use Rattle.iol_storage.specs.AttemptLaws.{UnsavedSetsAreWhole, ToldSetsAreSaved, RestoredSetsAreTaken, AttemptsAskNoMore, run_begun, HoldNoCommand, KeepsNoCommand, IsNextOfRestore, IsOwnPlace, IsNamed, IsCommand, IsAllowed, Values, AttemptEvent, Heard, Saved, AttemptRun, run_after, run_asks, event_asked, run_behind, run_asked, EndsInWholeSet, IsSavedSince, look_requests, requests_of, AreLooksThenTaken, IsRestored}
+use Rattle.iol_storage.specs.Attempts.{attempt_after, attempt_stage_asks, with_attempt_stage, with_upload_begun, decision, decision_without, decision_beside, counts_flag, is_in_service, next_look, restore_purpose, restore_asks, behind_restore, behind_download, behind_fetch, behind_end, is_unsaved, passes, refusal_result, look_result, is_unsupported, state_read, is_locked, size_read, checksum_octets, checksum_read, checksum_confirmed, unit_looked, serial_number_read, serial_place, after_state, behind_size, after_checksum, after_serial_number, after_confirmed}
+use Rattle.iol_storage.specs.AttemptLaws.{UnsavedSetsAreWhole, RestoredSetsAreTaken, run_begun, Values, AttemptEvent, Heard, Saved, AttemptRun, run_after, event_asked, run_behind, run_asked, EndsInWholeSet, IsSavedSince, look_requests, requests_of, IsRestored}
 use Rattle.iol_storage.proofs.Uploads.{sets-whole}
-use Rattle.iol_storage.proofs.Downloads.{applied-whole, asking-taken}
+use Rattle.iol_storage.proofs.Downloads.{applied-whole}
 
 abbrev pub Asked : Type 0
 Asked = List (Request × Outcome)

@@ -1,5 +1,5 @@
 -- A download, whatever comes of its requests: the laws.
-use Rattle.std.proofs.Common.{◌≡◌, ◌≤◌, ◌+◌, ◌∷◌, ◌++◌, ◌∙◌, [], ℕ, suc, List, Option, Some, Bool, true, false, refl, sym, ap, arith, length, get_or, take, drop, subst}
+use Rattle.std.proofs.Common.{◌≡◌, ◌≤◌, ◌<◌, ◌+◌, ◌∷◌, ◌++◌, ◌∙◌, [], ℕ, suc, List, Option, Some, Bool, true, false, refl, sym, ap, arith, length, get_or, take, drop, subst}
 use Rattle.std.specs.Prelude.{slice_get, nat_lt, not}
 use Rattle.std.specs.Option.{option_map_or}
 use Rattle.std.proofs.lemmas.List.{drop_more, length-append, length-map}
@@ -37,6 +37,10 @@ result_failed result = option_map_or (λ r. not (is_applied r)) result false
 
 abbrev has_failed : DownloadStage → Bool
 has_failed stage = result_failed (stage_result stage)
+
+not-true : (b : Bool) → not b ≡ true → b ≡ false
+not-true true is = absurd (cc)
+not-true false is = refl
 
 module _ (purpose : DownloadPurpose) (objects : List (Place × List ℕ)) where
   abbrev last : ℕ
@@ -291,6 +295,64 @@ module _ (purpose : DownloadPurpose) (objects : List (Place × List ℕ)) where
       let t = asking-from 0 index os (omega arith) done in
       let same : t.count ≡ index = omega (arith, t.is) in
       subst (λ n. AreTaken purpose 0 (take n requests) (asked-from (Asking 0) os)) same t.taken
+
+  -- what the stage behind one outcome of a request is, by whether it was taken
+  module _ (index : ℕ) (o : Outcome) (os : List Outcome) (within : index ≤ last)
+      (P : Type 0)
+      (failed : has_failed (stage_after purpose objects (Asking index) o) ≡ true → P)
+      (next : index + 1 ≤ last
+      → final (Asking index) (o ∷ os) ≡ final (Asking (index + 1)) os → P)
+      (ends : final (Asking index) (o ∷ os) ≡ Over Applied → P) where
+    by-outcome : (goes_on more : Bool) → outcome_taken purpose index o ≡ goes_on
+        → nat_lt index last ≡ more → P
+    by-outcome false more taken lt = failed (failed-step index o taken)
+    by-outcome true true taken lt =
+        let to : stage_after purpose objects (Asking index) o ≡ Asking (index + 1) =
+        (taken-step index o taken).1 ∙ rw lt refl in
+        next (omega (arith, ltb-true _ _ lt)) (ap (λ s. final s os) to)
+    by-outcome true false taken lt =
+        let to : stage_after purpose objects (Asking index) o ≡ Over Applied =
+        (taken-step index o taken).1 ∙ rw lt refl in
+        ends (ap (λ s. final s os) to ∙ (over-stays Applied os).0)
+
+  -- it asks for none behind its end
+  asking-short : (index until : ℕ) (os : List Outcome) → index ≤ last
+      → final (Asking index) os ≡ Asking until → until ≤ last
+  asking-short index until [] within done =
+      let same : index ≡ until = cc in omega (arith, same, within)
+  asking-short index until (o ∷ os) within done = by-outcome index o os within (until ≤ last)
+      (λ failed.
+      let kept = failed-stays (stage_after purpose objects (Asking index) o) os failed in
+      let wrong : false ≡ true =
+      sym (ap (λ s. result_failed (stage_result s)) done) ∙ (ap result_failed kept ∙ failed)
+      in absurd (cc))
+      (λ more same. asking-short (index + 1) until os more (sym same ∙ done))
+      (λ over. let wrong : Over Applied ≡ Asking until = sym over ∙ done in absurd (cc))
+      (outcome_taken purpose index o) (nat_lt index last) refl refl
+
+  pub asking-within : (index : ℕ) (os : List Outcome) → final (Asking 0) os ≡ Asking index
+      → index < length requests
+  asking-within index os done =
+      let short = asking-short 0 index os (omega arith) done in omega (arith, count-requests, short)
+
+  -- and breaks off only where it has failed
+  breaking-from : (index : ℕ) (result : DownloadResult) (os : List Outcome) → index ≤ last
+      → final (Asking index) os ≡ Breaking result → is_applied result ≡ false
+  breaking-from index result [] within done = absurd (cc)
+  breaking-from index result (o ∷ os) within done =
+      by-outcome index o os within (is_applied result ≡ false)
+      (λ failed.
+      let kept = failed-stays (stage_after purpose objects (Asking index) o) os failed in
+      let is : not (is_applied result) ≡ true =
+      sym (ap (λ s. result_failed (stage_result s)) done) ∙ (ap result_failed kept ∙ failed)
+      in not-true (is_applied result) is)
+      (λ more same. breaking-from (index + 1) result os more (sym same ∙ done))
+      (λ over. let wrong : Over Applied ≡ Breaking result = sym over ∙ done in absurd (cc))
+      (outcome_taken purpose index o) (nat_lt index last) refl refl
+
+  pub breaking-failed : (result : DownloadResult) (os : List Outcome)
+      → final (Asking 0) os ≡ Breaking result → is_applied result ≡ false
+  breaking-failed result os done = breaking-from 0 result os (omega arith) done
 
 pub applied-whole : AppliedIsWhole
 applied-whole purpose objects outcomes done =

@@ -7,3 +7,4 @@ mod StoredLemmas
 mod StoredRuns
 mod StoredSteps
 pub mod AttemptAsks
+mod StoredStories

@@ -1,6 +1,5 @@
 -- Whatever happens at a stored port is a run, in pieces, of the port within.
-use Rattle.std.proofs.Common.{◌≡◌, ℕ, List, [], ◌∷◌, Option, None, Some, refl, subst, sym}
-use Rattle.iol_far.specs.Far.{Far}
+use Rattle.std.proofs.Common.{List, [], ◌∷◌, refl, subst, sym}
 use Rattle.iol_port.specs.declared.call.Call.{Call}
 use Rattle.iol_port.specs.declared.call.Answered.{Answered}
 use Rattle.iol_port.specs.declared.call.Answered.TheVariants as answered

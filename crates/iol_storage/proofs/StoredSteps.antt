@@ -6,7 +6,6 @@ use Rattle.std.proofs.lemmas.Slice.Eq.{bytes_eq-Decides}
 use Rattle.std.specs.Option.{option_map}
 use Rattle.iol_isdu.specs.declared.values.Request.{Request}
 use Rattle.iol_book.specs.declared.entries.Ticket.{Ticket}
-use Rattle.iol_book.specs.declared.entries.Serve.{Serve}
 use Rattle.iol_book.specs.BookModel.{BookState, is_served, next_taken}
 use Rattle.iol_app.specs.Abstract.Steps.{ImageOctets}
 use Rattle.iol_port.specs.declared.call.Call.{Call}
@@ -22,8 +21,8 @@ use Rattle.iol_storage.specs.declared.stored.standing.StorageStanding.TheVariant
 use Rattle.iol_storage.specs.declared.stored.standing.Served.TheVariants.{Off}
 use Rattle.iol_storage.specs.declared.stored.standing.Trouble.TheVariants.{WrongIdentity}
 use Rattle.iol_storage.specs.declared.stored.storage.Storage.{Storage}
-use Rattle.iol_storage.specs.Stored.{storage_serves, is_unserved, has_no_job, is_off, page_device, has_storage, obstacle, obstacle_for, standing_without, purpose_due, storage_begins, storage_begun, storage_due, storage_looked, storage_seen, is_check}
-use Rattle.iol_storage.specs.StoredPort.{StoredParts, CoreCalls, CoreMakes, CollectsOf, SubmitsOf, ShowsOf, collect_calls, MakesCalls, Tends}
+use Rattle.iol_storage.specs.Stored.{storage_serves, has_no_job, is_off, page_device, has_storage, obstacle, obstacle_for, standing_without, purpose_due, storage_begins, storage_begun, storage_due, storage_looked, storage_seen, is_check}
+use Rattle.iol_storage.specs.StoredPort.{StoredParts, CoreCalls, CollectsOf, SubmitsOf, ShowsOf, collect_calls}
 use Rattle.iol_storage.specs.StoredLaws.{StepsAreCalls, JobsAreAlone, AttemptsAreForTheDevice, IsOfDevice}
 
 -- Its calls

@@ -1,6 +1,6 @@
 -- What a reader may conclude of an attempt, whatever comes of its requests, and whenever its set is
 -- saved.
-use Rattle.std.specs.Prelude.{◌≡◌, ◌≤◌, ◌⊎◌, ℕ, Bool, true, false, if◌then◌else◌, List, [], ◌∷◌, ◌++◌, length, map, take, slice_get, Option, Some, None}
+use Rattle.std.specs.Prelude.{◌≡◌, ◌≤◌, ◌⊎◌, ℕ, true, if◌then◌else◌, List, [], ◌∷◌, ◌++◌, map, take, slice_get, Option, Some, None}
 use Rattle.iol_isdu.specs.declared.values.Place.{Place}
 use Rattle.iol_isdu.specs.declared.values.Request.{Request}
 use Rattle.iol_isdu.specs.declared.values.Request.TheVariants.{Read as ReadRequest, Write as WriteRequest}
@@ -8,7 +8,7 @@ use Rattle.iol_book.specs.declared.entries.Outcome.{Outcome}
 use Rattle.iol_storage.specs.declared.download.DownloadPurpose.{DownloadPurpose}
 use Rattle.iol_storage.specs.declared.set.Set.{Set}
 use Rattle.iol_storage.specs.declared.attempt.StorageMode.{StorageMode}
-use Rattle.iol_storage.specs.declared.attempt.StorageMode.TheVariants.{Off, Restore, Both, Own}
+use Rattle.iol_storage.specs.declared.attempt.StorageMode.TheVariants.{Own}
 use Rattle.iol_storage.specs.declared.attempt.AttemptPurpose.{AttemptPurpose}
 use Rattle.iol_storage.specs.declared.attempt.AttemptResult.TheVariants.{Restored}
 use Rattle.iol_storage.specs.declared.attempt.AttemptStage.TheVariants.{Over}

@@ -10,3 +10,4 @@ pub mod Stored
 pub mod StoredFaults
 pub mod StoredPort
 pub mod StoredLaws
+pub mod StoredStories

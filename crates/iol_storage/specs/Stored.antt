@@ -21,7 +21,6 @@ use Rattle.iol_storage.specs.declared.attempt.AttemptResult.{AttemptResult}
 use Rattle.iol_storage.specs.declared.attempt.AttemptResult.TheVariants as ended
 use Rattle.iol_storage.specs.declared.attempt.AttemptStage.{AttemptStage}
 use Rattle.iol_storage.specs.declared.attempt.AttemptStage.TheVariants as attempt_stage
-use Rattle.iol_storage.specs.declared.attempt.StorageAttempt.{StorageAttempt}
 use Rattle.iol_storage.specs.declared.download.Keep.{Keep}
 use Rattle.iol_storage.specs.declared.download.DownloadPurpose.TheVariants.{Block as BlockPurpose}
 use Rattle.iol_storage.specs.declared.download.DownloadResult.{DownloadResult}

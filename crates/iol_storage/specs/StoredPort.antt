@@ -8,7 +8,7 @@ use Rattle.iol_book.specs.declared.limits.Limits.{Limits}
 use Rattle.iol_app.specs.Abstract.Steps.{ImageOctets}
 use Rattle.iol_app.specs.declared.asked.Asked.{Asked}
 use Rattle.iol_app.specs.declared.mode.Mode.{Mode}
-use Rattle.iol_app.specs.declared.mode.Mode.TheVariants.{Down, Startup, Preoperate, Operate}
+use Rattle.iol_app.specs.declared.mode.Mode.TheVariants.{Operate}
 use Rattle.iol_app.specs.StationState.{mode_in}
 use Rattle.iol_app.specs.Pieces.{IsAskedOut}
 use Rattle.iol_port.specs.declared.call.Call.{Call}

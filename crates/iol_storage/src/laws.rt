@@ -1,4 +1,5 @@
 //! What a reader may conclude of a download, of an upload, and of an attempt: laws, without code.
+ghost use Rattle.iol_storage.specs.StoredStories.{AskedRequestsStay, BlocksAreWhole};
 ghost use Rattle.iol_storage.specs.StoredLaws.{StepsAreCalls, MovesAreRuns, JobsAreAlone, AttemptsAreForTheDevice};
 ghost use Rattle.iol_storage.specs.Laws.{AppliedIsWhole, OthersAreCutOff, SetsAreWhole};
 ghost use Rattle.iol_storage.specs.AttemptLaws.{UnsavedSetsAreWhole, ToldSetsAreSaved, RestoredSetsAreTaken, AttemptsAskNoMore};
@@ -77,4 +78,20 @@ pub fn jobs_are_alone()
 #[tactic(auto, using(crate::proofs::StoredSteps::attempts_are_for_the_device))]
 pub fn attempts_are_for_the_device()
     ensures { AttemptsAreForTheDevice }
+{}
+
+/// A law of the definitions: between the submit of a job's request and its outcome, whatever is
+/// called, the job asks that very request. So what it hears is the outcome of what it asked.
+///
+/// Rule JOB-1.
+pub fn asked_requests_stay()
+    ensures { AskedRequestsStay }
+{}
+
+/// A law of the definitions: whatever happens from the submit of a block on, it ends with a result,
+/// and by what its job asked and heard. `Applied`: each of its requests was taken, in order, and
+/// nothing else was asked. Any other: it was cut off at one of them, or left before its end was
+/// asked, so that the end never was taken; `Unknown` is said of the end alone.
+pub fn blocks_are_whole()
+    ensures { BlocksAreWhole }
 {}

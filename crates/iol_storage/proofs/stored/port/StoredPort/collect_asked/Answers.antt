@@ -1,4 +1,4 @@
-use Rattle.std.proofs.Common.{refl, sym, ◌∙◌}
+use Rattle.std.proofs.Common.{sym, ◌∙◌}
 use Rattle.iol_storage.proofs.StoredLemmas.{collected-out, collected-in, heard-one, heard-none}
 use Rattle.iol_storage.proofs.stored.port.StoredPort.collect_asked.Goals.{then-is_none, else-is_none}
 use Rattle.iol_storage.proofs.stored.port.StoredPort.collect_asked.Goals as goal

@@ -1,4 +1,4 @@
-use Rattle.std.proofs.Common.{refl, sym, ◌∙◌}
+use Rattle.std.proofs.Common.{refl}
 use Rattle.iol_storage.proofs.StoredLemmas.{made-serve, one-call}
 use Rattle.iol_storage.proofs.stored.port.StoredPort.tend.Goals as goal
 
