@@ -1,85 +1,49 @@
-//! A desk is opened while another thread holds its port's lock, and while a third one waits for it.
+//! A desk is opened while another thread holds its port's lock.
 ghost use Rattle.iol_master.specs.Ledgers.{IsBlankFor};
 
-use crate::calls::{check, read, turns};
+use crate::calls::{check, turns};
 use crate::opening::{open_one, open_port};
-use crate::slow::{Flags, is_set, linger, slow_wire};
-use iol_book::Ticket;
+use crate::slow::{Flags, is_set, slow_wire};
 use iol_link::Wire;
-use iol_master::{Desk, Master, Settled};
+use iol_master::Master;
 use std::alloc::Global;
 use std::marker::Brand;
 use std::process::Abort;
 use std::sync::Wait;
-use std::sync::atomic::{AtomicBool, Ordering};
+use std::sync::atomic::Ordering;
 use std::sync::ledger::{Blank, Ledger};
 use std::test::Fail;
 use std::thread;
 use std::thread::Threads;
 
-/// Opens a desk once a call of the wire waits for it, and another thread is about to settle.
+/// Opens a desk once a call of the wire waits for it.
 fn visit<W: Wire, L: Ledger, K: Ledger, R: Wait>(
     rt: &R,
     master: &Master<W, L, K>,
     flags: &Flags,
-    settles: &AtomicBool,
 ) -> bool {
-    if !is_set(&flags.waiting) || !is_set(settles) {
+    if !is_set(&flags.waiting) {
         return false;
     }
-    linger();
     let is_opened = master.desk(rt, 1).is_ok();
     flags.let_go.store(true, Ordering::SeqCst);
     is_opened
 }
 
-/// Settles a desk of one submit once a call of the wire waits. It was let go when that is done.
-fn settles<W: Wire, L: Ledger, K: Ledger, R: Wait>(
-    rt: &R,
-    master: &Master<W, L, K>,
-    flags: &Flags,
-    settles: &AtomicBool,
-    desk: Desk<L>,
-) -> bool {
-    if !is_set(&flags.waiting) {
-        return false;
-    }
-    settles.store(true, Ordering::SeqCst);
-    let told = master.settle(rt, desk);
-    told == Settled::Part(1) && flags.let_go.load(Ordering::SeqCst)
-}
-
-/// One thread settles a desk, and another one opens a desk.
-fn both<W: Wire + Send, L: Ledger + Sync, K: Ledger + Sync, R: Threads + Wait + Sync>(
-    rt: &R,
-    master: &Master<W, L, K>,
-    flags: &Flags,
-    desk: Desk<L>,
-) -> (bool, bool) {
-    let about = AtomicBool::new(false);
-    let about = &about;
-    thread::join(
-        rt,
-        move || settles(rt, master, flags, about, desk),
-        move || visit(rt, master, flags, about),
-    )
-}
-
-/// A turn under the port's lock, and those two meanwhile.
+/// A turn under the port's lock, and a desk in another thread meanwhile.
 fn beside<W: Wire + Send, L: Ledger + Sync, K: Ledger + Sync, R: Threads + Wait + Sync>(
     rt: &R,
     master: &Master<W, L, K>,
     flags: &Flags,
-    desk: Desk<L>,
-) -> (bool, (bool, bool)) {
+) -> (bool, bool) {
     thread::join(
         rt,
         move || turns(rt, master, 1, 1),
-        move || both(rt, master, flags, desk),
+        move || visit(rt, master, flags),
     )
 }
 
-/// A desk is opened while a turn is under way, for whose end a settle waits.
+/// A desk is opened while a turn is under way.
 fn lets_in<W: Wire + Send + Drop, L: Ledger + Sync, K: Ledger + Sync, R>(
     rt: &R,
     alloc: Global,
@@ -95,16 +59,13 @@ where
 {
     let port = open_port(alloc, wire)?;
     let master = open_one::<W, L, K, Global, R>(rt, alloc, port, clients, tickets)?;
-    let mut desk = master.desk(rt, 1)?;
-    check(rt, master.submit(rt, &mut desk, read()) == Ok(Ticket(1)));
     flags.armed.store(true, Ordering::SeqCst);
-    check(rt, beside(rt, &master, flags, desk) == (true, (true, true)));
+    check(rt, beside(rt, &master, flags) == (true, true));
     check(rt, flags.was_let_go.load(Ordering::SeqCst));
     Ok(())
 }
 
-/// Refuses a `desk` that takes a port's lock, and a `settle` that waits for one while it has the
-/// tally's.
+/// Refuses a `desk` that takes a port's lock.
 #[test]
 fn a_desk_is_opened_while_the_lock_is_held(rt: HostRuntime) -> Result<(), Fail> {
     let (wire, flags) = slow_wire(rt.alloc())?;

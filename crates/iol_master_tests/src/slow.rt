@@ -30,9 +30,6 @@ pub const START_UP: u64 = 16;
 /// How often a thread looks for what another one does: seconds, where it never comes.
 const LOOKS: u64 = 1_000_000_000;
 
-/// How often a thread looks while it lingers: hundredths of a second.
-const LINGERS: u64 = 5_000_000;
-
 /// A wire to a device that sends process data, and has an event to report.
 pub fn sending(alloc: Global) -> Result<Sim<Params>, Fail> {
     let mut steps = Vec::new(alloc);
@@ -91,16 +88,6 @@ pub fn is_set(flag: &AtomicBool) -> bool {
         }
     }
     false
-}
-
-/// Some time, in which a thread that is about to wait does so.
-pub fn linger() {
-    let never = AtomicBool::new(false);
-    for _ in 0..LINGERS {
-        if never.load(Ordering::SeqCst) {
-            return;
-        }
-    }
 }
 
 /// A wire whose call ends when it is let go.
