@@ -37,7 +37,7 @@ use Rattle.iol_storage.specs.declared.download.DownloadPurpose.TheVariants.{Rest
 use Rattle.iol_storage.specs.declared.download.DownloadStage.{DownloadStage}
 use Rattle.iol_storage.specs.declared.download.DownloadStage.TheVariants.{Asking}
 use Rattle.iol_storage.specs.Downloads.{download_requests}
-use Rattle.iol_storage.specs.Objects.{values_size, fits_behind}
+use Rattle.iol_storage.specs.Objects.{values_size, fits_behind, is_command_place}
 use Rattle.iol_storage.specs.Uploads.{storage_place, storage_command, is_list, names_more, place_named, upload_asks, upload_after}
 use Rattle.iol_exchange.specs.Exchange.{upload_exchange, upload_at_device, fetch_of, download_at_device, IsInForce, FetchedSetsAreTheDevices, RestoredSetsAreInForce, SetsMove}
 use Rattle.iol_exchange.proofs.Restores.{and-parts, fault-parts, table-parts, first-free, free-parts, command-done, written}
@@ -255,6 +255,10 @@ module _ (table : ParamTable) where
         else storage_place 4))) none)
         refl (rw (none, equal) refl)
 
+    -- no parameter lies where commands are written
+    not-command : (index : ℕ) → is_managed index ≡ false → is_command_place (whole index) ≡ false
+    not-command index free = grind (arith, common_steps, free)
+
     read-one : (objects : Values) (index : ℕ) (count : ℕ)
         → names_more list (length objects) ≡ true
         → place_named list (length objects) ≡ whole index
@@ -264,13 +268,15 @@ module _ (table : ParamTable) where
         ≡ upload_at_device table (reading (objects ++ (whole index, value_of index) ∷ [])) s count
     read-one objects index count more named free found room =
         let value = value_of index in
+        let owned : is_command_place (place_named list (length objects)) ≡ false =
+        ap is_command_place named ∙ not-command index free in
         step (reading objects) s (request.Read (whole index))
         (answer.Read (record { items = value })) s
         (reading (objects ++ (whole index, value) ∷ [])) count
         (ap (λ (b : Bool). Some (request.Read (if b then place_named list (length objects)
         else storage_place 4))) more ∙ ap (λ (p : Place). Some (request.Read p)) named)
         (ap (λ (a : Answer). (a, s)) (free-read table s index free found))
-        (rw (more, room, named) refl)
+        (rw (more, owned, room, named) refl)
 
     abbrev members : List Member
     members = table.members

@@ -1,6 +1,6 @@
 -- What an attempt asks, whatever came of its requests: the laws of that.
 use Rattle.std.proofs.Common.{◌≡◌, ◌≤◌, ◌⊎◌, inl, inr, ◌∷◌, ◌++◌, ◌∙◌, [], ℕ, zero, suc, List, Option, Some, Bool, true, false, refl, sym, ap, arith, subst}
-use Rattle.std.specs.Prelude.{map, slice_get, if◌then◌else◌}
+use Rattle.std.specs.Prelude.{map, slice_get, ◌||◌, if◌then◌else◌}
 use Rattle.iol_isdu.specs.declared.values.Place.{Place}
 use Rattle.iol_isdu.specs.declared.values.Request.{Request}
 use Rattle.iol_isdu.specs.declared.values.Request.TheVariants.{Read as ReadRequest, Write as WriteRequest}
@@ -15,11 +15,13 @@ use Rattle.iol_storage.specs.declared.set.Set.{Set}
 use Rattle.iol_storage.specs.declared.attempt.AttemptStage.{AttemptStage}
 use Rattle.iol_storage.specs.declared.attempt.AttemptStage.TheVariants.{State, Size, Checksum, SerialNumber, Fetching, Unsaved, Ending, Confirming, Restoring, Breaking, Over}
 use Rattle.iol_storage.specs.declared.attempt.StorageAttempt.{StorageAttempt}
+use Rattle.iol_storage.specs.Objects.{any_owned, is_command_place}
+use Rattle.iol_storage.specs.Sets.{is_no_set}
 use Rattle.iol_storage.specs.Downloads.{object_write, place_or, download_requests, stage_asks}
 use Rattle.iol_storage.specs.Uploads.{storage_place, storage_command, names_more, place_read, upload_stage_asks}
 use Rattle.iol_storage.specs.Laws.{all_asked}
 use Rattle.iol_storage.specs.Attempts.{serial_place, counts_flag, attempt_stage_asks, restore_purpose, restore_asks}
-use Rattle.iol_storage.specs.AttemptLaws.{Values, AttemptEvent, AttemptRun, run_begun, run_asked, run_behind, IsSavedSince, HoldNoCommand, KeepsNoCommand, IsOwnPlace, IsNamed, IsAllowed, ToldSetsAreSaved, AttemptsAskNoMore}
+use Rattle.iol_storage.specs.AttemptLaws.{Values, AttemptEvent, AttemptRun, run_begun, run_asked, run_behind, IsSavedSince, IsOwnPlace, IsNamed, IsAllowed, ToldSetsAreSaved, AttemptsAskNoMore}
 use Rattle.iol_storage.proofs.Attempts.{Asked, IsRestoring, At, runs}
 use Rattle.iol_storage.proofs.Downloads.{asking-taken}
 
@@ -32,17 +34,28 @@ abbrev octet_of : Option Request → ℕ
 octet_of (Some (WriteRequest place octets)) = first_of octets.items
 octet_of other = 0
 
+or-false : (a b : Bool) → (a || b) ≡ false → b ≡ false
+or-false true b none = absurd (cc)
+or-false false b none = none
+
 -- The end of an upload: nothing but an attempt itself asks it
 
-writes-end : (objects : Values) (i : ℕ) → HoldNoCommand objects
+-- a value at the place of DS_Commands is owned
+command-owned : (place : Place) → place ≡ storage_place 1 → is_command_place place ≡ true
+command-owned place is = rw is refl
+
+writes-end : (objects : Values) (i : ℕ) → any_owned objects ≡ false
     → slice_get (map object_write objects ++ storage_command 4 ∷ []) i
     ≡ Some (storage_command 2) → ⊥
 writes-end [] zero none is = let wrong : 4 ≡ 2 = ap octet_of is in absurd (omega (arith, wrong))
 writes-end [] (suc i) none is = absurd (cc)
-writes-end (o ∷ objects) zero none is = none.0 (ap (place_or (storage_place 0)) is)
-writes-end (o ∷ objects) (suc i) none is = writes-end objects i none.1 is
+writes-end (o ∷ objects) zero none is =
+    let here = command-owned o.0 (ap (place_or (storage_place 0)) is) in
+    let owned : true ≡ false = ap (λ b. b || any_owned objects) (sym here) ∙ none in absurd (cc)
+writes-end (o ∷ objects) (suc i) none is =
+    writes-end objects i (or-false (is_command_place o.0) (any_owned objects) none) is
 
-restore-end : (flag : Flag) (stage : DownloadStage) (objects : Values) → HoldNoCommand objects
+restore-end : (flag : Flag) (stage : DownloadStage) (objects : Values) → any_owned objects ≡ false
     → stage_asks (RestorePurpose flag) stage objects ≡ Some (storage_command 2) → ⊥
 restore-end flag (download_stage.Asking zero) objects none is =
     let wrong : 3 ≡ 2 = ap octet_of is in absurd (omega (arith, wrong))
@@ -65,25 +78,27 @@ upload-end (upload_stage.Over result) list count is = absurd (cc)
 
 module _ (kept : Option Set) (begun : AttemptRun) (a : StorageAttempt) (k : Option Set) (d : Values)
     (asked : Asked) (events : List AttemptEvent) where
-  told-at : (stage : AttemptStage) → KeepsNoCommand kept
-      → attempt_stage_asks stage a k d ≡ Some (storage_command 2)
-      → At kept begun stage a k d asked events → IsSavedSince begun events
-  told-at State none is at = absurd (cc)
-  told-at Size none is at = absurd (cc)
-  told-at Checksum none is at = absurd (cc)
-  told-at SerialNumber none is at = absurd (cc)
-  told-at Fetching none is at = absurd (upload-end a.upload.stage a.upload.list.items _ is)
-  told-at Unsaved none is at = absurd (cc)
-  told-at Ending none is at = at
-  told-at Confirming none is at = absurd (cc)
-  told-at (Restoring stage) none is at =
+  -- so what holds there holds where it is asked
+  pub ends-at : (Holds : AttemptStage → Type 0) → Holds Ending → (stage : AttemptStage)
+      → is_no_set kept ≡ false → attempt_stage_asks stage a k d ≡ Some (storage_command 2)
+      → At kept begun stage a k d asked events → Holds stage
+  ends-at Holds ends State none is at = absurd (cc)
+  ends-at Holds ends Size none is at = absurd (cc)
+  ends-at Holds ends Checksum none is at = absurd (cc)
+  ends-at Holds ends SerialNumber none is at = absurd (cc)
+  ends-at Holds ends Fetching none is at =
+      absurd (upload-end a.upload.stage a.upload.list.items _ is)
+  ends-at Holds ends Unsaved none is at = absurd (cc)
+  ends-at Holds ends Ending none is at = ends
+  ends-at Holds ends Confirming none is at = absurd (cc)
+  ends-at Holds ends (Restoring stage) none is at =
       absurd (restore-end
       (if counts_flag a.mode a.unit.items at.1.set then Counts else Ignored) stage
-      at.1.set.objects (subst KeepsNoCommand at.1.is_kept none)
+      at.1.set.objects (ap is_no_set (sym at.1.is_kept) ∙ none)
       (ap (λ x. restore_asks a stage x) (sym (at.0 ∙ at.1.is_kept)) ∙ is))
-  told-at (Breaking result) none is at =
+  ends-at Holds ends (Breaking result) none is at =
       let wrong : 5 ≡ 2 = ap octet_of is in absurd (omega (arith, wrong))
-  told-at (Over result) none is at = absurd (cc)
+  ends-at Holds ends (Over result) none is at = absurd (cc)
 
   -- Nothing else
 
@@ -191,8 +206,11 @@ pub told-saved : ToldSetsAreSaved
 told-saved mode purpose kept draft events none is =
     let begun = run_begun mode purpose kept draft in
     let run = run_behind begun events in
-    told-at kept begun run.attempt run.kept run.draft (run_asked begun events) events
-    run.attempt.stage none is (runs mode purpose kept draft events).1
+    let asked = run_asked begun events in
+    let at = (runs mode purpose kept draft events).1 in
+    ends-at kept begun run.attempt run.kept run.draft asked events
+    (λ stage. At kept begun stage run.attempt run.kept run.draft asked events
+    → IsSavedSince begun events) (λ saved. saved) run.attempt.stage none is at at
 
 pub asks-no-more : AttemptsAskNoMore
 asks-no-more mode purpose kept draft events request is =

@@ -97,12 +97,12 @@ module _ (purpose : DownloadPurpose) (objects : Values) where
       (download-asked (stage_after purpose objects stage first) os o)
       ∙ sym (append_assoc (asked_with (stage_asks purpose stage objects) first) _ _)
 
-run-behind : (run : AttemptRun) (events : List AttemptEvent) (e : AttemptEvent)
+pub run-behind : (run : AttemptRun) (events : List AttemptEvent) (e : AttemptEvent)
     → run_behind run (events ++ e ∷ []) ≡ run_after (run_behind run events) e
 run-behind run [] e = refl
 run-behind run (first ∷ events) e = run-behind (run_after run first) events e
 
-run-asked : (run : AttemptRun) (events : List AttemptEvent) (e : AttemptEvent)
+pub run-asked : (run : AttemptRun) (events : List AttemptEvent) (e : AttemptEvent)
     → run_asked run (events ++ e ∷ [])
     ≡ run_asked run events ++ event_asked (run_behind run events) e
 run-asked run [] e = append-nil (event_asked run e)
@@ -111,7 +111,7 @@ run-asked run (first ∷ events) e =
     ∙ sym (append_assoc (event_asked run first) _ _)
 
 -- what holds of both holds of the one that is taken
-either : {X : Type 0} (P : X → Type 0) (b : Bool) (x y : X) → P x → P y
+pub either : {X : Type 0} (P : X → Type 0) (b : Bool) (x y : X) → P x → P y
     → P (if b then x else y)
 either P true x y first second = first
 either P false x y first second = second
@@ -141,9 +141,9 @@ pub record IsRestoring (mode : StorageMode) (unit : List ℕ) (kept : Option Set
       outcomes ≡ stage
 
 module _ (kept : Option Set) (begun : AttemptRun) where
-  abbrev OverAt : AttemptResult → StorageMode → List ℕ → Asked → Type 0
-  OverAt Restored md unit asked = IsRestored md kept unit asked
-  OverAt other md unit asked = Unit {0}
+  abbrev OverAt : AttemptResult → Option Set → StorageMode → List ℕ → Asked → Type 0
+  OverAt Restored k md unit asked = (k ≡ kept) × IsRestored md kept unit asked
+  OverAt other k md unit asked = Unit {0}
 
   -- so far these looks were asked
   abbrev Looked : List Request → Option Set → Asked → Type 0
@@ -170,28 +170,29 @@ module _ (kept : Option Set) (begun : AttemptRun) where
   At (Restoring stage) a k d asked events =
       (k ≡ kept) × IsRestoring a.mode a.unit.items kept stage asked
   At (Breaking result) a k d asked events =
-      (md : StorageMode) (unit : List ℕ) (all : Asked) → OverAt result md unit all
-  At (Over result) a k d asked events = OverAt result a.mode a.unit.items asked
+      (other : Option Set) (md : StorageMode) (unit : List ℕ) (all : Asked)
+      → OverAt result other md unit all
+  At (Over result) a k d asked events = OverAt result k a.mode a.unit.items asked
 
   abbrev Holds : StorageMode → StorageAttempt → Option Set → Values → Asked
       → List AttemptEvent → Type 0
   Holds mode a k d asked events = (a.mode ≡ mode) × At a.stage a k d asked events
 
   -- a refusal restores nothing, and no look does
-  refused-over : (refusal : Refusal) (md : StorageMode) (unit : List ℕ) (asked : Asked)
-      → OverAt (refusal_result refusal) md unit asked
-  refused-over refusal md unit asked = either (λ r. OverAt r md unit asked)
+  refused-over : (refusal : Refusal) (k : Option Set) (md : StorageMode) (unit : List ℕ)
+      (asked : Asked) → OverAt (refusal_result refusal) k md unit asked
+  refused-over refusal k md unit asked = either (λ r. OverAt r k md unit asked)
       (passes refusal.error refusal.additional) Again (Refused refusal) tt tt
 
-  look-over : (place : Place) (o : Outcome) (md : StorageMode) (unit : List ℕ) (asked : Asked)
-      → OverAt (look_result place o) md unit asked
-  look-over place (Done (AnswerRefused error additional)) md unit asked = refused-over
-      (record { place = place; error = error; additional = additional }) md unit asked
-  look-over place (Done (Read octets)) md unit asked = tt
-  look-over place (Done Written) md unit asked = tt
-  look-over place (Unknown cause) md unit asked = tt
-  look-over place Withdrawn md unit asked = tt
-  look-over place NoIsdu md unit asked = tt
+  look-over : (place : Place) (o : Outcome) (k : Option Set) (md : StorageMode) (unit : List ℕ)
+      (asked : Asked) → OverAt (look_result place o) k md unit asked
+  look-over place (Done (AnswerRefused error additional)) k md unit asked = refused-over
+      (record { place = place; error = error; additional = additional }) k md unit asked
+  look-over place (Done (Read octets)) k md unit asked = tt
+  look-over place (Done Written) k md unit asked = tt
+  look-over place (Unknown cause) k md unit asked = tt
+  look-over place Withdrawn k md unit asked = tt
+  look-over place NoIsdu k md unit asked = tt
 
   module _ (mode : StorageMode) (k : Option Set) (d : Values) (events : List AttemptEvent) where
     -- a fetch begins
@@ -268,11 +269,11 @@ module _ (kept : Option Set) (begun : AttemptRun) where
     state-heard a (Done (Read octets)) asked m looks = state-read a octets.items asked m looks
     state-heard a (Done (AnswerRefused error additional)) asked m looks = (
       m,
-      either (λ r. OverAt r a.mode a.unit.items asked) (is_unsupported error additional) Unsupported
-          (refusal_result
+      either (λ r. OverAt r k a.mode a.unit.items asked) (is_unsupported error additional)
+          Unsupported (refusal_result
           (record { place = storage_place 2; error = error; additional = additional })) tt
           (refused-over
-          (record { place = storage_place 2; error = error; additional = additional }) a.mode
+          (record { place = storage_place 2; error = error; additional = additional }) k a.mode
           a.unit.items asked),
     )
     state-heard a (Done Written) asked m looks = (m, tt)
@@ -299,7 +300,7 @@ module _ (kept : Option Set) (begun : AttemptRun) where
         → At (behind_size o) (with_attempt_stage a (behind_size o)) k d asked events
     size-heard a (Done (Read octets)) asked looks = size-read a octets.items asked looks
     size-heard a (Done (AnswerRefused error additional)) asked looks =
-        look-over (storage_place 3) (Done (AnswerRefused error additional)) a.mode a.unit.items
+        look-over (storage_place 3) (Done (AnswerRefused error additional)) k a.mode a.unit.items
         asked
     size-heard a (Done Written) asked looks = tt
     size-heard a (Unknown cause) asked looks = tt
@@ -329,7 +330,7 @@ module _ (kept : Option Set) (begun : AttemptRun) where
         checksum-read a (checksum_octets octets.items) asked m looks
     checksum-heard a (Done (AnswerRefused error additional)) asked m looks = (
       m,
-      look-over (storage_place 4) (Done (AnswerRefused error additional)) a.mode
+      look-over (storage_place 4) (Done (AnswerRefused error additional)) k a.mode
           a.unit.items asked,
     )
     checksum-heard a (Done Written) asked m looks = (m, tt)
@@ -403,7 +404,7 @@ module _ (kept : Option Set) (begun : AttemptRun) where
     fetch-over u (upload_stage.Over upload.Whole) a draft asked at f =
         whole-fetch u draft asked at f
     fetch-over u (upload_stage.Over (upload.Refused refusal)) a draft asked at f =
-        refused-over refusal a.mode a.unit.items asked
+        refused-over refusal k a.mode a.unit.items asked
     fetch-over u (upload_stage.Over upload.BadList) a draft asked at f = tt
     fetch-over u (upload_stage.Over upload.TooLarge) a draft asked at f = tt
     fetch-over u (upload_stage.Over upload.Changed) a draft asked at f = tt
@@ -413,12 +414,12 @@ module _ (kept : Option Set) (begun : AttemptRun) where
         → At (behind_end o) (with_attempt_stage a (behind_end o)) k d asked events
     end-heard a (Done Written) asked = tt
     end-heard a (Done (AnswerRefused error additional)) asked = refused-over
-        (record { place = storage_place 1; error = error; additional = additional }) a.mode
+        (record { place = storage_place 1; error = error; additional = additional }) k a.mode
         a.unit.items asked
-    end-heard a (Done (Read octets)) asked = λ md unit all. tt
+    end-heard a (Done (Read octets)) asked = λ other md unit all. tt
     end-heard a (Unknown cause) asked =
         either (λ s. At s (with_attempt_stage a s) k d asked events) (session_lasts cause)
-        (Breaking Again) (Over Again) (λ md unit all. tt) tt
+        (Breaking Again) (Over Again) (λ other md unit all. tt) tt
     end-heard a Withdrawn asked = tt
     end-heard a NoIsdu asked = tt
 
@@ -443,7 +444,7 @@ module _ (kept : Option Set) (begun : AttemptRun) where
         checksum-confirmed a (checksum_octets octets.items) asked m
     confirmed-heard a (Done (AnswerRefused error additional)) asked m = (
       m,
-      look-over (storage_place 4) (Done (AnswerRefused error additional)) a.mode a.unit.items
+      look-over (storage_place 4) (Done (AnswerRefused error additional)) k a.mode a.unit.items
           asked,
     )
     confirmed-heard a (Done Written) asked m = (m, tt)
@@ -482,20 +483,22 @@ module _ (kept : Option Set) (begun : AttemptRun) where
     restore-over a (download_stage.Asking index) asked same r = (same, r)
     restore-over a (download_stage.Breaking result) asked same r = (same, r)
     restore-over a (download_stage.Over download.Applied) asked same r =
-        let purpose = restore_purpose a.mode a.unit.items r.set in
-        record {
-          set = r.set;
-          is_kept = r.is_kept;
-          whole = record {
-            looks = r.looks;
-            are = r.are;
-            restored = all_asked purpose r.set.objects (download_stage.Asking 0) r.outcomes;
-            taken = applied-whole purpose r.set.objects r.outcomes r.at;
-            is = r.is;
-          };
-        }
+        let purpose = restore_purpose a.mode a.unit.items r.set in (
+          same,
+          record {
+            set = r.set;
+            is_kept = r.is_kept;
+            whole = record {
+              looks = r.looks;
+              are = r.are;
+              restored = all_asked purpose r.set.objects (download_stage.Asking 0) r.outcomes;
+              taken = applied-whole purpose r.set.objects r.outcomes r.at;
+              is = r.is;
+            };
+          },
+        )
     restore-over a (download_stage.Over (download.Refused refusal)) asked same r =
-        refused-over refusal a.mode a.unit.items asked
+        refused-over refusal k a.mode a.unit.items asked
     restore-over a (download_stage.Over download.FlagSet) asked same r = tt
     restore-over a (download_stage.Over download.NotApplied) asked same r = tt
     restore-over a (download_stage.Over (download.Unknown cause)) asked same r = tt
@@ -552,7 +555,7 @@ module _ (kept : Option Set) (begun : AttemptRun) where
         confirmed-heard (with_attempt_stage a Confirming) o _ m
     heard (Restoring stage) a asked past o m is =
         (m, restore-heard (with_attempt_stage a (Restoring stage)) stage o asked is.0 is.1)
-    heard (Breaking result) a asked past o m is = (m, is a.mode a.unit.items _)
+    heard (Breaking result) a asked past o m is = (m, is k a.mode a.unit.items _)
     heard (Over result) a asked past o m is =
         (m, nothing-asked (Over result) (with_attempt_stage a (Over result)) asked is)
 
@@ -656,7 +659,8 @@ runs mode purpose kept draft events =
 
 -- The laws
 
-waits-whole : (kept : Option Set) (begun : AttemptRun) (stage : AttemptStage) (a : StorageAttempt)
+pub waits-whole : (kept : Option Set) (begun : AttemptRun) (stage : AttemptStage)
+    (a : StorageAttempt)
     (k : Option Set) (d : Values) (asked : Asked) (events : List AttemptEvent)
     → is_unsaved stage ≡ true → At kept begun stage a k d asked events
     → EndsInWholeSet a.upload.checksum d asked
@@ -685,5 +689,6 @@ restored-taken mode purpose kept draft events ends =
     let run = run_behind begun events in
     let asked = run_asked begun events in
     let all = runs mode purpose kept draft events in
-    subst (λ md. IsRestored md kept run.attempt.unit.items asked) all.0
-    (subst (λ s. At kept begun s run.attempt run.kept run.draft asked events) ends all.1)
+    let (same, restored) =
+    subst (λ s. At kept begun s run.attempt run.kept run.draft asked events) ends all.1 in
+    (same, subst (λ md. IsRestored md kept run.attempt.unit.items asked) all.0 restored)

@@ -3,8 +3,14 @@ pub mod Downloads
 pub mod Uploads
 pub mod Sets
 pub mod Attempts
+pub mod AttemptAsks
+mod AttemptBounds
+mod AttemptEnds
+mod ObjectLemmas
+mod StoredAwaits
+mod StoredChecks
 mod StoredLemmas
 mod StoredRuns
+mod StoredSets
 mod StoredSteps
-pub mod AttemptAsks
 mod StoredStories

@@ -1,10 +1,7 @@
 -- What the calls of a stored port rest on.
-use Rattle.std.proofs.Common.{◌≡◌, ◌∙◌, ℕ, ◌+◌, Bool, true, false, ◌||◌, List, [], ◌∷◌, drop, Some, Option, Result, Ok, Err, sym, ap, refl, subst}
-use Rattle.std.specs.Prelude.{slice_get, is_ok}
+use Rattle.std.proofs.Common.{◌≡◌, Bool, true, false, [], ◌∷◌, Some, Option, Result, Ok, Err, refl, subst}
+use Rattle.std.specs.Prelude.{is_ok}
 use Rattle.std.specs.Result.{result_map_both}
-use Rattle.std.proofs.lemmas.List.{drop_more}
-use Rattle.std.proofs.lemmas.Option.{get_or_from_slice_get, slice_get_within}
-use Rattle.iol_isdu.specs.declared.values.Place.{Place}
 use Rattle.iol_isdu.specs.declared.values.Request.{Request}
 use Rattle.iol_book.specs.declared.entries.Outcome.{Outcome}
 use Rattle.iol_book.specs.declared.entries.Serve.{Serve}
@@ -21,27 +18,8 @@ use Rattle.iol_port.specs.EveryWire.{SubmitGives, CollectGives, WithdrawGives, S
 use Rattle.iol_port.specs.Replies.{ticket_reply, outcome_reply, nothing_reply}
 use Rattle.iol_port.specs.View.{PortParts}
 use Rattle.iol_storage.specs.declared.stored.storage.Storage.{Storage}
-use Rattle.iol_storage.specs.Stored.{is_command_place, any_owned, storage_heard}
+use Rattle.iol_storage.specs.Stored.{storage_heard}
 use Rattle.iol_storage.specs.StoredPort.{StoredParts, CoreMakes, CoreCalls, CollectsOf, storage_told, storage_submitted}
-
--- of the writes from an index on: whether one is owned, if none before was
-module _ (writes : List (Place × List ℕ)) (index : ℕ) (write : Place × List ℕ)
-    (found : slice_get writes index ≡ Some write)
-    (rest : any_owned (drop index writes) ≡ any_owned writes) where
-  owned-next : any_owned (drop index writes)
-      ≡ (is_command_place write.0 || any_owned (drop (index + 1) writes))
-  owned-next =
-      let more = drop_more writes index write (slice_get_within writes index write found) in
-      rw (more, get_or_from_slice_get writes index write write found) refl
-
-  pub owned-here : is_command_place write.0 ≡ true → true ≡ any_owned writes
-  owned-here owned = sym (ap (λ b. b || any_owned (drop (index + 1) writes)) owned)
-      ∙ sym owned-next ∙ rest
-
-  pub owned-later : is_command_place write.0 ≡ false
-      → any_owned (drop (index + 1) writes) ≡ any_owned writes
-  owned-later free = sym (ap (λ b. b || any_owned (drop (index + 1) writes)) free)
-      ∙ sym owned-next ∙ rest
 
 -- A call of the port within, in all that is said of it
 

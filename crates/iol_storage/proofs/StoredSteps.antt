@@ -21,7 +21,9 @@ use Rattle.iol_storage.specs.declared.stored.standing.StorageStanding.TheVariant
 use Rattle.iol_storage.specs.declared.stored.standing.Served.TheVariants.{Off}
 use Rattle.iol_storage.specs.declared.stored.standing.Trouble.TheVariants.{WrongIdentity}
 use Rattle.iol_storage.specs.declared.stored.storage.Storage.{Storage}
-use Rattle.iol_storage.specs.Stored.{storage_serves, has_no_job, is_off, page_device, has_storage, obstacle, obstacle_for, standing_without, purpose_due, storage_begins, storage_begun, storage_due, storage_looked, storage_seen, is_check}
+use Rattle.iol_storage.specs.declared.stored.storage.StorageJob.TheVariants.{Check}
+use Rattle.iol_storage.specs.Attempts.{attempt_begun}
+use Rattle.iol_storage.specs.Stored.{storage_serves, has_no_job, is_off, page_device, has_storage, obstacle, obstacle_for, standing_without, purpose_due, storage_begins, storage_begun, storage_due, storage_looked, storage_seen, storage_watched, is_check}
 use Rattle.iol_storage.specs.StoredPort.{StoredParts, CoreCalls, CollectsOf, SubmitsOf, ShowsOf, collect_calls}
 use Rattle.iol_storage.specs.StoredLaws.{StepsAreCalls, JobsAreAlone, AttemptsAreForTheDevice, IsOfDevice}
 
@@ -157,8 +159,14 @@ for-device (Some set) page free = by (bytes_eq set.device (page_device page)) re
     by false other is = absurd (cc)
 
 -- what a check that has begun says
-abbrev Begins : Storage → List ℕ → Storage → Type 0
-Begins s page next = IsOfDevice s.kept (page_device page) × (next.device ≡ page_device page)
+pub record Begins (s : Storage) (page : List ℕ) (next : Storage) : Type 0 where
+  pub of_device : IsOfDevice s.kept (page_device page)
+  pub device : next.device ≡ page_device page
+  pub purpose : AttemptPurpose
+  pub job : next.job ≡ Check (attempt_begun s.mode purpose)
+  pub kept : next.kept ≡ s.kept
+  pub draft : next.draft ≡ s.draft
+  pub standing : next.standing ≡ s.standing
 
 no-obstacle : (s : Storage) (page : List ℕ)
     → obstacle s.mode (option_map (λ set. set.device) s.kept) page ≡ None
@@ -186,7 +194,15 @@ begun-is s page purpose idle = by (obstacle s.mode (option_map (λ set. set.devi
     by : (o : Option StorageStanding)
         → obstacle s.mode (option_map (λ set. set.device) s.kept) page ≡ o
         → IsTrue (is_check (begins o).job) → Begins s page (begins o)
-    by None free check = (no-obstacle s page free, refl)
+    by None free check = record {
+      of_device = no-obstacle s page free;
+      device = refl;
+      purpose = purpose;
+      job = refl;
+      kept = refl;
+      draft = refl;
+      standing = refl;
+    }
     by (Some standing) is check = absurd (cc)
 
 due-is : (s : Storage) (page : List ℕ) (purpose : Option AttemptPurpose)
@@ -220,12 +236,18 @@ seen-is s (Some page) idle check = by (has_no_job s.job) check
     by true looked = (page, refl, looked-is s page idle looked)
     by false same = absurd (cc)
 
-pub attempts_are_for_the_device : AttemptsAreForTheDevice
-attempts_are_for_the_device s session idle check = by (is_some s.asked) check
+pub watched-begins : (s : Storage) (session : Option (List ℕ)) → is_check s.job ≡ false
+    → IsTrue (is_check (storage_watched s session).job)
+    → (page : List ℕ) × (session ≡ Some page) × Begins s page (storage_watched s session)
+watched-begins s session idle check = by (is_some s.asked) check
   where
     by : (b : Bool) → IsTrue (is_check (cond b s (storage_seen s session)).job)
-        → (page : List ℕ) × (session ≡ Some page) × IsOfDevice s.kept (page_device page)
-        × ((cond b s (storage_seen s session)).device ≡ page_device page)
+        → (page : List ℕ) × (session ≡ Some page)
+        × Begins s page (cond b s (storage_seen s session))
     by true same = absurd (cc)
-    by false begins = let (page, is, begun) = seen-is s session idle begins in
-        (page, is, begun.0, begun.1)
+    by false begins = seen-is s session idle begins
+
+pub attempts_are_for_the_device : AttemptsAreForTheDevice
+attempts_are_for_the_device s session idle check =
+    let (page, is, begins) = watched-begins s session idle check in
+    (page, is, begins.of_device, begins.device)

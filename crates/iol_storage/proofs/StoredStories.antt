@@ -30,7 +30,7 @@ use Rattle.iol_storage.proofs.Downloads.{asking-taken, asking-within, breaking-f
 use Rattle.iol_storage.specs.StoredStories.{StorageEvent, Heard, Watched, Asked, Saved, Noticed, Loaded, Released, Submitted, Collected, storage_after, storage_behind, is_outcome_event, AskedRequestsStay, goes_again, story_of, story_behind, BlockGoesOn, BlockEndsAs, BlocksAreWhole}
 
 -- an attempt whose set waits to be saved asks nothing
-unsaved-none : (a : StorageAttempt) (kept : Option Set) (draft : List (Place × List ℕ))
+pub unsaved-none : (a : StorageAttempt) (kept : Option Set) (draft : List (Place × List ℕ))
     (at : AttemptStage) → is_unsaved at ≡ true → attempt_stage_asks at a kept draft ≡ None
 unsaved-none a kept draft attempt_stage.State is = absurd (cc)
 unsaved-none a kept draft attempt_stage.Size is = absurd (cc)
@@ -101,6 +101,20 @@ module _ (s : Storage) (ticket : Ticket) (request : Request) (asked : s.asked �
 pub asked_requests_stay : AskedRequestsStay
 asked_requests_stay s event ticket request asked asks other =
     stays s ticket request asked asks event other
+
+-- what happens behind others
+pub behind-append : (s : Storage) (first more : List StorageEvent)
+    → storage_behind s (first ++ more) ≡ storage_behind (storage_behind s first) more
+behind-append s [] more = refl
+behind-append s (event ∷ first) more = behind-append (storage_after s event) first more
+
+pub story-append : (s : Storage) (first more : List StorageEvent)
+    → story_behind s (first ++ more)
+    ≡ story_behind s first ++ story_behind (storage_behind s first) more
+story-append s [] more = refl
+story-append s (event ∷ first) more =
+    ap (λ y. story_of s event ++ y) (story-append (storage_after s event) first more)
+    ∙ sym (append_assoc (story_of s event) _ _)
 
 -- A block
 
@@ -367,14 +381,6 @@ module _ (purpose : DownloadPurpose) (writes : List (Place × List ℕ)) where
       (asked-more (stage_after purpose writes at x) os o)
       ∙ sym (append_assoc (asked_with (stage_asks purpose at writes) x) _ _)
 
-  told-more : (s : Storage) (events : List StorageEvent) (last : StorageEvent)
-      → story_behind s (events ++ last ∷ [])
-      ≡ story_behind s events ++ (story_of (storage_behind s events) last ++ [])
-  told-more s [] last = refl
-  told-more s (event ∷ events) last =
-      ap (λ y. story_of s event ++ y) (told-more (storage_after s event) events last)
-      ∙ sym (append_assoc (story_of s event) _ _)
-
   -- the result of a stage that it came to, over what was asked
   cut-as : (result : DownloadResult) (asked : List (Request × Outcome))
       → is_applied result ≡ false
@@ -448,5 +454,5 @@ blocks_are_whole s writes keep events last goes ended =
       is,
       subst (BlockEndsAs purpose writes result)
           (ap (λ x. x ++ (story_of (storage_behind begun events) last ++ [])) (sym r.told_is)
-          ∙ sym (told-more purpose writes begun events last)) whole,
+          ∙ sym (story-append begun events (last ∷ []))) whole,
     )

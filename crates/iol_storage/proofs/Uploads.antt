@@ -15,7 +15,7 @@ use Rattle.iol_storage.specs.declared.upload.UploadResult.TheVariants.{Whole, Ch
 use Rattle.iol_storage.specs.declared.upload.UploadStage.{UploadStage}
 use Rattle.iol_storage.specs.declared.upload.UploadStage.TheVariants.{Starting, Listing, Reading, Breaking, Over}
 use Rattle.iol_storage.specs.declared.upload.Upload.{Upload}
-use Rattle.iol_storage.specs.Objects.{fits_behind}
+use Rattle.iol_storage.specs.Objects.{is_command_place, fits_behind}
 use Rattle.iol_storage.specs.Uploads.{storage_place, storage_command, is_list, names_more, place_named, place_read, upload_after, behind_other}
 use Rattle.iol_storage.specs.Laws.{upload_behind_all, upload_asked, read_done, AreNamed, IsWholeSet, SetsAreWhole}
 
@@ -128,17 +128,24 @@ module _ (checksum : List ℕ) where
       absurd (never list (Breaking Changed) objects os refl
       (subst (λ s. (upload_behind_all s.0 s.1 os).0.stage ≡ Over Whole) to done))
 
-  rest-more : (list octets : List ℕ) (objects : Values) (os : List Outcome) (names room : Bool)
-      → names_more list (length objects) ≡ names → fits_behind objects octets ≡ room
+  rest-more : (list octets : List ℕ) (objects : Values) (os : List Outcome)
+      (names owned room : Bool) → names_more list (length objects) ≡ names
+      → is_command_place (place_named list (length objects)) ≡ owned
+      → fits_behind objects octets ≡ room
       → ((more : Values) → (upload_behind_all (up checksum list Reading) more os).0.stage
       ≡ Over Whole → Rest list more os)
       → (upload_behind_all (up checksum list Reading) objects (read_of octets ∷ os)).0.stage
       ≡ Over Whole
       → Rest list objects (read_of octets ∷ os)
-  rest-more list octets objects os true true names room next done =
+  rest-more list octets objects os true true room names owned fits next done =
+      let to : after list objects octets ≡ (up checksum list (Breaking BadList), objects) =
+      rw (names, owned) refl in
+      absurd (never list (Breaking BadList) objects os refl
+      (subst (λ s. (upload_behind_all s.0 s.1 os).0.stage ≡ Over Whole) to done))
+  rest-more list octets objects os true false true names owned room next done =
       let object : Place × List ℕ = (place_named list (length objects), octets) in
       let to : after list objects octets ≡ (up checksum list Reading, objects ++ object ∷ []) =
-      rw (names, room) refl in
+      rw (names, owned, room) refl in
       let r = next (objects ++ object ∷ [])
       (subst (λ s. (upload_behind_all s.0 s.1 os).0.stage ≡ Over Whole) to done) in
       record {
@@ -159,12 +166,12 @@ module _ (checksum : List ℕ) where
             ∙ (ap (λ s. read_done object ∷ asked_behind s os) to
             ∙ ap (λ asked. read_done object ∷ asked) r.asked);
       }
-  rest-more list octets objects os true false names room next done =
+  rest-more list octets objects os true false false names owned room next done =
       let to : after list objects octets ≡ (up checksum list (Breaking TooLarge), objects) =
-      rw (names, room) refl in
+      rw (names, owned, room) refl in
       absurd (never list (Breaking TooLarge) objects os refl
       (subst (λ s. (upload_behind_all s.0 s.1 os).0.stage ≡ Over Whole) to done))
-  rest-more list octets objects os false room names is next done =
+  rest-more list octets objects os false owned room names place is next done =
       rest-end list octets objects os (bytes_eq octets checksum) names refl done
 
   rest : (list : List ℕ) (objects : Values) (os : List Outcome)
@@ -173,7 +180,8 @@ module _ (checksum : List ℕ) where
   rest list objects [] done = absurd (cc)
   rest list objects (Done (Read octets) ∷ os) done =
       rest-more list octets.items objects os (names_more list (length objects))
-      (fits_behind objects octets.items) refl refl (λ more d. rest list more os d) done
+      (is_command_place (place_named list (length objects)))
+      (fits_behind objects octets.items) refl refl refl (λ more d. rest list more os d) done
   rest list objects (Done Written ∷ os) done =
       absurd (never list (Breaking CutOff) objects os refl done)
   rest list objects (Done (Refused error additional) ∷ os) done =

@@ -1,6 +1,6 @@
 -- What a reader may conclude of an attempt, whatever comes of its requests, and whenever its set is
 -- saved.
-use Rattle.std.specs.Prelude.{◌≡◌, ◌≤◌, ◌⊎◌, ℕ, true, if◌then◌else◌, List, [], ◌∷◌, ◌++◌, map, take, slice_get, Option, Some, None}
+use Rattle.std.specs.Prelude.{◌≡◌, ◌≤◌, ◌⊎◌, ℕ, true, false, if◌then◌else◌, List, [], ◌∷◌, ◌++◌, length, map, take, slice_get, Option, Some, None}
 use Rattle.iol_isdu.specs.declared.values.Place.{Place}
 use Rattle.iol_isdu.specs.declared.values.Request.{Request}
 use Rattle.iol_isdu.specs.declared.values.Request.TheVariants.{Read as ReadRequest, Write as WriteRequest}
@@ -16,6 +16,7 @@ use Rattle.iol_storage.specs.declared.attempt.StorageAttempt.{StorageAttempt}
 use Rattle.iol_storage.specs.Downloads.{download_requests}
 use Rattle.iol_storage.specs.Uploads.{storage_place, storage_command, names_more, place_named}
 use Rattle.iol_storage.specs.Laws.{asked_with, AreTaken, IsWholeSet}
+use Rattle.iol_storage.specs.Sets.{is_no_set}
 use Rattle.iol_storage.specs.Attempts.{attempt_begun, attempt_asks, attempt_after, attempt_saved, is_unsaved, restore_purpose, serial_place}
 
 abbrev pub Values : Type 0
@@ -85,15 +86,6 @@ UnsavedSetsAreWhole =
 
 -- The end of an upload
 
--- no value of a set lies where DS_Commands are written
-abbrev pub HoldNoCommand : Values → Type 0
-HoldNoCommand [] = Unit {0}
-HoldNoCommand (object ∷ objects) = (object.0 ≡ storage_place 1 → ⊥) × HoldNoCommand objects
-
-abbrev pub KeepsNoCommand : Option Set → Type 0
-KeepsNoCommand None = Unit {0}
-KeepsNoCommand (Some set) = HoldNoCommand set.objects
-
 -- a set that waited was saved, and nothing was asked since
 pub record IsSavedSince (begun : AttemptRun) (events : List AttemptEvent) : Type 0 where
   pub before : List AttemptEvent
@@ -109,7 +101,7 @@ ToldSetsAreSaved =
     (mode : StorageMode) (purpose : AttemptPurpose) (kept : Option Set) (draft : Values)
     (events : List AttemptEvent)
     → let begun = run_begun mode purpose kept draft in
-    KeepsNoCommand kept
+    is_no_set kept ≡ false
     → run_asks (run_behind begun events) ≡ Some (storage_command 2)
     → IsSavedSince begun events
 
@@ -151,7 +143,7 @@ RestoredSetsAreTaken =
     → let begun = run_begun mode purpose kept draft in
     let run = run_behind begun events in
     run.attempt.stage ≡ Over Restored
-    → IsRestored mode kept run.attempt.unit.items (run_asked begun events)
+    → (run.kept ≡ kept) × IsRestored mode kept run.attempt.unit.items (run_asked begun events)
 
 -- Nothing else
 
@@ -198,3 +190,16 @@ AttemptsAskNoMore =
     let run = run_behind begun events in
     run_asks run ≡ Some request
     → IsAllowed mode kept run.attempt (run_asked begun events) request
+
+-- How much is asked
+
+abbrev pub HasFewObjects : Option Set → Type 0
+HasFewObjects None = Unit {0}
+HasFewObjects (Some set) = length set.objects ≤ 76
+
+-- whatever comes of it: four looks, and three fetches of 76 values, each with five requests beside
+abbrev pub AttemptsAskFew : Type 0
+AttemptsAskFew =
+    (mode : StorageMode) (purpose : AttemptPurpose) (kept : Option Set) (draft : Values)
+    (events : List AttemptEvent) → HasFewObjects kept
+    → length (run_asked (run_begun mode purpose kept draft) events) ≤ 247

@@ -11,3 +11,4 @@ pub mod StoredFaults
 pub mod StoredPort
 pub mod StoredLaws
 pub mod StoredStories
+pub mod StoredChecks

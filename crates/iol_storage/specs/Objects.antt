@@ -1,5 +1,5 @@
 -- Values of parameters, each with its place.
-use Rattle.std.specs.Prelude.{◌≡◌, ℕ, ◌+◌, ◌*◌, ◌≤◌, Bool, ◌&&◌, nat_le, nat_lt, List, [], ◌∷◌, length, map, slice_range}
+use Rattle.std.specs.Prelude.{◌≡◌, ℕ, ◌+◌, ◌*◌, ◌≤◌, ◌==◌, Bool, false, ◌&&◌, ◌||◌, nat_le, nat_lt, List, [], ◌∷◌, length, map, slice_range}
 use Rattle.iol_isdu.specs.declared.values.Place.{Place}
 use Rattle.iol_storage.specs.declared.objects.Span.{Span}
 
@@ -16,6 +16,19 @@ abbrev pub AreSpans : ℕ → List Span → ℕ → Type 0
 AreSpans from [] end = from ≡ end
 AreSpans from (span ∷ spans) end = (span.from ≡ from) × (span.from ≤ span.end)
     × (span.end ≤ span.from + 232) × AreSpans span.end spans end
+
+-- the Index of Data Storage is the port's own
+-- STO-15
+abbrev pub is_owned : Place → Bool
+is_owned place = place.index == 3
+
+-- where commands are written lies no parameter
+abbrev pub is_command_place : Place → Bool
+is_command_place place = place.index == 2 || is_owned place
+
+abbrev pub any_owned : List (Place × List ℕ) → Bool
+any_owned [] = false
+any_owned (object ∷ objects) = is_command_place object.0 || any_owned objects
 
 -- the octets of all values
 abbrev pub values_size : List (Place × List ℕ) → ℕ

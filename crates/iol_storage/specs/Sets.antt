@@ -1,7 +1,13 @@
--- The octets of a set.
-use Rattle.std.specs.Prelude.{ℕ, ◌/◌, ◌%◌, List, [], ◌∷◌, ◌++◌, length}
+-- Sets, and their octets.
+use Rattle.std.specs.Prelude.{ℕ, ◌/◌, ◌%◌, Bool, false, List, [], ◌∷◌, ◌++◌, length, Option, Some, None}
 use Rattle.iol_isdu.specs.declared.values.Place.{Place}
 use Rattle.iol_storage.specs.declared.set.Set.{Set}
+use Rattle.iol_storage.specs.Objects.{any_owned}
+
+-- one with a value where commands are written is no set
+abbrev pub is_no_set : Option Set → Bool
+is_no_set None = false
+is_no_set (Some set) = any_owned set.objects
 
 -- one parameter: Index, Subindex, the length of its value, and the value
 abbrev pub object_image : Place × List ℕ → List ℕ

@@ -35,12 +35,15 @@ use Rattle.iol_storage.specs.declared.stored.standing.StorageStanding.TheVariant
 use Rattle.iol_storage.specs.declared.stored.standing.Served.TheVariants as served
 use Rattle.iol_storage.specs.declared.stored.standing.Trouble.TheVariants as trouble
 use Rattle.iol_storage.specs.declared.stored.storage.BlockTicket.{BlockTicket}
+use Rattle.iol_storage.specs.declared.stored.storage.SetNumber.{SetNumber}
 use Rattle.iol_storage.specs.declared.stored.storage.StorageJob.{StorageJob}
 use Rattle.iol_storage.specs.declared.stored.storage.StorageJob.TheVariants.{Idle, Check, Block}
 use Rattle.iol_storage.specs.declared.stored.storage.JobEnd.{JobEnd}
 use Rattle.iol_storage.specs.declared.stored.storage.JobEnd.TheVariants as job_ends
 use Rattle.iol_storage.specs.declared.stored.storage.Retry.{Retry}
 use Rattle.iol_storage.specs.declared.stored.storage.Storage.{Storage}
+use Rattle.iol_storage.specs.Objects.{any_owned}
+use Rattle.iol_storage.specs.Sets.{is_no_set}
 use Rattle.iol_storage.specs.Attempts.{attempt_begun, attempt_asks, attempt_after, attempt_saved, result_of_attempt, is_unsaved}
 use Rattle.iol_storage.specs.declared.upload.UploadStage.{UploadStage}
 use Rattle.iol_storage.specs.declared.upload.UploadStage.TheVariants as upload_stage
@@ -53,9 +56,11 @@ is_served_standing other = false
 
 -- a device that is served stays so
 -- STO-13
+abbrev pub stays_served : StorageStanding → StorageStanding → Bool
+stays_served standing said = is_served_standing standing && not (is_served_standing said)
+
 abbrev pub standing_behind : StorageStanding → StorageStanding → StorageStanding
-standing_behind standing said =
-    if is_served_standing standing && not (is_served_standing said) then standing else said
+standing_behind standing said = if stays_served standing said then standing else said
 
 abbrev pub is_standing_awaited : StorageStanding → Bool
 is_standing_awaited Awaited = true
@@ -76,6 +81,7 @@ abbrev pub storage_at_opening : StorageMode → Option Set → Storage
 storage_at_opening mode kept = record {
   mode = mode;
   kept = kept;
+  fetched = 0;
   unsaved = false;
   draft = [];
   device = 0 ∷ (0 ∷ (0 ∷ (0 ∷ (0 ∷ []))));
@@ -118,22 +124,32 @@ settled_standing standing kept tries ended.Again =
     if is_standing_awaited standing && nat_le 2 tries then Trouble trouble.Attempts else standing
 
 -- STO-12
+abbrev pub retry_later : Retry
+retry_later = record { tries = 0; pause = 200; due = true }
+
 abbrev pub retry_behind_vain : ℕ → Retry
 retry_behind_vain tries = if tries == 0 then record { tries = 1; pause = 8; due = true }
     else if tries == 1 then record { tries = 2; pause = 16; due = true }
-    else record { tries = 0; pause = 200; due = true }
+    else retry_later
 
 abbrev pub retry_behind : Retry → AttemptResult → Retry
 retry_behind retry ended.Again = retry_behind_vain retry.tries
 retry_behind retry other = no_retry retry.due
 
+abbrev pub storage_standing : Storage → AttemptResult → StorageStanding
+storage_standing s result = settled_standing s.standing (is_some s.kept) s.retry.tries result
+
 abbrev pub storage_settled : Storage → AttemptResult → Storage
 storage_settled s result = record s {
   job = Idle;
-  standing = standing_behind s.standing
-      (settled_standing s.standing (is_some s.kept) s.retry.tries result);
-  retry = retry_behind s.retry result;
+  standing = standing_behind s.standing (storage_standing s result);
+  retry = if stays_served s.standing (storage_standing s result) then retry_later
+      else retry_behind s.retry result;
 }
+
+-- the number of the next set, or block
+abbrev pub number_behind : ℕ → ℕ
+number_behind count = if nat_eq count 18446744073709551615 then 0 else count + 1
 
 -- what was fetched is the kept set
 -- STO-8
@@ -145,6 +161,7 @@ job_keeping (Check attempt) s = record s {
     unit = attempt.unit;
     objects = s.draft;
   });
+  fetched = number_behind s.fetched;
   draft = [];
   unsaved = true;
 }
@@ -256,8 +273,10 @@ obstacle mode kept page = if is_off mode then Some (Served served.Off)
     else Some (standing_without (is_some kept))
 
 abbrev pub storage_begins : Storage → List ℕ → AttemptPurpose → Option StorageStanding → Storage
-storage_begins s page purpose (Some said) =
-    record s { standing = standing_behind s.standing said }
+storage_begins s page purpose (Some said) = record s {
+  standing = standing_behind s.standing said;
+  retry = if stays_served s.standing said then retry_later else s.retry;
+}
 storage_begins s page purpose None =
     record s { device = page_device page; job = Check (attempt_begun s.mode purpose) }
 
@@ -290,9 +309,16 @@ storage_watched s page = if is_some s.asked then s else storage_seen s page
 
 -- Calls
 
--- the set that was fetched and isn't saved
+-- the set that was fetched and isn't saved, and its number
 abbrev pub set_unsaved : Storage → Option Set
 set_unsaved s = if s.unsaved then s.kept else None
+
+abbrev pub number_unsaved : Storage → Option SetNumber
+number_unsaved s = option_map (λ set. record { 0 = s.fetched }) (set_unsaved s)
+
+abbrev pub saved_refusal : Storage → SetNumber → Option StoredFault
+saved_refusal s number =
+    if s.unsaved && number.0 == s.fetched then None else Some fault.OtherSet
 
 -- the job's ticket
 abbrev pub ticket_is : Option Ticket → Ticket → Bool
@@ -317,33 +343,26 @@ job_saved other = other
 abbrev pub storage_saved : Storage → Storage
 storage_saved s = record s { unsaved = false; job = job_saved s.job }
 
--- STO-15
-abbrev pub is_owned : Place → Bool
-is_owned place = place.index == 3
+-- why no block can begin now
+abbrev pub block_refusal : Storage → Option StoredFault
+block_refusal s = if not (has_no_job s.job) then Some fault.Storing
+    else if is_standing_awaited s.standing then Some fault.NoStanding
+    else if is_some s.ended then Some fault.Uncollected else None
 
--- commands, of which a block has none
-abbrev pub is_command_place : Place → Bool
-is_command_place place = place.index == 2 || is_owned place
-
-abbrev pub any_owned : List (Place × List ℕ) → Bool
-any_owned [] = false
-any_owned (write ∷ writes) = is_command_place write.0 || any_owned writes
-
-abbrev pub takes_no_block : Storage → Bool
-takes_no_block s = not (has_no_job s.job) || (is_standing_awaited s.standing || is_some s.ended)
-
-abbrev pub next_block : Storage → ℕ
-next_block s = if nat_eq s.blocks 18446744073709551615 then 0 else s.blocks + 1
+abbrev pub block_answer_by : Option StoredFault → Result BlockTicket StoredFault
+    → Result BlockTicket StoredFault
+block_answer_by (Some why) answer = Err why
+block_answer_by None answer = answer
 
 abbrev pub block_answer : Storage → List (Place × List ℕ) → Result BlockTicket StoredFault
-block_answer s writes = if takes_no_block s then Err fault.Storing
-    else if any_owned writes then Err fault.OwnedIndex else Ok (record { 0 = next_block s })
+block_answer s writes = block_answer_by (block_refusal s)
+    (if any_owned writes then Err fault.OwnedIndex else Ok (record { 0 = number_behind s.blocks }))
 
 abbrev pub storage_with_block : Storage → List (Place × List ℕ) → Keep → Storage
 storage_with_block s writes keep = record s {
   draft = writes;
   job = Block (record { purpose = BlockPurpose keep; stage = Asking 0 });
-  blocks = next_block s;
+  blocks = number_behind s.blocks;
 }
 
 abbrev pub is_block : StorageJob → Bool
@@ -362,8 +381,9 @@ abbrev pub storage_behind_block : Storage → BlockTicket → Storage
 storage_behind_block s block = if block.0 == s.blocks then record s { ended = None } else s
 
 -- STO-16
-abbrev pub load_refusal : Storage → Option StoredFault
-load_refusal s = if has_no_job s.job then None else Some fault.Storing
+abbrev pub load_refusal : Storage → Option Set → Option StoredFault
+load_refusal s kept = if has_no_job s.job
+    then (if is_no_set kept then Some fault.OwnedIndex else None) else Some fault.Storing
 
 abbrev pub is_troubled : StorageStanding → Bool
 is_troubled (Trouble why) = true

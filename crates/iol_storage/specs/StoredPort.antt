@@ -7,10 +7,13 @@ use Rattle.iol_book.specs.declared.fault.BookFault.TheVariants.{Full, UnknownTic
 use Rattle.iol_book.specs.declared.limits.Limits.{Limits}
 use Rattle.iol_app.specs.Abstract.Steps.{ImageOctets}
 use Rattle.iol_app.specs.declared.asked.Asked.{Asked}
+use Rattle.iol_app.specs.declared.asked.Asked.TheVariants as asked
 use Rattle.iol_app.specs.declared.mode.Mode.{Mode}
 use Rattle.iol_app.specs.declared.mode.Mode.TheVariants.{Operate}
 use Rattle.iol_app.specs.StationState.{mode_in}
 use Rattle.iol_app.specs.Pieces.{IsAskedOut}
+use Rattle.iol_port.specs.declared.awaited.AwaitedAnswer.{AwaitedAnswer}
+use Rattle.iol_port.specs.declared.awaited.AwaitedAnswer.TheVariants as awaited
 use Rattle.iol_port.specs.declared.call.Call.{Call}
 use Rattle.iol_port.specs.declared.call.Call.TheVariants as call
 use Rattle.iol_port.specs.declared.call.Answered.{Answered}
@@ -23,8 +26,11 @@ use Rattle.iol_port.specs.EveryWire.{CoreCallGives, page_shown}
 use Rattle.iol_port.specs.View.{PortParts}
 use Rattle.iol_storage.specs.declared.stored.fault.StoredFault.{StoredFault}
 use Rattle.iol_storage.specs.declared.stored.fault.StoredFault.TheVariants as fault
+use Rattle.iol_storage.specs.declared.set.Set.{Set}
 use Rattle.iol_storage.specs.declared.stored.storage.Storage.{Storage}
-use Rattle.iol_storage.specs.Stored.{storage_asks, storage_heard, storage_watched, storage_serves, is_unserved, is_owned}
+use Rattle.iol_storage.specs.Stored.{storage_asks, storage_heard, storage_watched, storage_serves, is_unserved}
+use Rattle.iol_storage.specs.Objects.{is_owned}
+use Rattle.iol_storage.specs.Sets.{is_no_set}
 
 -- the parts of a stored port
 pub record StoredParts : Type 0 where
@@ -135,6 +141,11 @@ pub record StoredSends (old : StoredParts) (sent : Asked) (new : StoredParts) : 
   pub says : IsAskedOut sent new.port.core.state
   pub rest : new ≡ record mid { port = new.port }
 
+-- what the port waits for behind it
+abbrev pub answer_to : Asked → AwaitedAnswer
+answer_to asked.Wake = awaited.Wake
+answer_to (asked.Exchange message) = awaited.Reply
+
 -- Clients' calls
 
 -- a call of the port within, which leaves the rest but for how many tickets clients have
@@ -205,7 +216,8 @@ abbrev pub places_with_room : Limits → ℕ
 places_with_room limits = if nat_lt (limits.journal / 4) limits.queue
     then limits.journal / 4 else limits.queue
 
--- at an opening, too few tickets, or no memory
-abbrev pub IsOpeningRefused : Limits → StoredFault → Type 0
-IsOpeningRefused limits fault.SmallQueue = IsTrue (nat_le (places_with_room limits) 2)
-IsOpeningRefused limits other = other ≡ fault.Port (port_fault.Book OutOfMemory)
+-- at an opening, too few tickets, a set that is none, or no memory
+abbrev pub IsOpeningRefused : Limits → Option Set → StoredFault → Type 0
+IsOpeningRefused limits kept fault.SmallQueue = IsTrue (nat_le (places_with_room limits) 2)
+IsOpeningRefused limits kept fault.OwnedIndex = IsTrue (is_no_set kept)
+IsOpeningRefused limits kept other = other ≡ fault.Port (port_fault.Book OutOfMemory)

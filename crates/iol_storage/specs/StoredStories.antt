@@ -16,7 +16,7 @@ use Rattle.iol_storage.specs.declared.stored.storage.BlockTicket.{BlockTicket}
 use Rattle.iol_storage.specs.declared.stored.storage.Storage.{Storage}
 use Rattle.iol_storage.specs.Downloads.{download_requests}
 use Rattle.iol_storage.specs.Laws.{asked_with, AreTaken, IsDownloadCut}
-use Rattle.iol_storage.specs.Stored.{storage_asks, storage_heard, is_breaking, is_cut_off, storage_watched, storage_saved, storage_noticed, storage_loaded, storage_released, storage_with_block, storage_behind_block, block_answer, has_no_job, is_block}
+use Rattle.iol_storage.specs.Stored.{storage_asks, storage_heard, is_breaking, is_cut_off, storage_watched, storage_saved, storage_noticed, storage_loaded, storage_released, storage_with_block, storage_behind_block, block_answer, load_refusal, is_block}
 use Rattle.iol_storage.specs.StoredPort.{to_submit}
 
 -- what may happen to it: each call of a stored port is some of these
@@ -41,7 +41,7 @@ storage_after s (Asked ticket) =
     if is_some (to_submit s) then record s { asked = Some ticket } else s
 storage_after s Saved = storage_saved s
 storage_after s (Noticed event) = storage_noticed s event
-storage_after s (Loaded kept) = if has_no_job s.job then storage_loaded s kept else s
+storage_after s (Loaded kept) = if is_some (load_refusal s kept) then s else storage_loaded s kept
 storage_after s Released = storage_released s
 storage_after s (Submitted writes keep) =
     if is_ok (block_answer s writes) then storage_with_block s writes keep else s

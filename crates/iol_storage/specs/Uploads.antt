@@ -11,7 +11,7 @@ use Rattle.iol_storage.specs.declared.upload.UploadResult.TheVariants as result
 use Rattle.iol_storage.specs.declared.upload.UploadStage.{UploadStage}
 use Rattle.iol_storage.specs.declared.upload.UploadStage.TheVariants.{Starting, Listing, Reading, Breaking, Over}
 use Rattle.iol_storage.specs.declared.upload.Upload.{Upload}
-use Rattle.iol_storage.specs.Objects.{fits_behind}
+use Rattle.iol_storage.specs.Objects.{fits_behind, is_command_place}
 use Rattle.iol_storage.specs.Downloads.{session_lasts}
 
 -- What it asks
@@ -75,15 +75,23 @@ abbrev pub behind_checksum : List ℕ → List ℕ → UploadStage
 behind_checksum checksum octets =
     if bytes_eq octets checksum then Over result.Whole else Breaking result.Changed
 
+-- a value at this place, where commands are written, is none of a set
+abbrev pub stage_with : List (Place × List ℕ) → Place → List ℕ → UploadStage
+stage_with objects place octets = if is_command_place place then Breaking result.BadList
+    else if fits_behind objects octets then Reading else Breaking result.TooLarge
+
+abbrev pub objects_with : List (Place × List ℕ) → Place → List ℕ → List (Place × List ℕ)
+objects_with objects place octets = if is_command_place place then objects
+    else if fits_behind objects octets then objects ++ (place, octets) ∷ [] else objects
+
 abbrev pub stage_read : Upload → List (Place × List ℕ) → List ℕ → UploadStage
 stage_read upload objects octets = if names_more upload.list.items (length objects)
-    then (if fits_behind objects octets then Reading else Breaking result.TooLarge)
+    then stage_with objects (place_named upload.list.items (length objects)) octets
     else behind_checksum upload.checksum octets
 
 abbrev pub objects_read : Upload → List (Place × List ℕ) → List ℕ → List (Place × List ℕ)
-objects_read upload objects octets =
-    if names_more upload.list.items (length objects) && fits_behind objects octets
-    then objects ++ (place_named upload.list.items (length objects), octets) ∷ []
+objects_read upload objects octets = if names_more upload.list.items (length objects)
+    then objects_with objects (place_named upload.list.items (length objects)) octets
     else objects
 
 -- a start that is refused begins nothing

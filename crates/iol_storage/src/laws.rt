@@ -1,8 +1,9 @@
 //! What a reader may conclude of a download, of an upload, and of an attempt: laws, without code.
 ghost use Rattle.iol_storage.specs.StoredStories.{AskedRequestsStay, BlocksAreWhole};
+ghost use Rattle.iol_storage.specs.StoredChecks.{FetchedSetsAreWhole, KeptSetsHoldNoCommand, EndedUploadsWereSaved, RestoredStandingsAreTaken};
 ghost use Rattle.iol_storage.specs.StoredLaws.{StepsAreCalls, MovesAreRuns, JobsAreAlone, AttemptsAreForTheDevice};
 ghost use Rattle.iol_storage.specs.Laws.{AppliedIsWhole, OthersAreCutOff, SetsAreWhole};
-ghost use Rattle.iol_storage.specs.AttemptLaws.{UnsavedSetsAreWhole, ToldSetsAreSaved, RestoredSetsAreTaken, AttemptsAskNoMore};
+ghost use Rattle.iol_storage.specs.AttemptLaws.{UnsavedSetsAreWhole, ToldSetsAreSaved, RestoredSetsAreTaken, AttemptsAskNoMore, AttemptsAskFew};
 
 /// A law of the definitions: a download ends as Applied only if the device took each of its
 /// requests, each once, in order, and if nothing else was asked. For a restore the state that was
@@ -36,7 +37,8 @@ pub fn unsaved_sets_are_whole()
 {}
 
 /// A law of the definitions: an attempt tells the device that an upload ends only if the set that
-/// waited was saved, and if nothing was asked since. The kept set is one that writes no DS_Command.
+/// waited was saved, and if nothing was asked since. The kept set has no value where commands are
+/// written.
 pub fn told_sets_are_saved()
     ensures { ToldSetsAreSaved }
 {}
@@ -52,6 +54,13 @@ pub fn restored_sets_are_taken()
 /// values. Such a write is the next one of a restore, behind the looks and all requests before it.
 pub fn attempts_ask_no_more()
     ensures { AttemptsAskNoMore }
+{}
+
+/// A law of the definitions: an attempt asks at most 247 requests, whatever comes of them. A set
+/// has at most 76 values (`Objects::len`).
+#[tactic(auto, using(crate::proofs::AttemptBounds::attempts_ask_few))]
+pub fn attempts_ask_few()
+    ensures { AttemptsAskFew }
 {}
 
 /// A law of each stored port: it is the port within. A job's step is a list of calls of that port,
@@ -94,4 +103,35 @@ pub fn asked_requests_stay()
 /// asked, so that the end never was taken; `Unknown` is said of the end alone.
 pub fn blocks_are_whole()
     ensures { BlocksAreWhole }
+{}
+
+/// A law of the definitions: whatever happens from the turn on in which a check begins, where a set
+/// that was fetched waits to be saved, that set is kept, is of the session's device, and is a whole
+/// one, by the last upload that the check asked.
+#[tactic(auto, using(crate::proofs::StoredChecks::fetched_sets_are_whole))]
+pub fn fetched_sets_are_whole()
+    ensures { FetchedSetsAreWhole }
+{}
+
+/// A law of the definitions: from the opening of a port on, whatever happens, no set that is kept
+/// has a value at the Index of Data Storage or of SystemCommand.
+#[tactic(auto, using(crate::proofs::StoredSets::kept_sets_hold_no_command))]
+pub fn kept_sets_hold_no_command()
+    ensures { KeptSetsHoldNoCommand }
+{}
+
+/// A law of the definitions: a check tells the device that an upload ends only if the set that
+/// waited was saved, is kept still, and nothing was asked since. So a crash loses no change that a
+/// device has flagged.
+#[tactic(auto, using(crate::proofs::StoredChecks::ended_uploads_were_saved))]
+pub fn ended_uploads_were_saved()
+    ensures { EndedUploadsWereSaved }
+{}
+
+/// A law of the definitions: a check leads to the standing `Restored` only if, whatever happened
+/// meanwhile, the device took behind the looks each request of the restore of the kept set, each
+/// once, in order, and nothing else was asked.
+#[tactic(auto, using(crate::proofs::StoredChecks::restored_standings_are_taken))]
+pub fn restored_standings_are_taken()
+    ensures { RestoredStandingsAreTaken }
 {}

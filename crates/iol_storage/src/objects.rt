@@ -1,7 +1,7 @@
 //! Values of parameters, each with its place: the writes of a block, or the content of a set.
 ghost use Rattle.std.specs.Prelude.{◌≡◌, ◌≤◌, ◌+◌, ◌*◌, ◌++◌, ◌∷◌, [], length, slice_get, nat_eq, nat_lt, is_some, IfSome, is_ok, OnOk, OnErr, IfErr};
 ghost use Rattle.std.specs.Option.{option_map};
-ghost use Rattle.iol_storage.specs.Objects.{fits_behind, values_size, fits_beside, objects_in, AreSpans};
+ghost use Rattle.iol_storage.specs.Objects.{fits_behind, values_size, fits_beside, objects_in, AreSpans, is_owned, is_command_place, any_owned};
 
 use crate::StorageFault;
 use arrayvec::ArrayVec;
@@ -16,6 +16,26 @@ pub const MOST_OCTETS: usize = 2048;
 pub(crate) const HEADER: usize = 4;
 /// The most octets of one value: those of one ISDU.
 const MOST_VALUE: usize = 232;
+/// The Index of SystemCommand (B.2.2).
+const COMMAND_INDEX: u16 = 2;
+/// The Index of Data Storage (B.2.3).
+const STORAGE_INDEX: u16 = 3;
+
+/// Whether a place is the port's own: the Index of Data Storage.
+///
+/// Rule STO-15.
+pub(crate) fn is_owned(place: Place) -> bool
+    ensures { result ≡ is_owned place }
+{
+    place.index == STORAGE_INDEX
+}
+
+/// Whether a place takes commands, of blocks or of Data Storage, and so is that of no parameter.
+pub(crate) fn is_command_place(place: Place) -> bool
+    ensures { result ≡ is_command_place place }
+{
+    place.index == COMMAND_INDEX || is_owned(place)
+}
 
 /// The value of one parameter, and where it lies.
 #[derive(Clone, Copy, Debug, PartialEq, Eq)]
@@ -130,6 +150,19 @@ impl Objects {
             end: (from + octets.len()) as u16,
         });
         Ok(())
+    }
+
+    /// Whether one of them lies where commands are written: it is no parameter, and as the write of
+    /// a block it would end the block.
+    pub(crate) fn any_owned(&self) -> bool
+        ensures { result ≡ any_owned self.now }
+    {
+        for index in 0..self.len() {
+            if is_command_place(self.get(index).unwrap().place) {
+                return true;
+            }
+        }
+        false
     }
 
     /// None any more.

@@ -7,4 +7,4 @@ mod storage;
 pub use fault::StoredFault;
 pub use port::StoredPort;
 pub use standing::{Served, StorageStanding, Trouble};
-pub use storage::{BlockTicket, Retry, Storage, StorageJob};
+pub use storage::{BlockTicket, Retry, SetNumber, Storage, StorageJob};

@@ -1,9 +1,9 @@
 //! An upload: what Data Storage fetches of a device (IEC 61131-9, 10.4 and 11.4).
 ghost use Rattle.std.specs.Prelude.{◌≡◌, ◌≤◌, []};
-ghost use Rattle.iol_storage.specs.Uploads.{storage_command, is_list, names_more, place_read, upload_asks, upload_place, upload_after, stage_listed, list_kept, objects_listed, stage_read, objects_read, behind_checksum, behind_other};
+ghost use Rattle.iol_storage.specs.Uploads.{storage_command, is_list, names_more, place_read, upload_asks, upload_place, upload_after, stage_listed, list_kept, objects_listed, stage_with, objects_with, stage_read, objects_read, behind_checksum, behind_other};
 
 use crate::download::{Refusal, STORAGE_COMMAND, session_lasts};
-use crate::objects::Objects;
+use crate::objects::{Objects, is_command_place};
 use iol_book::Outcome;
 use iol_isdu::{Answer, Octets, Place, Request};
 
@@ -29,7 +29,7 @@ pub enum UploadResult {
     Whole,
     /// The device refused a request.
     Refused(Refusal),
-    /// The octets of the Index_List are none.
+    /// The octets of the Index_List are none, or it names a place of commands.
     BadList,
     /// The values are more than a set may have.
     TooLarge,
@@ -165,10 +165,7 @@ impl Upload {
         if !self.names(count) {
             return self.behind_checksum(octets);
         }
-        match objects.push(self.place(count), octets) {
-            Ok(()) => UploadStage::Reading,
-            Err(_) => UploadStage::Breaking(UploadResult::TooLarge),
-        }
+        hear_value(objects, self.place(count), octets)
     }
 
     /// Behind the checksum.
@@ -220,6 +217,20 @@ impl Upload {
                 UploadStage::Over(UploadResult::CutOff)
             }
         }
+    }
+}
+
+/// The value of this place came.
+fn hear_value(objects: &mut Objects, place: Place, octets: &[u8]) -> UploadStage
+    ensures stage { result ≡ stage_with objects.old place octets.now }
+    ensures objects { objects.new ≡ objects_with objects.old place octets.now }
+{
+    if is_command_place(place) {
+        return UploadStage::Breaking(UploadResult::BadList);
+    }
+    match objects.push(place, octets) {
+        Ok(()) => UploadStage::Reading,
+        Err(_) => UploadStage::Breaking(UploadResult::TooLarge),
     }
 }
 

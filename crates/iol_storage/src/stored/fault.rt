@@ -11,11 +11,11 @@ pub enum StoredFault {
     /// 21 to 28, 30, 34 and 36: the port within refuses it.
     #[error(transparent)]
     Port(PortFault),
-    /// 41: no client may write at the Index of Data Storage, nor a SystemCommand in a block.
+    /// 41: no client may write at the Index of Data Storage, nor has a block or a set a value
+    /// there, or a SystemCommand.
     #[error("OwnedIndex")]
     OwnedIndex,
-    /// 45: there is no session, or a job is under way, or the outcome of the block before was not
-    /// collected.
+    /// 45: a check or a block is under way.
     #[error("Storing")]
     Storing,
     /// 46: the block isn't the last one, or its outcome was collected.
@@ -27,6 +27,15 @@ pub enum StoredFault {
     /// 48: fewer than three tickets may be outstanding, or the journal has fewer than 12 entries.
     #[error("SmallQueue")]
     SmallQueue,
+    /// 60: there is no session, or Data Storage hasn't come to its end in it.
+    #[error("NoStanding")]
+    NoStanding,
+    /// 61: the outcome of the block before was not collected.
+    #[error("Uncollected")]
+    Uncollected,
+    /// 62: another set waits to be saved, or none does.
+    #[error("OtherSet")]
+    OtherSet,
 }
 
 impl StoredFault {
@@ -41,6 +50,9 @@ impl StoredFault {
             StoredFault::UnknownBlock => 46,
             StoredFault::BlockNotOver => 47,
             StoredFault::SmallQueue => 48,
+            StoredFault::NoStanding => 60,
+            StoredFault::Uncollected => 61,
+            StoredFault::OtherSet => 62,
         }
     }
 }

@@ -1,7 +1,7 @@
 //! A port with Data Storage and blocks.
 ghost use Rattle.std.specs.Prelude.{◌≡◌, ◌<◌, ◌≤◌, ◌+◌, ◌&&◌, not, false, [], length, Some, None, is_some, is_ok, IfSome, IfNone, Ok, Err, IfOk, IfErr, OnOk, OnErr, IsTrue};
 ghost use Rattle.std.specs.Vec.{vec_len, vec_capacity};
-ghost use Rattle.std.specs.Option.{option_copied};
+ghost use Rattle.std.specs.Option.{option_copied, option_map};
 ghost use Rattle.std.specs.Result.{result_err, result_map_both};
 ghost use Rattle.iol_far.specs.Octets.{octets_in};
 ghost use Rattle.iol_book.specs.BookModel.{is_outstanding};
@@ -9,16 +9,16 @@ ghost use Rattle.iol_port.specs.View.{IsNewFor};
 ghost use Rattle.iol_port.specs.CorePort.{CoreOpensFor, awaited_answer, PortReceiveGives, ReceiveDoes, WakeGives, WakeDoes};
 ghost use Rattle.iol_port.specs.Called.{Submits, SubmitsUrgent, Collects, Withdraws, Cancels, Abandons, Restarts, ClearsOutput, Expects, SetsCycle};
 ghost use Rattle.iol_port.specs.Called.{TakesEvent, Archives, Drains, DrainsInto, CoreCalled};
-ghost use Rattle.iol_storage.specs.Stored.{storage_at_opening, set_unsaved, storage_saved, load_refusal, storage_loaded, storage_released, block_answer, storage_with_block, block_collected, storage_behind_block, is_unserved, is_own, storage_behind_event};
-ghost use Rattle.iol_storage.specs.StoredPort.{Tends, StoredSends, session_page, CollectsOf, SubmitsOf, to_submit, ShowsOf, StoredCalled, StoredForwards, client_refusal, unknown_ticket, by_port, PortAnswers, tickets_behind_submit, tickets_without, SetsStoredOutput, image_shown, IsOpeningRefused, places_with_room};
+ghost use Rattle.iol_storage.specs.Stored.{storage_at_opening, set_unsaved, number_unsaved, saved_refusal, storage_saved, load_refusal, storage_loaded, storage_released, block_answer, storage_with_block, block_collected, storage_behind_block, is_unserved, is_own, storage_behind_event};
+ghost use Rattle.iol_storage.specs.StoredPort.{Tends, StoredSends, session_page, CollectsOf, SubmitsOf, to_submit, ShowsOf, StoredCalled, StoredForwards, client_refusal, unknown_ticket, by_port, PortAnswers, tickets_behind_submit, tickets_without, SetsStoredOutput, image_shown, IsOpeningRefused, places_with_room, answer_to};
 
 use crate::attempt::StorageMode;
 use crate::download::{DownloadResult, Keep};
-use crate::objects::Objects;
+use crate::objects::{Objects, is_owned};
 use crate::set::Set;
 use crate::stored::fault::StoredFault;
 use crate::stored::standing::StorageStanding;
-use crate::stored::storage::{BlockTicket, Storage, is_owned};
+use crate::stored::storage::{BlockTicket, SetNumber, Storage, is_no_set};
 use iol_app::{Asked, Mode};
 use iol_book::{BookFault, Entry, Limits, Outcome, Ticket};
 use iol_event::Event;
@@ -93,8 +93,9 @@ impl<A: Allocator + Copy> StoredPort<A> {
     /// Of the tickets that may be outstanding, and for which the journal has room, two are not for
     /// clients: so a job finds room in a journal that was drained.
     ///
-    /// Refused by 48 where fewer than three tickets may be outstanding, or the journal has fewer
-    /// than 12 entries, and by 24 where there is no memory for the book.
+    /// Refused by the first of 48 where fewer than three tickets may be outstanding, or the journal
+    /// has fewer than 12 entries, 41 where the set has a value at the Index of Data Storage, or a
+    /// SystemCommand, and 24 where there is no memory for the book.
     ///
     /// Rule JOB-6.
     pub fn open(
@@ -109,11 +110,14 @@ impl<A: Allocator + Copy> StoredPort<A> {
         ensures port { IfOk result (λ p. IsNewFor devices limits.now p.port) }
         ensures opens { IfOk result (λ p. CoreOpensFor devices limits.now p.port) }
         ensures room { IfOk result (λ p. p.most + 2 ≡ places_with_room limits.now) }
-        ensures refused { IfErr result (λ why. IsOpeningRefused limits.now why) }
+        ensures refused { IfErr result (λ why. IsOpeningRefused limits.now kept why) }
     {
         let places = places_with_room(limits);
         if places <= PLACES_KEPT {
             return Err(StoredFault::SmallQueue);
+        }
+        if is_no_set(&kept) {
+            return Err(StoredFault::OwnedIndex);
         }
         match PortCore::open_for(alloc, limits, devices) {
             Ok(port) => Ok(StoredPort {
@@ -129,8 +133,10 @@ impl<A: Allocator + Copy> StoredPort<A> {
     }
 
     /// What goes out, as [`PortCore::send`]. Before it, where nothing is out, the step of a job.
+    #[tactic(auto, using(crate::proofs::StoredAwaits::awaits_out))]
     pub fn send(&mut self) -> Asked
-        ensures { StoredSends self.old result self.new }
+        ensures is { StoredSends self.old result self.new }
+        ensures awaits { awaited_answer self.new.port ≡ answer_to result }
     {
         if let AwaitedAnswer::Nothing = self.port.awaits() {
             self.tend();
@@ -249,32 +255,38 @@ impl<A: Allocator + Copy> StoredPort<A> {
         self.storage.kept.as_ref()
     }
 
-    /// The set that was fetched, until the program says that it has saved it. The device isn't told
-    /// before that, and clients wait for it.
-    pub fn unsaved(&self) -> Option<&Set>
-        ensures { option_copied result ≡ set_unsaved self.now.storage }
+    /// The set that was fetched, and its number, until the program says that it has saved it. The
+    /// device isn't told before that, and clients wait for it.
+    pub fn unsaved(&self) -> Option<(SetNumber, &Set)>
+        ensures number { option_map (λ one. one.0) result ≡ number_unsaved self.now.storage }
+        ensures set { option_map (λ one. one.1.now) result ≡ set_unsaved self.now.storage }
     {
-        if self.storage.unsaved {
-            self.storage.kept.as_ref()
-        } else {
-            None
+        match &self.storage.kept {
+            Some(set) if self.storage.unsaved => Some((SetNumber(self.storage.fetched), set)),
+            _ => None,
         }
     }
 
-    /// The program has saved the set that is kept.
-    pub fn saved(&mut self)
-        ensures { self.new ≡ record self.old { storage = storage_saved self.old.storage } }
+    /// The program has saved this set. The device is told then.
+    ///
+    /// Refused, with nothing changed, by 62 where another waits to be saved, or none does.
+    pub fn saved(&mut self, number: SetNumber) -> Result<(), StoredFault>
+        ensures answer { result_err result ≡ saved_refusal self.old.storage number }
+        ensures ok { OnOk result (self.new
+            ≡ record self.old { storage = storage_saved self.old.storage }) }
+        ensures err { OnErr result (self.new ≡ self.old) }
     {
-        self.storage.saved();
+        self.storage.saved(number)
     }
 
     /// Keeps this set from now on. In trouble another check follows.
     ///
-    /// Refused, with nothing changed, by 45 while a job is under way.
+    /// Refused, with nothing changed, by the first of 45 while a job is under way, and 41 where the
+    /// set has a value at the Index of Data Storage, or a SystemCommand.
     ///
     /// Rule STO-16.
     pub fn load(&mut self, set: Set) -> Result<(), StoredFault>
-        ensures answer { result_err result ≡ load_refusal self.old.storage }
+        ensures answer { result_err result ≡ load_refusal self.old.storage (Some set) }
         ensures ok { OnOk result (self.new
             ≡ record self.old { storage = storage_loaded self.old.storage (Some set) }) }
         ensures err { OnErr result (self.new ≡ self.old) }
@@ -286,7 +298,7 @@ impl<A: Allocator + Copy> StoredPort<A> {
     ///
     /// Refused, with nothing changed, by 45 while a job is under way.
     pub fn forget(&mut self) -> Result<(), StoredFault>
-        ensures answer { result_err result ≡ load_refusal self.old.storage }
+        ensures answer { result_err result ≡ load_refusal self.old.storage None }
         ensures ok { OnOk result (self.new
             ≡ record self.old { storage = storage_loaded self.old.storage None }) }
         ensures err { OnErr result (self.new ≡ self.old) }
@@ -305,10 +317,10 @@ impl<A: Allocator + Copy> StoredPort<A> {
     /// Writes these parameters as one block: the device applies all of them or none. They are
     /// taken, and none are left there.
     ///
-    /// Refused, with nothing changed, by the first of 45 where there is no session that is served,
-    /// where a job is under way, or where the outcome of the block before was not collected, and 41
-    /// where one of them is at the Index of Data Storage, or is a SystemCommand, which would end
-    /// the block.
+    /// Refused, with nothing changed, by the first of 45 where a job is under way, 60 where there
+    /// is no session, or Data Storage hasn't come to its end in it, 61 where the outcome of the
+    /// block before was not collected, and 41 where one of them is at the Index of Data Storage, or
+    /// is a SystemCommand, which would end the block.
     ///
     /// Rule JOB-4.
     pub fn submit_block(

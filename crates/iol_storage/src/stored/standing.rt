@@ -1,6 +1,6 @@
 //! What came of Data Storage at a port, in the present session.
 ghost use Rattle.std.specs.Prelude.{◌≡◌};
-ghost use Rattle.iol_storage.specs.Stored.{is_served_standing, standing_behind};
+ghost use Rattle.iol_storage.specs.Stored.{is_served_standing, standing_behind, stays_served};
 
 use crate::download::Refusal;
 
@@ -71,10 +71,13 @@ impl StorageStanding {
     pub(crate) fn behind(self, said: StorageStanding) -> StorageStanding
         ensures { result ≡ standing_behind self said }
     {
-        if self.is_served() && !said.is_served() {
-            self
-        } else {
-            said
-        }
+        if self.stays_at(said) { self } else { said }
+    }
+
+    /// Whether a trouble is met in service.
+    pub(crate) fn stays_at(self, said: StorageStanding) -> bool
+        ensures { result ≡ stays_served self said }
+    {
+        self.is_served() && !said.is_served()
     }
 }

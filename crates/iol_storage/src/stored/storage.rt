@@ -3,7 +3,8 @@
 ghost use Rattle.std.specs.Prelude.{◌≡◌, ◌∷◌, [], length, drop, is_some, OnOk, OnErr};
 ghost use Rattle.std.specs.Option.{option_map, option_copied};
 ghost use Rattle.std.specs.Result.{result_err};
-ghost use Rattle.iol_storage.specs.Stored.{storage_at_opening, storage_asks, is_breaking, is_cut_off, storage_heard, storage_concluded, job_end, storage_keeping, storage_settled, settled_standing, standing_without, retry_behind, storage_left, block_left, storage_watched, storage_looked, storage_begun, obstacle, purpose_due, storage_noticed, storage_saved, clients_wait, storage_serves, is_unserved, has_storage, page_device, is_owned, is_command_place, any_owned, takes_no_block, block_answer, storage_with_block, block_collected, storage_behind_block, load_refusal, storage_loaded, storage_released};
+ghost use Rattle.iol_storage.specs.Stored.{storage_at_opening, storage_asks, is_breaking, is_cut_off, storage_heard, storage_concluded, job_end, storage_keeping, storage_settled, settled_standing, standing_without, retry_behind, storage_left, block_left, storage_watched, storage_looked, storage_begun, obstacle, purpose_due, storage_noticed, storage_saved, clients_wait, storage_serves, is_unserved, has_storage, page_device, block_refusal, saved_refusal, block_answer, storage_with_block, block_collected, storage_behind_block, load_refusal, storage_loaded, storage_released};
+ghost use Rattle.iol_storage.specs.Sets.{is_no_set};
 
 use crate::attempt::{AttemptPurpose, AttemptResult, AttemptStage, StorageAttempt, StorageMode};
 use crate::download::{
@@ -16,7 +17,7 @@ use crate::stored::standing::{Served, StorageStanding, Trouble};
 use crate::upload::UploadStage;
 use iol_book::{Outcome, Serve, Ticket};
 use iol_event::Event;
-use iol_isdu::{Place, Request};
+use iol_isdu::Request;
 use iol_page::{Capability, Page};
 use std::mem::replace;
 
@@ -26,10 +27,6 @@ const UPLOAD_REQUEST: u16 = 0xFF91;
 const REVISION_1_1: u8 = 0x11;
 /// Where the page has the M-sequence Capability (B.1.4).
 const CAPABILITY: u8 = 3;
-/// The Index of Data Storage (B.2.3).
-const STORAGE_INDEX: u16 = 3;
-/// The Index of SystemCommand.
-const COMMAND_INDEX: u16 = 2;
 /// For how many turns no attempt is made behind the first one in vain, the second and the third.
 const FIRST_PAUSE: u8 = 8;
 
@@ -42,6 +39,10 @@ const MOST_BREAKS: u8 = 20;
 /// The name of one block. Its number is given again only behind 2^64 others.
 #[derive(Clone, Copy, Debug, PartialEq, Eq)]
 pub struct BlockTicket(pub u64);
+
+/// The name of one set that was fetched. Its number is given again only behind 2^64 others.
+#[derive(Clone, Copy, Debug, PartialEq, Eq)]
+pub struct SetNumber(pub u64);
 
 /// What several requests are asked for, one behind the other.
 #[derive(Drop)]
@@ -116,6 +117,13 @@ pub struct Retry {
 }
 
 impl Retry {
+    /// Behind three in vain, or one that met a trouble in service.
+    const LATER: Retry = Retry {
+        tries: 0,
+        pause: LONG_PAUSE,
+        due: true,
+    };
+
     /// Behind an attempt with this result.
     ///
     /// Rule STO-12.
@@ -133,11 +141,7 @@ impl Retry {
                 pause: SECOND_PAUSE,
                 due: true,
             },
-            (AttemptResult::Again, _) => Retry {
-                tries: 0,
-                pause: LONG_PAUSE,
-                due: true,
-            },
+            (AttemptResult::Again, _) => Retry::LATER,
             _ => Retry {
                 tries: 0,
                 pause: 0,
@@ -155,7 +159,9 @@ pub struct Storage {
     pub mode: StorageMode,
     /// The set that is kept.
     pub kept: Option<Set>,
-    /// The program hasn't saved it yet.
+    /// How many sets were fetched.
+    pub fetched: u64,
+    /// The program hasn't saved the last one yet, which is kept.
     pub unsaved: bool,
     /// What is fetched, or the writes of a block.
     pub draft: Objects,
@@ -182,6 +188,7 @@ impl Storage {
         Storage {
             mode,
             kept,
+            fetched: 0,
             unsaved: false,
             draft: Objects::new(),
             device: [0; 5],
@@ -265,6 +272,7 @@ impl Storage {
             unit: attempt.unit.clone().unwrap(),
             objects: replace(&mut self.draft, Objects::new()),
         });
+        self.fetched = self.fetched.wrapping_add(1);
         self.unsaved = true;
     }
 
@@ -272,9 +280,14 @@ impl Storage {
     fn settle(&mut self, end: AttemptResult)
         ensures { self.new ≡ storage_settled self.old end }
     {
+        let said = self.standing_said(end);
         self.job = StorageJob::Idle;
-        self.standing = self.standing.behind(self.standing_said(end));
-        self.retry = self.retry.behind(end);
+        self.retry = if self.standing.stays_at(said) {
+            Retry::LATER
+        } else {
+            self.retry.behind(end)
+        };
+        self.standing = self.standing.behind(said);
     }
 
     /// The standing behind an attempt.
@@ -377,7 +390,12 @@ impl Storage {
     {
         self.retry.due = false;
         match self.obstacle(page) {
-            Some(said) => self.standing = self.standing.behind(said),
+            Some(said) => {
+                if self.standing.stays_at(said) {
+                    self.retry = Retry::LATER;
+                }
+                self.standing = self.standing.behind(said);
+            }
             None => {
                 self.device = page_device(page);
                 self.job = StorageJob::Check(StorageAttempt::new(self.mode, purpose));
@@ -421,7 +439,7 @@ impl Storage {
 
     /// A block of a client is the job from now on. Its writes are taken, and none are left there.
     ///
-    /// Refused, with nothing changed, by the first of 45 and 41.
+    /// Refused, with nothing changed, by the first of 45, 60, 61 and 41.
     pub(crate) fn submit_block(
         &mut self,
         writes: &mut Objects,
@@ -432,10 +450,10 @@ impl Storage {
         ensures writes { OnOk result (writes.new ≡ []) }
         ensures unchanged { OnErr result ((self.new ≡ self.old) × (writes.new ≡ writes.old)) }
     {
-        if self.takes_no_block() {
-            return Err(StoredFault::Storing);
+        if let Some(fault) = self.block_refusal() {
+            return Err(fault);
         }
-        if has_owned(writes) {
+        if writes.any_owned() {
             return Err(StoredFault::OwnedIndex);
         }
         self.draft = replace(writes, Objects::new());
@@ -444,14 +462,17 @@ impl Storage {
         Ok(BlockTicket(self.blocks))
     }
 
-    /// Whether no block can begin: out of a session, in a job, and until the last one's outcome
-    /// was collected.
-    fn takes_no_block(&self) -> bool
-        ensures { result ≡ takes_no_block self.now }
+    /// Why no block can begin now, whatever it writes.
+    fn block_refusal(&self) -> Option<StoredFault>
+        ensures { result ≡ block_refusal self.now }
     {
         match self.job {
-            StorageJob::Idle => self.standing == StorageStanding::Awaited || self.ended.is_some(),
-            StorageJob::Check(_) | StorageJob::Block(_) => true,
+            StorageJob::Check(_) | StorageJob::Block(_) => Some(StoredFault::Storing),
+            StorageJob::Idle if self.standing == StorageStanding::Awaited => {
+                Some(StoredFault::NoStanding)
+            }
+            StorageJob::Idle if self.ended.is_some() => Some(StoredFault::Uncollected),
+            StorageJob::Idle => None,
         }
     }
 
@@ -478,16 +499,20 @@ impl Storage {
 
     /// Keeps this set from now on, or none. In trouble a check follows.
     ///
-    /// Refused by 45 in a job.
+    /// Refused, with nothing changed, by the first of 45 in a job, and 41 where the set has a value
+    /// where commands are written.
     ///
     /// Rule STO-16.
     pub(crate) fn load(&mut self, kept: Option<Set>) -> Result<(), StoredFault>
-        ensures answer { result_err result ≡ load_refusal self.old }
+        ensures answer { result_err result ≡ load_refusal self.old kept }
         ensures storage { OnOk result (self.new ≡ storage_loaded self.old kept) }
         ensures unchanged { OnErr result (self.new ≡ self.old) }
     {
         if !matches!(self.job, StorageJob::Idle) {
             return Err(StoredFault::Storing);
+        }
+        if is_no_set(&kept) {
+            return Err(StoredFault::OwnedIndex);
         }
         self.kept = kept;
         self.unsaved = false;
@@ -514,14 +539,22 @@ impl Storage {
         }
     }
 
-    /// The program has saved the kept set.
-    pub(crate) fn saved(&mut self)
-        ensures { self.new ≡ storage_saved self.old }
+    /// The program has saved this set.
+    ///
+    /// Refused, with nothing changed, by 62 where another waits to be saved, or none does.
+    pub(crate) fn saved(&mut self, number: SetNumber) -> Result<(), StoredFault>
+        ensures answer { result_err result ≡ saved_refusal self.old number }
+        ensures storage { OnOk result (self.new ≡ storage_saved self.old) }
+        ensures unchanged { OnErr result (self.new ≡ self.old) }
     {
+        if !self.unsaved || number.0 != self.fetched {
+            return Err(StoredFault::OtherSet);
+        }
         self.unsaved = false;
         if let StorageJob::Check(attempt) = &mut self.job {
             attempt.saved();
         }
+        Ok(())
     }
 
     /// Whether clients' requests wait for a job, or for what comes of Data Storage.
@@ -578,32 +611,14 @@ fn left_at(stage: DownloadStage) -> DownloadResult
     }
 }
 
-/// Whether one of these values is no parameter: a command among them would end the block.
-fn has_owned(writes: &Objects) -> bool
-    ensures { result ≡ any_owned writes.now }
+/// Whether a set has a value where commands are written, as no device's has.
+pub(crate) fn is_no_set(kept: &Option<Set>) -> bool
+    ensures { result ≡ is_no_set kept.now }
 {
-    for index in 0..writes.len() {
-        if is_command_place(writes.get(index).unwrap().place) {
-            return true;
-        }
+    match kept {
+        Some(set) => set.objects.any_owned(),
+        None => false,
     }
-    false
-}
-
-/// Whether a place is the port's own: the Index of Data Storage.
-///
-/// Rule STO-15.
-pub(crate) fn is_owned(place: Place) -> bool
-    ensures { result ≡ is_owned place }
-{
-    place.index == STORAGE_INDEX
-}
-
-/// Whether a place takes commands: of blocks, or of Data Storage.
-fn is_command_place(place: Place) -> bool
-    ensures { result ≡ is_command_place place }
-{
-    place.index == COMMAND_INDEX || is_owned(place)
 }
 
 /// Whether the device of a page may have Data Storage: it is of V1.1, and has ISDUs.
