@@ -109,7 +109,7 @@ uint8_t iol_params_set(iol_params *device, uint16_t index, uint8_t sub, const ui
     uint8_t *error);
 
 /* A factory reset at the device itself, as SystemCommand 82. Then iol_params_work answers 1: save it. 252, 250, 249:
- * `error` is 0x36 Data Storage has an activity. */
+ * `error` is 0x36 the master reads or writes a block, so try again. */
 uint8_t iol_params_reset(iol_params *device, uint8_t *error);
 
 /* The value of a parameter: `length` octets. */
@@ -128,7 +128,8 @@ uint8_t iol_params_locks(iol_params *device, uint8_t *out);
 
 /* ---- the rest is as at a device without a table: each call is that of iolink_device.h of its name
  *
- * A wake-up request, silence, and leaving operate end a block of the master, without effect. */
+ * A wake-up request, silence, and leaving operate end a block of the master, without effect. Silence first carries out
+ * the request that is handed over: call iol_params_work behind it. */
 
 uint8_t iol_params_hear(iol_params *device, const uint8_t *octets, size_t count, iol_reply *out);
 uint8_t iol_params_expects(iol_params *device, const uint8_t *octets, size_t count, uint8_t *out);

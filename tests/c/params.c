@@ -249,6 +249,40 @@ static void saving(void)
     turns(30, true);
 }
 
+/* What silence finds at hand is carried out before the block ends: so a write of a block that was cut off is never in
+ * force, and an end applies its block, which is to be saved then. */
+static void cut_off(void)
+{
+    uint64_t ticket = 0;
+    IS(WRITES(2, 0, "\x03"), 0);
+    IS(iol_port_write(&port, GROUP, 1, (const uint8_t *)"\x07", 1, &ticket), 0);
+    turns(5, false);
+    IS(iol_params_silence(&device), 0);
+    IS(iol_params_work(&device), 0);
+    turns(80, true);
+    IS(iol_port_collect(&port, ticket, &outcome), 0);
+    IS(outcome.kind, DONE_WRITTEN);
+    IS(value_of(GROUP, 1), 1);
+    IS(WRITES(2, 0, "\x04"), 0x36);
+    IS(WRITES(2, 0, "\x03"), 0);
+    IS(WRITES(GROUP, 1, "\x08"), 0);
+    IS(iol_params_reset(&device, &error), IOL_WITH_ERROR_TYPE);
+    IS(error, 0x36);
+    IS(iol_port_write(&port, 2, 0, (const uint8_t *)"\x04", 1, &ticket), 0);
+    turns(5, false);
+    IS(value_of(GROUP, 1), 1);
+    IS(iol_params_silence(&device), 0);
+    IS(iol_params_silence(&device), 0);
+    IS(value_of(GROUP, 1), 8);
+    turns(20, false);
+    IS(iol_port_collect(&port, ticket, &outcome), 26);
+    IS(iol_params_work(&device), IOL_TO_SAVE);
+    IS(iol_params_saved(&device), 0);
+    turns(80, true);
+    IS(iol_port_collect(&port, ticket, &outcome), 0);
+    IS(outcome.kind, DONE_WRITTEN);
+}
+
 static void at_the_device(void)
 {
     iol_event event = {0};
@@ -348,6 +382,7 @@ int main(void)
     turns(30, true);
     requests();
     saving();
+    cut_off();
     at_the_device();
     the_rest();
     IS(iol_params_close(&device), 0);

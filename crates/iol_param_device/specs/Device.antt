@@ -1,5 +1,5 @@
 -- A device with parameters.
-use Rattle.std.specs.Prelude.{Bool, true, false, ◌&&◌, not, Option, Some, None}
+use Rattle.std.specs.Prelude.{Bool, true, false, ◌&&◌, not, if◌then◌else◌, Option, Some, None}
 use Rattle.iol_isdu.specs.declared.values.Request.{Request}
 use Rattle.iol_isdu.specs.Answers.{is_read}
 use Rattle.iol_event.specs.declared.event.Event.{Event}
@@ -11,8 +11,13 @@ use Rattle.iol_far.specs.Isdu.{handed_request}
 use Rattle.iol_far.specs.Local.{local, Carry, Raise}
 use Rattle.iol_device.specs.Device.{Running}
 use Rattle.iol_device.specs.declared.app.Apart.{Apart}
+use Rattle.iol_params.specs.declared.error_type.ErrorType.{ErrorType}
+use Rattle.iol_params.specs.declared.error_type.ErrorType.TheVariants.{FunctionUnavailable}
+use Rattle.iol_params.specs.declared.state.Scope.TheVariants.{Block}
+use Rattle.iol_params.specs.declared.state.Command.TheVariants.{FactoryReset}
 use Rattle.iol_params.specs.Table.{ParamTable}
-use Rattle.iol_params.specs.State.{ParamState, after_end}
+use Rattle.iol_params.specs.State.{ParamState, is_at_rest, after_end}
+use Rattle.iol_params.specs.Carry.{command}
 use Rattle.iol_params.specs.Requests.{request_result}
 use Rattle.iol_params.specs.Manager.{ManagerValue}
 
@@ -55,10 +60,21 @@ after_event b = event_told (b.state.event_due && not (is_full b.far.events)) b
 abbrev pub after_work : ParamTable → Both → Both
 after_work table b = after_event (after_request (handed_request b.far.isdu) table b)
 
--- whether `work` changes no value: no request is handed over, or a read
+-- what `silence` makes of them: the request is carried out before an activity ends
+abbrev pub after_quiet : ParamTable → Both → Both
+after_quiet table b = let done = after_request (handed_request b.far.isdu) table b in
+    both done.far (after_end done.state)
+
+-- whether they change no value: no request is handed over, or a read
 abbrev pub works_on_read : Option Request → Bool
 works_on_read None = true
 works_on_read (Some request) = is_read request
+
+-- a factory reset at the device itself: an activity under way would have a hole
+-- ACT-4
+abbrev pub local_reset : ParamTable → ParamState → Option ErrorType × ParamState
+local_reset table s = if is_at_rest s.activity then command table s Block FactoryReset
+    else (Some FunctionUnavailable, s)
 
 -- whether a device leaves OPERATE
 abbrev pub leaves_operate : DeviceMode → DeviceMode → Bool

@@ -16,12 +16,10 @@ ghost use Rattle.iol_device.specs.declared.fault.DeviceFault.{DeviceFault};
 ghost use Rattle.iol_slots.specs.Images.{has_size};
 ghost use Rattle.iol_params.specs.Image.{image_size};
 ghost use Rattle.iol_params.specs.State.{after_end};
-ghost use Rattle.iol_params.specs.Carry.{local_change, command};
-ghost use Rattle.iol_params.specs.declared.state.Scope.{Scope};
-ghost use Rattle.iol_params.specs.declared.state.Command.{Command};
+ghost use Rattle.iol_params.specs.Carry.{local_change};
 ghost use Rattle.iol_param_device.specs.Saved.{Saves, SavesUnless, opened_manager};
 ghost use Rattle.iol_param_device.specs.Faults.{open_fault};
-ghost use Rattle.iol_param_device.specs.Device.{ParamDeviceValue, both, after_request, after_event, after_work, works_on_read, leaves_operate, ended_if};
+ghost use Rattle.iol_param_device.specs.Device.{ParamDeviceValue, both, after_request, after_event, after_work, after_quiet, works_on_read, local_reset, leaves_operate, ended_if};
 
 use crate::fault::OpenFault;
 use crate::saved::SavedManager;
@@ -222,13 +220,13 @@ impl<'a, S: Slots, A: Allocator + Copy> ParamDevice<'a, S, A> {
 
     /// A factory reset at the device itself, as SystemCommand `82` makes it, and saved.
     ///
-    /// Refused with 0x8036, and nothing changed, where Data Storage has an activity.
+    /// Refused with 0x8036, and nothing changed, while an activity is under way: try again.
     pub fn reset(&mut self) -> Result<(), ErrorType>
         ensures manager { let old = self.old.manager in self.new.manager ≡ record old {
-          state = (command old.table old.state Scope.Block Command.FactoryReset).1;
+          state = (local_reset old.table old.state).1;
         } }
         ensures refusal { let old = self.old.manager in result_err result
-            ≡ (command old.table old.state Scope.Block Command.FactoryReset).0 }
+            ≡ (local_reset old.table old.state).0 }
         ensures saves { OnOk result (Saves S.memory S.store_gives self.old.slots
             (record { manager = self.new.manager; slots = self.new.slots })) }
         ensures unchanged { OnErr result (self.new.slots ≡ self.old.slots) }
@@ -237,7 +235,8 @@ impl<'a, S: Slots, A: Allocator + Copy> ParamDevice<'a, S, A> {
         self.saved.reset()
     }
 
-    /// A wake-up request came, as [`Device::wake`] says; an activity ends.
+    /// A wake-up request came, as [`Device::wake`] says; an activity ends. A request that was
+    /// handed over is dropped, so nothing of a block that was cut off comes into force.
     pub fn wake(&mut self)
         ensures { self.new ≡ record self.old {
           device = record self.old.device { far = far_after_wake self.old.device.far };
@@ -248,8 +247,31 @@ impl<'a, S: Slots, A: Allocator + Copy> ParamDevice<'a, S, A> {
         self.saved.over();
     }
 
-    /// The master counts as silent, as [`Device::silence`] says; an activity ends.
+    /// The master counts as silent, as [`Device::silence`] says; an activity ends. A request that
+    /// was handed over is carried out before that, as [`work`] does it. So nothing of a block that
+    /// was cut off comes into force.
+    ///
+    /// Rule ACT-5.
+    ///
+    /// [`work`]: ParamDevice::work
     pub fn silence(&mut self)
+        ensures works { both self.new.device.far self.new.manager.state
+            ≡ after_quiet self.old.manager.table
+            (both self.old.device.far self.old.manager.state) }
+        ensures rest { self.new.device
+            ≡ record self.old.device { far = self.new.device.far; silent = true } }
+        ensures table { self.new.manager.table ≡ self.old.manager.table }
+        ensures saves { SavesUnless S.memory
+            (works_on_read (handed_request self.old.device.far.isdu)) S.store_gives self.old.slots
+            (record { manager = self.new.manager; slots = self.new.slots }) }
+    {
+        // Behind the end of its block a write would come into force.
+        self.answer_request();
+        self.fall_silent();
+    }
+
+    // The master counts as silent, and an activity ends.
+    fn fall_silent(&mut self)
         ensures { self.new ≡ record self.old {
           device = record self.old.device { silent = true };
           manager = record self.old.manager { state = after_end self.old.manager.state };
@@ -341,4 +363,70 @@ fn answer_handed(device: &mut Device<Apart, Unkept>, number: u64, answer: Answer
     } }
 {
     let _ = device.answer(number, answer);
+}
+
+#[cfg(test)]
+mod tests {
+    use super::ParamDevice;
+    use crate::saved::slot_size;
+    use iol_isdu::{Answer, Place};
+    use iol_page::Page;
+    use iol_params::{Access, DataType, IntegerWidth, Member, Table};
+    use iol_slots::RamSlots;
+    use std::test::Fail;
+
+    const PLACE: Place = Place { index: 64, sub: 0 };
+
+    const MEMBERS: [Member<'static>; 1] = [Member {
+        place: PLACE,
+        data_type: DataType::UInteger(IntegerWidth::One, 0, 100),
+        access: Access::ReadWrite,
+        default: &[10],
+    }];
+
+    // V1.1, with ISDU, one octet of on-request data, no process data.
+    const PAGE: [u8; 10] = [0x17, 0x01, 0x11, 0x00, 0x00, 0x12, 0x34, 0x00, 0x01, 0x07];
+
+    // 3 is written to 2/0, in STARTUP: a block begins. The last message hands the request over.
+    const BEGIN: [&[u8]; 5] = [
+        &[0x70, 0x03, 0x14],
+        &[0x61, 0x21, 0x02],
+        &[0x62, 0x00, 0x03],
+        &[0x63, 0x36, 0x15],
+        &[0xF0, 0x2D],
+    ];
+
+    // 20 is written to 64/0.
+    const WRITE: [&[u8]; 5] = [
+        &[0x70, 0x03, 0x14],
+        &[0x61, 0x18, 0x40],
+        &[0x62, 0x36, 0x14],
+        &[0x63, 0x39, 0x40],
+        &[0xF0, 0x2D],
+    ];
+
+    #[test]
+    fn a_write_of_a_block_cut_off_by_silence_is_not_in_force(rt: HostRuntime) -> Result<(), Fail> {
+        let table = Table::new(&MEMBERS, &[])?;
+        let slots = RamSlots::open(rt.alloc(), slot_size(&table))?;
+        let page = Page::from_octets(&PAGE);
+        let mut device = ParamDevice::open(rt.alloc(), &table, page, slots)?;
+        device.wake();
+        for message in BEGIN {
+            assert!(rt; device.hear(message).is_some());
+        }
+        device.work();
+        assert!(rt; device.manager().activity().is_download());
+        for message in WRITE {
+            assert!(rt; device.hear(message).is_some());
+        }
+        assert!(rt; device.device().handed().is_some());
+        device.silence();
+        assert!(rt; device.device().handed().is_none());
+        assert!(rt; device.manager().activity().is_at_rest());
+        device.work();
+        let answer = device.manager().read(PLACE);
+        assert!(rt; matches!(answer, Answer::Read(octets) if octets.as_slice() == [10].as_slice()));
+        Ok(())
+    }
 }

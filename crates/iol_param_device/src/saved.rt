@@ -4,12 +4,11 @@ ghost use Rattle.std.specs.Result.{result_err};
 ghost use Rattle.iol_isdu.specs.Answers.{is_read};
 ghost use Rattle.iol_slots.specs.Images.{has_size, FitsIn};
 ghost use Rattle.iol_params.specs.State.{after_end};
-ghost use Rattle.iol_params.specs.Carry.{local_change, command};
+ghost use Rattle.iol_params.specs.Carry.{local_change};
 ghost use Rattle.iol_params.specs.Requests.{request_result};
 ghost use Rattle.iol_params.specs.Image.{kept_of, with_kept, image_size};
-ghost use Rattle.iol_params.specs.declared.state.Scope.{Scope};
-ghost use Rattle.iol_params.specs.declared.state.Command.{Command};
 ghost use Rattle.iol_param_device.specs.Saved.{SavedValue, Saves, SavesUnless, IsSaved, opened_manager};
+ghost use Rattle.iol_param_device.specs.Device.{local_reset};
 ghost use Rattle.iol_param_device.specs.Faults.{open_fault};
 
 use crate::fault::OpenFault;
@@ -119,17 +118,20 @@ impl<'a, S: Slots, A: Allocator + Copy> SavedManager<'a, S, A> {
 
     /// A factory reset at the device itself, as SystemCommand `82` makes it, and saved.
     ///
-    /// Refused with 0x8036, and nothing changed, where Data Storage has an activity.
+    /// Refused with 0x8036, and nothing changed, while an activity is under way: try again.
     #[tactic(auto, using(crate::proofs::Saving::reset_refused))]
     pub fn reset(&mut self) -> Result<(), ErrorType>
         ensures manager { let old = self.old.manager in self.new.manager ≡ record old {
-          state = (command old.table old.state Scope.Block Command.FactoryReset).1;
+          state = (local_reset old.table old.state).1;
         } }
         ensures refusal { let old = self.old.manager in result_err result
-            ≡ (command old.table old.state Scope.Block Command.FactoryReset).0 }
+            ≡ (local_reset old.table old.state).0 }
         ensures saves { OnOk result (Saves S.memory S.store_gives self.old.slots self.new) }
         ensures unchanged { OnErr result (self.new.slots ≡ self.old.slots) }
     {
+        if !self.manager.activity().is_at_rest() {
+            return Err(ErrorType::FunctionUnavailable);
+        }
         self.manager.command(Scope::Block, Command::FactoryReset)?;
         save_state(&self.manager, &mut self.slots, &mut self.image);
         Ok(())
@@ -283,6 +285,33 @@ mod tests {
         let saved = SavedManager::open(rt.alloc(), &table, saved.into_slots())?;
         assert_eq!(rt; octet_of(&saved), Some(10));
         assert!(rt; !saved.manager().flag());
+        Ok(())
+    }
+
+    #[test]
+    fn there_is_no_reset_in_a_block(rt: HostRuntime) -> Result<(), Fail> {
+        let table = Table::new(&MEMBERS, &[])?;
+        let slots = RamSlots::open(rt.alloc(), slot_size(&table))?;
+        let mut saved = SavedManager::open(rt.alloc(), &table, slots)?;
+        saved.set(PLACE, &[20])?;
+        let command = Place { index: 2, sub: 0 };
+        assert_eq!(rt;
+            saved.carry(&Request::write(command, &[3])?),
+            Answer::Written
+        );
+        assert_eq!(rt; saved.reset(), Err(ErrorType::FunctionUnavailable));
+        assert_eq!(rt;
+            saved.carry(&Request::write(PLACE, &[30])?),
+            Answer::Written
+        );
+        assert_eq!(rt; octet_of(&saved), Some(20));
+        assert_eq!(rt;
+            saved.carry(&Request::write(command, &[4])?),
+            Answer::Written
+        );
+        assert_eq!(rt; octet_of(&saved), Some(30));
+        saved.reset()?;
+        assert_eq!(rt; octet_of(&saved), Some(10));
         Ok(())
     }
 

@@ -1,5 +1,5 @@
 -- What the line makes of a device with parameters.
-use Rattle.std.specs.Prelude.{ℕ, true, List}
+use Rattle.std.specs.Prelude.{ℕ, List}
 use Rattle.iol_far.specs.Local.{far_after_wake}
 use Rattle.iol_device.specs.Hearing.{device_after_hearing}
 use Rattle.iol_params.specs.State.{ParamState, after_end}
@@ -20,10 +20,4 @@ sensor_after_octets octets s = let device = device_after_hearing s.device octets
 abbrev pub sensor_after_wake : ParamSensor → ParamSensor
 sensor_after_wake s = record (with_state s (after_end s.manager.state)) {
   device = record s.device { far = far_after_wake s.device.far };
-}
-
--- the master counts as silent; an activity ends
-abbrev pub sensor_after_silence : ParamSensor → ParamSensor
-sensor_after_silence s = record (with_state s (after_end s.manager.state)) {
-  device = record s.device { silent = true };
 }

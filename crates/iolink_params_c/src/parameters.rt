@@ -4,9 +4,8 @@ ghost use Rattle.std.specs.Result.{result_err};
 ghost use Rattle.iol_params.specs.State.{locks_octet};
 ghost use Rattle.iol_params.specs.Image.{kept_of, kept_in, image_size};
 ghost use Rattle.iol_params.specs.Manager.{read_answer};
-ghost use Rattle.iol_params.specs.Carry.{local_change, command};
-ghost use Rattle.iol_params.specs.declared.state.Scope.{Scope};
-ghost use Rattle.iol_params.specs.declared.state.Command.{Command};
+ghost use Rattle.iol_params.specs.Carry.{local_change};
+ghost use Rattle.iol_param_device.specs.Device.{local_reset};
 ghost use Rattle.iolink_params_c.specs.Work.{sensor_after_work, sensor_after_save, sensor_after_change, is_nothing};
 ghost use Rattle.iolink_params_c.specs.Calls.{params_sensor, params_manager, unsaved_number, restart_number, GuardsParams, Makes, place_at, IsChangeOf, IsValueOf};
 
@@ -204,7 +203,7 @@ fn show_change(outcome: Result<(), ErrorType>, error: &mut u8) -> u8
 }
 
 /// A factory reset at the device itself, as SystemCommand `82` makes it: an image is to be saved
-/// then. Refused as `iol_params_set`: with 252, 250, and 249 while Data Storage has an activity.
+/// then. Refused as `iol_params_set`: with 252, 250, and 249 while an activity is under way.
 #[unsafe(no_mangle)]
 pub extern "C" fn iol_params_reset(alloc: Global, handle: &mut IolParams, error: &mut u8) -> u8
     ensures guards { GuardsParams result handle.old handle.new }
@@ -214,12 +213,12 @@ pub extern "C" fn iol_params_reset(alloc: Global, handle: &mut IolParams, error:
         × (params_sensor handle.new ≡ params_sensor handle.old) × (error.new ≡ error.old) }
     ensures makes { IsTrue handle.old.is_open →
         IsTrue (is_nothing (params_sensor handle.old).unsaved) →
-        let s = params_manager handle.old in params_sensor handle.new ≡ sensor_after_change
-        (command s.table s.state Scope.Block Command.FactoryReset) (params_sensor handle.old) }
+        let s = params_manager handle.old in params_sensor handle.new
+        ≡ sensor_after_change (local_reset s.table s.state) (params_sensor handle.old) }
     ensures told { IsTrue handle.old.is_open →
         IsTrue (is_nothing (params_sensor handle.old).unsaved) →
-        let s = params_manager handle.old in IsChangeOf
-        (command s.table s.state Scope.Block Command.FactoryReset).0 result error.old error.new }
+        let s = params_manager handle.old in
+        IsChangeOf (local_reset s.table s.state).0 result error.old error.new }
 {
     if !handle.is_open {
         return CLOSED;

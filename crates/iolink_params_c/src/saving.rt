@@ -3,10 +3,9 @@ ghost use Rattle.std.specs.Prelude.{◌≡◌, true, IsTrue};
 ghost use Rattle.std.specs.Result.{result_err};
 ghost use Rattle.iol_far.specs.Isdu.{handed_request};
 ghost use Rattle.iol_params.specs.Image.{kept_of};
-ghost use Rattle.iol_params.specs.Carry.{local_change, command};
-ghost use Rattle.iol_params.specs.declared.state.Scope.{Scope};
-ghost use Rattle.iol_params.specs.declared.state.Command.{Command};
-ghost use Rattle.iolink_params_c.specs.Work.{is_saved_first, far_answered, after_handed, after_told, sensor_after_work, sensor_after_save, sensor_after_change, is_nothing};
+ghost use Rattle.iol_params.specs.Carry.{local_change};
+ghost use Rattle.iol_param_device.specs.Device.{local_reset};
+ghost use Rattle.iolink_params_c.specs.Work.{is_saved_first, far_answered, after_handed, after_any_handed, after_told, sensor_after_work, sensor_after_silence, sensor_after_save, sensor_after_change, is_nothing};
 
 use crate::sensor::{ParamSensor, Unsaved};
 use iol_device::{Apart, Device, Unkept};
@@ -87,6 +86,26 @@ impl ParamSensor {
         }
     }
 
+    /// The master counts as silent. The request that is handed over is carried out before an
+    /// activity ends: behind that it would come into force, though its block was cut off. While
+    /// something is to be saved no activity is under way.
+    pub(crate) fn silence(&mut self)
+        ensures { self.new ≡ sensor_after_silence self.old }
+    {
+        self.device.silence();
+        self.answer_unless_unsaved();
+        self.manager.over();
+    }
+
+    // The request that is handed over is carried out, unless something is to be saved.
+    fn answer_unless_unsaved(&mut self)
+        ensures { self.new ≡ after_any_handed self.old }
+    {
+        if self.unsaved.is_nothing() {
+            self.answer_request();
+        }
+    }
+
     /// What was to be saved is saved: the write that waits for it has its answer.
     pub(crate) fn saved(&mut self)
         ensures { self.new ≡ sensor_after_save self.old.unsaved self.old }
@@ -111,12 +130,14 @@ impl ParamSensor {
 
     /// A factory reset at the device itself, to be saved.
     pub(crate) fn reset(&mut self) -> Result<(), ErrorType>
-        ensures does { let s = self.old.manager in self.new
-            ≡ sensor_after_change (command s.table s.state Scope.Block Command.FactoryReset)
-            self.old }
+        ensures does { let s = self.old.manager in
+            self.new ≡ sensor_after_change (local_reset s.table s.state) self.old }
         ensures refusal { let s = self.old.manager in result_err result
-            ≡ (command s.table s.state Scope.Block Command.FactoryReset).0 }
+            ≡ (local_reset s.table s.state).0 }
     {
+        if !self.manager.activity().is_at_rest() {
+            return Err(ErrorType::FunctionUnavailable);
+        }
         self.manager.command(Scope::Block, Command::FactoryReset)?;
         self.unsaved = Unsaved::Change;
         Ok(())

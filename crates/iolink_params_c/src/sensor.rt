@@ -7,7 +7,7 @@ ghost use Rattle.iol_far.specs.Local.{far_after_wake};
 ghost use Rattle.iol_device.specs.Hearing.{device_after_hearing};
 ghost use Rattle.iol_params.specs.State.{after_end};
 ghost use Rattle.iol_param_device.specs.Device.{leaves_operate, ended_if};
-ghost use Rattle.iolink_params_c.specs.Line.{sensor_after_octets, sensor_after_wake, sensor_after_silence};
+ghost use Rattle.iolink_params_c.specs.Line.{sensor_after_octets, sensor_after_wake};
 
 use iol_device::{Apart, Device, DeviceMode, Unkept};
 use iol_mseq::Message;
@@ -52,14 +52,6 @@ impl ParamSensor {
         ensures { self.new ≡ sensor_after_wake self.old }
     {
         self.device.wake();
-        self.manager.over();
-    }
-
-    /// The master counts as silent; an activity ends.
-    pub(crate) fn silence(&mut self)
-        ensures { self.new ≡ sensor_after_silence self.old }
-    {
-        self.device.silence();
         self.manager.over();
     }
 }
