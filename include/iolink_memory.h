@@ -5,8 +5,9 @@
  *
  * What you owe, and what nothing checks: a block that is given is nobody else's until it comes back, and its octets stay
  * as they were written. They are called by iol_port_open, iol_port_open_for, iol_port_close, iol_port_archive,
- * iol_port_drain, iol_port_entry and the calls that submit, and by the openings and the closing of a device, on the
- * thread of that call: by no turn, and by no other call. */
+ * iol_port_drain, iol_port_entry and the calls that submit, by those of a port with Data Storage of these names, by its
+ * iol_store_block_begin and iol_store_block_submit, and by the openings and the closing of a device, on the thread of
+ * that call: by no turn, and by no other call. */
 #ifndef IOLINK_MEMORY_H
 #define IOLINK_MEMORY_H
 

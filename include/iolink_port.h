@@ -30,7 +30,8 @@
  *
  * What came on a line is any octets whatever: nothing is asked of it, and none does harm.
  *
- * It can be included with iolink_device.h, before it or after it. */
+ * It can be included with iolink_device.h, before it or after it. A port with Data Storage has the calls of
+ * iolink_storage.h, which includes this header. */
 #ifndef IOLINK_PORT_H
 #define IOLINK_PORT_H
 

@@ -1,9 +1,7 @@
 -- The calls of a port, as C sees them: by a handle, and with numbers in place of answers.
-use Rattle.std.specs.Prelude.{◌≡◌, ℕ, IsFalse, nat_eq, if◌then◌else◌, List, length, Option, Some, None, Result, Ok, Err}
+use Rattle.std.specs.Prelude.{◌≡◌, ℕ, IsFalse, Option}
 use Rattle.iol_port.specs.declared.call.Call.{Call}
 use Rattle.iol_port.specs.declared.call.Answered.{Answered}
-use Rattle.iol_port.specs.declared.fault.PortFault.{PortFault}
-use Rattle.iol_port.specs.Faults.{port_fault_number}
 use Rattle.iol_port.specs.View.{PortParts}
 use Rattle.iol_port.specs.CorePort.{CoreDoes}
 use Rattle.iol_print.specs.declared.line_call.LineCall.{LineCall}
@@ -58,12 +56,3 @@ pub record GuardsOut {X : Type 0} (result : ℕ) (old new : IolPort) (out after 
 -- the call of C is this call of the abstract port, with this answer
 abbrev pub CallDoes : IolPort → Call → Answered → IolPort → Type 0
 CallDoes old call answered new = CoreDoes (held_parts old) call answered (held_parts new)
-
--- the number of an answer: that of its refusal, or 0
-abbrev pub answer_number : {X : Type 0} → Result X PortFault → ℕ
-answer_number (Ok value) = 0
-answer_number (Err why) = port_fault_number why
-
--- what came on the line: nothing where there are no octets
-abbrev pub answer_of : List ℕ → Option (List ℕ)
-answer_of octets = if nat_eq (length octets) 0 then None else Some octets

@@ -1,6 +1,5 @@
 -- What the calls of C on the journal answer and leave, where the handle is open.
-use Rattle.std.specs.Prelude.{◌≡◌, ℕ, [], length, Result, IfOk, OnOk, OnErr}
-use Rattle.std.specs.Vec.{vec_capacity}
+use Rattle.std.specs.Prelude.{◌≡◌, ℕ, length, Result, IfOk, OnOk, OnErr}
 use Rattle.iol_book.specs.declared.fault.BookFault.TheVariants.{Outstanding}
 use Rattle.iol_port.specs.declared.call.Call.TheVariants as call
 use Rattle.iol_port.specs.declared.call.Answered.TheVariants as answered
@@ -8,15 +7,16 @@ use Rattle.iol_port.specs.declared.fault.PortFault.TheVariants as fault
 use Rattle.iol_port.specs.declared.fault.PortFault.{PortFault}
 use Rattle.iol_port.specs.View.{PortParts}
 use Rattle.iol_port.specs.Called.{Drains, CoreCalled}
+use Rattle.iolink_port_forms.specs.Answers.{answer_number}
 use Rattle.iolink_port_c.specs.declared.held.IolPort.{IolPort}
-use Rattle.iolink_port_c.specs.Calls.{held_parts, call_taken, Stays, CallDoes, answer_number}
+use Rattle.iolink_port_c.specs.Calls.{held_parts, call_taken, Stays, CallDoes}
 
 -- the journal goes to the handle, which has read none of it
 pub record HandleArchives (old : IolPort) (number count : ℕ) (new : IolPort) : Type 0 where
   pub number_is : number ≡ 0
   pub count_is : count ≡ length (held_parts old).book.state.journal
-  pub kept : new.held.value.journal.items ≡ (held_parts old).book.state.journal
-  pub read : new.held.value.read ≡ 0
+  pub kept : new.held.value.journal.entries.items ≡ (held_parts old).book.state.journal
+  pub read : new.held.value.journal.read ≡ 0
   pub passed : call_taken new ≡ call_taken old
   pub does : CallDoes old call.Archive (answered.Archived count) new
 
@@ -42,14 +42,9 @@ pub record HandleDrains (old : IolPort) (number count restated : ℕ) (new : Iol
   pub counts : IfOk answer (λ counts. (counts.0 ≡ length (held_parts old).book.state.journal)
       × (counts.1 ≡ (held_parts old).book.state.restated))
   pub shown : IfOk answer (λ counts. (count ≡ counts.0) × (restated ≡ counts.1))
-  pub kept : OnOk answer (new.held.value.journal.items ≡ (held_parts old).book.state.journal)
-  pub read : OnOk answer (new.held.value.read ≡ 0)
+  pub kept : OnOk answer
+      (new.held.value.journal.entries.items ≡ (held_parts old).book.state.journal)
+  pub read : OnOk answer (new.held.value.journal.read ≡ 0)
   pub passed : call_taken new ≡ call_taken old
   pub none : OnErr answer ((count ≡ 0) × (restated ≡ 0))
   pub stays : OnErr answer (Stays old new)
-
--- the journal that the handle kept is given back, with its memory
-abbrev pub KeepsNone : IolPort → Type 0
-KeepsNone handle =
-    (handle.held.value.journal.items ≡ []) × (vec_capacity handle.held.value.journal ≡ 0)
-    × (handle.held.value.read ≡ 0)

@@ -1,5 +1,4 @@
 pub mod Calls
-pub mod Shown
 pub mod LineCalls
 pub mod RequestCalls
 pub mod StateCalls

@@ -1,7 +1,5 @@
 -- What the calls of C on the line answer and leave, where the handle is open.
 use Rattle.std.specs.Prelude.{◌≡◌, ℕ, List, Option, Some, None, IsTrue, is_some}
-use Rattle.iol_octets.specs.CheckOctets.{type_bits}
-use Rattle.iol_mseq.specs.Shape.{Shape}
 use Rattle.iol_link.specs.declared.wire.Rate.{Rate}
 use Rattle.iol_app.specs.declared.asked.Asked.{Asked}
 use Rattle.iol_app.specs.declared.asked.Asked.TheVariants.{Wake, Exchange}
@@ -11,22 +9,10 @@ use Rattle.iol_port.specs.CorePort.{PortSendGives, SendDoes, PortReceiveGives, R
 use Rattle.iol_far.specs.Octets.{octets_in}
 use Rattle.iol_print.specs.declared.line_call.LineCall.{LineCall}
 use Rattle.iol_print.specs.declared.line_call.LineCall.TheVariants as call
-use Rattle.iolink_handle.specs.Shown.{AreShown}
+use Rattle.iolink_port_forms.specs.Answers.{IsMessage}
+use Rattle.iolink_port_forms.specs.declared.message.IolMessage.{IolMessage}
 use Rattle.iolink_port_c.specs.declared.held.IolPort.{IolPort}
-use Rattle.iolink_port_c.specs.declared.line.IolMessage.{IolMessage}
 use Rattle.iolink_port_c.specs.Calls.{call_taken, held_parts}
-
--- the layout of the mode as C is shown it
-abbrev pub IsLaidOut : Shape → IolMessage → Type 0
-IsLaidOut layout out = (out.kind ≡ type_bits layout.kind) × (out.od ≡ layout.od)
-    × (out.pd_in ≡ layout.pd_in) × (out.pd_out ≡ layout.pd_out)
-
--- what goes out as C is shown it: a message's octets, its layout and how many octets a good
--- reply has, or no length for a wake
-abbrev pub IsMessage : Asked → IolMessage → Type 0
-IsMessage Wake out = out.length ≡ 0
-IsMessage (Exchange sent) out = AreShown sent.octets.items out.length out.octets
-    × (out.reply ≡ sent.reply) × IsLaidOut sent.layout out
 
 -- What the port asks for goes out, and is what it then waits to have answered. Where it was
 -- out already it is the same, and nothing changes

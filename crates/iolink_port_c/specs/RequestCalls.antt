@@ -1,8 +1,7 @@
 -- What the calls of C on requests answer and leave, where the handle is open.
-use Rattle.std.specs.Prelude.{◌≡◌, ℕ, List, Result, Ok, Err, IfOk, OnErr}
+use Rattle.std.specs.Prelude.{◌≡◌, ℕ, Result, IfOk, OnErr}
 use Rattle.iol_port.specs.Steps.{ticket_of}
 use Rattle.iol_isdu.specs.declared.values.Request.{Request}
-use Rattle.iol_isdu.specs.declared.values.Request.TheVariants.{Read, Write}
 use Rattle.iol_book.specs.declared.entries.Ticket.{Ticket}
 use Rattle.iol_book.specs.declared.entries.Outcome.{Outcome}
 use Rattle.iol_book.specs.BookModel.{BookState, book_after_submit, book_after_urgent}
@@ -12,23 +11,12 @@ use Rattle.iol_port.specs.declared.fault.PortFault.{PortFault}
 use Rattle.iol_port.specs.EveryWire.{SubmitGives, CollectGives, WithdrawGives, CancelGives, AbandonGives}
 use Rattle.iol_port.specs.Replies.{ticket_reply, outcome_reply, nothing_reply}
 use Rattle.iolink_port_c.specs.declared.held.IolPort.{IolPort}
-use Rattle.iolink_port_c.specs.declared.request.Urgency.{Urgency}
-use Rattle.iolink_port_c.specs.declared.request.Urgency.TheVariants.{Ordinary, Urgent}
-use Rattle.iolink_port_c.specs.declared.outcome.IolOutcome.{IolOutcome}
-use Rattle.iolink_port_c.specs.Calls.{held_parts, CallDoes, answer_number}
-use Rattle.iolink_port_c.specs.Shown.{OutcomeIsShown}
-
--- a read of the parameter at this index and subindex, and a write of these octets to it
-abbrev pub read_at : ℕ → ℕ → Request
-read_at index sub = Read (record { index = index; sub = sub })
-
-abbrev pub write_at : ℕ → ℕ → List ℕ → Request
-write_at index sub octets = Write (record { index = index; sub = sub }) (record { items = octets })
-
--- the number of the ticket that was given, or 0 for a refusal
-abbrev pub ticket_out : Result Ticket PortFault → ℕ
-ticket_out (Ok ticket) = ticket.0
-ticket_out (Err why) = 0
+use Rattle.iolink_port_forms.specs.declared.request.Urgency.{Urgency}
+use Rattle.iolink_port_forms.specs.declared.request.Urgency.TheVariants.{Ordinary, Urgent}
+use Rattle.iolink_port_forms.specs.declared.outcome.IolOutcome.{IolOutcome}
+use Rattle.iolink_port_c.specs.Calls.{held_parts, CallDoes}
+use Rattle.iolink_port_forms.specs.Answers.{answer_number, ticket_out}
+use Rattle.iolink_port_forms.specs.Shown.{OutcomeIsShown}
 
 -- the port's call that enters a request, and the book after it
 abbrev pub entering_call : Urgency → Request → Call

@@ -8,8 +8,10 @@ use Rattle.iol_port.specs.declared.fault.PortFault.{PortFault}
 use Rattle.iol_port.specs.EveryWire.{RestartGives, SetOutputGives, ClearOutputGives, TakeEventGives}
 use Rattle.iol_port.specs.Replies.{nothing_reply, event_reply}
 use Rattle.iolink_port_c.specs.declared.held.IolPort.{IolPort}
-use Rattle.iolink_port_c.specs.declared.state.IolEvent.{IolEvent}
-use Rattle.iolink_port_c.specs.Calls.{held_parts, CallDoes, answer_number}
+use Rattle.iolink_port_forms.specs.Answers.{answer_number}
+use Rattle.iolink_port_forms.specs.Shown.{IsEvent}
+use Rattle.iolink_port_forms.specs.declared.state.IolEvent.{IolEvent}
+use Rattle.iolink_port_c.specs.Calls.{held_parts, CallDoes}
 
 -- the link is left in down
 pub record HandleRestarts (old : IolPort) (number : ℕ) (new : IolPort) : Type 0 where
@@ -30,10 +32,6 @@ pub record HandleClearsOutput (old : IolPort) (number : ℕ) (new : IolPort) : T
   pub number_is : number ≡ 0
   pub gives : ClearOutputGives (held_parts old) (held_parts new)
   pub does : CallDoes old call.ClearOutput answered.Nothing new
-
--- an event as C is shown it
-abbrev pub IsEvent : Event → IolEvent → Type 0
-IsEvent event out = (out.qualifier ≡ event.qualifier) × (out.code ≡ event.code)
 
 -- the event that was kept longest is handed out, or none is and nothing is written for C
 pub record HandleTakesEvent (old : IolPort) (number : ℕ) (before after : IolEvent)

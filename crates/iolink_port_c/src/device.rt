@@ -1,28 +1,19 @@
 //! Which device is expected, its page, and the cycle time that it is given.
-ghost use Rattle.std.specs.Prelude.{◌≡◌, ◌≤◌, ◌<◌, ◌↔◌, Some, None, unwrap_or, [], IsTrue, IsFalse};
-ghost use Rattle.std.specs.Prelude.{IsErr, IfOk, IfSome, IfNone};
+ghost use Rattle.std.specs.Prelude.{◌≡◌, ◌≤◌, ◌<◌, Some, None, unwrap_or, [], IsTrue, IsFalse};
+ghost use Rattle.std.specs.Prelude.{IfSome, IfNone};
 ghost use Rattle.iol_page.specs.Cycle.{longest_cycle, cycle_fault, cycle_fault_number, micros_of};
 ghost use Rattle.iol_port.specs.declared.call.Call.TheVariants as call;
 ghost use Rattle.iol_port.specs.declared.call.Answered.TheVariants as answered;
 ghost use Rattle.iol_port.specs.EveryWire.{page_shown};
 ghost use Rattle.iolink_handle.specs.Shown.{AreShown};
 ghost use Rattle.iolink_port_c.specs.Calls.{held_parts, LeavesClosed, CallDoes, GuardsPort, GuardsOut};
-ghost use Rattle.iolink_port_c.specs.DeviceCalls.{identity_at, largest_device, counting_number};
-ghost use Rattle.iolink_port_c.specs.DeviceCalls.{IsCycleOf, HandleExpects, Paces};
+ghost use Rattle.iolink_port_forms.specs.Given.{identity_at, largest_device};
+ghost use Rattle.iolink_port_c.specs.DeviceCalls.{HandleExpects, Paces};
 
 use crate::held::IolPort;
-use iol_page::{CycleFault, CycleTime, Identity, Page};
-use iol_port::Counting;
-use iolink_handle::{CLOSED, OUT_OF_RANGE, put, show_micros};
+use iolink_handle::{CLOSED, OUT_OF_RANGE, show_micros};
+use iolink_port_forms::{IolPage, cycle_of, identity_of, show_counting, show_page};
 use std::alloc::Global;
-
-/// The largest DeviceID, which has 24 bits (IEC 61131-9, B.1.9).
-const LARGEST_DEVICE: u32 = 0xFF_FFFF;
-
-/// What was asked for counts for the session that is there or comes next.
-const NOW: u8 = 1;
-/// It counts from the next start-up on.
-const LATER: u8 = 2;
 
 /// Expects this device: a link to another one goes down.
 ///
@@ -44,10 +35,9 @@ pub extern "C" fn iol_port_expect(
     ensures expects { IsTrue handle.old.is_open → device ≤ largest_device →
         HandleExpects (Some (identity_at vendor device)) handle.old result counts.new handle.new }
 {
-    if device > LARGEST_DEVICE {
+    let Some(identity) = identity_of(vendor, device) else {
         return refusal_by(handle, OUT_OF_RANGE);
-    }
-    let identity = Identity { vendor, device };
+    };
     let answer = handle.with(alloc, |master| master.port.expect(identity));
     show_counting(answer, counts)
 }
@@ -91,38 +81,12 @@ pub extern "C" fn iol_port_set_cycle(
     show_counting(answer, counts)
 }
 
-/// The cycle time of so many microseconds; none for 0. Refusal 39: above 132,800.
-fn cycle_of(micros: u32) -> Result<Option<CycleTime>, CycleFault>
-    ensures refused { IsErr result ↔ (longest_cycle < micros) }
-    ensures cycle { IfOk result (λ cycle. IsCycleOf micros cycle) }
-{
-    if micros == 0 {
-        return Ok(None);
-    }
-    let cycle = CycleTime::from_micros(micros)?;
-    Ok(Some(cycle))
-}
-
 /// The number of a refusal: 252 where the handle is closed, which is tested first, else this one.
 fn refusal_by(handle: &IolPort, number: u8) -> u8
     ensures closed { IsFalse handle.now.is_open → result ≡ 252 }
     ensures open { IsTrue handle.now.is_open → result ≡ number }
 {
     if handle.is_open { number } else { CLOSED }
-}
-
-/// Shows C what a call counts for: 0, or 252 where the handle is closed.
-fn show_counting(answer: Option<Counting>, counts: &mut u8) -> u8
-    ensures closed { IfNone answer ((result ≡ 252) × (counts.new ≡ counts.old)) }
-    ensures shown { IfSome answer (λ answer.
-        (result ≡ 0) × (counts.new ≡ counting_number answer)) }
-{
-    *counts = match answer {
-        Some(Counting::Now) => NOW,
-        Some(Counting::Later) => LATER,
-        None => return CLOSED,
-    };
-    0
 }
 
 /// The microseconds that an octet of MinCycleTime or MasterCycleTime means: 0, or 39 where its
@@ -134,13 +98,6 @@ pub extern "C" fn iol_port_cycle_micros(octet: u8, out: &mut u32) -> u8
         (result ≡ cycle_fault_number fault) × (out.new ≡ out.old)) }
 {
     show_micros(octet, out)
-}
-
-/// Direct parameter page 1: ten octets, that of address 0x02 first; none where `length` is 0.
-#[repr(C)]
-pub struct IolPage {
-    pub length: u8,
-    pub octets: [u8; 10],
 }
 
 /// The page of the device of the present session: 0, or 252 where the handle is closed, which
@@ -161,17 +118,4 @@ pub extern "C" fn iol_port_page(alloc: Global, handle: &mut IolPort, out: &mut I
         None => return CLOSED,
     }
     0
-}
-
-fn show_page(page: Option<Page>, out: &mut IolPage)
-    ensures { AreShown (unwrap_or page []) out.new.length out.new.octets }
-{
-    match page {
-        Some(page) => {
-            let octets = page.octets();
-            out.length = octets.len() as u8;
-            put(octets, &mut out.octets);
-        }
-        None => out.length = 0,
-    }
 }

@@ -4,21 +4,20 @@ ghost use Rattle.std.specs.Fn.{FnOnceReturnsAtMut};
 ghost use Rattle.iolink_port_c.specs.declared.held.PortWithJournal.{PortWithJournal};
 
 use core::mem::replace_with;
-use iol_book::Entry;
 use iol_port::PortCore;
 use iol_print::LineCall;
 use iolink_handle::Loose;
+use iolink_port_forms::KeptJournal;
 use std::alloc::Global;
 use std::marker::Model;
 use std::ptr::null_mut;
 
-/// What lies behind the pointer: the port, the journal that was handed out
-/// last, of which C reads one entry after the other, and the last call of the line.
+/// What lies behind the pointer: the port, the journal that was handed out last, and the last call
+/// of the line.
 #[derive(Drop)]
 pub struct PortWithJournal {
     pub port: PortCore<Global>,
-    pub journal: Vec<Entry, Global>,
-    pub read: usize,
+    pub journal: KeptJournal,
     pub passed: Option<LineCall>,
 }
 

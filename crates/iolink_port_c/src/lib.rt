@@ -16,7 +16,6 @@ mod device;
 mod held;
 mod line;
 mod loss;
-mod outcome;
 mod port;
 mod request;
 mod state;

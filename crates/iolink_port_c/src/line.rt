@@ -7,7 +7,7 @@ ghost use Rattle.iolink_port_c.specs.Calls.{held_parts, IsNotAsked, GuardsLine, 
 ghost use Rattle.iol_far.specs.Octets.{octets_in};
 ghost use Rattle.iol_port.specs.Asks.{asks_of};
 ghost use Rattle.iol_print.specs.LineCalls.{rate_of};
-ghost use Rattle.iolink_port_c.specs.Calls.{answer_of};
+ghost use Rattle.iolink_port_forms.specs.Given.{answer_of};
 ghost use Rattle.iolink_port_c.specs.LineCalls.{HandleSends, HandleReceives, HandleWakes, NotesExchange};
 
 use crate::held::IolPort;
@@ -16,22 +16,9 @@ use iol_mseq::Message;
 use iol_octets::checksum6;
 use iol_port::{AwaitedAnswer, PortCore};
 use iol_print::{LineCall, rate_numbered};
-use iolink_handle::{CLOSED, NOT_ASKED, OUT_OF_RANGE, copy_of, put};
+use iolink_handle::{CLOSED, NOT_ASKED, OUT_OF_RANGE, copy_of};
+use iolink_port_forms::{IolMessage, show_message};
 use std::alloc::Global;
-
-/// What goes out: `length` octets, or a wake-up request where that is 0, which leaves the rest.
-#[repr(C)]
-pub struct IolMessage {
-    pub length: u8,
-    pub octets: [u8; 66],
-    /// How many octets a good reply has, 1 to 65: then it is whole.
-    pub reply: u8,
-    /// The layout of the mode: its M-sequence type, and the octets of each part.
-    pub kind: u8,
-    pub od: u8,
-    pub pd_in: u8,
-    pub pd_out: u8,
-}
 
 /// What goes out, which waits for its answer from now on: 0, or 252 where the handle is closed,
 /// which leaves `out` as it is.
@@ -44,16 +31,7 @@ pub extern "C" fn iol_port_asks(alloc: Global, handle: &mut IolPort, out: &mut I
     ensures sends { IsTrue handle.old.is_open → HandleSends handle.old result out.new handle.new }
 {
     match handle.with(alloc, |master| master.port.send()) {
-        Some(Asked::Wake) => out.length = 0,
-        Some(Asked::Exchange(sent)) => {
-            out.length = sent.octets.len() as u8;
-            put(sent.octets.as_slice(), &mut out.octets);
-            out.reply = sent.reply;
-            out.kind = sent.layout.kind().bits();
-            out.od = sent.layout.od().get();
-            out.pd_in = sent.layout.pd_in();
-            out.pd_out = sent.layout.pd_out();
-        }
+        Some(asked) => show_message(asked, out),
         None => return CLOSED,
     }
     0

@@ -1,22 +1,17 @@
 //! Opening and closing.
-ghost use Rattle.std.specs.Prelude.{◌≡◌, ◌↔◌, Some, false, IfSome, IsSome, IsTrue, IsFalse};
+ghost use Rattle.std.specs.Prelude.{◌≡◌, Some, false, IsTrue, IsFalse};
 ghost use Rattle.iol_mode.specs.declared.configuration.Devices.TheVariants.{Any};
 ghost use Rattle.iolink_port_c.specs.Calls.{ClosedPortIsRefused};
-ghost use Rattle.iolink_port_c.specs.Opening.{AreInRange, HandleOpens, devices_of, limits_of};
+ghost use Rattle.iolink_port_forms.specs.Given.{devices_of, limits_of};
+ghost use Rattle.iolink_port_c.specs.Opening.{HandleOpens};
 
 use crate::held::{IolPort, PortWithJournal};
 use core::mem::replace_with;
-use iol_book::{BusyLimit, JournalLimit, Limits, QueueLimit};
 use iol_mode::Devices;
 use iol_port::PortCore;
 use iolink_handle::{CLOSED, IS_OPEN, OUT_OF_MEMORY, OUT_OF_RANGE};
+use iolink_port_forms::{KeptJournal, devices_of, limits_of};
 use std::alloc::Global;
-
-/// For devices of our own kind.
-const OWN: u8 = 0;
-
-/// For any device by the standard.
-const ANY: u8 = 1;
 
 /// Opens a port for any device by the standard, whose link is down. The first ticket is
 /// `given` + 1.
@@ -89,8 +84,7 @@ fn open_for(
     };
     let master = PortWithJournal {
         port,
-        journal: Vec::new(alloc),
-        read: 0,
+        journal: KeptJournal::new(alloc),
         passed: None,
     };
     match Box::new(alloc, master) {
@@ -99,30 +93,6 @@ fn open_for(
             0
         }
         Err(_) => OUT_OF_MEMORY,
-    }
-}
-
-/// The limits of these numbers, where each is in its range.
-fn limits_of(journal: u32, busy: u16, queue: u8, given: u64) -> Option<Limits>
-    ensures some { IsSome result ↔ AreInRange (limits_of journal busy queue given) }
-    ensures value { IfSome result (λ limits. limits ≡ limits_of journal busy queue given) }
-{
-    Some(Limits {
-        journal: JournalLimit::new(journal)?,
-        busy: BusyLimit::new(busy)?,
-        queue: QueueLimit::new(queue)?,
-        given,
-    })
-}
-
-/// For which devices, by its number.
-fn devices_of(number: u8) -> Option<Devices>
-    ensures { result ≡ devices_of number }
-{
-    match number {
-        OWN => Some(Devices::Own),
-        ANY => Some(Devices::Any),
-        _ => None,
     }
 }
 

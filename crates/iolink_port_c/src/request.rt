@@ -1,28 +1,18 @@
 //! Requests: entered, collected, taken back and cut off.
 ghost use Rattle.std.specs.Prelude.{◌≡◌, ◌≤◌, ◌<◌, length, IsTrue};
-ghost use Rattle.std.specs.Prelude.{IfOk, IfErr, IfSome, IfNone};
+ghost use Rattle.std.specs.Prelude.{IfOk, IfErr};
 ghost use Rattle.iol_isdu.specs.Fault.{isdu_fault_number};
-ghost use Rattle.iolink_port_c.specs.declared.request.Urgency.{Urgency};
+ghost use Rattle.iolink_port_forms.specs.declared.request.Urgency.{Urgency};
 ghost use Rattle.iolink_port_c.specs.RequestCalls.{HandleEnters, HandleCollects, HandleWithdraws, HandleCancels, HandleAbandons};
-ghost use Rattle.iolink_port_c.specs.RequestCalls.{read_at, write_at};
-ghost use Rattle.iolink_port_c.specs.Calls.{answer_number, GuardsPort, GuardsOut};
+ghost use Rattle.iolink_port_forms.specs.Given.{read_at, write_at};
+ghost use Rattle.iolink_port_c.specs.Calls.{GuardsPort, GuardsOut};
 
 use crate::held::IolPort;
-use crate::outcome::{IolOutcome, show_outcome};
 use iol_book::Ticket;
 use iol_isdu::{IsduFault, Place, Request};
-use iol_port::PortFault;
 use iolink_handle::CLOSED;
+use iolink_port_forms::{IolOutcome, Urgency, code_of, show_outcome};
 use std::alloc::Global;
-
-/// Before which requests that wait a new one goes.
-#[derive(Clone, Copy)]
-pub enum Urgency {
-    /// Before none.
-    Ordinary,
-    /// Before all that aren't urgent.
-    Urgent,
-}
 
 fn enter(
     alloc: Global,
@@ -54,18 +44,6 @@ fn enter(
             *ticket = number;
             0
         }
-        Some(Err(fault)) => fault.code(),
-        None => CLOSED,
-    }
-}
-
-/// 0, or the number of the refusal: 252 where the handle is closed.
-pub(crate) fn code_of(answer: Option<Result<(), PortFault>>) -> u8
-    ensures closed { IfNone answer (result ≡ 252) }
-    ensures number { IfSome answer (λ answer. result ≡ answer_number answer) }
-{
-    match answer {
-        Some(Ok(())) => 0,
         Some(Err(fault)) => fault.code(),
         None => CLOSED,
     }

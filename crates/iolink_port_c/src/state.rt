@@ -7,16 +7,15 @@ ghost use Rattle.iol_port.specs.declared.awaited.AwaitedAnswer.{AwaitedAnswer};
 ghost use Rattle.iol_port.specs.CorePort.{awaited_answer};
 ghost use Rattle.iol_port.specs.View.{status_of};
 ghost use Rattle.iolink_handle.specs.Shown.{AreShown};
-ghost use Rattle.iolink_port_c.specs.Shown.{StatusIsShown};
+ghost use Rattle.iolink_port_forms.specs.Shown.{StatusIsShown};
 ghost use Rattle.iolink_port_c.specs.Calls.{held_parts, LeavesClosed, IsNotAsked, CallDoes, GuardsPort, GuardsOut};
 ghost use Rattle.iolink_port_c.specs.StateCalls.{HandleRestarts, HandleSetsOutput, HandleClearsOutput, HandleTakesEvent};
 
 use crate::held::IolPort;
-use crate::request::code_of;
-use iol_app::{Mode, Status};
 use iol_image::Image;
 use iol_port::AwaitedAnswer;
 use iolink_handle::{CLOSED, IolImage, NOT_ASKED, show_image};
+use iolink_port_forms::{IolEvent, IolStatus, code_of, show_event, show_status};
 use std::alloc::Global;
 
 /// Cuts off the request under way, if any, and leaves the link in down.
@@ -100,13 +99,6 @@ pub extern "C" fn iol_port_image(alloc: Global, handle: &mut IolPort, out: &mut 
     0
 }
 
-/// An event that was kept.
-#[repr(C)]
-pub struct IolEvent {
-    pub qualifier: u8,
-    pub code: u16,
-}
-
 /// Hands out the event that was kept longest: 0, or the first of 252 where the handle
 /// is closed, and 30 where none is kept. Where it is refused, `out` stays as it is.
 #[unsafe(no_mangle)]
@@ -117,24 +109,12 @@ pub extern "C" fn iol_port_take_event(alloc: Global, handle: &mut IolPort, out: 
 {
     match handle.with(alloc, |master| master.port.take_event()) {
         Some(Ok(event)) => {
-            out.qualifier = event.qualifier;
-            out.code = event.code;
+            show_event(event, out);
             0
         }
         Some(Err(fault)) => fault.code(),
         None => CLOSED,
     }
-}
-
-/// How the link of a port is.
-#[repr(C)]
-pub struct IolStatus {
-    /// 1 down, 2 startup, 3 preoperate, 4 operate.
-    pub mode: u8,
-    /// Of a link that is down the number of the fault that led there, 0 where there was none.
-    pub why: u8,
-    /// Whether a reading of events met a form that the master doesn't know.
-    pub event_form: bool,
 }
 
 /// The mode of the link, and why it is down: 0, or 252 where the handle is closed,
@@ -154,20 +134,4 @@ pub extern "C" fn iol_port_status(alloc: Global, handle: &mut IolPort, out: &mut
         None => return CLOSED,
     }
     0
-}
-
-fn show_status(status: &Status, out: &mut IolStatus)
-    ensures { StatusIsShown status.now out.new }
-{
-    out.mode = match status.mode {
-        Mode::Down => 1,
-        Mode::Startup => 2,
-        Mode::Preoperate => 3,
-        Mode::Operate => 4,
-    };
-    out.why = match &status.why {
-        Some(why) => why.code(),
-        None => 0,
-    };
-    out.event_form = status.event_form;
 }

@@ -1,0 +1,4 @@
+pub mod Shown
+pub mod Given
+pub mod Answers
+pub mod Journal

@@ -1,0 +1,9 @@
+pub mod Calls
+pub mod Opening
+pub mod LineCalls
+pub mod RequestCalls
+pub mod StateCalls
+pub mod JournalCalls
+pub mod Shown
+pub mod StorageCalls
+pub mod BlockCalls

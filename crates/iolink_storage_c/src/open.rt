@@ -1,0 +1,132 @@
+//! Opening and closing.
+ghost use Rattle.std.specs.Prelude.{◌≡◌, false, IfOk, IfErr, IsTrue, IsFalse};
+ghost use Rattle.iolink_port_forms.specs.Given.{devices_of, limits_of};
+ghost use Rattle.iolink_storage_c.specs.Calls.{StoreIsRefused};
+ghost use Rattle.iolink_storage_c.specs.Opening.{storage_mode_of, IsKeptOf, IsNewStore, IsStoreRefusal, StoreOpens};
+
+use crate::held::{HeldStore, IolStore};
+use iol_book::Limits;
+use iol_mode::Devices;
+use iol_storage::{Set, StorageFault, StorageMode, StoredPort};
+use iolink_handle::{CLOSED, IS_OPEN, OUT_OF_MEMORY, OUT_OF_RANGE};
+use iolink_port_forms::{KeptJournal, devices_of, limits_of};
+use std::alloc::Global;
+
+/// Data Storage isn't used.
+const OFF: u8 = 0;
+/// The kept set is restored, and none is fetched.
+const RESTORE: u8 = 1;
+/// What was changed at the device replaces the kept set, too.
+const BOTH: u8 = 2;
+/// Likewise, but only a change at the unit of the kept set.
+const OWN_UNIT: u8 = 3;
+
+/// How Data Storage is used, by its number.
+fn storage_mode_of(number: u8) -> Option<StorageMode>
+    ensures { result ≡ storage_mode_of number }
+{
+    match number {
+        OFF => Some(StorageMode::Off),
+        RESTORE => Some(StorageMode::Restore),
+        BOTH => Some(StorageMode::Both),
+        OWN_UNIT => Some(StorageMode::Own),
+        _ => None,
+    }
+}
+
+/// The set of these octets, none of none. Refused by 44 where no set has them.
+fn kept_of(octets: &[u8]) -> Result<Option<Set>, StorageFault>
+    ensures kept { IfOk result (λ kept. IsKeptOf octets.now kept) }
+    ensures refused { IfErr result (λ why. why ≡ StorageFault.NoSet) }
+{
+    if octets.is_empty() {
+        return Ok(None);
+    }
+    Ok(Some(Set::read(octets)?))
+}
+
+/// A port with the set of these octets. Refused by 44, or as [`StoredPort::open`].
+fn port_with(
+    alloc: Global,
+    limits: &Limits,
+    devices: Devices,
+    mode: StorageMode,
+    octets: &[u8],
+) -> Result<StoredPort<Global>, u8>
+    ensures port { IfOk result (λ p. IsNewStore devices mode limits.now octets.now p) }
+    ensures refused { IfErr result (λ code. IsStoreRefusal limits.now code) }
+{
+    let kept = match kept_of(octets) {
+        Ok(kept) => kept,
+        Err(fault) => return Err(fault.code()),
+    };
+    match StoredPort::open(alloc, limits, devices, mode, kept) {
+        Ok(port) => Ok(port),
+        Err(fault) => Err(fault.code()),
+    }
+}
+
+/// Opens a port with Data Storage, whose link is down, with the set that C has saved: of these
+/// octets, none of none. `devices` is 0 for those of our own kind, 1 for any; `mode` 0 off, 1 to
+/// restore, 2 both, 3 both of one unit. The first ticket is `given` + 1.
+///
+/// 0, or the first of 253 where the handle is open already, 254 where a number is out of its range
+/// (the limits as of `iol_port_open`), 44 where the octets are no set, 48 where fewer than three
+/// tickets may be outstanding or the journal has fewer than 12 entries, 41 where the set has a
+/// value that isn't of a parameter, and 24 where there is no memory. Refused, it changed nothing.
+#[unsafe(no_mangle)]
+pub extern "C" fn iol_store_open(
+    alloc: Global,
+    handle: &mut IolStore,
+    devices: u8,
+    mode: u8,
+    journal: u32,
+    busy: u16,
+    queue: u8,
+    given: u64,
+    octets: &[u8],
+) -> u8
+    ensures { StoreOpens (devices_of devices) (storage_mode_of mode)
+        (limits_of journal busy queue given) octets.now handle.old result handle.new }
+{
+    if handle.is_open {
+        return IS_OPEN;
+    }
+    let (Some(devices), Some(mode)) = (devices_of(devices), storage_mode_of(mode)) else {
+        return OUT_OF_RANGE;
+    };
+    let Some(limits) = limits_of(journal, busy, queue, given) else {
+        return OUT_OF_RANGE;
+    };
+    let port = match port_with(alloc, &limits, devices, mode, octets) {
+        Ok(port) => port,
+        Err(code) => return code,
+    };
+    let store = HeldStore {
+        port,
+        journal: KeptJournal::new(alloc),
+        writes: None,
+    };
+    match Box::new(alloc, store) {
+        Ok(store) => {
+            *handle = IolStore::of(store);
+            0
+        }
+        Err(_) => OUT_OF_MEMORY,
+    }
+}
+
+/// Ends the port and gives its memory back: 0, or 252 where the handle is closed.
+#[unsafe(no_mangle)]
+pub extern "C" fn iol_store_close(alloc: Global, handle: &mut IolStore) -> u8
+    ensures shut { handle.new.is_open ≡ false }
+    ensures closed { IsFalse handle.old.is_open → StoreIsRefused result handle.old handle.new }
+    ensures done { IsTrue handle.old.is_open → result ≡ 0 }
+{
+    if !handle.is_open {
+        return CLOSED;
+    }
+    let store = handle.take_box(alloc);
+    drop(store);
+    0
+}
