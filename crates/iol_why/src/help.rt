@@ -14,8 +14,6 @@ pub enum Section {
     Wire,
     /// The calls of the port.
     Calls,
-    /// The lines of a port with Data Storage.
-    Storage,
     /// The lines of a plan.
     Plan,
     /// The lines of a trace.
@@ -32,7 +30,6 @@ impl Section {
             Section::Settings => &tables::SETTINGS,
             Section::Wire => &tables::WIRE,
             Section::Calls => &tables::CALLS,
-            Section::Storage => &tables::STORAGE,
             Section::Plan => &tables::PLAN,
             Section::Trace => &tables::TRACE,
             Section::Octets => &tables::OCTETS,

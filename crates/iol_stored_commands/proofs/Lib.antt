@@ -1,3 +1,0 @@
-pub mod PlayedLemmas
-pub mod TracedLemmas
-pub mod CallsLemmas

@@ -1,4 +1,0 @@
-pub mod Wired
-pub mod StoredPrinted
-pub mod StoredPlayed
-pub mod StoredTraced

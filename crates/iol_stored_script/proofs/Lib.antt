@@ -1,2 +1,0 @@
-mod PlainLemmas
-mod WritesLemmas

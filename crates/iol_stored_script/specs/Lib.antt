@@ -1,2 +1,0 @@
-pub mod StorageLines
-pub mod PlainText
