@@ -128,8 +128,8 @@ uint8_t iol_params_locks(iol_params *device, uint8_t *out);
 
 /* ---- the rest is as at a device without a table: each call is that of iolink_device.h of its name
  *
- * A wake-up request, silence, and leaving operate end a block of the master, without effect. Silence first carries out
- * the request that is handed over: call iol_params_work behind it. */
+ * A wake-up request, silence, and going back end a block of the master, without effect. What it still writes of a block
+ * behind silence is refused with 0x36. */
 
 uint8_t iol_params_hear(iol_params *device, const uint8_t *octets, size_t count, iol_reply *out);
 uint8_t iol_params_expects(iol_params *device, const uint8_t *octets, size_t count, uint8_t *out);

@@ -249,8 +249,7 @@ static void saving(void)
     turns(30, true);
 }
 
-/* What silence finds at hand is carried out before the block ends: so a write of a block that was cut off is never in
- * force, and an end applies its block, which is to be saved then. */
+/* Behind silence in a block all that is left of it is refused, its end too, and the write that was handed over. */
 static void cut_off(void)
 {
     uint64_t ticket = 0;
@@ -258,29 +257,22 @@ static void cut_off(void)
     IS(iol_port_write(&port, GROUP, 1, (const uint8_t *)"\x07", 1, &ticket), 0);
     turns(5, false);
     IS(iol_params_silence(&device), 0);
-    IS(iol_params_work(&device), 0);
+    IS(iol_params_silence(&device), 0);
     turns(80, true);
     IS(iol_port_collect(&port, ticket, &outcome), 0);
-    IS(outcome.kind, DONE_WRITTEN);
-    IS(value_of(GROUP, 1), 1);
+    IS(outcome.kind, DONE_REFUSED);
+    IS(WRITES(GROUP, 1, "\x07"), 0x36);
     IS(WRITES(2, 0, "\x04"), 0x36);
+    IS(value_of(GROUP, 1), 1);
+    IS(WRITES(2, 0, "\x06"), 0);
+    IS(WRITES(GROUP, 1, "\x07"), 0);
+    IS(value_of(GROUP, 1), 7);
     IS(WRITES(2, 0, "\x03"), 0);
     IS(WRITES(GROUP, 1, "\x08"), 0);
     IS(iol_params_reset(&device, &error), IOL_WITH_ERROR_TYPE);
     IS(error, 0x36);
-    IS(iol_port_write(&port, 2, 0, (const uint8_t *)"\x04", 1, &ticket), 0);
-    turns(5, false);
-    IS(value_of(GROUP, 1), 1);
-    IS(iol_params_silence(&device), 0);
-    IS(iol_params_silence(&device), 0);
+    IS(WRITES(2, 0, "\x04"), 0);
     IS(value_of(GROUP, 1), 8);
-    turns(20, false);
-    IS(iol_port_collect(&port, ticket, &outcome), 26);
-    IS(iol_params_work(&device), IOL_TO_SAVE);
-    IS(iol_params_saved(&device), 0);
-    turns(80, true);
-    IS(iol_port_collect(&port, ticket, &outcome), 0);
-    IS(outcome.kind, DONE_WRITTEN);
 }
 
 static void at_the_device(void)

@@ -16,7 +16,7 @@ RESETS = ("write 2 0 81", "write 2 0 82", "write 2 0 83")
 UNSUPPORTED = ("!8011", "!8012")
 SERVED = ("served", "released")
 # What a line of a turn begins with.
-OF_THE_TURN = ("carry", "out", "silence", "power", "plug", "local", "factory", "end")
+OF_THE_TURN = ("carry", "out", "silence", "power", "plug", "local", "factory", "crowd", "full", "end")
 # So many times at most three attempts read the state.
 MOST_LOOKS = 6
 # What a request has in the journal, and how many tickets aren't for clients.
@@ -79,8 +79,6 @@ class Unit:
         self.owner, self.moments, self.output = None, [], False
         # What is said to have come of the write before the next state.
         self.cause, self.wanted = None, None
-        # Whether silence, or a user's reset, ended a job's activity.
-        self.is_spoiled = False
 
     @property
     def device(self):
@@ -171,8 +169,9 @@ class Life:
 
     # how a life is
 
-    def at_life(self, devices, mode, queue, journal, _lost):
+    def at_life(self, devices, mode, queue, journal, lost):
         self.devices, self.mode = devices, mode
+        self.seen["lives in which messages and replies are lost"] += lost != "0"
         self.most = min(int(queue), int(journal) // ENTRIES) - TICKETS_KEPT
 
     def at_unit(self, name, page, model):
@@ -181,12 +180,19 @@ class Life:
     def at_port(self, _number, kept):
         hold(kept == self.disk, "a port is opened with what was not saved")
         self.port += 1
+        self.see_cut("the master begins anew", self.port > 1)
+        self.seen["the master begins anew, and a set isn't saved"] += self.unsaved
         self.kept, self.unsaved, self.standing, self.link, self.image = kept, False, ("awaited",), "Down", False
         self.wants_output, self.awaited_at = False, 0
         self.session()
 
     def at_plug(self, name):
-        self.unit = self.units[name]
+        before, self.unit = self.unit, self.units[name]
+        if before is self.unit:
+            self.see_cut("the same unit is plugged in anew")
+        elif before:
+            which = "its type" if before.device == self.unit.device else "another type"
+            self.see_cut(f"another unit of {which} is plugged in", True, before)
 
     def at_seed(self, *_):
         pass
@@ -196,29 +202,34 @@ class Life:
         if code == "FF91":
             self.looks = 0
 
-    at_js = at_jt = at_ja = at_takeback = at_restart = at_release = at_calm = at_seed
+    at_js = at_jt = at_ja = at_takeback = at_restart = at_release = at_calm = at_full = at_crowd = at_seed
+
+    def see_cut(self, what, is_so=True, unit=None):
+        """Something that cuts off what a unit is in, that of now where none is named."""
+        unit = unit or self.unit
+        self.seen[what] += is_so
+        self.seen[f"{what}, in an activity of a job"] += is_so and unit.owner == "job"
+        self.seen[f"{what}, in an activity of a client"] += is_so and unit.owner == "client"
 
     # units
 
     def at_power(self, name):
         unit = self.units[name]
+        self.see_cut("a unit loses its power", True, unit)
         unit.owner, unit.cause = None, "power"
 
     def at_factory(self, name, done):
-        """PAR-8: it ends a block's activity, so that what the block writes then is in force at once."""
         unit = self.units[name]
         unit.cause = "reset" if done == "1" else None
-        if done == "1":
-            self.at_silence(name)
 
     def at_silence(self, name):
-        """ACT-5: an activity is over, but the request that is handed over may be carried out."""
-        unit = self.units[name]
-        if unit.owner == "job":
-            unit.is_spoiled = True
+        """ACT-7: of a download nothing comes into force any more."""
+        self.seen["silence in a download"] += self.units[name].activity.startswith("download")
 
-    def at_local(self, name, _index, _sub, _octets, _code):
-        self.units[name].cause = "user"
+    def at_local(self, name, _index, _sub, _octets, code):
+        unit = self.units[name]
+        unit.cause = "user"
+        self.see_cut(f"a user's change is {'taken' if code == '00' else 'refused'}", True, unit)
 
     def at_state(self, name, flag, activity, locks, *values):
         unit = self.units[name]
@@ -229,7 +240,7 @@ class Life:
         unit.values, unit.locks = values, int(locks)
         if values != (unit.moments[-1] if unit.moments else None):
             unit.moments.append(values)
-        if activity == "idle":
+        if activity in ("idle", "cut-off"):
             unit.owner = None
         unit.activity = activity
         wanted, unit.wanted = unit.wanted, None
@@ -257,7 +268,6 @@ class Life:
         else:
             self.carry_client(unit, int(port), int(ended), request)
         if request in STORAGE_STARTS + BLOCK_STARTS and answer == "written":
-            unit.is_spoiled = False
             unit.owner = "job" if journal.is_job(ticket) else "client"
 
     def carry_client(self, unit, port, ended, request):
@@ -291,8 +301,7 @@ class Life:
             self.carry_block(unit, journal)
         elif request.startswith("write ") and unit.owner != "job" and request not in STORAGE_STARTS + BLOCK_STARTS:
             is_break = request in ("write 2 0 06", "write 3 1 05")
-            self.seen["writes of a job behind the end of its activity"] += unit.is_spoiled
-            hold(is_break or unit.is_spoiled, f"a job's {request} in no activity of its own")
+            hold(is_break, f"a job's {request} in no activity of its own")
 
     def carry_told(self, unit):
         """STO-8: what the device had is saved by then."""
@@ -330,6 +339,7 @@ class Life:
     def at_mode(self, mode, _turn):
         if mode == "Operate":
             self.session()
+        self.see_cut("the link is lost", self.link == "Operate" and mode == "Down")
         self.link = mode
 
     def at_image(self, valid):
@@ -413,6 +423,8 @@ class Life:
             hold(count >= self.most, f"{count} tickets of {self.most} are outstanding, and no other is given")
         else:
             hold(number == 22, f"{request} is refused by {number}")
+        if answer == "refused":
+            self.seen[f"a client's request is refused by {number}"] += 1
 
     def at_collect(self, ticket, *outcome):
         ticket, journal = int(ticket), self.journal

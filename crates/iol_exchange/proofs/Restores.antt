@@ -18,7 +18,7 @@ use Rattle.iol_params.specs.declared.state.Scope.TheVariants.{Storage}
 use Rattle.iol_params.specs.declared.state.Locks.{Locks}
 use Rattle.iol_params.specs.declared.state.WritesSoFar.TheVariants.{AllTaken, OneRefused}
 use Rattle.iol_params.specs.declared.state.Activity.{Activity}
-use Rattle.iol_params.specs.declared.state.Activity.TheVariants.{Idle, Upload, Download}
+use Rattle.iol_params.specs.declared.state.Activity.TheVariants.{Idle, Upload, Download, CutOff}
 use Rattle.iol_params.specs.declared.state.Command.TheVariants.{DownloadStart, DownloadEnd}
 use Rattle.iol_params.specs.Values.{value_at}
 use Rattle.iol_params.specs.Table.{ParamTable, table_fault, whole, is_managed, begins_stored, member_flaw, members_fault, rules_fault, storage_fault, fault_or, first_fault}
@@ -144,6 +144,7 @@ write-locks table s place octets = by (write_refusal table s place octets)
     changed Idle = refl
     changed (Upload scope) = refl
     changed (Download scope writes) = refl
+    changed CutOff = refl
 
     by : (why : Option ErrorType) → (write_settled why table s place octets).1.locks ≡ s.locks
     by None = changed s.activity
@@ -295,6 +296,7 @@ end-clear table s ends = by (is_foreign Storage s.activity) ends
         → IsClear (download_settled activity consistent s (with_flag_cleared Storage)).1
     settled Idle consistent h = absurd (cc)
     settled (Upload scope) consistent h = absurd (cc)
+    settled CutOff consistent h = absurd (cc)
     settled (Download scope OneRefused) consistent h = absurd (cc)
     settled (Download scope AllTaken) false h = absurd (cc)
     settled (Download scope AllTaken) true h = (refl, refl)

@@ -60,11 +60,6 @@ after_event b = event_told (b.state.event_due && not (is_full b.far.events)) b
 abbrev pub after_work : ParamTable → Both → Both
 after_work table b = after_event (after_request (handed_request b.far.isdu) table b)
 
--- what `silence` makes of them: the request is carried out before an activity ends
-abbrev pub after_quiet : ParamTable → Both → Both
-after_quiet table b = let done = after_request (handed_request b.far.isdu) table b in
-    both done.far (after_end done.state)
-
 -- whether they change no value: no request is handed over, or a read
 abbrev pub works_on_read : Option Request → Bool
 works_on_read None = true
@@ -76,13 +71,15 @@ abbrev pub local_reset : ParamTable → ParamState → Option ErrorType × Param
 local_reset table s = if is_at_rest s.activity then command table s Block FactoryReset
     else (Some FunctionUnavailable, s)
 
--- whether a device leaves OPERATE
-abbrev pub leaves_operate : DeviceMode → DeviceMode → Bool
-leaves_operate Operate Startup = true
-leaves_operate Operate Preoperate = true
-leaves_operate Operate Operate = false
-leaves_operate Startup mode = false
-leaves_operate Preoperate mode = false
+-- whether a device goes back, from OPERATE or to STARTUP
+abbrev pub goes_back : DeviceMode → DeviceMode → Bool
+goes_back Operate Startup = true
+goes_back Operate Preoperate = true
+goes_back Operate Operate = false
+goes_back Preoperate Startup = true
+goes_back Preoperate Preoperate = false
+goes_back Preoperate Operate = false
+goes_back Startup mode = false
 
 -- then what is under way ends
 -- ACT-5

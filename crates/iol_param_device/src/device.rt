@@ -15,11 +15,11 @@ ghost use Rattle.iol_device.specs.Awaited.{awaited_length};
 ghost use Rattle.iol_device.specs.declared.fault.DeviceFault.{DeviceFault};
 ghost use Rattle.iol_slots.specs.Images.{has_size};
 ghost use Rattle.iol_params.specs.Image.{image_size};
-ghost use Rattle.iol_params.specs.State.{after_end};
+ghost use Rattle.iol_params.specs.State.{after_end, after_quiet};
 ghost use Rattle.iol_params.specs.Carry.{local_change};
 ghost use Rattle.iol_param_device.specs.Saved.{Saves, SavesUnless, opened_manager};
 ghost use Rattle.iol_param_device.specs.Faults.{open_fault};
-ghost use Rattle.iol_param_device.specs.Device.{ParamDeviceValue, both, after_request, after_event, after_work, after_quiet, works_on_read, local_reset, leaves_operate, ended_if};
+ghost use Rattle.iol_param_device.specs.Device.{ParamDeviceValue, both, after_request, after_event, after_work, works_on_read, local_reset, goes_back, ended_if};
 
 use crate::fault::OpenFault;
 use crate::saved::SavedManager;
@@ -91,20 +91,20 @@ impl<'a, S: Slots, A: Allocator + Copy> ParamDevice<'a, S, A> {
     }
 
     /// Octets came, whatever they are: the reply, where the device is awake and accepts them.
-    /// Where it leaves OPERATE, an activity ends.
+    /// Where it goes back from OPERATE, or to STARTUP, an activity ends.
     pub fn hear(&mut self, octets: &[u8]) -> Option<Message>
         ensures device { self.new.device ≡ device_after_hearing self.old.device octets.now }
         ensures reply { octets_in result ≡ (hear self.old.device.far octets.now).reply }
         ensures manager { self.new.manager ≡ record self.old.manager {
           state = ended_if
-              (leaves_operate self.old.device.far.mode self.new.device.far.mode)
+              (goes_back self.old.device.far.mode self.new.device.far.mode)
               self.old.manager.state;
         } }
         ensures slots { self.new.slots ≡ self.old.slots }
     {
         let before = self.device.mode();
         let reply = self.device.hear(octets);
-        self.end_if_left(before);
+        self.end_if_back(before);
         reply
     }
 
@@ -114,14 +114,14 @@ impl<'a, S: Slots, A: Allocator + Copy> ParamDevice<'a, S, A> {
         ensures device { HearsInto self.old.device octets.now result reply.new self.new.device }
         ensures manager { self.new.manager ≡ record self.old.manager {
           state = ended_if
-              (leaves_operate self.old.device.far.mode self.new.device.far.mode)
+              (goes_back self.old.device.far.mode self.new.device.far.mode)
               self.old.manager.state;
         } }
         ensures slots { self.new.slots ≡ self.old.slots }
     {
         let before = self.device.mode();
         let answers = self.device.hear_into(octets, reply);
-        self.end_if_left(before);
+        self.end_if_back(before);
         answers
     }
 
@@ -132,16 +132,16 @@ impl<'a, S: Slots, A: Allocator + Copy> ParamDevice<'a, S, A> {
         self.device.expects(begun)
     }
 
-    // An activity ends if the device was in OPERATE, and isn't any more.
-    fn end_if_left(&mut self, before: DeviceMode)
+    // An activity ends if the device went back.
+    fn end_if_back(&mut self, before: DeviceMode)
         ensures { self.new ≡ record self.old {
           manager = record self.old.manager {
-            state = ended_if (leaves_operate before self.old.device.far.mode)
+            state = ended_if (goes_back before self.old.device.far.mode)
                 self.old.manager.state;
           };
         } }
     {
-        if before == DeviceMode::Operate && self.device.mode() != DeviceMode::Operate {
+        if goes_back(before, self.device.mode()) {
             self.saved.over();
         }
     }
@@ -247,38 +247,19 @@ impl<'a, S: Slots, A: Allocator + Copy> ParamDevice<'a, S, A> {
         self.saved.over();
     }
 
-    /// The master counts as silent, as [`Device::silence`] says; an activity ends. A request that
-    /// was handed over is carried out before that, as [`work`] does it. So nothing of a block that
-    /// was cut off comes into force.
+    /// The master counts as silent, as [`Device::silence`] says; an activity ends, as
+    /// [`Manager::silence`] says. So nothing of a block that was cut off comes into force, nor does
+    /// a write of it that was handed over, or that still comes.
     ///
     /// Rule ACT-5.
-    ///
-    /// [`work`]: ParamDevice::work
     pub fn silence(&mut self)
-        ensures works { both self.new.device.far self.new.manager.state
-            ≡ after_quiet self.old.manager.table
-            (both self.old.device.far self.old.manager.state) }
-        ensures rest { self.new.device
-            ≡ record self.old.device { far = self.new.device.far; silent = true } }
-        ensures table { self.new.manager.table ≡ self.old.manager.table }
-        ensures saves { SavesUnless S.memory
-            (works_on_read (handed_request self.old.device.far.isdu)) S.store_gives self.old.slots
-            (record { manager = self.new.manager; slots = self.new.slots }) }
-    {
-        // Behind the end of its block a write would come into force.
-        self.answer_request();
-        self.fall_silent();
-    }
-
-    // The master counts as silent, and an activity ends.
-    fn fall_silent(&mut self)
         ensures { self.new ≡ record self.old {
           device = record self.old.device { silent = true };
-          manager = record self.old.manager { state = after_end self.old.manager.state };
+          manager = record self.old.manager { state = after_quiet self.old.manager.state };
         } }
     {
         self.device.silence();
-        self.saved.over();
+        self.saved.silence();
     }
 
     /// The power fails and comes back: asleep, with what the slots keep.
@@ -354,6 +335,17 @@ impl<'a, S: Slots, A: Allocator + Copy> ParamDevice<'a, S, A> {
     }
 }
 
+/// Whether a device goes back from OPERATE, or to STARTUP: then an activity ends.
+pub fn goes_back(before: DeviceMode, now: DeviceMode) -> bool
+    ensures { result ≡ goes_back before now }
+{
+    match before {
+        DeviceMode::Operate => now != DeviceMode::Operate,
+        DeviceMode::Preoperate => now == DeviceMode::Startup,
+        DeviceMode::Startup => false,
+    }
+}
+
 /// The request that is handed over has this answer, if it fits.
 #[tactic(auto, using(crate::proofs::Answering::answered))]
 fn answer_handed(device: &mut Device<Apart, Unkept>, number: u64, answer: Answer)
@@ -422,8 +414,12 @@ mod tests {
         }
         assert!(rt; device.device().handed().is_some());
         device.silence();
-        assert!(rt; device.device().handed().is_none());
         assert!(rt; device.manager().activity().is_at_rest());
+        device.work();
+        assert!(rt; device.device().handed().is_none());
+        for message in WRITE {
+            assert!(rt; device.hear(message).is_some());
+        }
         device.work();
         let answer = device.manager().read(PLACE);
         assert!(rt; matches!(answer, Answer::Read(octets) if octets.as_slice() == [10].as_slice()));

@@ -12,7 +12,7 @@ mod fault;
 mod laws;
 mod saved;
 
-pub use device::{ParamDevice, UPLOAD_REQUEST};
+pub use device::{ParamDevice, UPLOAD_REQUEST, goes_back};
 pub use fault::OpenFault;
 pub use laws::cut_changes_are_whole;
 pub use saved::{SavedManager, slot_size};

@@ -3,7 +3,7 @@ ghost use Rattle.std.specs.Prelude.{◌≡◌, ◌+◌, ◌≤◌, Some, true, f
 ghost use Rattle.std.specs.Result.{result_err};
 ghost use Rattle.iol_isdu.specs.Answers.{is_read};
 ghost use Rattle.iol_slots.specs.Images.{has_size, FitsIn};
-ghost use Rattle.iol_params.specs.State.{after_end};
+ghost use Rattle.iol_params.specs.State.{after_end, after_quiet};
 ghost use Rattle.iol_params.specs.Carry.{local_change};
 ghost use Rattle.iol_params.specs.Requests.{request_result};
 ghost use Rattle.iol_params.specs.Image.{kept_of, with_kept, image_size};
@@ -144,6 +144,15 @@ impl<'a, S: Slots, A: Allocator + Copy> SavedManager<'a, S, A> {
         } }
     {
         self.manager.over();
+    }
+
+    /// The master was silent, as [`Manager::silence`] says.
+    pub fn silence(&mut self)
+        ensures { self.new ≡ record self.old {
+          manager = record self.old.manager { state = after_quiet self.old.manager.state };
+        } }
+    {
+        self.manager.silence();
     }
 
     /// The event FF91 was raised.

@@ -105,6 +105,7 @@ fn change(saved: &mut SavedManager<'_, LoggedSlots>, name: &str) -> Result<()> {
     match name {
         "power" => saved.power_cycle(),
         "over" => saved.over(),
+        "silence" => saved.silence(),
         "raised" => saved.event_raised(),
         _ => return None.context("there is no such call"),
     }
@@ -151,6 +152,7 @@ fn print_state(rt: &HostRuntime, manager: &Manager) -> Result<()> {
         Activity::Download(Scope::Block, WritesSoFar::AllTaken) => "block-download",
         Activity::Download(Scope::Storage, WritesSoFar::AllTaken) => "storage-download",
         Activity::Download(_, WritesSoFar::OneRefused) => "spoiled-download",
+        Activity::CutOff => "cut-off",
     };
     let restart = match manager.restart() {
         Restart::NotDue => "none",

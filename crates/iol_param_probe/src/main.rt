@@ -12,7 +12,8 @@
 //! open                   anew, with erased slots           plug WORD WORD    with slots like these
 //! unplug                 off: slots, stores, in order 0|1  power             off and on again
 //! read INDEX SUB         write INDEX SUB WORD              set INDEX SUB WORD
-//! reset                  over                              raised            state
+//! reset                  over                              silence           raised
+//! state
 //! ```
 #![tactic(auto)]
 

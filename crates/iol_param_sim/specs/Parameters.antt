@@ -7,12 +7,12 @@ use Rattle.iol_far.specs.Isdu.{handed_request}
 use Rattle.iol_far.specs.Local.{Carry, Raise}
 use Rattle.iol_device.specs.declared.app.Apart.{Apart}
 use Rattle.iol_params.specs.Table.{ParamTable}
-use Rattle.iol_params.specs.State.{ParamState, after_end}
+use Rattle.iol_params.specs.State.{ParamState, after_end, after_quiet}
 use Rattle.iol_params.specs.Carry.{local_change}
 use Rattle.iol_params.specs.Requests.{request_result}
 use Rattle.iol_params.specs.Image.{kept_of, with_kept}
 use Rattle.iol_params.specs.Manager.{ManagerValue}
-use Rattle.iol_param_device.specs.Device.{Both, both, after_request, event_told, after_event, after_work, leaves_operate, ended_if, upload_event}
+use Rattle.iol_param_device.specs.Device.{Both, both, after_request, event_told, after_event, after_work, goes_back, ended_if, upload_event}
 use Rattle.iol_sim.specs.OwnSteps.{Own, own_and}
 use Rattle.iol_sim.specs.Beside.{Stand, BesideFacts}
 
@@ -64,14 +64,15 @@ work_own false table b = told_own (b.state.event_due && not (is_full b.far.event
 pub not_plain : {A : Type 0} → IsTrue false → A
 not_plain e = absurd (cc)
 
--- what stands beside the device: an activity ends with a wake-up request, in silence and where
--- OPERATE is left; a power cycle brings what was saved last, which is what is in force; a change
--- that is refused changes nothing
+-- what stands beside the device: an activity ends with a wake-up request, where the device goes
+-- back, and in silence, which cuts a download off; a power cycle brings what was saved last, which
+-- is what is in force; a change that is refused changes nothing
 abbrev pub parameters_facts : BesideFacts Apart ParametersValue
 parameters_facts = record {
   works = λ old new. new ≡ stand_after_work old;
   ended = λ p. with_param_state p (after_end p.manager.state);
-  heard = λ before now p. with_param_state p (ended_if (leaves_operate before now) p.manager.state);
+  silenced = λ p. with_param_state p (after_quiet p.manager.state);
+  heard = λ before now p. with_param_state p (ended_if (goes_back before now) p.manager.state);
   cycled = λ p. with_param_state p (with_kept p.manager.state (Some (kept_of p.manager.state)));
   changed = λ p place octets.
       with_param_state p (local_change p.manager.table p.manager.state place octets).1;

@@ -2,7 +2,7 @@
 //!
 //! [`Parameters`] stands beside the device of a [`Sim`](iol_sim::Sim): it answers requests by a
 //! `Manager` of a table, raises the event that Data Storage waits for, ends an activity where the
-//! device leaves OPERATE, and has what was saved last behind a power cycle.
+//! device goes back, and has what was saved last behind a power cycle.
 //!
 //! Definitions: `specs/Parameters`.
 #![tactic(auto)]

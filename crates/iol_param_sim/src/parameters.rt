@@ -10,7 +10,7 @@ ghost use Rattle.iol_param_device.specs.Device.{both, after_request, after_event
 use iol_device::{Apart, Device, Kept};
 use iol_far::DeviceMode;
 use iol_isdu::{Answer, Place};
-use iol_param_device::UPLOAD_REQUEST;
+use iol_param_device::{UPLOAD_REQUEST, goes_back};
 use iol_params::{Manager, Table};
 use iol_sim::Beside;
 use std::alloc::{AllocError, Allocator, Global};
@@ -110,9 +110,14 @@ impl<'t, A: Allocator + Copy> Beside<Apart> for Parameters<'t, A> {
         self.manager.over();
     }
 
-    /// An activity ends where the device leaves OPERATE.
+    /// An activity ends without effect, and a download was cut off.
+    fn silence(&mut self) {
+        self.manager.silence();
+    }
+
+    /// An activity ends where the device goes back from OPERATE, or to STARTUP.
     fn hear(&mut self, before: DeviceMode, now: DeviceMode) {
-        if before == DeviceMode::Operate && now != DeviceMode::Operate {
+        if goes_back(before, now) {
             self.manager.over();
         }
     }

@@ -15,7 +15,7 @@ use Rattle.iol_params.specs.declared.state.Scope.{Scope}
 use Rattle.iol_params.specs.declared.state.Scope.TheVariants.{Block, Storage}
 use Rattle.iol_params.specs.declared.state.WritesSoFar.TheVariants.{AllTaken, OneRefused}
 use Rattle.iol_params.specs.declared.state.Activity.{Activity}
-use Rattle.iol_params.specs.declared.state.Activity.TheVariants.{Idle, Upload, Download}
+use Rattle.iol_params.specs.declared.state.Activity.TheVariants.{Idle, Upload, Download, CutOff}
 use Rattle.iol_params.specs.declared.state.Command.{Command}
 use Rattle.iol_params.specs.declared.state.Restart.{Restart}
 use Rattle.iol_params.specs.declared.state.Restart.TheVariants.{Warm, Silent}
@@ -23,10 +23,10 @@ use Rattle.iol_params.specs.declared.state.Command.TheVariants.{UploadStart, Upl
 use Rattle.iol_params.specs.declared.error_type.ErrorType.TheVariants.{AccessDenied, TooLong, TooShort, ValueOutOfRange, InvalidSet, FunctionUnavailable}
 use Rattle.iol_params.specs.declared.table.Flaw.TheVariants.{TooManyMembers, ManagedIndex, SubindexOutOfTurn, MixedAccess, BadLength, BadDefault, NoStoredNumber, BrokenAtFirst}
 use Rattle.iol_params.specs.Members.{big_endian}
-use Rattle.iol_params.specs.State.{ParamState, is_at_rest, is_uploading, is_downloading, is_foreign, after_end, with_flag_cleared, with_flag_set}
+use Rattle.iol_params.specs.State.{ParamState, is_at_rest, is_uploading, is_downloading, is_foreign, left_in_silence, after_end, after_quiet, with_flag_cleared, with_flag_set}
 use Rattle.iol_params.specs.Table.{ParamTable, table_fault, whole, is_managed, sub_in_turn, is_of_index, differs, has_length, fault_or, first_fault, storage_fault, member_flaw, members_fault, rules_fault, rule_flaw, is_stored_number}
 use Rattle.iol_params.specs.Carry.{local_access_refusal, local_refusal, local_settled, is_stored_at, with_flag_if, first_refusal, place_refusal, access_refusal, content_refusal, alone_refusal, write_refusal, with_write, write_settled, after_refused_write, download_settled, upload_settled, own_command, unless_foreign, is_consistent, rules_hold, with_reset}
-use Rattle.iol_params.specs.Laws.{IsConsistent, StaysConsistent, Writing, Setting, Commanding, Over}
+use Rattle.iol_params.specs.Laws.{IsConsistent, StaysConsistent, Writing, Setting, Commanding, Over, Silent}
 
 pub overlay-fits : (ms : List Member) (values : List (List ℕ)) (place : Place) (octets : List ℕ)
     → all_fit ms values ≡ true → fits_place ms place octets ≡ true
@@ -213,11 +213,26 @@ pub refused-downloading : (a : Activity) → is_downloading (after_refused_write
     → is_downloading a ≡ true
 refused-downloading Idle h = h
 refused-downloading (Upload scope) h = h
+refused-downloading CutOff h = h
 refused-downloading (Download scope writes) h = refl
 
 module _ (table : ParamTable) where
   pub end-consistent : (s : ParamState) → IsConsistent table s → IsConsistent table (after_end s)
   end-consistent s h = record { fit = h.fit; copy_fit = λ never. absurd (cc); rules = h.rules }
+
+  pub silence-consistent : (s : ParamState) → IsConsistent table s
+      → IsConsistent table (after_quiet s)
+  silence-consistent s h = record {
+    fit = h.fit;
+    copy_fit = λ under. absurd (never s.activity under);
+    rules = h.rules;
+  }
+    where
+      never : (a : Activity) → is_downloading (left_in_silence a) ≡ true → ⊥
+      never Idle under = cc
+      never (Upload scope) under = cc
+      never (Download scope writes) under = cc
+      never CutOff under = cc
 
   pub cleared-consistent : (scope : Scope) (s : ParamState) → IsConsistent table s
       → IsConsistent table (with_flag_cleared scope s)
@@ -252,6 +267,7 @@ module _ (table : ParamTable) where
           (ap is_at_rest e);
     }
     taken-consistent place octets (Upload scope) e fits alone = h
+    taken-consistent place octets CutOff e fits alone = h
     taken-consistent place octets (Download scope writes) e fits alone = record {
       fit = h.fit;
       copy_fit = λ under. overlay-fits table.members s.copy place octets (h.copy_fit under) fits;
@@ -311,6 +327,7 @@ module _ (table : ParamTable) where
         → IsConsistent table (download_settled a c s applied).1
     download-consistent Idle c applied ea ec keeps = h
     download-consistent (Upload scope) c applied ea ec keeps = h
+    download-consistent CutOff c applied ea ec keeps = h
     download-consistent (Download scope OneRefused) c applied ea ec keeps = end-consistent s h
     download-consistent (Download scope AllTaken) false applied ea ec keeps = end-consistent s h
     download-consistent (Download scope AllTaken) true applied ea ec keeps =
@@ -374,3 +391,4 @@ stays-consistent table s (Setting place octets) sound h =
 stays-consistent table s (Commanding scope asked) sound h =
     command-consistent table s h sound scope asked (is_foreign scope s.activity)
 stays-consistent table s Over sound h = end-consistent table s h
+stays-consistent table s Silent sound h = silence-consistent table s h

@@ -10,7 +10,7 @@ use Rattle.iol_params.specs.declared.state.Scope.{Scope}
 use Rattle.iol_params.specs.declared.state.Scope.TheVariants.{Block, Storage}
 use Rattle.iol_params.specs.declared.state.WritesSoFar.{WritesSoFar}
 use Rattle.iol_params.specs.declared.state.WritesSoFar.TheVariants.{AllTaken, OneRefused}
-use Rattle.iol_params.specs.declared.state.Activity.TheVariants.{Upload, Download}
+use Rattle.iol_params.specs.declared.state.Activity.TheVariants.{Upload, Download, CutOff}
 use Rattle.iol_params.specs.declared.state.Command.{Command}
 use Rattle.iol_params.specs.declared.state.Command.TheVariants.{UploadEnd, DownloadStart, DownloadEnd, DownloadStore}
 use Rattle.iol_params.specs.Values.{overlay}
@@ -18,27 +18,27 @@ use Rattle.iol_params.specs.Table.{ParamTable}
 use Rattle.iol_params.specs.State.{ParamState, is_at_rest, after_end, with_flag_cleared, with_flag_set}
 use Rattle.iol_params.specs.Carry.{write, download_settled, write_settled, write_refusal, own_command, unless_foreign, command, is_consistent, first_refusal, place_refusal, content_refusal, alone_refusal, local_change, local_settled}
 use Rattle.iol_params.proofs.Sets.{and-parts}
-use Rattle.iol_params.specs.Laws.{ParamChange, Writing, Setting, Commanding, Over, after_change, after_changes, is_written, all_written, with_write_of, with_writes, is_inside, DownloadsAreWhole, is_download_end, UploadsAreOneMoment}
+use Rattle.iol_params.specs.Laws.{ParamChange, Writing, Setting, Commanding, Over, Silent, after_change, after_changes, is_written, all_written, with_write_of, with_writes, is_inside, DownloadsAreWhole, is_download_end, UploadsAreOneMoment}
 
 -- a state in a download
 abbrev pub downloading : ParamState → Scope → WritesSoFar → List (List ℕ) → ParamState
 downloading k scope writes copy =
     record k { copy = copy; activity = Download scope writes }
 
--- a change at the device is refused in an activity
-refused-local : (place : Option ErrorType) (locked : Bool) (rest : Option ErrorType)
+-- what may not be now is refused, whatever else it is refused for
+pub refused-anyway : (place : Option ErrorType) (locked : Bool) (rest : Option ErrorType)
     → (why : ErrorType) × (first_refusal place (first_refusal
     (if locked then Some AccessDenied else Some FunctionUnavailable) rest) ≡ Some why)
-refused-local (Some why) locked rest = (why, refl)
-refused-local None true rest = (AccessDenied, refl)
-refused-local None false rest = (FunctionUnavailable, refl)
+refused-anyway (Some why) locked rest = (why, refl)
+refused-anyway None true rest = (AccessDenied, refl)
+refused-anyway None false rest = (FunctionUnavailable, refl)
 
 module _ (table : ParamTable) (place : Place) (octets : List ℕ) where
   pub setting-stays : (s : ParamState) → is_at_rest s.activity ≡ false
       → (local_change table s place octets).1 ≡ s
   setting-stays s h =
       let content = content_refusal table.members place octets in
-      let r = refused-local (place_refusal table.members place) s.locks.local
+      let r = refused-anyway (place_refusal table.members place) s.locks.local
       (first_refusal content (alone_refusal table s place octets)) in
       ap (λ (rest : Bool). (local_settled (first_refusal (place_refusal table.members place)
       (first_refusal (if s.locks.local then Some AccessDenied else
@@ -164,6 +164,7 @@ module _ (table : ParamTable) (k : ParamState) (scope : Scope) where
       (refused-stays table k copy (Download scope writes) other asked parts.0)
       (λ answer. refl) (λ values. refl) (leaves writes copy cs parts.1)
   leaves writes copy (Over ∷ cs) h = absurd (cc)
+  leaves writes copy (Silent ∷ cs) h = absurd (cc)
 
 -- what the end of a download comes to: all of its copy, if it is whole and breaks no rule
 pub record Ends (writes : WritesSoFar) (consistent : Bool) (copy values : List (List ℕ))
@@ -249,6 +250,7 @@ module _ (table : ParamTable) (k : ParamState) (scope : Scope) (copy : List (Lis
       setting-stays table place octets (uploading k scope copy) refl
   upload-stays (Commanding other asked) h = refused-stays table k copy (Upload scope) other asked h
   upload-stays Over h = absurd (cc)
+  upload-stays Silent h = absurd (cc)
 
   pub uploads-stay : (cs : List ParamChange) → list_all (is_inside (Upload scope)) cs ≡ true
       → after_changes table (uploading k scope copy) cs ≡ uploading k scope copy

@@ -6,7 +6,7 @@ use Rattle.iol_params.specs.declared.state.Scope.{Scope}
 use Rattle.iol_params.specs.declared.state.Scope.TheVariants.{Block, Storage}
 use Rattle.iol_params.specs.declared.state.WritesSoFar.TheVariants.{AllTaken, OneRefused}
 use Rattle.iol_params.specs.declared.state.Activity.{Activity}
-use Rattle.iol_params.specs.declared.state.Activity.TheVariants.{Idle, Upload, Download}
+use Rattle.iol_params.specs.declared.state.Activity.TheVariants.{Idle, Upload, Download, CutOff}
 use Rattle.iol_params.specs.declared.state.Command.{Command}
 use Rattle.iol_params.specs.declared.state.Command.TheVariants.{UploadStart, UploadEnd, DownloadStart, DownloadEnd, DownloadStore, Break, ApplicationReset, FactoryReset, DeviceReset, BackToBox}
 use Rattle.std.specs.List.{list_any}
@@ -14,13 +14,14 @@ use Rattle.iol_params.specs.Values.{overlay}
 use Rattle.iol_params.specs.Table.{ParamTable}
 use Rattle.iol_params.specs.State.{ParamState, is_foreign, is_uploading, after_end, with_flag_cleared, with_flag_set}
 use Rattle.iol_params.specs.Carry.{local_settled, local_refusal, is_stored_at, with_flag_if, write_settled, write_refusal, with_write, download_settled, upload_settled, own_command, unless_foreign, is_consistent}
-use Rattle.iol_params.specs.Laws.{Writing, Setting, Commanding, Over, FlagStays, may_clear}
+use Rattle.iol_params.specs.Laws.{Writing, Setting, Commanding, Over, Silent, FlagStays, may_clear}
 
 pub with_write-flag : (a : Activity) (table : ParamTable) (s : ParamState) (place : Place)
     (octets : List ℕ) → (with_write a table s place octets).flag ≡ s.flag
 with_write-flag Idle table s place octets = refl
 with_write-flag (Upload scope) table s place octets = refl
 with_write-flag (Download scope writes) table s place octets = refl
+with_write-flag CutOff table s place octets = refl
 
 pub write-flag : (r : Option ErrorType) (table : ParamTable) (s : ParamState) (place : Place)
     (octets : List ℕ) → (write_settled r table s place octets).1.flag ≡ s.flag
@@ -43,6 +44,7 @@ module _ (s : ParamState) (applied : ParamState → ParamState) where
       → (download_settled a c s applied).1.flag ≡ true
   settled-flag Idle c h keeps = h
   settled-flag (Upload scope) c h keeps = h
+  settled-flag CutOff c h keeps = h
   settled-flag (Download scope OneRefused) c h keeps = h
   settled-flag (Download scope AllTaken) false h keeps = h
   settled-flag (Download scope AllTaken) true h keeps =
@@ -53,6 +55,7 @@ module _ (s : ParamState) (applied : ParamState → ParamState) where
       → (download_settled a c s applied).1.flag ≡ s.flag
   settled-refused Idle c why h = refl
   settled-refused (Upload scope) c why h = refl
+  settled-refused CutOff c why h = refl
   settled-refused (Download scope OneRefused) c why h = refl
   settled-refused (Download scope AllTaken) false why h = refl
   settled-refused (Download scope AllTaken) true why h = absurd (cc)
@@ -128,3 +131,4 @@ flag-stays table s (Commanding scope asked) h = (
   λ why refusal. command-refused table s scope asked (is_foreign scope s.activity) why refusal ∙ h,
 )
 flag-stays table s Over h = (λ kept. h, λ why refusal. h)
+flag-stays table s Silent h = (λ kept. h, λ why refusal. h)

@@ -1,5 +1,6 @@
 pub mod CellLemmas
 pub mod Consistency
+pub mod CutOffs
 pub mod Downloads
 pub mod Fitting
 pub mod Flags

@@ -6,7 +6,7 @@ use Rattle.iol_params.specs.declared.error_type.ErrorType.TheVariants.{AccessDen
 use Rattle.iol_params.specs.declared.member.Member.{Member}
 use Rattle.iol_params.specs.declared.state.WritesSoFar.TheVariants.{AllTaken, OneRefused}
 use Rattle.iol_params.specs.declared.state.Activity.{Activity}
-use Rattle.iol_params.specs.declared.state.Activity.TheVariants.{Idle, Upload, Download}
+use Rattle.iol_params.specs.declared.state.Activity.TheVariants.{Idle, Upload, Download, CutOff}
 use Rattle.iol_params.specs.Values.{overlay, fits_place, most_at, least_at}
 use Rattle.iol_params.specs.Table.{ParamTable}
 use Rattle.iol_params.specs.State.{ParamState, is_at_rest, is_downloading, took_each_write, after_end}
@@ -92,6 +92,7 @@ module _ (a : Activity) (c : Bool) (s : ParamState) (applied : ParamState → Pa
       by : (b : Activity) → is_downloading b ≡ false
           → download_settled b c s applied ≡ (Some FunctionUnavailable, s)
       by Idle k = refl
+      by CutOff k = refl
       by (Upload scope) k = refl
       by (Download scope writes) k = absurd (cc)
 
@@ -102,6 +103,7 @@ module _ (a : Activity) (c : Bool) (s : ParamState) (applied : ParamState → Pa
       by : (b : Activity) → is_downloading b ≡ true → took_each_write b ≡ false
           → download_settled b c s applied ≡ (Some InconsistentSet, after_end s)
       by Idle k l = absurd (cc)
+      by CutOff k l = absurd (cc)
       by (Upload scope) k l = absurd (cc)
       by (Download scope OneRefused) k l = refl
       by (Download scope AllTaken) k l = absurd (cc)
@@ -113,6 +115,7 @@ module _ (a : Activity) (c : Bool) (s : ParamState) (applied : ParamState → Pa
       by : (b : Activity) (d : Bool) → is_downloading b ≡ true → d ≡ false
           → download_settled b d s applied ≡ (Some InconsistentSet, after_end s)
       by Idle d k l = absurd (cc)
+      by CutOff d k l = absurd (cc)
       by (Upload scope) d k l = absurd (cc)
       by (Download scope OneRefused) d k l = refl
       by (Download scope AllTaken) false k l = refl
@@ -126,6 +129,7 @@ module _ (a : Activity) (c : Bool) (s : ParamState) (applied : ParamState → Pa
           → download_settled b d s applied
           ≡ (None, applied (after_end (record s { values = s.copy })))
       by Idle d k l = absurd (cc)
+      by CutOff d k l = absurd (cc)
       by (Upload scope) d k l = absurd (cc)
       by (Download scope OneRefused) d k l = absurd (cc)
       by (Download scope AllTaken) false k l = absurd (cc)

@@ -10,14 +10,14 @@ use Rattle.iol_params.specs.declared.state.Scope.{Scope}
 use Rattle.iol_params.specs.declared.state.Scope.TheVariants.{Storage}
 use Rattle.iol_params.specs.declared.state.WritesSoFar.TheVariants.{AllTaken, OneRefused}
 use Rattle.iol_params.specs.declared.state.Activity.{Activity}
-use Rattle.iol_params.specs.declared.state.Activity.TheVariants.{Idle, Upload, Download}
+use Rattle.iol_params.specs.declared.state.Activity.TheVariants.{Idle, Upload, Download, CutOff}
 use Rattle.iol_params.specs.declared.state.Command.{Command}
 use Rattle.iol_params.specs.declared.state.Command.TheVariants.{UploadStart, UploadEnd, DownloadStart, DownloadEnd, DownloadStore, Break, ApplicationReset, FactoryReset, DeviceReset, BackToBox}
 use Rattle.iol_params.specs.declared.state.Restart.TheVariants.{Warm, Silent}
 use Rattle.iol_params.specs.Members.{selects}
 use Rattle.iol_params.specs.Values.{most_at, least_at, fits_place, overlay, holds_rule, is_writable, is_stored, reset_values}
 use Rattle.iol_params.specs.Table.{ParamTable, is_of_index}
-use Rattle.iol_params.specs.State.{ParamState, is_at_rest, is_uploading, is_foreign, after_end, with_flag_cleared, with_flag_set, no_locks}
+use Rattle.iol_params.specs.State.{ParamState, is_at_rest, is_uploading, takes_writes, is_foreign, after_end, with_flag_cleared, with_flag_set, no_locks}
 
 -- whether each order rule holds
 -- PAR-6
@@ -56,7 +56,7 @@ is_read_only_at place member = selects place member && not (is_writable member.a
 abbrev pub access_refusal : ParamTable → ParamState → Place → Option ErrorType
 access_refusal table s place =
     if s.locks.parameters || list_any (is_read_only_at place) table.members then Some AccessDenied
-    else if is_uploading s.activity then Some FunctionUnavailable else None
+    else if not (takes_writes s.activity) then Some FunctionUnavailable else None
 
 -- why a write alone can't stand: it would break an order rule. In a download its end asks
 -- PAR-6
@@ -79,6 +79,7 @@ abbrev pub with_write : Activity → ParamTable → ParamState → Place → Lis
 with_write Idle table s place octets =
     record s { values = overlay table.members s.values place octets }
 with_write (Upload scope) table s place octets = s
+with_write CutOff table s place octets = s
 with_write (Download scope writes) table s place octets =
     record s { copy = overlay table.members s.copy place octets }
 
@@ -88,6 +89,7 @@ abbrev pub after_refused_write : Activity → Activity
 after_refused_write Idle = Idle
 after_refused_write (Upload scope) = Upload scope
 after_refused_write (Download scope writes) = Download scope OneRefused
+after_refused_write CutOff = CutOff
 
 -- a write's ErrorType, none if it is Written, and the state then
 abbrev pub write_settled : Option ErrorType → ParamTable → ParamState → Place → List ℕ
@@ -145,6 +147,7 @@ abbrev pub download_settled : Activity → Bool → ParamState → (ParamState �
     → Option ErrorType × ParamState
 download_settled Idle consistent s applied = (Some FunctionUnavailable, s)
 download_settled (Upload scope) consistent s applied = (Some FunctionUnavailable, s)
+download_settled CutOff consistent s applied = (Some FunctionUnavailable, s)
 download_settled (Download scope OneRefused) consistent s applied =
     (Some InconsistentSet, after_end s)
 download_settled (Download scope AllTaken) false s applied = (Some InconsistentSet, after_end s)

@@ -1,35 +1,38 @@
 -- What a reader may conclude of a manager, whatever happens.
-use Rattle.std.specs.Prelude.{◌≡◌, ℕ, Bool, true, false, ◌&&◌, ◌||◌, if◌then◌else◌, List, [], ◌∷◌, Option, Some, None, is_none}
+use Rattle.std.specs.Prelude.{◌≡◌, ℕ, Bool, true, false, ◌&&◌, ◌||◌, if◌then◌else◌, List, [], ◌∷◌, Option, Some, None, is_none, is_some}
 use Rattle.std.specs.List.{list_all}
 use Rattle.iol_isdu.specs.declared.values.Place.{Place}
 use Rattle.iol_params.specs.declared.error_type.ErrorType.{ErrorType}
 use Rattle.iol_params.specs.declared.member.Member.{Member}
 use Rattle.iol_params.specs.declared.state.Scope.{Scope}
 use Rattle.iol_params.specs.declared.state.Scope.TheVariants.{Storage}
+use Rattle.iol_params.specs.declared.state.WritesSoFar.{WritesSoFar}
 use Rattle.iol_params.specs.declared.state.WritesSoFar.TheVariants.{AllTaken}
 use Rattle.iol_params.specs.declared.state.Activity.{Activity}
-use Rattle.iol_params.specs.declared.state.Activity.TheVariants.{Idle, Upload, Download}
+use Rattle.iol_params.specs.declared.state.Activity.TheVariants.{Idle, Upload, Download, CutOff}
 use Rattle.iol_params.specs.declared.state.Command.{Command}
 use Rattle.iol_params.specs.declared.state.Command.TheVariants.{UploadEnd, DownloadStart, DownloadEnd, DownloadStore, FactoryReset, BackToBox}
 use Rattle.iol_params.specs.Values.{all_fit, overlay, value_at}
 use Rattle.iol_params.specs.Table.{ParamTable, table_fault, whole, begins_stored}
-use Rattle.iol_params.specs.State.{ParamState, is_at_rest, is_foreign, is_downloading, after_end}
+use Rattle.iol_params.specs.State.{ParamState, is_at_rest, is_foreign, is_downloading, after_end, after_quiet}
 use Rattle.iol_params.specs.Storage.{checksum_over}
 use Rattle.iol_params.specs.Carry.{write, local_change, command, is_consistent}
 
--- what changes a manager: a write, a change at the device, a command, and the end of an activity
--- from outside
+-- what changes a manager: a write, a change at the device, a command, the end of an activity from
+-- outside, and silence of the master
 pub data ParamChange : Type 0 where
   Writing : Place → List ℕ → ParamChange
   Setting : Place → List ℕ → ParamChange
   Commanding : Scope → Command → ParamChange
   Over : ParamChange
+  Silent : ParamChange
 
 abbrev pub after_change : ParamTable → ParamState → ParamChange → Option ErrorType × ParamState
 after_change table s (Writing place octets) = write table s place octets
 after_change table s (Setting place octets) = local_change table s place octets
 after_change table s (Commanding scope asked) = command table s scope asked
 after_change table s Over = (None, after_end s)
+after_change table s Silent = (None, after_quiet s)
 
 -- the state behind changes, one after the other
 abbrev pub after_changes : ParamTable → ParamState → List ParamChange → ParamState
@@ -70,6 +73,7 @@ abbrev pub ends_another : Activity → Command → Bool
 ends_another Idle asked = false
 ends_another (Upload scope) asked = is_download_end asked
 ends_another (Download scope writes) asked = is_upload_end asked
+ends_another CutOff asked = false
 
 -- what may come in an activity, which goes on: writes, changes at the device, and the commands
 -- that are refused. All others end it, or begin it anew
@@ -80,6 +84,7 @@ is_inside activity (Setting place octets) = true
 is_inside activity (Commanding scope asked) =
     is_foreign scope activity || ends_another activity asked
 is_inside activity Over = false
+is_inside activity Silent = false
 
 -- a download is applied whole or not at all: from its start on the values in force stay as they
 -- are, whatever comes inside. Its end, if it is Written, brings all of its writes, in order, each
@@ -101,6 +106,28 @@ DownloadsAreWhole = (table : ParamTable) (s : ParamState) (scope : Scope) (asked
     → let begun = (command table s scope DownloadStart).1 in
     let inside = after_changes table begun cs in
     WholeOrNot table s cs begun inside (command table inside scope asked)
+
+-- what may be left of a download that was cut off: writes, and its end
+abbrev pub is_left_over : ParamChange → Bool
+is_left_over (Writing place octets) = true
+is_left_over (Commanding scope asked) = is_download_end asked
+is_left_over _ = false
+
+-- whether each of them is refused
+abbrev pub all_refused : ParamTable → ParamState → List ParamChange → Bool
+all_refused table s [] = true
+all_refused table s (c ∷ cs) = is_some (after_change table s c).0
+    && all_refused table (after_change table s c).1 cs
+
+-- a download that the master's silence cut off is none: whatever is left of it is refused, and
+-- changes nothing
+-- ACT-7
+abbrev pub CutOffsStayOut : Type 0
+CutOffsStayOut = (table : ParamTable) (s : ParamState) (scope : Scope) (writes : WritesSoFar)
+    (cs : List ParamChange) → s.activity ≡ Download scope writes
+    → list_all is_left_over cs ≡ true
+    → let silent = after_quiet s in (silent.values ≡ s.values)
+    × (all_refused table silent cs ≡ true) × (after_changes table silent cs ≡ silent)
 
 -- always each member has a value that fits, in a copy too, and each order rule holds
 pub record IsConsistent (table : ParamTable) (s : ParamState) : Type 0 where

@@ -13,7 +13,7 @@ use Rattle.iol_params.specs.declared.state.Command.{Command}
 use Rattle.iol_params.specs.Errors.{refusal_answer}
 use Rattle.iol_params.specs.Commands.{param_command}
 use Rattle.iol_params.specs.Table.{ParamTable}
-use Rattle.iol_params.specs.State.{ParamState, is_at_rest, locks_octet, locks_in}
+use Rattle.iol_params.specs.State.{ParamState, is_at_rest, takes_writes, locks_octet, locks_in}
 use Rattle.iol_params.specs.Storage.{storage_value}
 use Rattle.iol_params.specs.Carry.{write, command}
 use Rattle.iol_params.specs.Manager.{read_answer}
@@ -66,7 +66,8 @@ locks_set s (first ∷ second ∷ third ∷ more) = (Some TooLong, s)
 
 abbrev pub locks_write : ParamState → List ℕ → Option ErrorType × ParamState
 locks_write s octets =
-    if is_at_rest s.activity then locks_set s octets else (Some FunctionUnavailable, s)
+    if is_at_rest s.activity && takes_writes s.activity
+    then locks_set s octets else (Some FunctionUnavailable, s)
 
 -- what a write comes to
 abbrev pub write_request : ParamTable → ParamState → Place → List ℕ

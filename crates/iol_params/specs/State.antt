@@ -4,7 +4,7 @@ use Rattle.iol_params.specs.declared.state.Scope.{Scope}
 use Rattle.iol_params.specs.declared.state.Scope.TheVariants.{Block, Storage}
 use Rattle.iol_params.specs.declared.state.WritesSoFar.TheVariants.{AllTaken, OneRefused}
 use Rattle.iol_params.specs.declared.state.Activity.{Activity}
-use Rattle.iol_params.specs.declared.state.Activity.TheVariants.{Idle, Upload, Download}
+use Rattle.iol_params.specs.declared.state.Activity.TheVariants.{Idle, Upload, Download, CutOff}
 use Rattle.iol_params.specs.declared.state.Locks.{Locks}
 use Rattle.iol_params.specs.declared.state.Restart.{Restart}
 
@@ -35,16 +35,26 @@ abbrev pub is_at_rest : Activity → Bool
 is_at_rest Idle = true
 is_at_rest (Upload scope) = false
 is_at_rest (Download scope writes) = false
+is_at_rest CutOff = true
 
 abbrev pub is_uploading : Activity → Bool
 is_uploading Idle = false
 is_uploading (Upload scope) = true
 is_uploading (Download scope writes) = false
+is_uploading CutOff = false
 
 abbrev pub is_downloading : Activity → Bool
 is_downloading Idle = false
 is_downloading (Upload scope) = false
 is_downloading (Download scope writes) = true
+is_downloading CutOff = false
+
+-- whether the master may write a parameter
+abbrev pub takes_writes : Activity → Bool
+takes_writes Idle = true
+takes_writes (Upload scope) = false
+takes_writes (Download scope writes) = true
+takes_writes CutOff = false
 
 -- whether a download is, of which each write was taken
 abbrev pub took_each_write : Activity → Bool
@@ -52,12 +62,14 @@ took_each_write Idle = false
 took_each_write (Upload scope) = false
 took_each_write (Download scope AllTaken) = true
 took_each_write (Download scope OneRefused) = false
+took_each_write CutOff = false
 
 -- whether an activity of this scope is under way
 abbrev pub is_in : Scope → Activity → Bool
 is_in scope Idle = false
 is_in scope (Upload own) = same_scope scope own
 is_in scope (Download own writes) = same_scope scope own
+is_in scope CutOff = false
 
 -- whether one of the other scope is
 abbrev pub is_foreign : Scope → Activity → Bool
@@ -71,6 +83,18 @@ after_end s = record s {
   copy = [];
   event_due = s.event_due || (is_in Block s.activity && s.flag);
 }
+
+-- what is left of an activity once the master was silent
+abbrev pub left_in_silence : Activity → Activity
+left_in_silence Idle = Idle
+left_in_silence (Upload scope) = Idle
+left_in_silence (Download scope writes) = CutOff
+left_in_silence CutOff = CutOff
+
+-- the master was silent: an activity ends without effect, and a download was cut off
+-- ACT-7
+abbrev pub after_quiet : ParamState → ParamState
+after_quiet s = record (after_end s) { activity = left_in_silence s.activity }
 
 -- Data Storage has what is new here
 -- DSD-4

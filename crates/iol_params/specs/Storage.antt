@@ -3,7 +3,7 @@ use Rattle.std.specs.Prelude.{ℕ, zero, suc, ◌+◌, ◌*◌, ◌/◌, ◌%◌
 use Rattle.iol_params.specs.declared.member.Member.{Member}
 use Rattle.iol_params.specs.declared.state.Scope.TheVariants.{Block, Storage}
 use Rattle.iol_params.specs.declared.state.Activity.{Activity}
-use Rattle.iol_params.specs.declared.state.Activity.TheVariants.{Idle, Upload, Download}
+use Rattle.iol_params.specs.declared.state.Activity.TheVariants.{Idle, Upload, Download, CutOff}
 use Rattle.iol_params.specs.Values.{value_at}
 use Rattle.iol_params.specs.Table.{ParamTable, whole, begins_stored, two_octets, set_size, index_list}
 use Rattle.iol_params.specs.State.{ParamState, bit_of}
@@ -51,6 +51,7 @@ storage_activity (Download Storage writes) = 2
 storage_activity (Upload Block) = 0
 storage_activity (Download Block writes) = 0
 storage_activity Idle = 0
+storage_activity CutOff = 0
 
 -- DSD-1
 abbrev pub state_octet : ParamState → ℕ

@@ -132,7 +132,7 @@ impl<'a, A: Allocator + Copy> Manager<'a, A> {
         ensures refusal { result_err result
             ≡ (locks_write self.old.state octets.now).0 }
     {
-        if !self.activity().is_at_rest() {
+        if !(self.activity().is_at_rest() && self.activity().takes_writes()) {
             return Err(ErrorType::FunctionUnavailable);
         }
         match octets {

@@ -1,5 +1,5 @@
 //! What a reader may conclude of a manager: laws, without code.
-ghost use Rattle.iol_params.specs.Laws.{DownloadsAreWhole, StaysConsistent, UploadsAreOneMoment, FlagStays, SetsFit};
+ghost use Rattle.iol_params.specs.Laws.{DownloadsAreWhole, CutOffsStayOut, StaysConsistent, UploadsAreOneMoment, FlagStays, SetsFit};
 
 /// A law of the definitions: a download, of a block or of Data Storage, is applied whole or not at
 /// all. Whatever comes in it, writes, changes at the device and commands that are refused, no value
@@ -10,6 +10,14 @@ ghost use Rattle.iol_params.specs.Laws.{DownloadsAreWhole, StaysConsistent, Uplo
 /// Rule ACT-2.
 pub fn downloads_are_whole()
     ensures { DownloadsAreWhole }
+{}
+
+/// A law of the definitions: behind a download in which the master was silent, whatever it still
+/// writes of it is refused, its end too, and changes nothing.
+///
+/// Rule ACT-7.
+pub fn cut_offs_stay_out()
+    ensures { CutOffsStayOut }
 {}
 
 /// A law of the definitions: what an upload reads is of one moment, whatever comes in it.

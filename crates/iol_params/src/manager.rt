@@ -3,7 +3,7 @@ ghost use Rattle.std.specs.Prelude.{◌≡◌, ◌≤◌, ◌++◌, ◌∷◌, [
 ghost use Rattle.std.specs.Result.{result_err};
 ghost use Rattle.iol_params.specs.Values.{values_in, room_for, defaults, overlay, all_fit, fits_place};
 ghost use Rattle.iol_params.specs.Table.{is_of_index};
-ghost use Rattle.iol_params.specs.State.{is_uploading, after_end, with_flag_cleared, with_flag_set};
+ghost use Rattle.iol_params.specs.State.{is_uploading, after_end, after_quiet, with_flag_cleared, with_flag_set};
 ghost use Rattle.iol_params.specs.Carry.{write, command, upload_settled, place_refusal, access_refusal, content_refusal, alone_refusal, write_refusal, local_change, local_refusal, download_end, with_reset, rules_hold, is_consistent};
 ghost use Rattle.iol_params.specs.Storage.{storage_value, state_octet};
 ghost use Rattle.iol_params.specs.Image.{with_kept};
@@ -138,9 +138,10 @@ impl<'a, A: Allocator + Copy> Manager<'a, A> {
     /// Writes a parameter of the table: at once, or in a download to its copy.
     ///
     /// Refused with the first of these: 0x8011, 0x8012, there is no such place; 0x8023, it can't
-    /// be written, or is locked; 0x8036, an upload is under way; 0x8033, 0x8034, too many octets,
-    /// or too few; 0x8030, a number out of its range; 0x8040, alone it would break an order rule.
-    /// Then no value changes, and a download can't be applied any more.
+    /// be written, or is locked; 0x8036, an upload is under way, or a download was cut off by
+    /// silence; 0x8033, 0x8034, too many octets, or too few; 0x8030, a number out of its range;
+    /// 0x8040, alone it would break an order rule. Then no value changes, and a download can't be
+    /// applied any more.
     ///
     /// Rules PAR-4, ACT-2, ACT-3.
     #[tactic(auto, using(crate::proofs::ManagerLemmas::write_taken))]
@@ -156,7 +157,7 @@ impl<'a, A: Allocator + Copy> Manager<'a, A> {
         }
         match self.activity {
             Activity::Idle => self.put(place, octets),
-            Activity::Upload(_) => {}
+            Activity::Upload(_) | Activity::CutOff => {}
             Activity::Download(..) => {
                 cells::write(self.table.members(), &mut self.copy, place, octets);
             }
@@ -362,14 +363,27 @@ impl<'a, A: Allocator + Copy> Manager<'a, A> {
         Ok(())
     }
 
-    /// The link was lost or began anew, or the master left OPERATE: an activity ends, without
-    /// effect.
+    /// The link was lost or began anew, or the master went back from OPERATE or to STARTUP: an
+    /// activity ends, without effect.
     ///
     /// Rule ACT-5.
     pub fn over(&mut self)
         ensures { self.new ≡ record self.old { state = after_end self.old.state } }
     {
         self.end();
+    }
+
+    /// The master was silent, and may go on as if it hadn't been: an activity ends, without effect.
+    /// Behind a download the master's writes are refused with 0x8036, up to its next start, break
+    /// or reset, or to [`over`](Manager::over).
+    ///
+    /// Rule ACT-7.
+    pub fn silence(&mut self)
+        ensures { self.new ≡ record self.old { state = after_quiet self.old.state } }
+    {
+        let left = self.activity.left_in_silence();
+        self.end();
+        self.activity = left;
     }
 
     // A value that fits there, and breaks no order rule, is in force.
@@ -407,7 +421,7 @@ impl<'a, A: Allocator + Copy> Manager<'a, A> {
         let members = self.table.members();
         if self.locks.parameters || has_read_only(members, place) {
             Some(ErrorType::AccessDenied)
-        } else if self.activity.is_upload() {
+        } else if !self.activity.takes_writes() {
             Some(ErrorType::FunctionUnavailable)
         } else {
             None

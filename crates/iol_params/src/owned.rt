@@ -1,7 +1,7 @@
 //! A table, and a manager, that own what they stand on.
 ghost use Rattle.std.specs.Prelude.{◌≡◌, ◌≤◌, Some, None, IfOk, IfErr, length, false};
 ghost use Rattle.std.specs.Result.{result_err};
-ghost use Rattle.iol_params.specs.State.{after_end};
+ghost use Rattle.iol_params.specs.State.{after_end, after_quiet};
 ghost use Rattle.iol_params.specs.Carry.{command, local_change};
 ghost use Rattle.iol_params.specs.Requests.{request_result};
 ghost use Rattle.iol_params.specs.Image.{kept_of, kept_in, image_size, with_kept};
@@ -148,6 +148,17 @@ impl<A: Allocator + Copy> OwnedManager<A> {
         let table = self.table.table();
         let mut manager = Manager::of_parts(&table, parts);
         manager.over();
+        self.parts = manager.into_parts();
+    }
+
+    /// The master was silent, as [`Manager::silence`] says.
+    pub fn silence(&mut self)
+        ensures { self.new ≡ record self.old { state = after_quiet self.old.state } }
+    {
+        let parts = replace(&mut self.parts, ManagerParts::none(self.alloc));
+        let table = self.table.table();
+        let mut manager = Manager::of_parts(&table, parts);
+        manager.silence();
         self.parts = manager.into_parts();
     }
 

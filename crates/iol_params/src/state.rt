@@ -27,6 +27,9 @@ pub enum Activity {
     Upload(Scope),
     /// The master writes what belongs together. Nothing is in force before its end.
     Download(Scope, WritesSoFar),
+    /// Nothing, behind a download in which the master was silent: what it still writes of that
+    /// would come into force alone.
+    CutOff,
 }
 
 /// A SystemCommand (B.2.2), or a DS_Command (B.2.3).
@@ -98,7 +101,7 @@ impl Scope {
 }
 
 impl Activity {
-    ghost use Rattle.iol_params.specs.State.{is_at_rest, is_uploading, is_downloading, took_each_write, is_in, is_foreign};
+    ghost use Rattle.iol_params.specs.State.{is_at_rest, is_uploading, is_downloading, takes_writes, took_each_write, is_in, is_foreign, left_in_silence};
     ghost use Rattle.iol_params.specs.Carry.{after_refused_write};
     ghost use Rattle.iol_params.specs.Storage.{storage_activity};
 
@@ -106,7 +109,14 @@ impl Activity {
     pub fn is_at_rest(self) -> bool
         ensures { result ≡ is_at_rest self }
     {
-        matches!(self, Activity::Idle)
+        matches!(self, Activity::Idle | Activity::CutOff)
+    }
+
+    /// Whether the master may write a parameter.
+    pub(crate) fn takes_writes(self) -> bool
+        ensures { result ≡ takes_writes self }
+    {
+        matches!(self, Activity::Idle | Activity::Download(..))
     }
 
     /// Whether the master reads what belongs together.
@@ -135,7 +145,7 @@ impl Activity {
         ensures { result ≡ is_in scope self }
     {
         match self {
-            Activity::Idle => false,
+            Activity::Idle | Activity::CutOff => false,
             Activity::Upload(own) | Activity::Download(own, _) => own == scope,
         }
     }
@@ -155,8 +165,8 @@ impl Activity {
         match self {
             Activity::Upload(Scope::Storage) => 1,
             Activity::Download(Scope::Storage, _) => 2,
-            Activity::Idle | Activity::Upload(Scope::Block) | Activity::Download(Scope::Block, _) =>
-                0,
+            Activity::Upload(Scope::Block) | Activity::Download(Scope::Block, _) => 0,
+            Activity::Idle | Activity::CutOff => 0,
         }
     }
 
@@ -167,6 +177,16 @@ impl Activity {
         match self {
             Activity::Download(scope, _) => Activity::Download(scope, WritesSoFar::OneRefused),
             other => other,
+        }
+    }
+
+    /// What it is once the master was silent.
+    pub(crate) fn left_in_silence(self) -> Activity
+        ensures { result ≡ left_in_silence self }
+    {
+        match self {
+            Activity::Download(..) | Activity::CutOff => Activity::CutOff,
+            Activity::Idle | Activity::Upload(_) => Activity::Idle,
         }
     }
 }

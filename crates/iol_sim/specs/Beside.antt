@@ -28,8 +28,10 @@ pub record IsWork {P M : Type 0} (old new : Stand P M) : Type 0 where
 pub record BesideFacts (P M : Type 0) : Type 1 where
   -- what its work gives
   pub works : Stand P M → Stand P M → Type 0
-  -- what it is behind a wake-up request, and where the master counts as silent
+  -- what it is behind a wake-up request
   pub ended : M → M
+  -- and once the master counts as silent
+  pub silenced : M → M
   -- what it is once octets came, by the modes before and behind them
   pub heard : DeviceMode → DeviceMode → M → M
   -- what it is once the power is back
@@ -63,6 +65,7 @@ abbrev pub plain_facts : {P : Type 0} → Gives P → BesideFacts P Nothing
 plain_facts gives = record {
   works = ApplicationWorks gives;
   ended = λ m. m;
+  silenced = λ m. m;
   heard = λ before now m. m;
   cycled = λ m. m;
   changed = λ m place octets. m;
@@ -98,7 +101,7 @@ module _ {P M : Type 0} (facts : BesideFacts P M) where
   abbrev pub after_silence : Stand P M → Stand P M
   after_silence s = record {
     device = record s.device { silent = true };
-    beside = facts.ended s.beside;
+    beside = facts.silenced s.beside;
   }
 
   abbrev pub after_power : Stand P M → Stand P M

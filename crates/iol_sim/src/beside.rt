@@ -18,9 +18,13 @@ pub trait Beside<P: App>: Drop {
     fn work<A: Allocator + Copy>(&mut self, device: &mut Device<P, Kept<A>>)
         ensures { facts.works (stand device.old self.old) (stand device.new self.new) };
 
-    /// A wake-up request came, or the master counts as silent.
+    /// A wake-up request came.
     fn end(&mut self)
         ensures { self.new ≡ facts.ended self.old };
+
+    /// The master counts as silent.
+    fn silence(&mut self)
+        ensures { self.new ≡ facts.silenced self.old };
 
     /// Octets came, before and behind which the device was in these modes.
     fn hear(&mut self, before: DeviceMode, now: DeviceMode)
@@ -51,6 +55,8 @@ impl<P: App> Beside<P> for Nothing {
     }
 
     fn end(&mut self) {}
+
+    fn silence(&mut self) {}
 
     fn hear(&mut self, _before: DeviceMode, _now: DeviceMode) {}
 

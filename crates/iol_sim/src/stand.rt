@@ -84,7 +84,7 @@ impl<P: App, A: Allocator + Copy, B: Beside<P>> DeviceStand<P, A, B> {
         ensures { self.new ≡ after_silence B.facts self.old }
     {
         self.device.silence();
-        self.beside.end();
+        self.beside.silence();
     }
 
     /// The power fails and comes back.

@@ -195,6 +195,9 @@ impl<'a> Life<'a> {
         if self.chance.once_in(temper.resets) {
             self.line.unit()?.reset(rt)?;
         }
+        if self.chance.once_in(temper.crowds) {
+            self.line.unit()?.crowd(rt)?;
+        }
         if self.chance.once_in(temper.restarts) && self.port.awaits() == AwaitedAnswer::Nothing {
             println!(rt; "restart")?;
             self.port.restart();

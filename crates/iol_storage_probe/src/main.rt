@@ -13,6 +13,8 @@
 //! state UNIT FLAG ACTIVITY LOCKS INDEX:WORD ..         what it keeps
 //! carry UNIT PORT ENDED REQUEST ANSWER  what it carried out: handed over when so many had ended
 //! local UNIT INDEX SUB WORD CODE        a user's change    factory UNIT 0|1   a user's reset
+//! crowd UNIT                            its event memory is filled
+//! full UNIT                             the event of a change is due, and has no room there yet
 //! plug UNIT                             it stands at the line     power UNIT  it has power again
 //! out UNIT 0|1                          whether its output is valid   silence UNIT
 //! port PORT WORD                        the master begins anew, with this set

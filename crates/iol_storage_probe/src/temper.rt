@@ -19,6 +19,8 @@ pub struct Temper {
     pub powers: u64,
     pub changes: u64,
     pub resets: u64,
+    /// The event memory of the unit is filled.
+    pub crowds: u64,
     pub restarts: u64,
     pub crashes: u64,
     pub requests: u64,
@@ -53,6 +55,7 @@ impl Temper {
             powers: chance.one_of(&[0, 0, 150, 600]),
             changes: chance.one_of(&[0, 40, 150, 500]),
             resets: chance.one_of(&[0, 0, 700]),
+            crowds: chance.one_of(&[0, 0, 0, 200]),
             restarts: chance.one_of(&[0, 0, 200, 600]),
             crashes: chance.one_of(&[0, 200, 600]),
             requests: chance.one_of(&[0, 2, 10, 40]),
@@ -82,6 +85,7 @@ impl Temper {
         self.powers = 0;
         self.changes = 0;
         self.resets = 0;
+        self.crowds = 0;
         self.restarts = 0;
         self.crashes = 0;
         self.requests = 0;

@@ -3,15 +3,24 @@ use crate::chance::Chance;
 use crate::models::{MOODS, Model};
 use crate::text::{AnswerText, Hex, RequestText};
 use anyhow::Result;
-use iol_device::{Apart, Device, DeviceMode, Unkept};
+use iol_device::{Apart, Device, Unkept};
+use iol_event::Event;
 use iol_image::Image;
 use iol_isdu::{Answer, Place, Request};
 use iol_mseq::Message;
 use iol_page::Page;
-use iol_param_device::{SavedManager, UPLOAD_REQUEST, slot_size};
+use iol_param_device::{SavedManager, UPLOAD_REQUEST, goes_back, slot_size};
 use iol_params::{Activity, Scope, Table};
 use iol_slots::RamSlots;
 use std::alloc::Global;
+
+/// An event that isn't of Data Storage: a warning that a limit was passed.
+const WARNING: Event = Event {
+    qualifier: 0xE4,
+    code: 0x8C10,
+};
+/// So many events are more than the event memory takes.
+const CROWD: u64 = 40;
 
 /// Where a unit has its SerialNumber.
 const SERIAL_NUMBER: Place = Place { index: 21, sub: 0 };
@@ -115,7 +124,7 @@ impl<'a> Unit<'a> {
     ) -> Result<Option<Message>> {
         let before = self.device.mode();
         let reply = self.device.hear(octets);
-        if before == DeviceMode::Operate && self.device.mode() != DeviceMode::Operate {
+        if goes_back(before, self.device.mode()) {
             self.saved.over();
         }
         if let Some(number) = self.device.handed_number() {
@@ -147,8 +156,27 @@ impl<'a> Unit<'a> {
                 self.tell_state(rt)?;
             }
         }
-        if self.saved.manager().is_event_due() && self.device.raise(UPLOAD_REQUEST).is_ok() {
+        self.raise_due(rt)
+    }
+
+    /// An event that is due is raised, if the event memory takes it.
+    fn raise_due(&mut self, rt: &HostRuntime) -> Result<()> {
+        if !self.saved.manager().is_event_due() {
+            return Ok(());
+        }
+        if self.device.raise(UPLOAD_REQUEST).is_ok() {
             self.saved.event_raised();
+        } else {
+            println!(rt; "full {}", self.name)?;
+        }
+        Ok(())
+    }
+
+    /// As many other events are raised as the event memory takes.
+    pub fn crowd(&mut self, rt: &HostRuntime) -> Result<()> {
+        println!(rt; "crowd {}", self.name)?;
+        for _ in 0..CROWD {
+            let _ = self.device.raise(WARNING);
         }
         Ok(())
     }
@@ -181,7 +209,7 @@ impl<'a> Unit<'a> {
     pub fn silence(&mut self, rt: &HostRuntime) -> Result<()> {
         println!(rt; "silence {}", self.name)?;
         self.device.silence();
-        self.saved.over();
+        self.saved.silence();
         self.tell_changes(rt)
     }
 
@@ -224,5 +252,6 @@ fn activity_word(activity: Activity) -> &'static str {
         Activity::Upload(Scope::Storage) => "upload-storage",
         Activity::Download(Scope::Block, _) => "download-block",
         Activity::Download(Scope::Storage, _) => "download-storage",
+        Activity::CutOff => "cut-off",
     }
 }

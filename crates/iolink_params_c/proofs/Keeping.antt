@@ -13,15 +13,16 @@ use Rattle.iol_params.specs.declared.state.Scope.TheVariants.{Block, Storage}
 use Rattle.iol_params.specs.declared.error_type.ErrorType.TheVariants.{SubindexNotAvailable, AccessDenied, ValueOutOfRange, FunctionNotAvailable, FunctionUnavailable}
 use Rattle.iol_params.specs.declared.state.WritesSoFar.TheVariants.{AllTaken, OneRefused}
 use Rattle.iol_params.specs.declared.state.Activity.{Activity}
-use Rattle.iol_params.specs.declared.state.Activity.TheVariants.{Idle, Upload, Download}
+use Rattle.iol_params.specs.declared.state.Activity.TheVariants.{Idle, Upload, Download, CutOff}
 use Rattle.iol_params.specs.declared.state.Command.{Command}
 use Rattle.iol_params.specs.declared.state.Command.TheVariants.{UploadStart, UploadEnd, DownloadStart, DownloadEnd, DownloadStore, Break, ApplicationReset, FactoryReset, DeviceReset, BackToBox}
 use Rattle.iol_params.specs.Commands.{param_command}
 use Rattle.iol_params.specs.Table.{ParamTable}
-use Rattle.iol_params.specs.State.{ParamState, after_end, is_at_rest, is_foreign, is_uploading, with_flag_cleared, with_flag_set, locks_in}
+use Rattle.iol_params.specs.State.{ParamState, after_end, is_at_rest, takes_writes, is_foreign, is_uploading, with_flag_cleared, with_flag_set, locks_in}
 use Rattle.iol_params.specs.Carry.{write, write_settled, write_refusal, with_write, download_settled, upload_settled, own_command, unless_foreign, is_consistent}
 use Rattle.iol_params.specs.Requests.{request_result, written_answer, write_request, storage_write, command_write, asked_command, locks_set, locks_write}
 use Rattle.iol_params.specs.Image.{kept_of}
+use Rattle.iol_params.proofs.Sets.{and-parts}
 use Rattle.iol_param_device.specs.Device.{Both, both, event_told}
 use Rattle.iolink_params_c.specs.declared.sensor.ParamSensor.{ParamSensor}
 use Rattle.iolink_params_c.specs.Line.{with_state}
@@ -44,6 +45,7 @@ with_write-keeps : (a : Activity) (table : ParamTable) (s : ParamState) (place :
 with_write-keeps Idle table s place octets e h = absurd (cc)
 with_write-keeps (Upload scope) table s place octets e h = refl
 with_write-keeps (Download scope writes) table s place octets e h = refl
+with_write-keeps CutOff table s place octets e h = refl
 
 write-keeps : (r : Option ErrorType) (table : ParamTable) (s : ParamState) (place : Place)
     (octets : List ℕ) → Keeps s (write_settled r table s place octets)
@@ -69,6 +71,7 @@ module _ (s : ParamState) where
       → Keeps s (download_settled a c s applied)
   download-keeps Idle c applied same = λ h. refl
   download-keeps (Upload scope) c applied same = λ h. refl
+  download-keeps CutOff c applied same = λ h. refl
   download-keeps (Download scope OneRefused) c applied same = λ h. refl
   download-keeps (Download scope AllTaken) false applied same = λ h. refl
   download-keeps (Download scope AllTaken) true applied same = λ h.
@@ -124,8 +127,10 @@ module _ (table : ParamTable) (s : ParamState) where
       (Some SubindexNotAvailable, s) (λ f h. refl) (λ f h. refl))
 
   locks_write-keeps : (octets : List ℕ) → Keeps s (locks_write s octets)
-  locks_write-keeps octets = either (is_at_rest s.activity) s (locks_set s octets)
-      (Some FunctionUnavailable, s) (locks-keeps s octets) (λ e h. refl)
+  locks_write-keeps octets = either (is_at_rest s.activity && takes_writes s.activity) s
+      (locks_set s octets) (Some FunctionUnavailable, s)
+      (λ e. locks-keeps s octets
+      (and-parts (is_at_rest s.activity) (takes_writes s.activity) e).0) (λ e h. refl)
 
   write_request-keeps : (place : Place) (octets : List ℕ)
       → Keeps s (write_request table s place octets)

@@ -12,7 +12,7 @@ use Rattle.iol_device.specs.declared.app.Apart.{Apart}
 use Rattle.iol_device.specs.declared.fault.DeviceFault.{DeviceFault}
 use Rattle.iol_params.specs.declared.error_type.ErrorType.{ErrorType}
 use Rattle.iol_params.specs.declared.state.Activity.{Activity}
-use Rattle.iol_params.specs.State.{ParamState, is_at_rest, after_end}
+use Rattle.iol_params.specs.State.{ParamState, is_at_rest}
 use Rattle.iol_params.specs.Requests.{request_result}
 use Rattle.iol_param_device.specs.Device.{both, after_event}
 use Rattle.iolink_params_c.specs.declared.sensor.ParamSensor.{ParamSensor}
@@ -69,17 +69,6 @@ abbrev pub sensor_after_work : ParamSensor → ParamSensor
 sensor_after_work s = let done = after_handed (handed_request s.device.far.isdu) s in
     if_nothing (is_nothing s.unsaved) s
     (if_nothing (is_nothing done.unsaved) done (after_told done))
-
--- the request that is handed over is carried out, unless something is to be saved
-abbrev pub after_any_handed : ParamSensor → ParamSensor
-after_any_handed s =
-    if_nothing (is_nothing s.unsaved) s (after_handed (handed_request s.device.far.isdu) s)
-
--- the master counts as silent: the request is carried out, and then an activity ends
-abbrev pub sensor_after_silence : ParamSensor → ParamSensor
-sensor_after_silence s =
-    let done = after_any_handed (record s { device = record s.device { silent = true } }) in
-    with_state done (after_end done.manager.state)
 
 -- what was to be saved is saved: the write that waits for it has its answer
 abbrev pub sensor_after_save : Unsaved → ParamSensor → ParamSensor

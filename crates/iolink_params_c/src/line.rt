@@ -2,8 +2,7 @@
 ghost use Rattle.std.specs.Prelude.{◌≡◌, length, take, unwrap_or, [], true, false, IsTrue, IsFalse};
 ghost use Rattle.iol_far.specs.Far.{hear};
 ghost use Rattle.iol_device.specs.Awaited.{awaited_length};
-ghost use Rattle.iolink_params_c.specs.Line.{sensor_after_octets, sensor_after_wake};
-ghost use Rattle.iolink_params_c.specs.Work.{sensor_after_silence};
+ghost use Rattle.iolink_params_c.specs.Line.{sensor_after_octets, sensor_after_wake, sensor_after_silence};
 ghost use Rattle.iolink_params_c.specs.Calls.{params_sensor, params_far, GuardsParams, Makes};
 
 use crate::held::IolParams;
@@ -18,7 +17,7 @@ pub struct IolParamsReply {
 }
 
 /// These octets came: 0 and what is sent back, or 252 where the handle is closed, with `out` as it
-/// was. Where the device leaves OPERATE, an activity ends.
+/// was. Where the device goes back, an activity ends.
 #[unsafe(no_mangle)]
 pub extern "C" fn iol_params_hear(
     alloc: Global,
@@ -91,9 +90,8 @@ pub extern "C" fn iol_params_wake(alloc: Global, handle: &mut IolParams) -> u8
     0
 }
 
-/// No message came for longer than C allows: the request that is handed over is carried out, unless
-/// something is to be saved; then an activity ends. Behind this `iol_params_work` says whether an
-/// image is to be saved. 0, or 252 where the handle is closed.
+/// No message came for longer than C allows; an activity ends, and what the master still writes of
+/// a block is refused. 0, or 252 where the handle is closed.
 #[unsafe(no_mangle)]
 pub extern "C" fn iol_params_silence(alloc: Global, handle: &mut IolParams) -> u8
     ensures guards { GuardsParams result handle.old handle.new }

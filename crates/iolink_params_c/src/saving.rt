@@ -5,7 +5,7 @@ ghost use Rattle.iol_far.specs.Isdu.{handed_request};
 ghost use Rattle.iol_params.specs.Image.{kept_of};
 ghost use Rattle.iol_params.specs.Carry.{local_change};
 ghost use Rattle.iol_param_device.specs.Device.{local_reset};
-ghost use Rattle.iolink_params_c.specs.Work.{is_saved_first, far_answered, after_handed, after_any_handed, after_told, sensor_after_work, sensor_after_silence, sensor_after_save, sensor_after_change, is_nothing};
+ghost use Rattle.iolink_params_c.specs.Work.{is_saved_first, far_answered, after_handed, after_told, sensor_after_work, sensor_after_save, sensor_after_change, is_nothing};
 
 use crate::sensor::{ParamSensor, Unsaved};
 use iol_device::{Apart, Device, Unkept};
@@ -83,26 +83,6 @@ impl ParamSensor {
     {
         if self.manager.is_event_due() && self.device.raise(UPLOAD_REQUEST).is_ok() {
             self.manager.event_raised();
-        }
-    }
-
-    /// The master counts as silent. The request that is handed over is carried out before an
-    /// activity ends: behind that it would come into force, though its block was cut off. While
-    /// something is to be saved no activity is under way.
-    pub(crate) fn silence(&mut self)
-        ensures { self.new ≡ sensor_after_silence self.old }
-    {
-        self.device.silence();
-        self.answer_unless_unsaved();
-        self.manager.over();
-    }
-
-    // The request that is handed over is carried out, unless something is to be saved.
-    fn answer_unless_unsaved(&mut self)
-        ensures { self.new ≡ after_any_handed self.old }
-    {
-        if self.unsaved.is_nothing() {
-            self.answer_request();
         }
     }
 

@@ -6,11 +6,12 @@ ghost use Rattle.iol_far.specs.Octets.{octets_in};
 ghost use Rattle.iol_far.specs.Local.{far_after_wake};
 ghost use Rattle.iol_device.specs.Hearing.{device_after_hearing};
 ghost use Rattle.iol_params.specs.State.{after_end};
-ghost use Rattle.iol_param_device.specs.Device.{leaves_operate, ended_if};
-ghost use Rattle.iolink_params_c.specs.Line.{sensor_after_octets, sensor_after_wake};
+ghost use Rattle.iol_param_device.specs.Device.{goes_back, ended_if};
+ghost use Rattle.iolink_params_c.specs.Line.{sensor_after_octets, sensor_after_wake, sensor_after_silence};
 
-use iol_device::{Apart, Device, DeviceMode, Unkept};
+use iol_device::{Apart, Device, Unkept};
 use iol_mseq::Message;
+use iol_param_device::goes_back;
 use iol_params::OwnedManager;
 use std::alloc::Global;
 
@@ -34,14 +35,14 @@ pub struct ParamSensor {
 }
 
 impl ParamSensor {
-    /// Octets came: the reply, where there is one. An activity ends where it leaves OPERATE.
+    /// Octets came: the reply, where there is one. An activity ends where it goes back.
     pub(crate) fn hear(&mut self, octets: &[u8]) -> Option<Message>
         ensures hears { self.new ≡ sensor_after_octets octets.now self.old }
         ensures reply { octets_in result ≡ (hear self.old.device.far octets.now).reply }
     {
         let before = self.device.mode();
         let reply = self.device.hear(octets);
-        if before == DeviceMode::Operate && self.device.mode() != DeviceMode::Operate {
+        if goes_back(before, self.device.mode()) {
             self.manager.over();
         }
         reply
@@ -53,5 +54,13 @@ impl ParamSensor {
     {
         self.device.wake();
         self.manager.over();
+    }
+
+    /// The master counts as silent; an activity ends, and a download was cut off.
+    pub(crate) fn silence(&mut self)
+        ensures { self.new ≡ sensor_after_silence self.old }
+    {
+        self.device.silence();
+        self.manager.silence();
     }
 }

@@ -1,0 +1,5 @@
+use Rattle.iol_params.proofs.CutOffs.{cut_offs-stay_out}
+use Rattle.iol_params.proofs.laws.cut_offs_stay_out.Goals as goal
+
+pub returns : goal.returns
+returns c = cut_offs-stay_out
