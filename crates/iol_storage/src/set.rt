@@ -62,6 +62,9 @@ impl Set {
 impl Set {
     /// The set that has these octets.
     ///
+    /// The form names no count: octets that end behind a value are those of a smaller set. So
+    /// whoever keeps them must know that they are whole.
+    ///
     /// Refused by 44 where no set has them.
     pub fn read(image: &[u8]) -> Result<Set, StorageFault>
         ensures read { IfOk result (λ set. set_image set ≡ image.now) }

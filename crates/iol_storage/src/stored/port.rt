@@ -9,6 +9,7 @@ ghost use Rattle.iol_port.specs.View.{IsNewFor};
 ghost use Rattle.iol_port.specs.CorePort.{CoreOpensFor, awaited_answer, PortReceiveGives, ReceiveDoes, WakeGives, WakeDoes};
 ghost use Rattle.iol_port.specs.Called.{Submits, SubmitsUrgent, Collects, Withdraws, Cancels, Abandons, Restarts, ClearsOutput, Expects, SetsCycle};
 ghost use Rattle.iol_port.specs.Called.{TakesEvent, Archives, Drains, DrainsInto, CoreCalled};
+ghost use Rattle.iol_storage.specs.Sets.{is_no_set};
 ghost use Rattle.iol_storage.specs.Stored.{storage_at_opening, set_unsaved, number_unsaved, saved_refusal, storage_saved, load_refusal, storage_loaded, storage_released, block_answer, storage_with_block, block_collected, storage_behind_block, is_unserved, is_own, storage_behind_event};
 ghost use Rattle.iol_storage.specs.StoredPort.{Tends, StoredSends, session_page, CollectsOf, SubmitsOf, to_submit, ShowsOf, StoredCalled, StoredForwards, client_refusal, unknown_ticket, by_port, PortAnswers, tickets_behind_submit, tickets_without, SetsStoredOutput, image_shown, IsOpeningRefused, places_with_room, answer_to};
 
@@ -110,6 +111,7 @@ impl<A: Allocator + Copy> StoredPort<A> {
         ensures port { IfOk result (λ p. IsNewFor devices limits.now p.port) }
         ensures opens { IfOk result (λ p. CoreOpensFor devices limits.now p.port) }
         ensures room { IfOk result (λ p. p.most + 2 ≡ places_with_room limits.now) }
+        ensures sound { IfOk result (λ _. is_no_set kept ≡ false) }
         ensures refused { IfErr result (λ why. IsOpeningRefused limits.now kept why) }
     {
         let places = places_with_room(limits);
