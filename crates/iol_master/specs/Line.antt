@@ -1,6 +1,7 @@
--- A port whose wire a worker owns, and the turn that the worker makes.
-use Rattle.std.specs.Prelude.{◌≡◌, ◌<◌, ◌≤◌, ℕ, zero, suc, Bool, true, false, List, length, Option, is_some, IsTrue}
+-- A port under the lock of a line, whose wire a worker owns, and the turn that the worker makes.
+use Rattle.std.specs.Prelude.{◌≡◌, ◌<◌, ◌≤◌, ℕ, zero, suc, Bool, true, false, List, length, Option, IfSome, is_some, IsTrue}
 use Rattle.arrayvec.specs.ArrayVec.{ArrayVec}
+use Rattle.iol_isdu.specs.Texts.{IsRequest}
 use Rattle.iol_far.specs.Octets.{octets_in}
 use Rattle.iol_link.specs.declared.wire.Rate.{Rate}
 use Rattle.iol_link.specs.WireFacts.{WireFacts}
@@ -11,62 +12,124 @@ use Rattle.iol_port.specs.declared.awaited.AwaitedAnswer.{AwaitedAnswer}
 use Rattle.iol_port.specs.declared.awaited.AwaitedAnswer.TheVariants.{Nothing, Wake, Reply}
 use Rattle.iol_port.specs.declared.call.Call.{Call}
 use Rattle.iol_port.specs.declared.call.Answered.{Answered}
-use Rattle.iol_port.specs.Asks.{asks_of}
+use Rattle.iol_port.specs.Asks.{asks_of, begun_next}
+use Rattle.iol_port.specs.EveryWire.{takes_next}
 use Rattle.iol_port.specs.Called.{CoreCalled, Restarts}
 use Rattle.iol_port.specs.View.{PortParts}
 use Rattle.iol_port.specs.WireCalls.{AreCalls}
 use Rattle.iol_port.specs.CorePort.{awaited_answer, PortSendGives, SendDoes, PortReceiveGives, ReceiveDoes, WakeGives, WakeDoes}
+use Rattle.iol_storage.specs.StoredPort.{StoredParts, StoredSends, StoredForwards}
 use Rattle.iol_master.specs.Served.{GateFacts, IsLet}
 
-pub record LineState : Type 0 where
-  pub parts : PortParts
-  -- a restart waits until what is out has been answered
-  pub restart_waits : Bool
+-- What a line needs of the port under its lock: what it waits for, and what each call gives that
+-- the worker makes
+pub record LineFacts (P : Type 0) : Type 1 where
+  pub awaits : P → AwaitedAnswer
+  pub sends : P → Asked → P → Type 0
+  -- what came back to the octets that were sent, or that nothing did
+  pub receives : P → Option (List ℕ) → P → Type 0
+  -- whether a device answered the wake
+  pub wakes : P → Bool → P → Type 0
+  pub restarts : P → P → Type 0
 
--- The port's own call, which changes nothing but its parts
-pub record LineCalled (old new : LineState) (c : Call) (reply : Answered) (given : Type 0) :
-    Type 0 where
-  pub call : CoreCalled old.parts new.parts c reply given
-  pub rest : new ≡ record old { parts = new.parts }
+-- The calls of a port
 
--- the port's own restart
+pub record CoreSends (p : PortParts) (asked : Asked) (next : PortParts) : Type 0 where
+  pub says : IsAskedOut asked next.core.state
+  pub asked_is : asked ≡ asks_of p
+  pub again : IsTrue p.sent → next ≡ p
+  pub begun : p.sent ≡ false → IsTrue (takes_next p) → IfSome (begun_next p) IsRequest
+  pub gives : PortSendGives p next
+  pub does : SendDoes p next
+
+pub record CoreReceives (p : PortParts) (came : Option (List ℕ)) (next : PortParts) : Type 0 where
+  pub gives : PortReceiveGives p came next
+  pub does : ReceiveDoes p came next
+
+pub record CoreWakes (p : PortParts) (answered : Bool) (next : PortParts) : Type 0 where
+  pub gives : WakeGives p answered next
+  pub does : WakeDoes p answered next
+
 abbrev pub CoreRestarts : PortParts → PortParts → Type 0
 CoreRestarts p next = Restarts (CoreCalled p next) p next
 
--- it is made at once where nothing is out, else it waits
-abbrev pub RestartsIn : AwaitedAnswer → LineState → LineState → Type 0
-RestartsIn Nothing p next = CoreRestarts p.parts next.parts × (next.restart_waits ≡ p.restart_waits)
-RestartsIn Wake p next = next ≡ record p { restart_waits = true }
-RestartsIn Reply p next = next ≡ record p { restart_waits = true }
+abbrev pub core_facts : LineFacts PortParts
+core_facts = record {
+  awaits = awaited_answer;
+  sends = CoreSends;
+  receives = CoreReceives;
+  wakes = CoreWakes;
+  restarts = CoreRestarts;
+}
 
-abbrev pub RestartsOnce : LineState → LineState → Type 0
-RestartsOnce p next = RestartsIn (awaited_answer p.parts) p next
+-- The calls of a port with Data Storage: what comes back, and a restart, go to the port within
+-- alone
 
--- once what was out has been answered the restart that waited is made, and waits no more
-abbrev pub RestartsWhere : Bool → PortParts → LineState → Type 0
-RestartsWhere true p next = CoreRestarts p next.parts × (next.restart_waits ≡ false)
-RestartsWhere false p next = next ≡ record { parts = p; restart_waits = false }
+pub record StoredReceives (p : StoredParts) (came : Option (List ℕ)) (next : StoredParts) : Type 0
+  where
+    pub within : CoreReceives p.port came next.port
+    pub rest : next ≡ record p { port = next.port }
 
--- The port's own sending, which the restart that waits waits through
-pub record LineSends (p : LineState) (asked : Asked) (next : LineState) : Type 0 where
-  pub says : IsAskedOut asked next.parts.core.state
-  pub asked_is : asked ≡ asks_of p.parts
-  pub again : IsTrue p.parts.sent → next ≡ p
-  pub gives : PortSendGives p.parts next.parts
-  pub does : SendDoes p.parts next.parts
-  pub waits : next.restart_waits ≡ p.restart_waits
+pub record StoredWakes (p : StoredParts) (answered : Bool) (next : StoredParts) : Type 0 where
+  pub within : CoreWakes p.port answered next.port
+  pub rest : next ≡ record p { port = next.port }
 
--- what came back is taken
-abbrev pub TakesReply : LineState → Option (List ℕ) → LineState → Type 0
-TakesReply p came next =
-    (mid : PortParts) × PortReceiveGives p.parts came mid × ReceiveDoes p.parts came mid
-    × RestartsWhere p.restart_waits mid next
+abbrev pub StoredRestarts : StoredParts → StoredParts → Type 0
+StoredRestarts p next = Restarts (StoredForwards p next) p.port next.port
 
--- and so is what came of a wake
-abbrev pub TakesRate : LineState → Bool → LineState → Type 0
-TakesRate p answered next =
-    (mid : PortParts) × WakeGives p.parts answered mid × WakeDoes p.parts answered mid
-    × RestartsWhere p.restart_waits mid next
+abbrev pub stored_facts : LineFacts StoredParts
+stored_facts = record {
+  awaits = λ p. awaited_answer p.port;
+  sends = StoredSends;
+  receives = StoredReceives;
+  wakes = StoredWakes;
+  restarts = StoredRestarts;
+}
+
+-- The port under the lock
+
+pub record LineState (P : Type 0) : Type 0 where
+  pub port : P
+  -- a restart waits until what is out has been answered
+  pub restart_waits : Bool
+
+-- The port's own call, through which a restart that waits waits
+pub record LineCalled (old new : LineState PortParts) (c : Call) (reply : Answered)
+    (given : Type 0) : Type 0 where
+  pub call : CoreCalled old.port new.port c reply given
+  pub rest : new ≡ record old { port = new.port }
+
+module _ {P : Type 0} (line : LineFacts P) where
+  open line use {awaits, sends, receives, wakes, restarts}
+
+  -- a restart is made at once where nothing is out, else it waits
+  abbrev pub RestartsIn : AwaitedAnswer → LineState P → LineState P → Type 0
+  RestartsIn Nothing p next = restarts p.port next.port × (next.restart_waits ≡ p.restart_waits)
+  RestartsIn Wake p next = next ≡ record p { restart_waits = true }
+  RestartsIn Reply p next = next ≡ record p { restart_waits = true }
+
+  abbrev pub RestartsOnce : LineState P → LineState P → Type 0
+  RestartsOnce p next = RestartsIn (awaits p.port) p next
+
+  -- once what was out has been answered the restart that waited is made, and waits no more
+  abbrev pub RestartsWhere : Bool → P → LineState P → Type 0
+  RestartsWhere true p next = restarts p next.port × (next.restart_waits ≡ false)
+  RestartsWhere false p next = next ≡ record { port = p; restart_waits = false }
+
+  -- The port's own sending, which the restart that waits waits through
+  pub record LineSends (p : LineState P) (asked : Asked) (next : LineState P) : Type 0 where
+    pub port : sends p.port asked next.port
+    pub waits : next.restart_waits ≡ p.restart_waits
+
+  -- what came back is taken
+  abbrev pub TakesReply : LineState P → Option (List ℕ) → LineState P → Type 0
+  TakesReply p came next = (mid : P) × receives p.port came mid
+      × RestartsWhere p.restart_waits mid next
+
+  -- and so is what came of a wake
+  abbrev pub TakesRate : LineState P → Bool → LineState P → Type 0
+  TakesRate p answered next = (mid : P) × wakes p.port answered mid
+      × RestartsWhere p.restart_waits mid next
 
 -- The ledger by which a port and its worker agree on what is out
 
@@ -83,27 +146,34 @@ awaited_of (asked.Exchange out) = Reply
 abbrev pub HasWholeLedger : ℕ → ℕ → Type 0
 HasWholeLedger held parts = (0 < held) × (held ≡ parts)
 
-module _ {W : Type 0} (facts : WireFacts W) where
+-- A worker's turns
+
+-- the wire was called as often as turns were made, which are so many at most
+abbrev pub IsServed : {W : Type 0} → WireFacts W → ℕ → W → W → Type 0
+IsServed facts turns old new = (calls : List Asked) × AreCalls facts calls old new
+    × (length calls ≤ turns)
+
+module _ {W P : Type 0} (facts : WireFacts W) (line : LineFacts P) where
   open facts use {wake_gives, exchange_gives}
 
   -- the wire is called once, as was asked, and what came of that is taken
-  abbrev pub Brings : Asked → W → W → LineState → LineState → Type 0
+  abbrev pub Brings : Asked → W → W → LineState P → LineState P → Type 0
   Brings asked.Wake old new p next =
-      (rate : Option Rate) × wake_gives old rate new × TakesRate p (is_some rate) next
+      (rate : Option Rate) × wake_gives old rate new × TakesRate line p (is_some rate) next
   Brings (asked.Exchange out) old new p next =
       (came : Option (ArrayVec ℕ)) × exchange_gives old out.octets.items came new
-      × TakesReply p (octets_in came) next
+      × TakesReply line p (octets_in came) next
 
   -- A turn: some port, whose lock was held, sent; the wire was called once, as it asked; and some
   -- port, whose lock was held again, awaited that, and took what came
   pub record IsLineTurn (old new : W) : Type 0 where
     pub asked : Asked
-    pub first : LineState
-    pub sent : LineState
-    pub sends : LineSends first asked sent
-    pub again : LineState
-    pub awaits : awaited_answer again.parts ≡ awaited_of asked
-    pub taken : LineState
+    pub first : LineState P
+    pub sent : LineState P
+    pub sends : LineSends line first asked sent
+    pub again : LineState P
+    pub awaits : line.awaits again.port ≡ awaited_of asked
+    pub taken : LineState P
     pub brings : Brings asked old new again taken
 
   -- so many turns, one after another
@@ -118,8 +188,3 @@ module _ {W : Type 0} (facts : WireFacts W) where
     pub made : ℕ
     pub let_in : IsLet pass_gives gate number turns made
     pub all : AreLineTurns made old new
-
-  -- the wire was called as often as turns were made, which are so many at most
-  abbrev pub IsServed : ℕ → W → W → Type 0
-  IsServed turns old new = (calls : List Asked) × AreCalls facts calls old new
-      × (length calls ≤ turns)

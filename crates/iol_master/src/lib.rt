@@ -8,7 +8,9 @@
 //!
 //! A worker of a master holds its port's lock for a whole turn, as the wire lies under it too. On a
 //! line whose exchanges take their time a [`Line`] serves better: its [`LineWorker`] owns the wire
-//! and calls it without the lock, so that no client waits for an exchange.
+//! and calls it without the lock, so that no client waits for an exchange. Under its lock lies a
+//! [`PortCore`](iol_port::PortCore), or a [`StoredPort`](iol_storage::StoredPort), by which a
+//! device is exchanged without a tool.
 #![tactic(auto)]
 
 mod accounts;
@@ -23,6 +25,6 @@ mod worker;
 pub use accounts::{Desk, Settled, Tally};
 pub use fault::MasterFault;
 pub use held::Held;
-pub use line::{Line, LinePort, LineWorker};
+pub use line::{Line, LineCore, LinePort, LineWorker};
 pub use master::Master;
 pub use serve::Gate;

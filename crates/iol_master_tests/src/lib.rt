@@ -32,4 +32,6 @@ mod sizes;
 #[cfg(test)]
 mod slow;
 #[cfg(test)]
+mod stored_lines;
+#[cfg(test)]
 mod wide;

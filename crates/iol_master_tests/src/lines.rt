@@ -12,7 +12,7 @@ use iol_event::Event;
 use iol_image::Image;
 use iol_isdu::Cause;
 use iol_link::Wire;
-use iol_master::{Gate, Line, LinePort, LineWorker};
+use iol_master::{Gate, Line, LineCore, LinePort, LineWorker};
 use iol_peers::PROCESS_DATA;
 use iol_port::{AwaitedAnswer, PortCore, PortFault};
 use iol_sim::{Params, Sim, Step};
@@ -27,10 +27,10 @@ use std::thread;
 use std::thread::Threads;
 
 /// The turn that tells the device that its output is not valid.
-const COMMAND: u64 = 1;
+pub const COMMAND: u64 = 1;
 
 /// Turns in which a request or a report comes to its end.
-const ENOUGH: u64 = 30;
+pub const ENOUGH: u64 = 30;
 
 /// Says no before this turn.
 #[derive(Drop)]
@@ -43,9 +43,9 @@ impl Gate for Before {
 }
 
 /// Makes so many turns.
-pub fn serve<W: Wire, K: Ledger, R: Wait>(
+pub fn serve<W: Wire, K: Ledger, P: LineCore, R: Wait>(
     rt: &R,
-    line: &Line<K>,
+    line: &Line<K, P>,
     worker: &mut LineWorker<W, K>,
     turns: u64,
 ) {
@@ -200,7 +200,11 @@ fn waits_for_restart<K: Ledger>(port: &LinePort<K>, mode: Mode) -> bool {
 }
 
 /// One turn, in a thread of its own.
-fn turn<W: Wire + Drop, K: Ledger, R: Wait>(rt: &R, line: &Line<K>, worker: LineWorker<W, K>) {
+pub fn turn<W: Wire + Drop, K: Ledger, P: LineCore, R: Wait>(
+    rt: &R,
+    line: &Line<K, P>,
+    worker: LineWorker<W, K>,
+) {
     let mut worker = worker;
     worker.turn(rt, line);
 }
@@ -329,13 +333,13 @@ fn a_client_is_let_in_while_the_gate_is_asked(rt: HostRuntime) -> Result<(), Fai
 }
 
 /// Makes the turns up to OPERATE of a port that lies under no lock.
-fn start_up<W: Wire>(core: &mut PortCore, wire: &mut W) {
+pub fn start_up<W: Wire, P: LineCore>(port: &mut P, wire: &mut W) {
     for _ in 0..START_UP {
-        let asked = core.send();
-        match (core.awaits(), asked) {
-            (AwaitedAnswer::Wake, _) => core.receive_wake(wire.wake()),
+        let asked = port.send();
+        match (port.awaits(), asked) {
+            (AwaitedAnswer::Wake, _) => port.receive_wake(wire.wake()),
             (AwaitedAnswer::Reply, Asked::Exchange(out)) => {
-                core.receive(&wire.exchange(out.octets.as_slice()));
+                port.receive(&wire.exchange(out.octets.as_slice()));
             }
             _ => {}
         }
@@ -373,7 +377,7 @@ fn restarts_later<W: Wire + Drop, K: Ledger, R: Wait + Abort>(
     Ok(worker.into_wire())
 }
 
-/// Refuses a `lock` that clears the output where a restart waits.
+/// Refuses a `lock` that forgets a restart that waits.
 #[test]
 fn an_output_is_kept_while_a_restart_waits(rt: HostRuntime) -> Result<(), Fail> {
     let output = Image::new(&[0x99])?;
@@ -455,7 +459,7 @@ fn keeps_events<W: Wire + Drop, K: Ledger, R: Wait + Abort>(
     Ok(())
 }
 
-/// Refuses a worker that loses an event where it wakes the device.
+/// Refuses a worker that restarts the link where it woke the device.
 #[test]
 fn events_are_kept_through_a_wake(rt: HostRuntime) -> Result<(), Fail> {
     let wire = reporting(rt.alloc())?;

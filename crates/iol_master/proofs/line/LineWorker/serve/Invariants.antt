@@ -10,6 +10,6 @@ invariant-loop-turn g l = record {
   called : (more : List Asked) (last : _) → AreCalls g.W.Wire.facts more l.self last
       → (calls : List Asked) × AreCalls g.W.Wire.facts calls l.fn.self last
       × (length calls ≡ length more + l.turn);
-  all : AreLineTurns g.W.Wire.facts l.turn l.fn.self l.self;
+  all : AreLineTurns g.W.Wire.facts g.P.LineCore.facts l.turn l.fn.self l.self;
   yes : (turn : ℕ) → turn < l.turn → g.G.Gate.pass_gives l.gate l.number (turn + 1) true;
 }
