@@ -9,7 +9,7 @@ use iol_port::Counters;
 use std::alloc::{AllocError, Allocator};
 
 /// Why a request was cut off.
-pub(crate) fn cause_name(cause: Cause) -> &'static str
+pub fn cause_name(cause: Cause) -> &'static str
     ensures { result.now ≡ cause_name cause }
 {
     match cause {

@@ -18,7 +18,7 @@ use std::alloc::{AllocError, Allocator};
 
 /// What is printed behind the calls of these lines: the records, and how many events were
 /// refused.
-pub(crate) fn print_ending<P: App, C: Allocator + Copy, B: Beside<P>, A: Allocator>(
+pub fn print_ending<P: App, C: Allocator + Copy, B: Beside<P>, A: Allocator>(
     output: &mut String<A>,
     sim: &Sim<P, C, B>,
     input: &[u8],

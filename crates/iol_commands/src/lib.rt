@@ -28,9 +28,14 @@ mod trace_command;
 mod tracing;
 
 pub use check_command::check;
+pub use counters_printing::cause_name;
+pub use ending::print_ending;
 pub use fault::ProgramFault;
 pub use judge_command::{JudgeFault, judge, judge_traced};
 pub use many_command::many;
-pub use run_command::run;
-pub use streams::LIMIT;
-pub use trace_command::trace;
+pub use passing::print_passed;
+pub use run_command::{played, run, table_wire_of, wire_of};
+pub use run_printing::{port_fault_name, print_answer, print_place};
+pub use streams::{LIMIT, read_input, write_output};
+pub use trace_command::{trace, traced};
+pub use tracing::{layout_now, pass_on};

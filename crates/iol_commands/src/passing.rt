@@ -8,7 +8,7 @@ use iol_sim::TapNote;
 use std::alloc::{AllocError, Allocator};
 
 /// What passed over the wire in the call of this number, the octets as messages of this layout.
-pub(crate) fn print_passed<A: Allocator>(
+pub fn print_passed<A: Allocator>(
     output: &mut String<A>,
     number: u64,
     layout: &Layout,

@@ -59,7 +59,7 @@ pub fn run<A: Handle, R: Read, W: Write>(
 }
 
 /// What is printed for the whole input.
-fn played<A: Handle>(alloc: A, input: &[u8]) -> Result<String<A>, ProgramFault>
+pub fn played<A: Handle>(alloc: A, input: &[u8]) -> Result<String<A>, ProgramFault>
     ensures good { OnOk result (first_bad_run (numbered_lines input.now) ≡ None) }
     ensures printed { IfOk result (λ output. PrintsRun (numbered_lines input.now)
         (string_bytes output)) }
@@ -130,7 +130,7 @@ fn played_over<P: App, A: Handle, B: Beside<P>>(
 }
 
 /// The wire of a script, with its device, or both.
-pub(crate) fn wire_of<A: Handle>(alloc: A, script: Script<A>) -> Result<Sim<Params, A>, AllocError>
+pub fn wire_of<A: Handle>(alloc: A, script: Script<A>) -> Result<Sim<Params, A>, AllocError>
     requires { IsScript script }
     ensures far { IfOk result (λ sim. sim.device.far
         ≡ first_far script.kind script.misses_pulses script.page) }
@@ -151,7 +151,7 @@ pub(crate) fn wire_of<A: Handle>(alloc: A, script: Script<A>) -> Result<Sim<Para
 }
 
 /// The wire of a script whose devices have this table, with these steps.
-pub(crate) fn table_wire_of<'t, A: Handle>(
+pub fn table_wire_of<'t, A: Handle>(
     alloc: A,
     script: &Script<A>,
     table: &'t Table<'t>,

@@ -40,7 +40,7 @@ fn print_listed<A: Allocator>(output: &mut String<A>, octets: &[u8]) -> Result<(
 }
 
 /// An index and a subindex.
-fn print_place<A: Allocator>(output: &mut String<A>, place: Place) -> Result<(), AllocError>
+pub fn print_place<A: Allocator>(output: &mut String<A>, place: Place) -> Result<(), AllocError>
     ensures { Prints result output.old output.new (place_text place) }
 {
     let Place { index, sub } = place;
@@ -283,7 +283,7 @@ fn output_fault_name(fault: OutputFault) -> &'static str
 }
 
 /// The name of a refusal.
-fn port_fault_name(fault: PortFault) -> &'static str
+pub fn port_fault_name(fault: PortFault) -> &'static str
     ensures { result.now ≡ port_fault_name fault }
 {
     match fault {
@@ -343,7 +343,7 @@ fn print_drained<A: Allocator>(output: &mut String<A>, drained: Drained) -> Resu
 }
 
 /// What a call answered.
-pub(crate) fn print_answer<A: Allocator>(
+pub fn print_answer<A: Allocator>(
     output: &mut String<A>,
     call: &Call,
     answered: &Answered,

@@ -16,7 +16,7 @@ const PIECE: usize = 4096;
 
 /// All that the reader has. At most one byte past the limit is read, and no read
 /// follows one that failed.
-pub(crate) fn read_input<A: Allocator, R: Read>(
+pub fn read_input<A: Allocator, R: Read>(
     alloc: A,
     reader: &mut R,
 ) -> Result<Vec<u8, A>, ProgramFault>
@@ -45,7 +45,7 @@ pub(crate) fn read_input<A: Allocator, R: Read>(
 }
 
 /// Writes the text whole.
-pub(crate) fn write_output<W: Write>(writer: &mut W, text: &str) -> Result<(), ProgramFault>
+pub fn write_output<W: Write>(writer: &mut W, text: &str) -> Result<(), ProgramFault>
     ensures ok { OnOk result (Appends (W.contents writer.old) (W.contents writer.new) text.now) }
     ensures err { IfErr result (λ e. e ≡ WriteFailed) }
 {

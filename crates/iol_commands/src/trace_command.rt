@@ -53,7 +53,7 @@ pub fn trace<A: Handle, R: Read, W: Write>(
 }
 
 /// Makes the calls of the lines of this script.
-fn traced<A: Handle, W: Write>(
+pub fn traced<A: Handle, W: Write>(
     alloc: A,
     script: Script<A>,
     input: &[u8],

@@ -190,7 +190,7 @@ impl<A: Handle> Tracer<A> {
 }
 
 /// The layout of a mode in a session with this page: before it was read, that of STARTUP.
-fn layout_now(mode: Mode, page: Option<Page>) -> Layout
+pub fn layout_now(mode: Mode, page: Option<Page>) -> Layout
     ensures { result ≡ layout_now mode page }
 {
     let Some(page) = page else {
@@ -214,7 +214,7 @@ fn layout_in(mode: Mode, layouts: &Layouts) -> Layout
 }
 
 /// Writes what waits, where it is enough.
-pub(crate) fn pass_on<A: Allocator, W: Write>(
+pub fn pass_on<A: Allocator, W: Write>(
     output: &mut String<A>,
     writer: &mut W,
 ) -> Result<(), ProgramFault>

@@ -1,5 +1,6 @@
 //! How far the words of a line fit a form, and which forms they fit furthest.
 use crate::cursor::Cursor;
+use crate::field::Field;
 use crate::form::{LineForm, Part};
 use arrayvec::ArrayVec;
 
@@ -15,7 +16,10 @@ pub(crate) struct Departure<'a> {
 }
 
 /// As many parts as there are forms of a command.
-const WANTED: usize = 40;
+const WANTED: usize = 50;
+
+/// How often the parts are read that may stand several times.
+const MOST_AGAIN: usize = 75;
 
 /// What is wanted in a place: nothing more, or one of these parts.
 pub type WantedList = ArrayVec<Part, WANTED>;
@@ -43,6 +47,30 @@ impl<'a> Fitting<'a> {
         true
     }
 
+    /// Reads one of these words and these values, again and again, and says where the words leave
+    /// them, if they do.
+    fn leaves_again(
+        mut self,
+        names: &'static [&'static str],
+        fields: &[Field],
+    ) -> Option<Departure<'a>> {
+        for _ in 0..MOST_AGAIN {
+            self.place.word()?;
+            let joint = Part::Words(names);
+            if !self.reads(&joint) {
+                return Some(self.leaves(Some(joint)));
+            }
+            for field in fields {
+                let part = Part::Field(*field);
+                if !self.reads(&part) {
+                    return Some(self.leaves(Some(part)));
+                }
+            }
+        }
+        self.place.word()?;
+        Some(self.leaves(None))
+    }
+
     /// The form is left here, where this is wanted.
     fn leaves(&self, wanted: Option<Part>) -> Departure<'a> {
         Departure {
@@ -60,6 +88,9 @@ pub(crate) fn departure_of<'a>(form: &LineForm, line: &'a [u8]) -> Option<Depart
         place: Cursor::of(line),
     };
     for part in form.parts {
+        if let Part::Again(names, fields) = part {
+            return fitting.leaves_again(names, fields);
+        }
         if !fitting.reads(part) {
             return Some(fitting.leaves(Some(*part)));
         }

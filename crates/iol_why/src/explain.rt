@@ -1,5 +1,5 @@
 //! Why a line is bad.
-ghost use Rattle.std.specs.Prelude.{◌≡◌, ◌≤◌, true, None, IfSome, length};
+ghost use Rattle.std.specs.Prelude.{◌≡◌, ◌≤◌, false, true, None, IfSome, length};
 ghost use Rattle.iol_script.specs.CheckLines.{check_form};
 ghost use Rattle.iol_script.specs.RunLines.{run_form};
 ghost use Rattle.iol_why.specs.Explained.{IsColumnOf, is_of_form, line_in};
@@ -11,11 +11,12 @@ use crate::kept::KeptText;
 use crate::mistake::{Fault, Mistake};
 use crate::page_refusal::page_refusal_of;
 use crate::plan_place::{PlanFault, form_in_place, plan_fault_of};
-use crate::script_place::place_fault_of;
+use crate::script_place::{place_fault_of, storage_fault_of};
 use crate::text_fault::{LONGEST, text_fault_of};
 use crate::word_fault::word_fault_of;
 use iol_capture::{CaptureForm, LineFault, SplitFault};
 use iol_script::{CheckLine, RunLine};
+use iol_stored_script::StorageLine;
 use std::slice;
 
 /// The column of what is wrong with a line as a whole.
@@ -61,10 +62,20 @@ pub fn explain_script<'a>(text: KeptText<'a>, number: u64) -> Option<Mistake<'a>
             Some(Mistake::of_line(Fault::Place(fault)))
         }
         None => match form_mistake(Lines::Script, number, line) {
-            None => page_mistake(line),
+            None => storage_mistake(text, number, line).or(page_mistake(line)),
             found => found,
         },
     }
+}
+
+/// Why a line of Data Storage is refused in its place.
+fn storage_mistake<'a>(text: KeptText<'a>, number: u64, line: &[u8]) -> Option<Mistake<'a>>
+    ensures { IfSome result (λ mistake. (mistake.column ≡ 1)
+        × (is_of_form mistake.fault ≡ false)) }
+{
+    let form = StorageLine::parse(line)?;
+    let fault = storage_fault_of(text.octets(), number, &form)?;
+    Some(Mistake::of_line(Fault::Place(fault)))
 }
 
 /// Why the line of this number is the first bad line of `many`, of which this is the whole input.

@@ -5,7 +5,7 @@ use iol_script::{decimal_number, hexadecimal_code, hexadecimal_octet, hexadecima
 use std::fmt;
 
 /// The most octets of one word.
-const LONGEST_VALUE: usize = 232;
+const LONGEST_VALUE: usize = 512;
 
 /// How a word says a value.
 #[derive(Clone, Copy, Debug, PartialEq, Eq)]
@@ -18,7 +18,7 @@ pub enum Value {
     Octets {
         /// The fewest.
         least: usize,
-        /// The most, up to 232.
+        /// The most, up to 512.
         most: usize,
     },
     /// A decimal number without leading zeros.

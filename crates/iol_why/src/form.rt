@@ -23,6 +23,8 @@ pub enum Part {
         /// The most.
         most: usize,
     },
+    /// One of these words and these values behind it, several times. It stands last.
+    Again(&'static [&'static str], &'static [Field]),
 }
 
 /// What fills the room of parts that were not added: no word fits it.
@@ -45,7 +47,7 @@ impl Part {
     /// How many words it takes at least.
     pub(crate) fn least(&self) -> usize {
         match self {
-            Part::Optional(_) => 0,
+            Part::Optional(_) | Part::Again(..) => 0,
             Part::Fields { least, .. } => *least,
             _ => 1,
         }
@@ -70,7 +72,7 @@ impl Part {
     /// The value that it may be.
     pub(crate) fn field(&self) -> Option<Field> {
         match *self {
-            Part::Words(_) => None,
+            Part::Words(_) | Part::Again(..) => None,
             Part::WordsOr(_, field) | Part::Field(field) | Part::Optional(field) => Some(field),
             Part::Fields { field, .. } => Some(field),
         }
@@ -118,7 +120,16 @@ impl fmt::Display for Part {
             Part::Field(field) => f.write_str(field.letters),
             Part::Optional(field) => write!(f, "[{}]", field.letters),
             Part::Fields { field, .. } => write!(f, "{} ..", field.letters),
+            Part::Again(names, _) => write_again(f, names),
         }
+    }
+}
+
+/// What parts stand several times: the word that begins them.
+fn write_again<W: fmt::Write>(f: &mut fmt::Formatter<W>, names: &[&'static str]) -> fmt::Result {
+    match names {
+        [name, ..] => write!(f, "{name} .."),
+        [] => Ok(()),
     }
 }
 
@@ -149,14 +160,19 @@ pub enum Lines {
 }
 
 impl Lines {
-    /// The forms of these lines, in three tables at most.
-    pub(crate) fn tables(self) -> [&'static [LineForm]; 3] {
+    /// The forms of these lines, in four tables at most.
+    pub(crate) fn tables(self) -> [&'static [LineForm]; 4] {
         match self {
-            Lines::Check => [&tables::CHECK, &[], &[]],
-            Lines::Script => [&tables::SETTINGS, &tables::WIRE, &tables::CALLS],
-            Lines::Plan => [&tables::PLAN, &[], &[]],
-            Lines::Trace => [&tables::TRACE, &[], &[]],
-            Lines::Octets => [&tables::OCTETS, &[], &[]],
+            Lines::Check => [&tables::CHECK, &[], &[], &[]],
+            Lines::Script => [
+                &tables::SETTINGS,
+                &tables::WIRE,
+                &tables::CALLS,
+                &tables::STORAGE,
+            ],
+            Lines::Plan => [&tables::PLAN, &[], &[], &[]],
+            Lines::Trace => [&tables::TRACE, &[], &[], &[]],
+            Lines::Octets => [&tables::OCTETS, &[], &[], &[]],
         }
     }
 

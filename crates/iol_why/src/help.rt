@@ -14,6 +14,8 @@ pub enum Section {
     Wire,
     /// The calls of the port.
     Calls,
+    /// The lines of a port with Data Storage.
+    Storage,
     /// The lines of a plan.
     Plan,
     /// The lines of a trace.
@@ -30,6 +32,7 @@ impl Section {
             Section::Settings => &tables::SETTINGS,
             Section::Wire => &tables::WIRE,
             Section::Calls => &tables::CALLS,
+            Section::Storage => &tables::STORAGE,
             Section::Plan => &tables::PLAN,
             Section::Trace => &tables::TRACE,
             Section::Octets => &tables::OCTETS,

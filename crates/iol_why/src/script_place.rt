@@ -2,6 +2,7 @@
 use iol_isdu::Place;
 use iol_script::{RunLine, Setting, TextLines, WireLine};
 use iol_sim::Step;
+use iol_stored_script::{StorageLine, mode_of};
 use std::fmt;
 
 /// Why a line of a script is refused in its place.
@@ -25,6 +26,8 @@ pub enum PlaceFault {
     NoOther,
     /// The device changes a parameter, and has no table of them.
     NoTable,
+    /// A call of Data Storage, and the port has none.
+    NoStorage,
     /// There would be more than 1,000,000 steps.
     TooManySteps,
     /// There would be more than 1,000,000 calls.
@@ -63,6 +66,9 @@ impl fmt::Display for PlaceFault {
                     "no second device to plug in; wanted among the settings: other OCTET ..",
                 )
             }
+            PlaceFault::NoStorage => f.write_str(
+                "a call of a port with Data Storage; wanted among the settings: store off|restore|both|own",
+            ),
             PlaceFault::TooManySteps => {
                 f.write_str("with this line more than 1,000,000 steps of the wire")
             }
@@ -87,20 +93,53 @@ pub(crate) fn place_fault_of(text: &[u8], number: u64, line: &RunLine) -> Option
     }
 }
 
+/// Why the line of this number, which is one of Data Storage, is refused in its place.
+pub(crate) fn storage_fault_of(text: &[u8], bad: u64, line: &StorageLine) -> Option<PlaceFault> {
+    match line {
+        StorageLine::Store(_) => store_fault_of(text, bad),
+        StorageLine::Call(_) if mode_of(text).is_none() => Some(PlaceFault::NoStorage),
+        StorageLine::Call(_) => Some(PlaceFault::TooManyCalls),
+    }
+}
+
+/// Why the setting of Data Storage is refused in the line of this number.
+fn store_fault_of(text: &[u8], bad: u64) -> Option<PlaceFault> {
+    for (number, line) in TextLines::of(text) {
+        if number >= bad {
+            return None;
+        }
+        if let Some(StorageLine::Store(_)) = StorageLine::parse(line) {
+            return Some(PlaceFault::Twice(number));
+        }
+        if is_late_behind(line) {
+            return Some(PlaceFault::Late(number));
+        }
+    }
+    None
+}
+
+/// Whether a setting is refused behind this line: it is of the wire, or a call.
+fn is_late_behind(line: &[u8]) -> bool {
+    match RunLine::parse(line) {
+        Some(RunLine::Wire(_) | RunLine::Call(_)) => true,
+        Some(RunLine::Skip | RunLine::Setting(_)) => false,
+        None => matches!(StorageLine::parse(line), Some(StorageLine::Call(_))),
+    }
+}
+
 /// Why a setting is refused in the line of this number.
 fn setting_fault_of(text: &[u8], bad: u64, setting: &Setting) -> Option<PlaceFault> {
     for (number, line) in TextLines::of(text) {
         if number >= bad {
             break;
         }
-        match RunLine::parse(line)? {
-            RunLine::Skip => {}
-            RunLine::Setting(before) => {
-                if let Some(fault) = again(setting, &before, number) {
-                    return Some(fault);
-                }
-            }
-            RunLine::Wire(_) | RunLine::Call(_) => return Some(PlaceFault::Late(number)),
+        if is_late_behind(line) {
+            return Some(PlaceFault::Late(number));
+        }
+        if let Some(RunLine::Setting(before)) = RunLine::parse(line)
+            && let Some(fault) = again(setting, &before, number)
+        {
+            return Some(fault);
         }
     }
     Some(lacking_for(text, bad, setting))

@@ -463,3 +463,42 @@ pub(crate) static OCTETS: [LineForm; 3] = [
         PAGE
     ),
 ];
+
+const BLOCK: Field = number!("N", "block", 0, u64::MAX);
+
+const SET: Field = Field {
+    letters: "H",
+    name: "set",
+    value: Value::Octets {
+        least: 0,
+        most: 512,
+    },
+};
+
+/// The lines of a port with Data Storage, the setting first.
+pub(crate) static STORAGE: [LineForm; 9] = [
+    form!(
+        "the port has Data Storage in this mode, and blocks; a setting",
+        word!("store"),
+        Part::Words(&["off", "restore", "both", "own"])
+    ),
+    form!(
+        "submits a block of writes; store: the device asks for a fetch of them",
+        word!("block"),
+        Part::Words(&["plain", "store"]),
+        one!(INDEX),
+        one!(SUB),
+        one!(VALUE),
+        Part::Again(&["/"], &[INDEX, SUB, VALUE])
+    ),
+    form!("the outcome of a block", word!("outcome"), one!(BLOCK)),
+    form!(
+        "what came of Data Storage in this session",
+        word!("standing")
+    ),
+    form!("the set that is kept", word!("set")),
+    form!("the set that was fetched is saved", word!("save")),
+    form!("this set is kept from now on", word!("load"), one!(SET)),
+    form!("none is", word!("forget")),
+    form!("the device is used in spite of a trouble", word!("release")),
+];

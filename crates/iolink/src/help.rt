@@ -47,7 +47,11 @@ behind the turns above it.
 /// Before the calls.
 const CALLS: &str = "The calls of the port:\n";
 
-/// Behind them.
+/// Before the lines of a port with Data Storage.
+const STORAGE: &str =
+    "With the first of these lines among the settings the port has Data Storage, and takes the others:\n";
+
+/// Behind all lines.
 const RUN_END: &str =
     "  # ..                                    a comment; an empty line is skipped too
 H is octets without spaces, as 4142, or - for none.
@@ -62,7 +66,7 @@ prints
 
 Limits: 1,048,576 bytes of input, 1,024 bytes a line, 32 parameters, N up to 100,000, 1,000,000 steps of the wire and
 1,000,000 calls in all, QUEUE up to 64, 64 without it, 232 octets a value, 32 octets of process data, 32 in 'wire local',
-32 lines of kept, range and atmost each.
+32 lines of kept, range and atmost each, 76 writes a block.
 
 A table with a flaw is refused, as by 'table: BadDefault in param N' or 'table: BrokenAtFirst in atmost N', where N counts
 such lines from 1.
@@ -212,6 +216,8 @@ impl Help {
         Section::Wire.print(&mut run, WIDE)?;
         run.push_str(CALLS)?;
         Section::Calls.print(&mut run, WIDE)?;
+        run.push_str(STORAGE)?;
+        Section::Storage.print(&mut run, WIDE)?;
         run.push_str(RUN_END)?;
 
         let mut many = String::new(alloc);

@@ -9,9 +9,10 @@ ghost use Rattle.iol_commands.specs.Input.{AnswersInput, OfLines};
 use crate::command::PrintingCommand;
 use crate::ending::Ending;
 use iol_capture::{CaptureForm, Finding};
-use iol_commands::{ProgramFault, check, judge, judge_traced, many, run, trace};
+use iol_commands::{ProgramFault, check, judge, judge_traced, many};
 use iol_judge::Odd;
 use iol_link::Rate;
+use iol_stored_commands::{run_script, trace_script};
 use std::alloc::Global;
 use std::io::{Read, Write};
 use std::sync::Wait;
@@ -36,8 +37,8 @@ pub(crate) fn perform<T: Threads + Wait + Sync, R: Read, W: Write>(
 {
     match mode {
         PrintingCommand::Check => check(alloc, reader, writer),
-        PrintingCommand::Run => run(alloc, reader, writer),
-        PrintingCommand::Trace => trace(alloc, reader, writer),
+        PrintingCommand::Run => run_script(alloc, reader, writer),
+        PrintingCommand::Trace => trace_script(alloc, reader, writer),
         PrintingCommand::Many => many(rt, alloc, reader, writer),
     }
 }

@@ -1,0 +1,3 @@
+pub mod PlayedLemmas
+pub mod TracedLemmas
+pub mod CallsLemmas

@@ -1,0 +1,4 @@
+pub mod Wired
+pub mod StoredPrinted
+pub mod StoredPlayed
+pub mod StoredTraced
