@@ -1,7 +1,7 @@
 //! The gateway: its turns, and what it does behind each of them.
 use crate::cable::Cable;
-use crate::kept::print_set;
 use anyhow::Result;
+use example_kept::print_set;
 use iol_app::Asked;
 use iol_book::{Entry, Limits};
 use iol_mode::Devices;

@@ -14,15 +14,14 @@
 mod cable;
 mod client;
 mod gateway;
-mod kept;
 mod parameters;
 
 use crate::cable::Sensor;
 use crate::client::{read_limit, write_limits};
 use crate::gateway::Gateway;
-use crate::kept::read_kept;
 use crate::parameters::{LOWER_LIMIT, OTHER_TYPE, RULES, THERMOMETER, UPPER_LIMIT, members};
 use anyhow::{Context, Result};
+use example_kept::read_kept;
 use iol_page::Page;
 use iol_params::Table;
 use iol_storage::Set;

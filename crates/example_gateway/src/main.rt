@@ -1,12 +1,20 @@
-//! A gateway: a master of two ports, a client for each in a thread of its own, and
-//! a reader of process data who takes no port's lock. The lines are simulated.
+//! A gateway: a master of two ports, a client for each in a thread of its own, and a reader of
+//! process data who takes no port's lock. Then a third port, with Data Storage, at whose line a
+//! sensor is exchanged. The lines are simulated.
+//!
+//! Of its input the program takes the last line `set ..`: the set that it saved before. A set that
+//! the third port has fetched is saved as a line `set ..`.
 #![tactic(auto)]
 
+mod cable;
+mod exchange;
 mod ports;
 mod serve;
 
+use crate::exchange::serve_third;
 use crate::serve::serve;
 use anyhow::Result;
+use example_kept::read_kept;
 use std::alloc::Global;
 use std::marker::Brand;
 use std::rt::Runtime;
@@ -22,7 +30,9 @@ const PORTS: u64 = 2;
 
 /// The same for each kind of machine: it has threads, and may wait.
 fn run<R: Runtime<A = Global> + Threads + Wait + Sync>(rt: &R) -> Result<()> {
-    serve::<Brand, Brand, R>(rt, rt.alloc(), Blank::new(DESK_PARTS), Blank::new(PORTS))
+    let kept = read_kept(rt)?;
+    serve::<Brand, Brand, R>(rt, rt.alloc(), Blank::new(DESK_PARTS), Blank::new(PORTS))?;
+    serve_third::<Brand, R>(rt, rt.alloc(), kept, Blank::new(1))
 }
 
 fn main(rt: HostRuntime) -> Result<()> {

@@ -6,3 +6,7 @@ ghosts-serve-L-Ledger g a = record { name = a.clients.name; parts = a.clients.pa
 
 abbrev pub ghosts-serve-K-Ledger : goal.ghosts-serve-K-Ledger
 ghosts-serve-K-Ledger g a = record { name = a.tickets.name; parts = a.tickets.parts }
+
+-- and this blank that of the third port's line
+abbrev pub ghosts-serve_third : goal.ghosts-serve_third
+ghosts-serve_third g a = record { name = a.hands.name; parts = a.hands.parts }

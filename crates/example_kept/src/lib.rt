@@ -1,4 +1,6 @@
-//! The set that outlives the program: one line of its input, and of its output.
+//! The set of Data Storage that outlives a program: one line of its input, and of its output.
+#![tactic(auto)]
+
 use anyhow::{Context, Result, bail};
 use iol_storage::{Set, SetImage};
 
