@@ -485,7 +485,9 @@ class Life:
     def at_end(self, _turn, *standing):
         unit, is_open = self.unit, self.unit.owner == "client"
         hold(self.is_settled == 2, "it never came to an end")
-        hold(unit.owner != "job", f"a job's {unit.activity} is left open")
+        # STO-12: a trouble is looked at again, also in the last turn.
+        is_looked_at = standing[0] in ("trouble", "released")
+        hold(is_looked_at or unit.owner != "job", f"a job's {unit.activity} is left open")
         is_lawful = unit.model in BY_THE_RULES and not is_open
         if is_lawful and standing == ("trouble", "attempts"):
             hold(False, "all attempts are in vain on a clean line")
