@@ -109,6 +109,8 @@ class Life:
         self.standing, self.link, self.image = ("awaited",), "Down", False
         self.wants_output, self.is_loaded, self.awaited_at = False, False, 0
         self.last, self.is_settled, self.is_last = [], 0, False
+        # The ticket whose outcome was drained last, behind all turns.
+        self.heard = None
         # Whether the kept set is another one since the last turn, and a check is due.
         self.has_loaded, self.owes_check = False, False
         self.session()
@@ -202,7 +204,10 @@ class Life:
         if code == "FF91":
             self.looks = 0
 
-    at_js = at_jt = at_ja = at_takeback = at_restart = at_release = at_calm = at_full = at_crowd = at_seed
+    at_js = at_jt = at_takeback = at_restart = at_release = at_calm = at_full = at_crowd = at_seed
+
+    def at_ja(self, ticket, *_outcome):
+        self.heard = int(ticket)
 
     def see_cut(self, what, is_so=True, unit=None):
         """Something that cuts off what a unit is in, that of now where none is named."""
@@ -480,14 +485,13 @@ class Life:
     def at_settled(self, turns):
         self.seen["turns on a clean line"] += int(turns)
         self.is_settled += 1
+        self.heard = None
         hold(not self.journal.outstanding, "a client waits on a clean line")
 
     def at_end(self, _turn, *standing):
         unit, is_open = self.unit, self.unit.owner == "client"
         hold(self.is_settled == 2, "it never came to an end")
-        # STO-12: a trouble is looked at again, also in the last turn.
-        is_looked_at = standing[0] in ("trouble", "released")
-        hold(is_looked_at or unit.owner != "job", f"a job's {unit.activity} is left open")
+        hold(unit.owner != "job" or self.is_in_a_job(), f"a job's {unit.activity} is left open")
         is_lawful = unit.model in BY_THE_RULES and not is_open
         if is_lawful and standing == ("trouble", "attempts"):
             hold(False, "all attempts are in vain on a clean line")
@@ -499,6 +503,12 @@ class Life:
         if not self.is_served():
             hold(not unit.output, "the output is valid at a unit that isn't served")
         self.look_at_last(is_lawful)
+
+    def is_in_a_job(self):
+        """Whether a job goes on still, as one does now and then at a trouble in service: its last request has no outcome,
+        or has it since the last turn."""
+        last = max(filter(self.journal.is_job, self.journal.requests), default=None)
+        return last is not None and (last not in self.journal.answers or last == self.heard)
 
     def look_at_last(self, is_lawful):
         """What was written last is in force."""

@@ -55,11 +55,9 @@ def requests_in(form, lines):
 
 
 def more_than_asked(script, text):
-    """How often more a request was carried out than the script asks for it, all requests together. A port with Data
-    Storage asks too: then only what the script asks for is looked at."""
-    asked, lines = requests_in(ASKED, script.splitlines()), script.splitlines()
-    left = requests_in(CARRIED, text.splitlines()) - asked
-    return sum(count for it, count in left.items() if it in asked or not any(line.startswith("store ") for line in lines))
+    """How often more a request was carried out than the script asks for it, all requests together."""
+    left = requests_in(CARRIED, text.splitlines()) - requests_in(ASKED, script.splitlines())
+    return sum(left.values())
 
 
 def cut_off_and_carried(script, text):

@@ -40,6 +40,11 @@ def is_plain(it):
     return not it.each and not it.is_directory and not it.is_bounded() and not it.is_made
 
 
+def has_storage(script):
+    """Whether the script's port has Data Storage, whose lines and requests the page doesn't know."""
+    return any(line.startswith(b"store ") for line in script.text.splitlines())
+
+
 class Room:
     """The open page, the program, and a folder for files."""
 
@@ -60,14 +65,15 @@ class Room:
 
     def row_traces(self):
         """The traces that the rows want, by name."""
-        found = [it for it in row.rows("*/trace_*") if 0 < len(it.stdout) <= MOST_OCTETS]
+        found = [it for it in row.rows("*/trace_*") if 0 < len(it.stdout) <= MOST_OCTETS and not has_storage(it)]
         return {it.name: it.stdout.decode() for it in found}
 
     def run_traces(self):
         """The traces of the rows of `run` that have one script, and that `trace` takes."""
         made = {}
         for it in row.rows("*/run_*"):
-            trace = self.trace_of(it.text.decode()) if is_plain(it) and not it.status else None
+            is_read = is_plain(it) and not it.status and not has_storage(it)
+            trace = self.trace_of(it.text.decode()) if is_read else None
             if trace is not None:
                 made[it.name] = trace
         return made

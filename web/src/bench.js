@@ -154,13 +154,12 @@ const TO_COME = {
 };
 
 function showCable() {
-  const { lines, ran: { made, trace, status, image, standing } } = bench;
+  const { lines, ran: { made, trace, status, image } } = bench;
   const next = fatesToCome(lines, made).map(({ fate }) => TO_COME[fate]).filter(Boolean);
   byId('pending').textContent = next.length ? `to come: ${next.join(', ')}` : '';
   byId('cable').textContent = isPulled(lines) ? 'Plug the cable in' : 'Pull the cable';
   byId('cable').classList.toggle('on', isPulled(lines));
-  const storage = standing ? `, Data Storage: ${standing.replace(/^standing /, '')}` : '';
-  byId('mode').textContent = `link: ${status.replace(/^status /, '')}${storage}`;
+  byId('mode').textContent = `link: ${status.replace(/^status /, '')}`;
   byId('image').textContent = `input: ${image.replace(/^image /, '')}`;
   const last = trace.filter((it) => it.startsWith(`${made} `));
   byId('sent').textContent = last[0] ?? '';

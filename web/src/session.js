@@ -5,8 +5,7 @@
 // The calls of the wire that a script tells of are a list of their own, from the first on. Before
 // something is to happen now, the calls that were made already are passed over.
 
-const SETTINGS = 'other|kind|pulses|devices|limits|param|kept|range|atmost|in|store';
-const SETTING = new RegExp(`^(?:page [0-9A-F]{2} |(?:${SETTINGS}) )`);
+const SETTING = /^(?:page [0-9A-F]{2} |(?:other|kind|pulses|devices|limits|param) )/;
 const FATE = /^wire (clean|outlost|backlost|outdamaged|backdamaged|nowake) (\d+)$/;
 const TURN = /^turn (\d+)$/;
 const SUBMIT = /^(?:urgent )?(read \S+ \S+|write \S+ \S+ \S+)$/;
@@ -14,9 +13,6 @@ const PULLED = '# The cable is pulled.';
 const PLUGGED = '# The cable is plugged in.';
 /** The identity 0x1234, 0x000208, with which none of the pages is. */
 const OTHER = 'other 17 2D 11 00 00 12 34 00 02 08';
-
-/** Whether the port has Data Storage, whose requests have tickets too. */
-const isStored = (lines) => lines.some((it) => it.startsWith('store '));
 
 const isPulled = (lines) => lines.findLast((it) => it === PULLED || it === PLUGGED) === PULLED;
 
@@ -113,12 +109,6 @@ function answersIn(lines, said) {
   return lines.filter(isCall).map((call, at) => ({ call, answer: printed[at] ?? '' }));
 }
 
-/** The tickets of clients: from 1 on, but where others have some too. */
-function ticketsOf(lines) {
-  if (!isStored(lines)) return lines.filter((it) => SUBMIT.test(it)).map((_, at) => at + 1);
-  return ran(lines).printed.split('\n').flatMap((it) => /^ticket (\d+)$/.exec(it)?.[1] ?? []);
-}
-
 /** What is asked behind a script, besides tickets and events: how the port stands. */
 const STANDS_NOW = ['status', 'image'];
 
@@ -127,18 +117,17 @@ const STANDS_NOW = ['status', 'image'];
  * what brought a ticket's outcome or an event stays in the script; the rest changes nothing.
  */
 function perform(lines) {
-  const tickets = ticketsOf(lines).map((it) => `collect ${it}`);
+  const tickets = lines.filter((it) => SUBMIT.test(it)).map((_, at) => `collect ${at + 1}`);
   const asked = [...tickets, ...Array(EVENTS).fill('event')];
-  const stands = [...STANDS_NOW, ...(isStored(lines) ? ['standing'] : [])];
-  const { said, behind, ...records } = traced(lines, [...asked, ...stands]);
-  const [status, image, standing] = said.slice(-stands.length);
-  const end = said.length - stands.length - asked.length;
+  const { said, behind, ...records } = traced(lines, [...asked, ...STANDS_NOW]);
+  const [status, image] = said.slice(-STANDS_NOW.length);
+  const end = said.length - STANDS_NOW.length - asked.length;
   const isKept = (_, at) => !said[end + at].startsWith('refused ');
   const whole = [...lines, ...asked.filter(isKept)];
   const told = [...said.slice(0, end), ...asked.map((_, at) => said[end + at]).filter(isKept)];
   const trace = [...told, ...behind];
   return {
-    lines: whole, trace, status, image, standing, made: callsIn(told), ...records,
+    lines: whole, trace, status, image, made: callsIn(told), ...records,
     answers: answersIn(whole, told), judged: execute(['judge'], textOfLines(trace)).printed,
   };
 }
@@ -151,16 +140,12 @@ function requestOf(line) {
   return `${way} ${index} ${subindex} ${octets.match(/../g)?.join(' ') ?? octets}`;
 }
 
-/**
- * What was asked for, and each request that the devices did more often, with how often more. With
- * Data Storage the port asks too: then only what clients asked for is looked at.
- */
-function doneAgain({ lines, answers, did, didAway }) {
+/** What was asked for, and each request that the devices did more often, with how often more. */
+function doneAgain({ answers, did, didAway }) {
   const left = new Map();
   const count = (request, by) => left.set(request, (left.get(request) ?? 0) + by);
   const submits = answers.filter(({ call, answer }) => SUBMIT.test(call) && /^ticket/.test(answer));
   submits.forEach(({ call }) => count(requestOf(call), -1));
-  const done = [...did, ...didAway].map((it) => it.slice(0, it.lastIndexOf(':')));
-  done.filter((it) => left.has(it) || !isStored(lines)).forEach((it) => count(it, 1));
+  [...did, ...didAway].forEach((it) => count(it.slice(0, it.lastIndexOf(':')), 1));
   return { asked: submits.length, again: [...left].filter(([, times]) => times > 0) };
 }
