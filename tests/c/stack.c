@@ -5,13 +5,10 @@
  * counts what the dynamic linker needs to find it. */
 #include "calls.h"
 #include "iolink_params.h"
-#include "iolink_storage.h"
 #include <stdio.h>
 #include <string.h>
 
 enum { KB = 1024, OF_OPENING = 8 * KB, OF_LINE = 12 * KB, OF_CALL = 4 * KB, ROOM = 64 * KB, SKIPPED = 256, LONGEST = 232 };
-/* With Data Storage, whose sets have some 2 KB: an opening, a load, and calls that hand a set or a block's writes on. */
-enum { OF_STORE_OPENING = 56 * KB, OF_LOAD = 16 * KB, OF_SET = 8 * KB };
 
 #define PAINT UINT64_C(0xA5C3A5C3A5C3A5C3)
 
@@ -28,15 +25,7 @@ enum { OF_STORE_OPENING = 56 * KB, OF_LOAD = 16 * KB, OF_SET = 8 * KB };
     X(iol_params_saved) X(iol_params_set) X(iol_params_reset) X(iol_params_value) X(iol_params_restart)                \
     X(iol_params_locks) X(iol_params_hear) X(iol_params_expects) X(iol_params_wake) X(iol_params_silence)              \
     X(iol_params_mode) X(iol_params_cycle_time) X(iol_params_raise) X(iol_params_set_input)                            \
-    X(iol_params_clear_input) X(iol_params_output)                                                                     \
-    X(iol_store_open) X(iol_store_close) X(iol_store_standing) X(iol_store_set) X(iol_store_unsaved)                   \
-    X(iol_store_saved) X(iol_store_load) X(iol_store_forget) X(iol_store_release) X(iol_store_block_begin)             \
-    X(iol_store_block_write) X(iol_store_block_submit) X(iol_store_block_collect) X(iol_store_asks)                    \
-    X(iol_store_turn_woken) X(iol_store_turn_answered) X(iol_store_read) X(iol_store_read_urgent) X(iol_store_write)   \
-    X(iol_store_write_urgent) X(iol_store_collect) X(iol_store_withdraw) X(iol_store_cancel) X(iol_store_abandon)      \
-    X(iol_store_expect) X(iol_store_expect_any) X(iol_store_set_cycle) X(iol_store_page) X(iol_store_restart)          \
-    X(iol_store_set_output) X(iol_store_clear_output) X(iol_store_image) X(iol_store_take_event) X(iol_store_status)   \
-    X(iol_store_last_loss) X(iol_store_counters) X(iol_store_drain) X(iol_store_entry)
+    X(iol_params_clear_input) X(iol_params_output)
 
 #define AT(name) at_##name,
 #define AT_PORT(name, end, arguments) at_iol_port_##name,
@@ -51,28 +40,10 @@ static size_t deepest[MEASURED];
 /* Below how many octets a call has to stay. */
 static size_t bound(int call)
 {
-    switch (call) {
-    case at_iol_port_open:
-    case at_iol_port_open_for:
-    case at_iol_device_open:
-    case at_iol_device_open_from:
-    case at_iol_params_open:
-        return OF_OPENING;
-    case at_iol_port_trace_line:
-    case at_iol_device_trace_line:
-        return OF_LINE;
-    case at_iol_store_open:
-        return OF_STORE_OPENING;
-    case at_iol_store_load:
-        return OF_LOAD;
-    case at_iol_store_asks:
-    case at_iol_store_set:
-    case at_iol_store_unsaved:
-    case at_iol_store_block_submit:
-        return OF_SET;
-    default:
-        return OF_CALL;
-    }
+    bool opens = call == at_iol_port_open || call == at_iol_port_open_for || call == at_iol_device_open
+        || call == at_iol_device_open_from || call == at_iol_params_open;
+    bool tells = call == at_iol_port_trace_line || call == at_iol_device_trace_line;
+    return opens ? OF_OPENING : tells ? OF_LINE : OF_CALL;
 }
 
 /* Paints what lies below the caller, but for the little that this function stands on itself. */
@@ -281,15 +252,13 @@ static void noise(void)
     }
 }
 
-/* The parameters of a device, of which one has as many octets as there can be. */
-static const iol_param_row rows[] = {{16, 0, IOL_OCTETS, IOL_STORED, LONGEST, 0, 0, longest, LONGEST},
-    {17, 0, IOL_UINT32, IOL_STORED, 0, 0, 9, longest, 4}, {18, 0, IOL_UINT16, IOL_STORED, 0, 0, 9, longest, 2}};
-static const iol_order_rule rules[] = {{17, 0, 18, 0}};
-static uint8_t image[1 + LONGEST + 1 + 5 + 3];
-
-/* A device with parameters takes each message of a port, and saves. */
+/* A device with parameters, of which one has as many octets as there can be: it takes each message of a port, and saves. */
 static void with_parameters(const uint8_t page[10])
 {
+    static const iol_param_row rows[] = {{16, 0, IOL_OCTETS, IOL_STORED, LONGEST, 0, 0, longest, LONGEST},
+        {17, 0, IOL_UINT32, IOL_STORED, 0, 0, 9, longest, 4}, {18, 0, IOL_UINT16, IOL_STORED, 0, 0, 9, longest, 2}};
+    static const iol_order_rule rules[] = {{17, 0, 18, 0}};
+    static uint8_t image[1 + LONGEST + 1 + 5 + 3];
     iol_params params = {0};
     iol_message asked;
     iol_reply reply;
@@ -343,149 +312,6 @@ static void with_parameters(const uint8_t page[10])
     ticket = 0;
 }
 
-static iol_store store;
-static iol_params sensor;
-
-/* A turn of a port with Data Storage, behind which its program does what it owes. The reply is lost in one of so many
- * turns, in none for 0. */
-static void store_turns(int count, int lost)
-{
-    iol_message asked;
-    iol_reply reply;
-    iol_event event;
-    iol_set set;
-    uint64_t number;
-    while (count-- > 0) {
-        CALL(iol_store_asks, &store, &asked);
-        if (asked.length == 0) {
-            CALL(iol_params_wake, &sensor);
-            CALL(iol_store_turn_woken, &store, 2);
-            continue;
-        }
-        CALL(iol_params_hear, &sensor, asked.octets, asked.length, &reply);
-        if (CALL(iol_params_work, &sensor) == IOL_TO_SAVE)
-            CALL(iol_params_saved, &sensor);
-        if (lost && count % lost == 0)
-            reply.length = 0;
-        CALL(iol_store_turn_answered, &store, reply.octets, reply.length);
-        CALL(iol_store_take_event, &store, &event);
-        CALL(iol_store_unsaved, &store, &number, &set);
-        if (set.length > 0)
-            CALL(iol_store_saved, &store, number);
-    }
-}
-
-/* A set is fetched, fetched anew behind a user's change, and restored; one of another device isn't. */
-static void store_sets(int lost)
-{
-    iol_standing standing;
-    iol_set set;
-    uint8_t error;
-    CALL(iol_store_standing, &store, &standing);
-    store_turns(500, lost);
-    CALL(iol_params_set, &sensor, 18, 0, (const uint8_t *)"\0\7", 2, &error);
-    CALL(iol_params_saved, &sensor);
-    store_turns(500, lost);
-    CALL(iol_store_set, &store, &set);
-    set.octets[0] ^= 1;
-    CALL(iol_store_load, &store, set.octets, set.length);
-    CALL(iol_store_restart, &store);
-    store_turns(500, lost);
-    set.octets[8] ^= 1;
-    CALL(iol_store_load, &store, set.octets, set.length);
-    CALL(iol_store_restart, &store);
-    store_turns(500, lost);
-    CALL(iol_store_standing, &store, &standing);
-    CALL(iol_store_release, &store);
-    CALL(iol_store_forget, &store);
-    store_turns(500, lost);
-}
-
-/* A block that is applied, or refused by its end where the first of two numbers is above the second. */
-static void store_block(const char *high, int lost)
-{
-    iol_block_end end;
-    CALL(iol_store_block_begin, &store);
-    CALL(iol_store_block_write, &store, 16, 0, longest, LONGEST);
-    CALL(iol_store_block_write, &store, 17, 0, (const uint8_t *)"\0\0\0\5", 4);
-    CALL(iol_store_block_write, &store, 18, 0, (const uint8_t *)high, 2);
-    CALL(iol_store_block_submit, &store, IOL_KEEP, &ticket);
-    store_turns(700, lost);
-    CALL(iol_store_block_collect, &store, ticket, &end);
-}
-
-static void store_requests(int lost)
-{
-    iol_outcome outcome;
-    iol_entry entry;
-    uint32_t count, restated;
-    uint64_t last;
-    CALL(iol_store_read, &store, 16, 0, &ticket);
-    CALL(iol_store_write, &store, 16, 0, longest, LONGEST, &ticket);
-    CALL(iol_store_write_urgent, &store, 18, 0, longest, 2, &ticket);
-    CALL(iol_store_read_urgent, &store, 17, 0, &last);
-    CALL(iol_store_withdraw, &store, last);
-    CALL(iol_store_collect, &store, last, &outcome);
-    store_turns(300, lost);
-    CALL(iol_store_collect, &store, ticket, &outcome);
-    CALL(iol_store_read, &store, 16, 0, &ticket);
-    store_turns(2, lost);
-    CALL(iol_store_cancel, &store, ticket);
-    CALL(iol_store_abandon, &store, ticket);
-    store_turns(100, lost);
-    CALL(iol_store_drain, &store, &count, &restated);
-    do
-        CALL(iol_store_entry, &store, &entry);
-    while (entry.kind);
-}
-
-/* What changes nothing, and what the next start-up asks of the device. */
-static void store_looks(void)
-{
-    iol_status status;
-    iol_page its_page;
-    iol_loss loss;
-    iol_counters counters;
-    iol_image input;
-    uint8_t counts;
-    CALL(iol_store_expect, &store, 0x1234, 0x107, &counts);
-    CALL(iol_store_expect_any, &store, &counts);
-    CALL(iol_store_set_cycle, &store, 20000, &counts);
-    CALL(iol_store_set_output, &store, longest, 1);
-    store_turns(4, 0);
-    CALL(iol_store_image, &store, &input);
-    CALL(iol_store_clear_output, &store);
-    CALL(iol_store_status, &store, &status);
-    CALL(iol_store_page, &store, &its_page);
-    CALL(iol_store_last_loss, &store, &loss);
-    CALL(iol_store_counters, &store, &counters);
-}
-
-/* A port with Data Storage, and a device with parameters. */
-static void with_storage(const uint8_t page[10], uint8_t mode)
-{
-    iol_set set;
-    size_t row;
-    int lost;
-    CALL(iol_params_open, &sensor, page, rows, 3, rules, 1, NULL, 0, &row);
-    CALL(iol_store_open, &store, IOL_DEVICES_ANY, mode, 1000, 100, 64, 0, NULL, 0);
-    store_looks();
-    for (lost = 0; lost <= 40; lost += 20) {
-        store_sets(lost);
-        store_block("\0\7", lost);
-        store_block("\0\3", lost);
-        store_requests(lost);
-        store_looks();
-    }
-    CALL(iol_store_set, &store, &set);
-    CALL(iol_store_close, &store);
-    CALL(iol_store_open, &store, IOL_DEVICES_OWN, mode, 1000, 100, 64, 0, set.octets, set.length);
-    store_turns(100, 0);
-    CALL(iol_store_close, &store);
-    CALL(iol_params_close, &sensor);
-    ticket = 0;
-}
-
 static void run(const uint8_t page[10])
 {
     ticket = 0;
@@ -526,8 +352,6 @@ int main(int count, char **words)
     run(largest);
     with_parameters(plain);
     with_parameters(process);
-    with_storage(plain, IOL_STORAGE_BOTH);
-    with_storage(process, IOL_STORAGE_OWN);
     for (call = 0; call < MEASURED; call++) {
         if (measures)
             printf("%s %zu\n", names[call], deepest[call]);
@@ -535,8 +359,7 @@ int main(int count, char **words)
             printf("%s is not %s\n", names[call], deepest[call] == 0 ? "called" : "below its bound");
     }
     if (!measures)
-        printf("of %d KB for an opening, %d KB for a trace line, and %d KB for any other call\n"
-               "with Data Storage of %d KB for an opening, %d KB for a load, and %d KB where a set or block is handed on\n",
-               OF_OPENING / KB, OF_LINE / KB, OF_CALL / KB, OF_STORE_OPENING / KB, OF_LOAD / KB, OF_SET / KB);
+        printf("of %d KB for an opening, %d KB for a trace line, and %d KB for any other call\n", OF_OPENING / KB,
+               OF_LINE / KB, OF_CALL / KB);
     return 0;
 }
