@@ -1,18 +1,21 @@
 -- What outlives the power, by what a manager does.
 use Rattle.std.proofs.Common.{◌≡◌, ◌∙◌, ℕ, List, Bool, true, false, Option, Some, None, refl, sym, ap, subst, []}
+use Rattle.std.specs.Prelude.{if◌then◌else◌}
 use Rattle.iol_isdu.specs.declared.values.Place.{Place}
 use Rattle.iol_slots.specs.declared.slots.Store.{Store}
 use Rattle.iol_slots.specs.Memory.{Memory, AreStored}
 use Rattle.iol_slots.specs.Laws.{EachSaveIsWholeOrNothing}
 use Rattle.iol_slots.specs.Images.{keeping, newest_content}
 use Rattle.iol_params.specs.declared.error_type.ErrorType.{ErrorType}
+use Rattle.iol_params.specs.declared.error_type.ErrorType.TheVariants.{FunctionUnavailable}
 use Rattle.iol_params.specs.declared.state.Scope.TheVariants.{Block}
 use Rattle.iol_params.specs.declared.state.Command.TheVariants.{FactoryReset}
-use Rattle.iol_params.specs.declared.state.Activity.TheVariants.{Idle}
+use Rattle.iol_params.specs.declared.state.Activity.{Activity}
+use Rattle.iol_params.specs.declared.state.Activity.TheVariants.{Idle, Upload, Download, CutOff}
 use Rattle.iol_params.specs.declared.state.Restart.TheVariants.{NotDue}
 use Rattle.iol_params.specs.Table.{ParamTable}
-use Rattle.iol_params.specs.State.{ParamState, is_foreign}
-use Rattle.iol_params.specs.Carry.{local_change, local_refusal, local_settled, command, own_command, unless_foreign}
+use Rattle.iol_params.specs.State.{ParamState, is_at_rest, is_foreign}
+use Rattle.iol_params.specs.Carry.{local_change, local_refusal, local_settled, local_reset, own_command, unless_foreign, with_activity}
 use Rattle.iol_params.specs.Manager.{ManagerValue}
 use Rattle.iol_params.specs.Image.{LastingState, kept_of, kept_in, with_kept, power_up}
 use Rattle.iol_param_device.specs.Saved.{SavedValue, SavesUnless, IsSaved, IsSavedIn, opened_manager}
@@ -31,15 +34,19 @@ local_refused table s place octets why e = by (local_refusal table s place octet
     by None k = absurd (cc)
 
 pub reset_refused : (table : ParamTable) (s : ParamState) (why : ErrorType)
-    → (command table s Block FactoryReset).0 ≡ Some why
-    → (command table s Block FactoryReset).1 ≡ s
-reset_refused table s why e = by (is_foreign Block s.activity) e
+    → (local_reset table s).0 ≡ Some why → (local_reset table s).1 ≡ s
+reset_refused table s why e = by s.activity e
   where
-    by : (foreign : Bool)
-        → (unless_foreign foreign s (own_command table s Block FactoryReset)).0 ≡ Some why
-        → (unless_foreign foreign s (own_command table s Block FactoryReset)).1 ≡ s
-    by true k = refl
-    by false k = absurd (cc)
+    reset : Activity → Option ErrorType × ParamState
+    reset a = if is_at_rest a then with_activity s.activity
+        (unless_foreign (is_foreign Block a) s (own_command table s Block FactoryReset))
+        else (Some FunctionUnavailable, s)
+
+    by : (a : Activity) → (reset a).0 ≡ Some why → (reset a).1 ≡ s
+    by Idle k = absurd (cc)
+    by CutOff k = absurd (cc)
+    by (Upload scope) k = refl
+    by (Download scope writes) k = refl
 
 -- a state that is what was kept
 abbrev fresh : LastingState → ParamState

@@ -1,5 +1,5 @@
 -- A device with parameters.
-use Rattle.std.specs.Prelude.{Bool, true, false, ◌&&◌, not, if◌then◌else◌, Option, Some, None}
+use Rattle.std.specs.Prelude.{Bool, true, false, ◌&&◌, not, Option, Some, None}
 use Rattle.iol_isdu.specs.declared.values.Request.{Request}
 use Rattle.iol_isdu.specs.Answers.{is_read}
 use Rattle.iol_event.specs.declared.event.Event.{Event}
@@ -11,13 +11,8 @@ use Rattle.iol_far.specs.Isdu.{handed_request}
 use Rattle.iol_far.specs.Local.{local, Carry, Raise}
 use Rattle.iol_device.specs.Device.{Running}
 use Rattle.iol_device.specs.declared.app.Apart.{Apart}
-use Rattle.iol_params.specs.declared.error_type.ErrorType.{ErrorType}
-use Rattle.iol_params.specs.declared.error_type.ErrorType.TheVariants.{FunctionUnavailable}
-use Rattle.iol_params.specs.declared.state.Scope.TheVariants.{Block}
-use Rattle.iol_params.specs.declared.state.Command.TheVariants.{FactoryReset}
 use Rattle.iol_params.specs.Table.{ParamTable}
-use Rattle.iol_params.specs.State.{ParamState, is_at_rest, after_end}
-use Rattle.iol_params.specs.Carry.{command}
+use Rattle.iol_params.specs.State.{ParamState, after_end}
 use Rattle.iol_params.specs.Requests.{request_result}
 use Rattle.iol_params.specs.Manager.{ManagerValue}
 
@@ -64,12 +59,6 @@ after_work table b = after_event (after_request (handed_request b.far.isdu) tabl
 abbrev pub works_on_read : Option Request → Bool
 works_on_read None = true
 works_on_read (Some request) = is_read request
-
--- a factory reset at the device itself: an activity under way would have a hole
--- ACT-4
-abbrev pub local_reset : ParamTable → ParamState → Option ErrorType × ParamState
-local_reset table s = if is_at_rest s.activity then command table s Block FactoryReset
-    else (Some FunctionUnavailable, s)
 
 -- whether a device goes back, from OPERATE or to STARTUP
 abbrev pub goes_back : DeviceMode → DeviceMode → Bool

@@ -16,10 +16,10 @@ ghost use Rattle.iol_device.specs.declared.fault.DeviceFault.{DeviceFault};
 ghost use Rattle.iol_slots.specs.Images.{has_size};
 ghost use Rattle.iol_params.specs.Image.{image_size};
 ghost use Rattle.iol_params.specs.State.{after_end, after_quiet};
-ghost use Rattle.iol_params.specs.Carry.{local_change};
+ghost use Rattle.iol_params.specs.Carry.{local_change, local_reset};
 ghost use Rattle.iol_param_device.specs.Saved.{Saves, SavesUnless, opened_manager};
 ghost use Rattle.iol_param_device.specs.Faults.{open_fault};
-ghost use Rattle.iol_param_device.specs.Device.{ParamDeviceValue, both, after_request, after_event, after_work, works_on_read, local_reset, goes_back, ended_if};
+ghost use Rattle.iol_param_device.specs.Device.{ParamDeviceValue, both, after_request, after_event, after_work, works_on_read, goes_back, ended_if};
 
 use crate::fault::OpenFault;
 use crate::saved::SavedManager;
@@ -218,7 +218,7 @@ impl<'a, S: Slots, A: Allocator + Copy> ParamDevice<'a, S, A> {
         self.saved.set(place, octets)
     }
 
-    /// A factory reset at the device itself, as SystemCommand `82` makes it, and saved.
+    /// A factory reset at the device itself, as [`Manager::local_reset`] makes it, and saved.
     ///
     /// Refused with 0x8036, and nothing changed, while an activity is under way: try again.
     pub fn reset(&mut self) -> Result<(), ErrorType>

@@ -4,16 +4,15 @@ ghost use Rattle.std.specs.Result.{result_err};
 ghost use Rattle.iol_isdu.specs.Answers.{is_read};
 ghost use Rattle.iol_slots.specs.Images.{has_size, FitsIn};
 ghost use Rattle.iol_params.specs.State.{after_end, after_quiet};
-ghost use Rattle.iol_params.specs.Carry.{local_change};
+ghost use Rattle.iol_params.specs.Carry.{local_change, local_reset};
 ghost use Rattle.iol_params.specs.Requests.{request_result};
 ghost use Rattle.iol_params.specs.Image.{kept_of, with_kept, image_size};
 ghost use Rattle.iol_param_device.specs.Saved.{SavedValue, Saves, SavesUnless, IsSaved, opened_manager};
-ghost use Rattle.iol_param_device.specs.Device.{local_reset};
 ghost use Rattle.iol_param_device.specs.Faults.{open_fault};
 
 use crate::fault::OpenFault;
 use iol_isdu::{Answer, Place, Request};
-use iol_params::{Command, ErrorType, Manager, Scope, Table};
+use iol_params::{ErrorType, Manager, Table};
 use iol_slots::{Slots, has_size, load, save};
 use std::alloc::{AllocError, Allocator, Global};
 use std::marker::Model;
@@ -116,7 +115,7 @@ impl<'a, S: Slots, A: Allocator + Copy> SavedManager<'a, S, A> {
         Ok(())
     }
 
-    /// A factory reset at the device itself, as SystemCommand `82` makes it, and saved.
+    /// A factory reset at the device itself, as [`Manager::local_reset`] makes it, and saved.
     ///
     /// Refused with 0x8036, and nothing changed, while an activity is under way: try again.
     #[tactic(auto, using(crate::proofs::Saving::reset_refused))]
@@ -129,10 +128,7 @@ impl<'a, S: Slots, A: Allocator + Copy> SavedManager<'a, S, A> {
         ensures saves { OnOk result (Saves S.memory S.store_gives self.old.slots self.new) }
         ensures unchanged { OnErr result (self.new.slots ≡ self.old.slots) }
     {
-        if !self.manager.activity().is_at_rest() {
-            return Err(ErrorType::FunctionUnavailable);
-        }
-        self.manager.command(Scope::Block, Command::FactoryReset)?;
+        self.manager.local_reset()?;
         save_state(&self.manager, &mut self.slots, &mut self.image);
         Ok(())
     }
@@ -320,6 +316,29 @@ mod tests {
         );
         assert_eq!(rt; octet_of(&saved), Some(30));
         saved.reset()?;
+        assert_eq!(rt; octet_of(&saved), Some(10));
+        Ok(())
+    }
+
+    #[test]
+    fn a_reset_behind_silence_lets_no_block_in(rt: HostRuntime) -> Result<(), Fail> {
+        let table = Table::new(&MEMBERS, &[])?;
+        let slots = RamSlots::open(rt.alloc(), slot_size(&table))?;
+        let mut saved = SavedManager::open(rt.alloc(), &table, slots)?;
+        saved.set(PLACE, &[20])?;
+        let command = Place { index: 2, sub: 0 };
+        assert_eq!(rt;
+            saved.carry(&Request::write(command, &[3])?),
+            Answer::Written
+        );
+        saved.silence();
+        saved.reset()?;
+        let refused = ErrorType::FunctionUnavailable.answer();
+        assert_eq!(rt; saved.carry(&Request::write(PLACE, &[30])?), refused);
+        let refused = ErrorType::FunctionUnavailable.answer();
+        assert_eq!(rt; saved.carry(&Request::write(command, &[4])?), refused);
+        assert_eq!(rt; octet_of(&saved), Some(10));
+        saved.power_cycle();
         assert_eq!(rt; octet_of(&saved), Some(10));
         Ok(())
     }

@@ -25,8 +25,8 @@ use Rattle.iol_params.specs.declared.table.Flaw.TheVariants.{TooManyMembers, Man
 use Rattle.iol_params.specs.Members.{big_endian}
 use Rattle.iol_params.specs.State.{ParamState, is_at_rest, is_uploading, is_downloading, is_foreign, left_in_silence, after_end, after_quiet, with_flag_cleared, with_flag_set}
 use Rattle.iol_params.specs.Table.{ParamTable, table_fault, whole, is_managed, sub_in_turn, is_of_index, differs, has_length, fault_or, first_fault, storage_fault, member_flaw, members_fault, rules_fault, rule_flaw, is_stored_number}
-use Rattle.iol_params.specs.Carry.{local_access_refusal, local_refusal, local_settled, is_stored_at, with_flag_if, first_refusal, place_refusal, access_refusal, content_refusal, alone_refusal, write_refusal, with_write, write_settled, after_refused_write, download_settled, upload_settled, own_command, unless_foreign, is_consistent, rules_hold, with_reset}
-use Rattle.iol_params.specs.Laws.{IsConsistent, StaysConsistent, Writing, Setting, Commanding, Over, Silent}
+use Rattle.iol_params.specs.Carry.{local_access_refusal, local_refusal, local_settled, is_stored_at, with_flag_if, first_refusal, place_refusal, access_refusal, content_refusal, alone_refusal, write_refusal, with_write, write_settled, after_refused_write, download_settled, upload_settled, own_command, unless_foreign, command, with_activity, is_consistent, rules_hold, with_reset}
+use Rattle.iol_params.specs.Laws.{IsConsistent, StaysConsistent, Writing, Setting, Commanding, Resetting, Over, Silent}
 
 pub overlay-fits : (ms : List Member) (values : List (List ℕ)) (place : Place) (octets : List ℕ)
     → all_fit ms values ≡ true → fits_place ms place octets ≡ true
@@ -216,6 +216,12 @@ refused-downloading (Upload scope) h = h
 refused-downloading CutOff h = h
 refused-downloading (Download scope writes) h = refl
 
+pub rest_downloads_nothing : (a : Activity) → is_at_rest a ≡ true → is_downloading a ≡ false
+rest_downloads_nothing Idle h = refl
+rest_downloads_nothing CutOff h = refl
+rest_downloads_nothing (Upload scope) h = absurd (cc)
+rest_downloads_nothing (Download scope writes) h = absurd (cc)
+
 module _ (table : ParamTable) where
   pub end-consistent : (s : ParamState) → IsConsistent table s → IsConsistent table (after_end s)
   end-consistent s h = record { fit = h.fit; copy_fit = λ never. absurd (cc); rules = h.rules }
@@ -383,6 +389,21 @@ module _ (table : ParamTable) where
     command-consistent sound scope asked true = h
     command-consistent sound scope asked false = own-consistent sound scope asked
 
+    pub reset_here-consistent : table_fault table.members table.rules ≡ None → (rest : Bool)
+        → is_at_rest s.activity ≡ rest
+        → IsConsistent table (if rest
+        then with_activity s.activity (command table s Block FactoryReset)
+        else (Some FunctionUnavailable, s)).1
+    reset_here-consistent sound true e =
+        let reset = command-consistent sound Block FactoryReset (is_foreign Block s.activity) in
+        let never = rest_downloads_nothing s.activity e in
+        record {
+          fit = reset.fit;
+          copy_fit = λ under. absurd (cc);
+          rules = reset.rules;
+        }
+    reset_here-consistent sound false e = h
+
 pub stays-consistent : StaysConsistent
 stays-consistent table s (Writing place octets) sound h =
     settled-consistent table s h place octets (write_refusal table s place octets) refl
@@ -390,5 +411,7 @@ stays-consistent table s (Setting place octets) sound h =
     local-consistent table s h place octets (local_refusal table s place octets) refl
 stays-consistent table s (Commanding scope asked) sound h =
     command-consistent table s h sound scope asked (is_foreign scope s.activity)
+stays-consistent table s Resetting sound h =
+    reset_here-consistent table s h sound (is_at_rest s.activity) refl
 stays-consistent table s Over sound h = end-consistent table s h
 stays-consistent table s Silent sound h = silence-consistent table s h

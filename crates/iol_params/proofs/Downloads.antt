@@ -18,7 +18,7 @@ use Rattle.iol_params.specs.Table.{ParamTable}
 use Rattle.iol_params.specs.State.{ParamState, is_at_rest, after_end, with_flag_cleared, with_flag_set}
 use Rattle.iol_params.specs.Carry.{write, download_settled, write_settled, write_refusal, own_command, unless_foreign, command, is_consistent, first_refusal, place_refusal, content_refusal, alone_refusal, local_change, local_settled}
 use Rattle.iol_params.proofs.Sets.{and-parts}
-use Rattle.iol_params.specs.Laws.{ParamChange, Writing, Setting, Commanding, Over, Silent, after_change, after_changes, is_written, all_written, with_write_of, with_writes, is_inside, DownloadsAreWhole, is_download_end, UploadsAreOneMoment}
+use Rattle.iol_params.specs.Laws.{ParamChange, Writing, Setting, Commanding, Resetting, Over, Silent, after_change, after_changes, is_written, all_written, with_write_of, with_writes, is_inside, DownloadsAreWhole, is_download_end, UploadsAreOneMoment}
 
 -- a state in a download
 abbrev pub downloading : ParamState → Scope → WritesSoFar → List (List ℕ) → ParamState
@@ -163,6 +163,8 @@ module _ (table : ParamTable) (k : ParamState) (scope : Scope) where
       leaves-stay writes copy (Commanding other asked) cs
       (refused-stays table k copy (Download scope writes) other asked parts.0)
       (λ answer. refl) (λ values. refl) (leaves writes copy cs parts.1)
+  leaves writes copy (Resetting ∷ cs) h = leaves-stay writes copy Resetting cs refl
+      (λ answer. refl) (λ values. refl) (leaves writes copy cs h)
   leaves writes copy (Over ∷ cs) h = absurd (cc)
   leaves writes copy (Silent ∷ cs) h = absurd (cc)
 
@@ -249,6 +251,7 @@ module _ (table : ParamTable) (k : ParamState) (scope : Scope) (copy : List (Lis
   upload-stays (Setting place octets) h =
       setting-stays table place octets (uploading k scope copy) refl
   upload-stays (Commanding other asked) h = refused-stays table k copy (Upload scope) other asked h
+  upload-stays Resetting h = refl
   upload-stays Over h = absurd (cc)
   upload-stays Silent h = absurd (cc)
 

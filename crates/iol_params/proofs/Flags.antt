@@ -1,7 +1,9 @@
 -- What clears the flag.
 use Rattle.std.proofs.Common.{◌≡◌, ℕ, Bool, true, false, refl, List, Option, Some, None, ◌∙◌}
+use Rattle.std.specs.Prelude.{if◌then◌else◌}
 use Rattle.iol_isdu.specs.declared.values.Place.{Place}
 use Rattle.iol_params.specs.declared.error_type.ErrorType.{ErrorType}
+use Rattle.iol_params.specs.declared.error_type.ErrorType.TheVariants.{FunctionUnavailable}
 use Rattle.iol_params.specs.declared.state.Scope.{Scope}
 use Rattle.iol_params.specs.declared.state.Scope.TheVariants.{Block, Storage}
 use Rattle.iol_params.specs.declared.state.WritesSoFar.TheVariants.{AllTaken, OneRefused}
@@ -12,9 +14,9 @@ use Rattle.iol_params.specs.declared.state.Command.TheVariants.{UploadStart, Upl
 use Rattle.std.specs.List.{list_any}
 use Rattle.iol_params.specs.Values.{overlay}
 use Rattle.iol_params.specs.Table.{ParamTable}
-use Rattle.iol_params.specs.State.{ParamState, is_foreign, is_uploading, after_end, with_flag_cleared, with_flag_set}
-use Rattle.iol_params.specs.Carry.{local_settled, local_refusal, is_stored_at, with_flag_if, write_settled, write_refusal, with_write, download_settled, upload_settled, own_command, unless_foreign, is_consistent}
-use Rattle.iol_params.specs.Laws.{Writing, Setting, Commanding, Over, Silent, FlagStays, may_clear}
+use Rattle.iol_params.specs.State.{ParamState, is_at_rest, is_foreign, is_uploading, after_end, with_flag_cleared, with_flag_set}
+use Rattle.iol_params.specs.Carry.{local_settled, local_refusal, is_stored_at, with_flag_if, write_settled, write_refusal, with_write, download_settled, upload_settled, own_command, unless_foreign, command, with_activity, is_consistent}
+use Rattle.iol_params.specs.Laws.{Writing, Setting, Commanding, Resetting, Over, Silent, FlagStays, may_clear}
 
 pub with_write-flag : (a : Activity) (table : ParamTable) (s : ParamState) (place : Place)
     (octets : List ℕ) → (with_write a table s place octets).flag ≡ s.flag
@@ -119,6 +121,14 @@ module _ (table : ParamTable) (s : ParamState) where
   command-refused scope asked true why h = refl
   command-refused scope asked false why h = own-refused scope asked why h
 
+  pub reset-refused : (rest : Bool) (why : ErrorType)
+      → (if rest then with_activity s.activity (command table s Block FactoryReset)
+      else (Some FunctionUnavailable, s)).0 ≡ Some why
+      → (if rest then with_activity s.activity (command table s Block FactoryReset)
+      else (Some FunctionUnavailable, s)).1.flag ≡ s.flag
+  reset-refused true why h = command-refused Block FactoryReset (is_foreign Block s.activity) why h
+  reset-refused false why h = refl
+
 pub flag-stays : FlagStays
 flag-stays table s (Writing place octets) h =
     let same = write-flag (write_refusal table s place octets) table s place octets ∙ h in
@@ -129,6 +139,10 @@ flag-stays table s (Setting place octets) h =
 flag-stays table s (Commanding scope asked) h = (
   λ kept. command-flag table s scope asked (is_foreign scope s.activity) h kept,
   λ why refusal. command-refused table s scope asked (is_foreign scope s.activity) why refusal ∙ h,
+)
+flag-stays table s Resetting h = (
+  λ kept. absurd (cc),
+  λ why refusal. reset-refused table s (is_at_rest s.activity) why refusal ∙ h,
 )
 flag-stays table s Over h = (λ kept. h, λ why refusal. h)
 flag-stays table s Silent h = (λ kept. h, λ why refusal. h)

@@ -7,7 +7,7 @@ use Rattle.iol_params.specs.declared.error_type.ErrorType.TheVariants.{IndexNotA
 use Rattle.iol_params.specs.declared.member.Member.{Member}
 use Rattle.iol_params.specs.declared.table.OrderRule.{OrderRule}
 use Rattle.iol_params.specs.declared.state.Scope.{Scope}
-use Rattle.iol_params.specs.declared.state.Scope.TheVariants.{Storage}
+use Rattle.iol_params.specs.declared.state.Scope.TheVariants.{Block, Storage}
 use Rattle.iol_params.specs.declared.state.WritesSoFar.TheVariants.{AllTaken, OneRefused}
 use Rattle.iol_params.specs.declared.state.Activity.{Activity}
 use Rattle.iol_params.specs.declared.state.Activity.TheVariants.{Idle, Upload, Download, CutOff}
@@ -199,3 +199,15 @@ unless_foreign false s own = own
 abbrev pub command : ParamTable → ParamState → Scope → Command → Option ErrorType × ParamState
 command table s scope asked =
     unless_foreign (is_foreign scope s.activity) s (own_command table s scope asked)
+
+abbrev pub with_activity : Activity → Option ErrorType × ParamState
+    → Option ErrorType × ParamState
+with_activity activity after = (after.0, record after.1 { activity = activity })
+
+-- a factory reset at the device itself, as the command makes it. An activity under way would have
+-- a hole, and what silence cut off stays cut off: the master didn't ask for the reset
+-- ACT-4
+abbrev pub local_reset : ParamTable → ParamState → Option ErrorType × ParamState
+local_reset table s = if is_at_rest s.activity
+    then with_activity s.activity (command table s Block FactoryReset)
+    else (Some FunctionUnavailable, s)

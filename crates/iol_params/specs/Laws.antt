@@ -1,5 +1,5 @@
 -- What a reader may conclude of a manager, whatever happens.
-use Rattle.std.specs.Prelude.{◌≡◌, ℕ, Bool, true, false, ◌&&◌, ◌||◌, if◌then◌else◌, List, [], ◌∷◌, Option, Some, None, is_none, is_some}
+use Rattle.std.specs.Prelude.{◌≡◌, ℕ, Bool, true, false, ◌&&◌, ◌||◌, if◌then◌else◌, List, [], ◌∷◌, filter, Option, Some, None, is_none, is_some}
 use Rattle.std.specs.List.{list_all}
 use Rattle.iol_isdu.specs.declared.values.Place.{Place}
 use Rattle.iol_params.specs.declared.error_type.ErrorType.{ErrorType}
@@ -16,14 +16,15 @@ use Rattle.iol_params.specs.Values.{all_fit, overlay, value_at}
 use Rattle.iol_params.specs.Table.{ParamTable, table_fault, whole, begins_stored}
 use Rattle.iol_params.specs.State.{ParamState, is_at_rest, is_foreign, is_downloading, after_end, after_quiet}
 use Rattle.iol_params.specs.Storage.{checksum_over}
-use Rattle.iol_params.specs.Carry.{write, local_change, command, is_consistent}
+use Rattle.iol_params.specs.Carry.{write, local_change, command, local_reset, is_consistent}
 
--- what changes a manager: a write, a change at the device, a command, the end of an activity from
--- outside, and silence of the master
+-- what changes a manager: a write, a change at the device, a command, a factory reset at the
+-- device, the end of an activity from outside, and silence of the master
 pub data ParamChange : Type 0 where
   Writing : Place → List ℕ → ParamChange
   Setting : Place → List ℕ → ParamChange
   Commanding : Scope → Command → ParamChange
+  Resetting : ParamChange
   Over : ParamChange
   Silent : ParamChange
 
@@ -31,6 +32,7 @@ abbrev pub after_change : ParamTable → ParamState → ParamChange → Option E
 after_change table s (Writing place octets) = write table s place octets
 after_change table s (Setting place octets) = local_change table s place octets
 after_change table s (Commanding scope asked) = command table s scope asked
+after_change table s Resetting = local_reset table s
 after_change table s Over = (None, after_end s)
 after_change table s Silent = (None, after_quiet s)
 
@@ -75,14 +77,15 @@ ends_another (Upload scope) asked = is_download_end asked
 ends_another (Download scope writes) asked = is_upload_end asked
 ends_another CutOff asked = false
 
--- what may come in an activity, which goes on: writes, changes at the device, and the commands
--- that are refused. All others end it, or begin it anew
+-- what may come in an activity, which goes on: writes, changes and resets at the device, and the
+-- commands that are refused. All others end it, or begin it anew
 -- ACT-6
 abbrev pub is_inside : Activity → ParamChange → Bool
 is_inside activity (Writing place octets) = true
 is_inside activity (Setting place octets) = true
 is_inside activity (Commanding scope asked) =
     is_foreign scope activity || ends_another activity asked
+is_inside activity Resetting = true
 is_inside activity Over = false
 is_inside activity Silent = false
 
@@ -113,21 +116,29 @@ is_left_over (Writing place octets) = true
 is_left_over (Commanding scope asked) = is_download_end asked
 is_left_over _ = false
 
--- whether each of them is refused
+-- what may come between, and lets none of it in: changes and resets at the device, and silence
+abbrev pub is_between : ParamChange → Bool
+is_between (Setting place octets) = true
+is_between Resetting = true
+is_between Silent = true
+is_between _ = false
+
+-- whether each of them is refused, but for what comes between
 abbrev pub all_refused : ParamTable → ParamState → List ParamChange → Bool
 all_refused table s [] = true
-all_refused table s (c ∷ cs) = is_some (after_change table s c).0
+all_refused table s (c ∷ cs) = (is_between c || is_some (after_change table s c).0)
     && all_refused table (after_change table s c).1 cs
 
 -- a download that the master's silence cut off is none: whatever is left of it is refused, and
--- changes nothing
+-- changes nothing. All is as if only that had come which came between
 -- ACT-7
 abbrev pub CutOffsStayOut : Type 0
 CutOffsStayOut = (table : ParamTable) (s : ParamState) (scope : Scope) (writes : WritesSoFar)
     (cs : List ParamChange) → s.activity ≡ Download scope writes
-    → list_all is_left_over cs ≡ true
+    → list_all (λ c. is_between c || is_left_over c) cs ≡ true
     → let silent = after_quiet s in (silent.values ≡ s.values)
-    × (all_refused table silent cs ≡ true) × (after_changes table silent cs ≡ silent)
+    × (all_refused table silent cs ≡ true)
+    × (after_changes table silent cs ≡ after_changes table silent (filter is_between cs))
 
 -- always each member has a value that fits, in a copy too, and each order rule holds
 pub record IsConsistent (table : ParamTable) (s : ParamState) : Type 0 where
@@ -187,6 +198,7 @@ may_clear (Commanding Storage UploadEnd) = true
 may_clear (Commanding Storage DownloadEnd) = true
 may_clear (Commanding scope FactoryReset) = true
 may_clear (Commanding scope BackToBox) = true
+may_clear Resetting = true
 may_clear _ = false
 
 abbrev pub FlagStays : Type 0

@@ -13,7 +13,8 @@ pub fn downloads_are_whole()
 {}
 
 /// A law of the definitions: behind a download in which the master was silent, whatever it still
-/// writes of it is refused, its end too, and changes nothing.
+/// writes of it is refused, its end too, and changes nothing. A change or a factory reset at the
+/// device doesn't let the rest in.
 ///
 /// Rule ACT-7.
 pub fn cut_offs_stay_out()

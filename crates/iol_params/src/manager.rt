@@ -4,7 +4,7 @@ ghost use Rattle.std.specs.Result.{result_err};
 ghost use Rattle.iol_params.specs.Values.{values_in, room_for, defaults, overlay, all_fit, fits_place};
 ghost use Rattle.iol_params.specs.Table.{is_of_index};
 ghost use Rattle.iol_params.specs.State.{is_uploading, after_end, after_quiet, with_flag_cleared, with_flag_set};
-ghost use Rattle.iol_params.specs.Carry.{write, command, upload_settled, place_refusal, access_refusal, content_refusal, alone_refusal, write_refusal, local_change, local_refusal, download_end, with_reset, rules_hold, is_consistent};
+ghost use Rattle.iol_params.specs.Carry.{write, command, upload_settled, place_refusal, access_refusal, content_refusal, alone_refusal, write_refusal, local_change, local_refusal, local_reset, download_end, with_reset, rules_hold, is_consistent};
 ghost use Rattle.iol_params.specs.Storage.{storage_value, state_octet};
 ghost use Rattle.iol_params.specs.Image.{with_kept};
 ghost use Rattle.iol_params.specs.Manager.{new_manager, read_answer, IsFitting, parts_seen, ArePartsOf};
@@ -363,6 +363,26 @@ impl<'a, A: Allocator + Copy> Manager<'a, A> {
         Ok(())
     }
 
+    /// A factory reset at the device itself, as SystemCommand `82` makes it; but what silence cut
+    /// off stays cut off.
+    ///
+    /// Refused with 0x8036, and nothing changed, while an activity is under way: try again.
+    #[tactic(auto, using(crate::proofs::Consistency::rest_downloads_nothing))]
+    pub fn local_reset(&mut self) -> Result<(), ErrorType>
+        ensures state { let after = local_reset self.old.table self.old.state in
+            self.new ≡ record self.old { state = after.1 } }
+        ensures refusal { result_err result ≡ (local_reset self.old.table self.old.state).0 }
+    {
+        let kept = self.activity;
+        if !kept.is_at_rest() {
+            return Err(ErrorType::FunctionUnavailable);
+        }
+        self.reset();
+        self.clear_flag(Scope::Storage);
+        self.activity = kept;
+        Ok(())
+    }
+
     /// The link was lost or began anew, or the master went back from OPERATE or to STARTUP: an
     /// activity ends, without effect.
     ///
@@ -375,7 +395,7 @@ impl<'a, A: Allocator + Copy> Manager<'a, A> {
 
     /// The master was silent, and may go on as if it hadn't been: an activity ends, without effect.
     /// Behind a download the master's writes are refused with 0x8036, up to its next start, break
-    /// or reset, or to [`over`](Manager::over).
+    /// or reset, or to [`over`](Manager::over). A reset at the device lets none of them in.
     ///
     /// Rule ACT-7.
     pub fn silence(&mut self)

@@ -3,7 +3,7 @@ ghost use Rattle.std.specs.Prelude.{◌≤◌, length};
 
 use crate::cells;
 use crate::error_type::ErrorType;
-use crate::laws::sets_fit;
+use crate::laws::{cut_offs_stay_out, sets_fit};
 use crate::manager::Manager;
 use crate::member::{Access, DataType, IntegerWidth, Member};
 use crate::state::{Command, Restart, Scope};
@@ -128,6 +128,36 @@ fn an_activity_stands_alone(rt: HostRuntime) -> Result<(), Fail> {
     assert_eq!(rt; octet_at(&manager, 64), Some(10));
     manager.set(at(64), &[5])?;
     assert_eq!(rt; octet_at(&manager, 64), Some(5));
+    Ok(())
+}
+
+#[test]
+fn a_reset_at_the_device_lets_no_cut_off_block_in(rt: HostRuntime) -> Result<(), Fail> {
+    cut_offs_stay_out();
+    let table = Table::new(&MEMBERS, &RULES)?;
+    let mut manager = Manager::open(rt.alloc(), &table)?;
+    manager.set(at(64), &[20])?;
+    manager.command(Scope::Block, Command::DownloadStart)?;
+    manager.write(at(64), &[30])?;
+    assert_eq!(rt; manager.local_reset(), Err(ErrorType::FunctionUnavailable));
+    manager.silence();
+    assert_eq!(rt; octet_at(&manager, 64), Some(20));
+    manager.local_reset()?;
+    assert!(rt; !manager.flag() && !manager.is_event_due());
+    assert_eq!(rt;
+        manager.write(at(65), &[99]),
+        Err(ErrorType::FunctionUnavailable)
+    );
+    let end = manager.command(Scope::Block, Command::DownloadEnd);
+    assert_eq!(rt; end, Err(ErrorType::FunctionUnavailable));
+    assert_eq!(rt; octet_at(&manager, 64), Some(10));
+    assert_eq!(rt; octet_at(&manager, 65), Some(90));
+    manager.command(Scope::Block, Command::FactoryReset)?;
+    manager.write(at(65), &[99])?;
+    assert_eq!(rt; octet_at(&manager, 65), Some(99));
+    manager.local_reset()?;
+    manager.write(at(65), &[98])?;
+    assert_eq!(rt; octet_at(&manager, 65), Some(98));
     Ok(())
 }
 

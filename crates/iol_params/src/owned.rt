@@ -2,7 +2,7 @@
 ghost use Rattle.std.specs.Prelude.{◌≡◌, ◌≤◌, Some, None, IfOk, IfErr, length, false};
 ghost use Rattle.std.specs.Result.{result_err};
 ghost use Rattle.iol_params.specs.State.{after_end, after_quiet};
-ghost use Rattle.iol_params.specs.Carry.{command, local_change};
+ghost use Rattle.iol_params.specs.Carry.{command, local_change, local_reset};
 ghost use Rattle.iol_params.specs.Requests.{request_result};
 ghost use Rattle.iol_params.specs.Image.{kept_of, kept_in, image_size, with_kept};
 ghost use Rattle.iol_params.specs.Manager.{new_manager, read_answer, parts_seen, ArePartsOf};
@@ -136,6 +136,21 @@ impl<A: Allocator + Copy> OwnedManager<A> {
         let table = self.table.table();
         let mut manager = Manager::of_parts(&table, parts);
         let outcome = manager.command(scope, asked);
+        self.parts = manager.into_parts();
+        outcome
+    }
+
+    /// A factory reset at the device itself, as [`Manager::local_reset`] makes it, and refused as
+    /// that is.
+    pub fn local_reset(&mut self) -> Result<(), ErrorType>
+        ensures state { let after = local_reset self.old.table self.old.state in
+            self.new ≡ record self.old { state = after.1 } }
+        ensures refusal { result_err result ≡ (local_reset self.old.table self.old.state).0 }
+    {
+        let parts = replace(&mut self.parts, ManagerParts::none(self.alloc));
+        let table = self.table.table();
+        let mut manager = Manager::of_parts(&table, parts);
+        let outcome = manager.local_reset();
         self.parts = manager.into_parts();
         outcome
     }

@@ -4,8 +4,7 @@ ghost use Rattle.std.specs.Result.{result_err};
 ghost use Rattle.iol_params.specs.State.{locks_octet};
 ghost use Rattle.iol_params.specs.Image.{kept_of, kept_in, image_size};
 ghost use Rattle.iol_params.specs.Manager.{read_answer};
-ghost use Rattle.iol_params.specs.Carry.{local_change};
-ghost use Rattle.iol_param_device.specs.Device.{local_reset};
+ghost use Rattle.iol_params.specs.Carry.{local_change, local_reset};
 ghost use Rattle.iolink_params_c.specs.Work.{sensor_after_work, sensor_after_save, sensor_after_change, is_nothing};
 ghost use Rattle.iolink_params_c.specs.Calls.{params_sensor, params_manager, unsaved_number, restart_number, GuardsParams, Makes, place_at, IsChangeOf, IsValueOf};
 

@@ -3,15 +3,14 @@ ghost use Rattle.std.specs.Prelude.{◌≡◌, true, IsTrue};
 ghost use Rattle.std.specs.Result.{result_err};
 ghost use Rattle.iol_far.specs.Isdu.{handed_request};
 ghost use Rattle.iol_params.specs.Image.{kept_of};
-ghost use Rattle.iol_params.specs.Carry.{local_change};
-ghost use Rattle.iol_param_device.specs.Device.{local_reset};
+ghost use Rattle.iol_params.specs.Carry.{local_change, local_reset};
 ghost use Rattle.iolink_params_c.specs.Work.{is_saved_first, far_answered, after_handed, after_told, sensor_after_work, sensor_after_save, sensor_after_change, is_nothing};
 
 use crate::sensor::{ParamSensor, Unsaved};
 use iol_device::{Apart, Device, Unkept};
 use iol_event::Event;
 use iol_isdu::{Answer, Place};
-use iol_params::{Activity, Command, ErrorType, Scope};
+use iol_params::{Activity, ErrorType};
 
 /// DS_UPLOAD_REQ: Data Storage has something new to fetch. A single notification of the
 /// application.
@@ -115,10 +114,7 @@ impl ParamSensor {
         ensures refusal { let s = self.old.manager in result_err result
             ≡ (local_reset s.table s.state).0 }
     {
-        if !self.manager.activity().is_at_rest() {
-            return Err(ErrorType::FunctionUnavailable);
-        }
-        self.manager.command(Scope::Block, Command::FactoryReset)?;
+        self.manager.local_reset()?;
         self.unsaved = Unsaved::Change;
         Ok(())
     }
