@@ -1,7 +1,8 @@
 -- A port with Data Storage and blocks: what its calls are at the port within.
-use Rattle.std.specs.Prelude.{◌≡◌, ℕ, ◌+◌, ◌-◌, ◌^◌, ◌/◌, min, Bool, true, false, IsTrue, is_some, nat_le, nat_lt, if◌then◌else◌, List, [], ◌∷◌, Option, Some, None, Result, Ok, Err}
+use Rattle.std.specs.Prelude.{◌≡◌, ℕ, ◌+◌, ◌-◌, ◌^◌, ◌/◌, min, Bool, true, false, IfSome, IsTrue, is_some, nat_le, nat_lt, if◌then◌else◌, List, [], ◌∷◌, Option, Some, None, Result, Ok, Err}
 use Rattle.iol_isdu.specs.declared.values.Request.{Request}
 use Rattle.iol_isdu.specs.declared.values.Request.TheVariants.{Write, Read}
+use Rattle.iol_isdu.specs.Texts.{IsRequest}
 use Rattle.iol_book.specs.declared.entries.Ticket.{Ticket}
 use Rattle.iol_book.specs.declared.fault.BookFault.TheVariants.{Full, UnknownTicket, OutOfMemory}
 use Rattle.iol_book.specs.declared.limits.Limits.{Limits}
@@ -20,9 +21,10 @@ use Rattle.iol_port.specs.declared.call.Answered.{Answered}
 use Rattle.iol_port.specs.declared.call.Answered.TheVariants as answered
 use Rattle.iol_port.specs.declared.fault.PortFault.{PortFault}
 use Rattle.iol_port.specs.declared.fault.PortFault.TheVariants as port_fault
+use Rattle.iol_port.specs.Asks.{asks_of, begun_next}
 use Rattle.iol_port.specs.Called.{CoreCalled}
 use Rattle.iol_port.specs.CorePort.{CoreDoes, SendDoes, PortSendGives}
-use Rattle.iol_port.specs.EveryWire.{CoreCallGives, page_shown}
+use Rattle.iol_port.specs.EveryWire.{CoreCallGives, page_shown, takes_next}
 use Rattle.iol_port.specs.View.{PortParts}
 use Rattle.iol_storage.specs.declared.stored.fault.StoredFault.{StoredFault}
 use Rattle.iol_storage.specs.declared.stored.fault.StoredFault.TheVariants as fault
@@ -51,6 +53,16 @@ pub record StoredParts : Type 0 where
 pub record CoreMakes (p : PortParts) (c : Call) (reply : Answered) (next : PortParts) : Type 0 where
   pub does : CoreDoes p c reply next
   pub gives : CoreCallGives p c reply next
+
+-- all that is said of its sending: what goes out is what it asks, and while a message is out the
+-- same goes out again and nothing changes
+pub record PortSends (p : PortParts) (asked : Asked) (next : PortParts) : Type 0 where
+  pub says : IsAskedOut asked next.core.state
+  pub asked_is : asked ≡ asks_of p
+  pub again : IsTrue p.sent → next ≡ p
+  pub begun : p.sent ≡ false → IsTrue (takes_next p) → IfSome (begun_next p) IsRequest
+  pub gives : PortSendGives p next
+  pub does : SendDoes p next
 
 -- these, each with its reply, in order
 abbrev pub CoreCalls : PortParts → List (Call × Answered) → PortParts → Type 0
@@ -136,10 +148,10 @@ TendsIfFree false old new = Tends old new
 pub record StoredSends (old : StoredParts) (sent : Asked) (new : StoredParts) : Type 0 where
   pub mid : StoredParts
   pub tends : TendsIfFree old.port.sent old mid
-  pub does : SendDoes mid.port new.port
-  pub gives : PortSendGives mid.port new.port
-  pub says : IsAskedOut sent new.port.core.state
+  pub sends : PortSends mid.port sent new.port
   pub rest : new ≡ record mid { port = new.port }
+  -- while a message is out nothing changes
+  pub again : IsTrue old.port.sent → new ≡ old
 
 -- what the port waits for behind it
 abbrev pub answer_to : Asked → AwaitedAnswer

@@ -1,7 +1,8 @@
 //! Opening and closing.
-ghost use Rattle.std.specs.Prelude.{◌≡◌, false, IfOk, IfErr, IsTrue, IsFalse};
+ghost use Rattle.std.specs.Prelude.{◌≡◌, true, false, None, IfOk, IfErr, IsTrue, IsFalse};
 ghost use Rattle.iolink_port_forms.specs.Given.{devices_of, limits_of};
-ghost use Rattle.iolink_storage_c.specs.Calls.{StoreIsRefused};
+ghost use Rattle.iolink_port_forms.specs.Journal.{KeepsNone};
+ghost use Rattle.iolink_storage_c.specs.Calls.{store_parts, StoreIsRefused};
 ghost use Rattle.iolink_storage_c.specs.Opening.{storage_mode_of, IsKeptOf, IsNewStore, IsStoreRefusal, StoreOpens};
 
 use crate::held::{HeldStore, IolStore};
@@ -45,24 +46,56 @@ fn kept_of(octets: &[u8]) -> Result<Option<Set>, StorageFault>
     Ok(Some(Set::read(octets)?))
 }
 
-/// A port with the set of these octets. Refused by 44, or as [`StoredPort::open`].
-fn port_with(
+/// Puts a port behind a closed handle: 0, or 24 where there is no memory, which changes nothing.
+fn hold(alloc: Global, port: StoredPort<Global>, handle: &mut IolStore) -> u8
+    requires { handle.old.is_open ≡ false }
+    ensures lacks { ¬ (result ≡ 0) → result ≡ 24 }
+    ensures refused { ¬ (result ≡ 0) → handle.new ≡ handle.old }
+    ensures opened { result ≡ 0 → handle.new.is_open ≡ true }
+    ensures port { result ≡ 0 → store_parts handle.new ≡ port }
+    ensures journal { result ≡ 0 → KeepsNone handle.new.held.value.journal }
+    ensures writes { result ≡ 0 → handle.new.held.value.writes ≡ None }
+{
+    let store = HeldStore {
+        port,
+        journal: KeptJournal::new(alloc),
+        writes: None,
+    };
+    match Box::new(alloc, store) {
+        Ok(store) => {
+            *handle = IolStore::of(store);
+            0
+        }
+        Err(_) => OUT_OF_MEMORY,
+    }
+}
+
+/// Puts a port with the set of these octets behind a closed handle. Refused, with nothing changed,
+/// by 44, or as [`StoredPort::open`].
+fn hold_new(
     alloc: Global,
     limits: &Limits,
     devices: Devices,
     mode: StorageMode,
     octets: &[u8],
-) -> Result<StoredPort<Global>, u8>
-    ensures port { IfOk result (λ p. IsNewStore devices mode limits.now octets.now p) }
-    ensures refused { IfErr result (λ code. IsStoreRefusal limits.now code) }
+    handle: &mut IolStore,
+) -> u8
+    requires { handle.old.is_open ≡ false }
+    ensures lacks { ¬ (result ≡ 0) → IsStoreRefusal limits.now result }
+    ensures refused { ¬ (result ≡ 0) → handle.new ≡ handle.old }
+    ensures opened { result ≡ 0 → handle.new.is_open ≡ true }
+    ensures port { result ≡ 0
+        → IsNewStore devices mode limits.now octets.now (store_parts handle.new) }
+    ensures journal { result ≡ 0 → KeepsNone handle.new.held.value.journal }
+    ensures writes { result ≡ 0 → handle.new.held.value.writes ≡ None }
 {
     let kept = match kept_of(octets) {
         Ok(kept) => kept,
-        Err(fault) => return Err(fault.code()),
+        Err(fault) => return fault.code(),
     };
     match StoredPort::open(alloc, limits, devices, mode, kept) {
-        Ok(port) => Ok(port),
-        Err(fault) => Err(fault.code()),
+        Ok(port) => hold(alloc, port, handle),
+        Err(fault) => fault.code(),
     }
 }
 
@@ -98,22 +131,7 @@ pub extern "C" fn iol_store_open(
     let Some(limits) = limits_of(journal, busy, queue, given) else {
         return OUT_OF_RANGE;
     };
-    let port = match port_with(alloc, &limits, devices, mode, octets) {
-        Ok(port) => port,
-        Err(code) => return code,
-    };
-    let store = HeldStore {
-        port,
-        journal: KeptJournal::new(alloc),
-        writes: None,
-    };
-    match Box::new(alloc, store) {
-        Ok(store) => {
-            *handle = IolStore::of(store);
-            0
-        }
-        Err(_) => OUT_OF_MEMORY,
-    }
+    hold_new(alloc, &limits, devices, mode, octets, handle)
 }
 
 /// Ends the port and gives its memory back: 0, or 252 where the handle is closed.

@@ -121,20 +121,22 @@ impl<A: Allocator + Copy> StoredPort<A> {
         if is_no_set(&kept) {
             return Err(StoredFault::OwnedIndex);
         }
-        match PortCore::open_for(alloc, limits, devices) {
-            Ok(port) => Ok(StoredPort {
-                port,
-                storage: Storage::new(mode, kept),
-                output: None,
-                shown: false,
-                tickets: 0,
-                most: places - PLACES_KEPT,
-            }),
-            Err(fault) => Err(StoredFault::Port(fault)),
-        }
+        let port = match PortCore::open_for(alloc, limits, devices) {
+            Ok(port) => port,
+            Err(fault) => return Err(StoredFault::Port(fault)),
+        };
+        Ok(StoredPort {
+            port,
+            storage: Storage::new(mode, kept),
+            output: None,
+            shown: false,
+            tickets: 0,
+            most: places - PLACES_KEPT,
+        })
     }
 
     /// What goes out, as [`PortCore::send`]. Before it, where nothing is out, the step of a job.
+    /// Until it is answered it is given again, and nothing changes.
     #[tactic(auto, using(crate::proofs::StoredAwaits::awaits_out))]
     pub fn send(&mut self) -> Asked
         ensures is { StoredSends self.old result self.new }
