@@ -1,15 +1,14 @@
 -- What tickets that are abandoned leave of where the others stand.
-use Rattle.std.proofs.Common.{◌≡◌, ℕ, ◌+◌, ◌<◌, ◌≤◌, true, false, ◌||◌, ◌&&◌, cond, refl, ◌∙◌, ap, arith, List, [], ◌∷◌, ◌++◌, All, Option, Some, None, is_some, length}
+use Rattle.std.proofs.Common.{◌≡◌, ℕ, ◌+◌, ◌<◌, ◌≤◌, true, false, ◌||◌, ◌&&◌, cond, refl, ap, arith, List, [], ◌∷◌, ◌++◌, Option, Some, None, is_some, length}
 use Rattle.std.specs.Prelude.{not}
 use Rattle.std.specs.List.{FoldsTo}
 use Rattle.std.specs.Map.{lookup}
 use Rattle.std.proofs.lemmas.Grind.{common_steps}
-use Rattle.std.proofs.lemmas.List.Elements.{All-head, All-tail}
 use Rattle.iol_isdu.specs.declared.values.Request.{Request}
 use Rattle.iol_book.specs.declared.entries.Ticket.{Ticket}
 use Rattle.iol_book.specs.declared.entries.Entry.TheVariants.{Abandoned}
 use Rattle.iol_book.specs.Replay.{Standing, standing_after, same_ticket, is_among, is_taken, without, others_without}
-use Rattle.iol_book.specs.BookModel.{BookState, is_awaited, has_outcome, is_outstanding, book_after_abandon}
+use Rattle.iol_book.specs.BookModel.{is_awaited, has_outcome, is_outstanding}
 use Rattle.iol_book.specs.Abandoning.{IsToldAlike}
 
 module _ {X : Type 0} (t : Ticket) where
@@ -119,34 +118,3 @@ module _ {P : Type 0} (R : P → Ticket → P → Type 0) where
   folds-append p [] q us r first then = rw first then
   folds-append p (t ∷ ts) q us r first then =
       (first.0, first.1, folds-append first.0 ts q us r first.2 then)
-
-  -- each step abandons its ticket, where the standing of a value is this
-  module _ (at : P → Standing)
-      (steps : (p : P) (t : Ticket) (q : P) → R p t q → at q ≡ after (at p) t) where
-    pub folds_stay_gone : (u : Ticket) (p : P) (ts : List Ticket) (q : P) → FoldsTo R p ts q
-        → is_outstanding (at p) u ≡ false → is_outstanding (at q) u ≡ false
-    folds_stay_gone u p [] q fold none = rw (← fold) none
-    folds_stay_gone u p (t ∷ ts) q fold none =
-        folds_stay_gone u fold.0 ts q fold.2
-        (rw (steps p t fold.0 fold.1) (stays_gone (at p) t u none))
-
-    pub folds_tell_alike : (u : Ticket) (p : P) (ts : List Ticket) (q : P) → FoldsTo R p ts q
-        → All (λ t. same_ticket t u ≡ false) ts → IsToldAlike (at p) (at q) u
-    folds_tell_alike u p [] q fold apart =
-        rw fold (record { collect = refl; withdraw = refl; cancel = refl })
-    folds_tell_alike u p (t ∷ ts) q fold apart =
-        let first = told_alike (at p) t u (All-head (λ t. same_ticket t u ≡ false) t ts apart) in
-        let then = folds_tell_alike u fold.0 ts q fold.2
-        (All-tail (λ t. same_ticket t u ≡ false) t ts apart) in
-        let e = steps p t fold.0 fold.1 in
-        record {
-          collect = then.collect ∙ (rw e first.collect);
-          withdraw = then.withdraw ∙ (rw e first.withdraw);
-          cancel = then.cancel ∙ (rw e first.cancel);
-        }
-
--- the book's own abandon of a ticket that is outstanding
-pub abandoned_one : (b next : BookState) (t : Ticket) → is_outstanding b.standing t ≡ true
-    → next ≡ book_after_abandon b t
-    → (next.standing ≡ after b.standing t) × (next.last ≡ b.last)
-abandoned_one b next t found is = rw (is, found) (refl, refl)

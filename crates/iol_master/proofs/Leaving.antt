@@ -1,120 +1,98 @@
 -- A ticket is abandoned until it is outstanding no more, and so is one more: what that leaves.
-use Rattle.std.proofs.Common.{◌≡◌, ℕ, ◌+◌, ◌<◌, Bool, true, false, List, [], ◌∷◌, ◌++◌, All, Option, Some, None, cond, refl, ◌∙◌, ap, arith, length, get_or, take}
-use Rattle.std.specs.Prelude.{Result, Ok, Err}
-use Rattle.std.specs.Option.{option_map}
-use Rattle.std.specs.List.{FoldsTo, Contains}
+use Rattle.std.proofs.Common.{◌≡◌, ℕ, ◌+◌, ◌<◌, ◌&&◌, Bool, true, false, List, [], ◌∷◌, ◌++◌, All, refl, ◌∙◌, length, get_or, take}
+use Rattle.std.specs.Prelude.{not}
+use Rattle.std.specs.List.{Contains}
 use Rattle.std.proofs.lemmas.List.{take_more}
-use Rattle.std.proofs.lemmas.List.Elements.{All-head, All-nil, All-cons, All-append, All-contains, Contains-append_left, Contains-append_right}
+use Rattle.std.proofs.lemmas.List.Elements.{All-head, All-tail, All-nil, All-cons, All-append, Contains-append_left, Contains-append_right}
 use Rattle.iol_book.specs.declared.entries.Ticket.{Ticket}
-use Rattle.iol_book.specs.declared.fault.BookFault.TheVariants.{UnknownTicket}
 use Rattle.iol_book.specs.Replay.{Standing, same_ticket}
 use Rattle.iol_book.specs.BookModel.{is_outstanding}
-use Rattle.iol_port.specs.declared.fault.PortFault.{PortFault}
-use Rattle.iol_port.specs.declared.fault.PortFault.TheVariants.{Book}
-use Rattle.iol_port.specs.Called.{Abandons, MakesCall}
-use Rattle.iol_port.specs.View.{PortValue}
-use Rattle.iol_master.specs.Left.{AbandonsOne, IsGone, LeavesNone}
-use Rattle.iol_master.proofs.Abandoning.{after, abandoned_one, folds-append, folds_stay_gone, folds_tell_alike}
+use Rattle.iol_book.specs.Abandoning.{IsToldAlike}
+use Rattle.iol_master.specs.Ports.{PortFacts, awaits_client}
+use Rattle.iol_master.specs.Left.{IsGone, LeavesNone}
+use Rattle.iol_master.proofs.Abandoning.{after, stays_gone, told_alike, fewer, left_over, folds-append}
 
-abbrev pub standing_of : {W : Type 0} → PortValue W → Standing
-standing_of p = p.parts.book.state.standing
+module _ {X : Type 0} (Holds : X → Type 0) where
+  all_left : (xs ys : List X) → All Holds (xs ++ ys) → All Holds xs
+  all_left [] ys all = All-nil Holds
+  all_left (x ∷ xs) ys all = All-cons Holds x xs (All-head Holds x (xs ++ ys) all)
+      (all_left xs ys (All-tail Holds x (xs ++ ys) all))
 
--- the answer of the port's abandon, where a ticket is outstanding or not
-abbrev answer_where : Bool → Option PortFault
-answer_where found = option_map (λ why. Book why) (cond found None (Some UnknownTicket))
+  all_right : (xs ys : List X) → All Holds (xs ++ ys) → All Holds ys
+  all_right [] ys all = all
+  all_right (x ∷ xs) ys all = all_right xs ys (All-tail Holds x (xs ++ ys) all)
 
-not_refused : (found : Bool) → None ≡ answer_where found → found ≡ true
-not_refused true e = refl
-not_refused false e = absurd (cc)
+still_none : (mine : Bool) (s : Standing) (t u : Ticket) → (not mine && is_outstanding s u) ≡ false
+    → (not mine && is_outstanding (after s t) u) ≡ false
+still_none true s t u none = refl
+still_none false s t u none = stays_gone s t u none
 
-refused : (found : Bool) (why : PortFault) → Some why ≡ answer_where found → found ≡ true → ⊥
-refused true why e is = absurd (cc)
-refused false why e is = absurd (cc)
+is_found : (mine out : Bool) → (not mine && out) ≡ true → out ≡ true
+is_found true out e = absurd (cc)
+is_found false out e = e
 
-module _ {W : Type 0} where
-  -- where the ticket is outstanding, the port's abandon isn't refused
-  pub was_abandoned : (p q : PortValue W) (t : Ticket) (answer : Result (Unit {0}) PortFault)
-      → is_outstanding (standing_of p) t ≡ true
-      → Abandons (MakesCall p q) p.parts q.parts t answer → AbandonsOne p t q
-  was_abandoned p q t (Ok _) found made = made
-  was_abandoned p q t (Err why) found made =
-      elim (refused (is_outstanding (standing_of p) t) why made.gives.answer found) [ ]
+alike_then : (s m n : Standing) (u : Ticket) → IsToldAlike s m u → IsToldAlike m n u
+    → IsToldAlike s n u
+alike_then s m n u first then = record {
+  collect = then.collect ∙ first.collect;
+  withdraw = then.withdraw ∙ first.withdraw;
+  cancel = then.cancel ∙ first.cancel;
+}
 
-  -- what one leaves of the book
-  pub one_stands : (p : PortValue W) (t : Ticket) (q : PortValue W) → AbandonsOne p t q
-      → (standing_of q ≡ after (standing_of p) t)
-      × (q.parts.book.state.last ≡ p.parts.book.state.last)
-  one_stands p t q one = abandoned_one p.parts.book.state q.parts.book.state t
-      (not_refused (is_outstanding (standing_of p) t) one.gives.answer) one.gives.book
+module _ {P : Type 0} (facts : PortFacts P) where
+  open facts use {standing, own, abandons}
 
-  stands : (p : PortValue W) (t : Ticket) (q : PortValue W) → AbandonsOne p t q
-      → standing_of q ≡ after (standing_of p) t
-  stands p t q one = (one_stands p t q one).0
+  -- one ticket more is abandoned
+  module _ (p q : P) (t : Ticket) (stands : standing q ≡ after (standing p) t) where
+    pub fewer_left : awaits_client facts p t ≡ true
+        → left_over (standing q) < left_over (standing p)
+    fewer_left found = rw stands
+        (fewer (standing p) t (is_found (own p t) (is_outstanding (standing p) t) found))
 
-  -- nothing but the parts changes, and then again
-  pub rest_stays : (p q r : PortValue W) → q ≡ record p { parts = q.parts }
-      → r ≡ record q { parts = r.parts } → r ≡ record p { parts = r.parts }
-  rest_stays p q r first then =
-      then ∙ ap {A = PortValue W} (λ v. record v { parts = r.parts }) first
+    pub stays_out : (u : Ticket) → own q u ≡ own p u → IsGone facts p u → IsGone facts q u
+    stays_out u mine none = rw (stands, mine) (still_none (own p u) (standing p) t u none)
+
+    pub alike_too : (s : Standing) (u : Ticket) → same_ticket t u ≡ false
+        → IsToldAlike s (standing p) u → IsToldAlike s (standing q) u
+    alike_too s u apart first = rw stands
+        (alike_then s (standing p) (after (standing p) t) u first
+        (told_alike (standing p) t u apart))
 
   -- no ticket
-  pub none_left : (p : PortValue W) → LeavesNone p [] p
+  pub none_left : (p : P) → LeavesNone facts p [] p
   none_left p = record {
     abandoned = [];
-    own = All-nil (Contains []);
+    among = All-nil (Contains []);
     calls = refl;
-    gone = All-nil (IsGone p);
+    gone = All-nil (IsGone facts p);
+    still = λ other none. none;
     others = λ other apart. record { collect = refl; withdraw = refl; cancel = refl };
-    rest = refl;
-    last = refl;
-  }
-
-  -- one ticket, abandoned until it is outstanding no more
-  pub one_left : (p : PortValue W) (ticket : Ticket) (q : PortValue W) (ts : List Ticket)
-      → All (λ t. t ≡ ticket) ts → FoldsTo AbandonsOne p ts q
-      → is_outstanding (standing_of q) ticket ≡ false → q ≡ record p { parts = q.parts }
-      → q.parts.book.state.last ≡ p.parts.book.state.last → LeavesNone p (ticket ∷ []) q
-  one_left p ticket q ts own calls gone rest last = record {
-    abandoned = ts;
-    own = λ k d below. rw (own k d below) (0, omega arith, refl);
-    calls = calls;
-    gone = All-cons (IsGone q) ticket [] gone (All-nil (IsGone q));
-    others = λ other apart. folds_tell_alike AbandonsOne standing_of stands other p ts q calls
-        (λ k d below. rw (own k d below)
-        (All-head (λ t. same_ticket t other ≡ false) ticket [] apart));
-    rest = rest;
-    last = last;
+    counts = λ count has. has;
   }
 
   -- those of a list, and then those of another
-  both_left : (p q r : PortValue W) (ts us : List Ticket) → LeavesNone p ts q → LeavesNone q us r
-      → LeavesNone p (ts ++ us) r
+  pub both_left : (p q r : P) (ts us : List Ticket) → LeavesNone facts p ts q
+      → LeavesNone facts q us r → LeavesNone facts p (ts ++ us) r
   both_left p q r ts us first then = record {
     abandoned = first.abandoned ++ then.abandoned;
-    own = own;
-    calls = calls;
-    gone = All-append (IsGone r) ts us
-        (λ k d below. folds_stay_gone AbandonsOne standing_of stands _ q then.abandoned r then.calls
-        (first.gone k d below))
+    among = All-append (Contains (ts ++ us)) first.abandoned then.abandoned
+        (λ k d below. Contains-append_left ts us _ (first.among k d below))
+        (λ k d below. Contains-append_right ts us _ (then.among k d below));
+    calls = folds-append abandons p first.abandoned q then.abandoned r first.calls then.calls;
+    gone = All-append (IsGone facts r) ts us
+        (λ k d below. then.still _ (first.gone k d below))
         then.gone;
-    others = λ other apart. folds_tell_alike AbandonsOne standing_of stands other p _ r calls
-        (λ k d below. All-contains (λ t. same_ticket t other ≡ false) (ts ++ us) _ apart
-        (own k d below));
-    rest = rest_stays p q r first.rest then.rest;
-    last = then.last ∙ first.last;
+    still = λ other none. then.still other (first.still other none);
+    others = λ other apart. alike_then (standing p) (standing q) (standing r) other
+        (first.others other
+        (all_left (λ t. same_ticket t other ≡ false) ts us apart))
+        (then.others other (all_right (λ t. same_ticket t other ≡ false) ts us apart));
+    counts = λ count has. then.counts count (first.counts count has);
   }
-    where
-      calls : FoldsTo AbandonsOne p (first.abandoned ++ then.abandoned) r
-      calls = folds-append AbandonsOne p first.abandoned q then.abandoned r first.calls then.calls
-
-      own : All (Contains (ts ++ us)) (first.abandoned ++ then.abandoned)
-      own = All-append (Contains (ts ++ us)) first.abandoned then.abandoned
-          (λ k d below. Contains-append_left ts us _ (first.own k d below))
-          (λ k d below. Contains-append_right ts us _ (then.own k d below))
 
   -- the next ticket of a list
-  pub next_left : (p q r : PortValue W) (ts : List Ticket) (i : ℕ) (d : Ticket) → i < length ts
-      → LeavesNone p (take i ts) q → LeavesNone q (get_or ts i d ∷ []) r
-      → LeavesNone p (take (i + 1) ts) r
+  pub next_left : (p q r : P) (ts : List Ticket) (i : ℕ) (d : Ticket) → i < length ts
+      → LeavesNone facts p (take i ts) q → LeavesNone facts q (get_or ts i d ∷ []) r
+      → LeavesNone facts p (take (i + 1) ts) r
   next_left p q r ts i d below first then =
       rw (take_more ts i d below) (both_left p q r (take i ts) (get_or ts i d ∷ []) first then)

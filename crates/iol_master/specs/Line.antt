@@ -1,24 +1,20 @@
 -- A port under the lock of a line, whose wire a worker owns, and the turn that the worker makes.
-use Rattle.std.specs.Prelude.{◌≡◌, ◌<◌, ◌≤◌, ℕ, zero, suc, Bool, true, false, List, length, Option, IfSome, is_some, IsTrue}
+use Rattle.std.specs.Prelude.{◌≡◌, ◌<◌, ◌≤◌, ℕ, zero, suc, Bool, true, false, List, length, Option, is_some}
 use Rattle.arrayvec.specs.ArrayVec.{ArrayVec}
-use Rattle.iol_isdu.specs.Texts.{IsRequest}
 use Rattle.iol_far.specs.Octets.{octets_in}
 use Rattle.iol_link.specs.declared.wire.Rate.{Rate}
 use Rattle.iol_link.specs.WireFacts.{WireFacts}
 use Rattle.iol_app.specs.declared.asked.Asked.{Asked}
 use Rattle.iol_app.specs.declared.asked.Asked.TheVariants as asked
-use Rattle.iol_app.specs.Pieces.{IsAskedOut}
 use Rattle.iol_port.specs.declared.awaited.AwaitedAnswer.{AwaitedAnswer}
 use Rattle.iol_port.specs.declared.awaited.AwaitedAnswer.TheVariants.{Nothing, Wake, Reply}
 use Rattle.iol_port.specs.declared.call.Call.{Call}
 use Rattle.iol_port.specs.declared.call.Answered.{Answered}
-use Rattle.iol_port.specs.Asks.{asks_of, begun_next}
-use Rattle.iol_port.specs.EveryWire.{takes_next}
 use Rattle.iol_port.specs.Called.{CoreCalled, Restarts}
 use Rattle.iol_port.specs.View.{PortParts}
 use Rattle.iol_port.specs.WireCalls.{AreCalls}
-use Rattle.iol_port.specs.CorePort.{awaited_answer, PortSendGives, SendDoes, PortReceiveGives, ReceiveDoes, WakeGives, WakeDoes}
-use Rattle.iol_storage.specs.StoredPort.{StoredParts, StoredSends, StoredForwards}
+use Rattle.iol_port.specs.CorePort.{awaited_answer, PortReceiveGives, ReceiveDoes, WakeGives, WakeDoes}
+use Rattle.iol_storage.specs.StoredPort.{StoredParts, PortSends, StoredSends, StoredForwards}
 use Rattle.iol_master.specs.Served.{GateFacts, IsLet}
 
 -- What a line needs of the port under its lock: what it waits for, and what each call gives that
@@ -34,14 +30,6 @@ pub record LineFacts (P : Type 0) : Type 1 where
 
 -- The calls of a port
 
-pub record CoreSends (p : PortParts) (asked : Asked) (next : PortParts) : Type 0 where
-  pub says : IsAskedOut asked next.core.state
-  pub asked_is : asked ≡ asks_of p
-  pub again : IsTrue p.sent → next ≡ p
-  pub begun : p.sent ≡ false → IsTrue (takes_next p) → IfSome (begun_next p) IsRequest
-  pub gives : PortSendGives p next
-  pub does : SendDoes p next
-
 pub record CoreReceives (p : PortParts) (came : Option (List ℕ)) (next : PortParts) : Type 0 where
   pub gives : PortReceiveGives p came next
   pub does : ReceiveDoes p came next
@@ -56,7 +44,7 @@ CoreRestarts p next = Restarts (CoreCalled p next) p next
 abbrev pub core_facts : LineFacts PortParts
 core_facts = record {
   awaits = awaited_answer;
-  sends = CoreSends;
+  sends = PortSends;
   receives = CoreReceives;
   wakes = CoreWakes;
   restarts = CoreRestarts;

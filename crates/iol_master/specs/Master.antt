@@ -1,11 +1,10 @@
 -- What the calls of a master answer. A master is seen as the number of its ports.
 use Rattle.std.specs.Prelude.{◌≡◌, ◌⊎◌, ℕ, ◌+◌, ◌≤◌, List, [], ◌∷◌, ◌++◌, Some, None, Result, Ok, Err}
 use Rattle.iol_book.specs.declared.entries.Ticket.{Ticket}
-use Rattle.iol_book.specs.declared.fault.BookFault.TheVariants.{Full, JournalFull, TicketsSpent, OutOfMemory as NoMemory}
-use Rattle.iol_port.specs.declared.fault.PortFault.{PortFault}
+use Rattle.iol_book.specs.declared.fault.BookFault.TheVariants.{Full, TicketsSpent}
 use Rattle.iol_port.specs.declared.fault.PortFault.TheVariants.{Book}
 use Rattle.iol_master.specs.declared.fault.MasterFault.{MasterFault}
-use Rattle.iol_master.specs.declared.fault.MasterFault.TheVariants.{Port, OutOfMemory, NoSuchPort, NoThread, DesksFull}
+use Rattle.iol_master.specs.declared.fault.MasterFault.TheVariants.{Port, Stored, OutOfMemory, NoSuchPort, NoThread, DesksFull}
 use Rattle.iol_master.specs.declared.accounts.Settled.{Settled}
 use Rattle.iol_master.specs.declared.accounts.Settled.TheVariants.{Part, Last}
 use Rattle.iol_master.specs.Counts.{DeskState, AccountState, new_desk, Opens, Settles}
@@ -22,6 +21,7 @@ Desks ports port (Err DesksFull) = IsPortNumber ports port
 Desks ports port (Err (Port why)) = ⊥
 Desks ports port (Err OutOfMemory) = ⊥
 Desks ports port (Err NoThread) = ⊥
+Desks ports port (Err (Stored why)) = ⊥
 
 -- some tally, whose lock was held, at which this desk was opened, or which had none to open
 abbrev pub WasOpened : ℕ → Result DeskState MasterFault → Type 0
@@ -31,28 +31,33 @@ WasOpened port (Err NoSuchPort) = ⊥
 WasOpened port (Err (Port why)) = ⊥
 WasOpened port (Err OutOfMemory) = ⊥
 WasOpened port (Err NoThread) = ⊥
-
--- why a port refuses a submit: as many tickets are outstanding as may be, the journal has no
--- room, the tickets are spent, memory is lacking
-abbrev pub IsSubmitRefusal : PortFault → Type 0
-IsSubmitRefusal why = (why ≡ Book Full) ⊎ (why ≡ Book JournalFull) ⊎ (why ≡ Book TicketsSpent)
-    ⊎ (why ≡ Book NoMemory)
+WasOpened port (Err (Stored why)) = ⊥
 
 -- a desk that counts one more, and has that ticket behind others
 abbrev pub CountsTicket : DeskState → Ticket → DeskState → Type 0
 CountsTicket d ticket d' = (others : List Ticket)
     × (d' ≡ record d { accepted = d.accepted + 1; tickets = others ++ ticket ∷ [] })
 
+-- why a submit is refused at a desk: 64 of its tickets are outstanding, the tickets are spent, or
+-- as the port refuses one
+abbrev pub IsDeskRefusal : (MasterFault → Type 0) → MasterFault → Type 0
+IsDeskRefusal refuses why =
+    (why ≡ Port (Book Full)) ⊎ (why ≡ Port (Book TicketsSpent)) ⊎ refuses why
+
 -- A desk counts one more exactly where a ticket is answered. Tickets are numbered from 1.
-abbrev pub DeskCountsSubmit : ℕ → DeskState → Result Ticket MasterFault → DeskState → Type 0
-DeskCountsSubmit ports d (Ok ticket) d' =
-    IsPortNumber ports d.port × (1 ≤ ticket.0) × CountsTicket d ticket d'
-DeskCountsSubmit ports d (Err NoSuchPort) d' = (¬ IsPortNumber ports d.port) × (d' ≡ d)
-DeskCountsSubmit ports d (Err (Port why)) d' = IsPortNumber ports d.port × IsSubmitRefusal why
-    × (d' ≡ d)
-DeskCountsSubmit ports d (Err OutOfMemory) d' = ⊥
-DeskCountsSubmit ports d (Err NoThread) d' = ⊥
-DeskCountsSubmit ports d (Err DesksFull) d' = ⊥
+abbrev pub CountsSubmit : (MasterFault → Type 0) → DeskState → Result Ticket MasterFault → DeskState
+    → Type 0
+CountsSubmit refuses d (Ok ticket) d' = (1 ≤ ticket.0) × CountsTicket d ticket d'
+CountsSubmit refuses d (Err why) d' = IsDeskRefusal refuses why × (d' ≡ d)
+
+-- where there is such a port
+abbrev pub DeskCountsSubmit : (MasterFault → Type 0) → ℕ → DeskState → Result Ticket MasterFault
+    → DeskState → Type 0
+DeskCountsSubmit refuses ports d (Ok ticket) d' =
+    IsPortNumber ports d.port × CountsSubmit refuses d (Ok ticket) d'
+DeskCountsSubmit refuses ports d (Err why) d' =
+    ((¬ IsPortNumber ports d.port) × (why ≡ NoSuchPort) × (d' ≡ d))
+    ⊎ (IsPortNumber ports d.port × CountsSubmit refuses d (Err why) d')
 
 -- the last desk is told the total, in which its own submits are
 abbrev pub SettledAs : ℕ → Settled → Type 0

@@ -1,9 +1,7 @@
 -- The turns that workers make at ports whose locks are held, while their gate lets them.
 use Rattle.std.specs.Prelude.{◌≡◌, ◌⊎◌, ◌<◌, ◌≤◌, ◌+◌, ℕ, Bool, true, false, List, length, Result, Ok, Err}
-use Rattle.iol_link.specs.WireFacts.{WireFacts}
-use Rattle.iol_port.specs.View.{PortValue}
-use Rattle.iol_port.specs.Called.{Turns, PublishesAfter}
 use Rattle.iol_master.specs.declared.fault.MasterFault.{MasterFault}
+use Rattle.iol_master.specs.Ports.{PortFacts}
 
 -- What a gate gives: the gate, the port's number, the turn's, the answer
 abbrev pub GateFacts : Type 0 → Type 1
@@ -16,12 +14,12 @@ module _ {G : Type 0} (pass_gives : GateFacts G) (gate : G) (number : ℕ) where
     pub yes : (turn : ℕ) → turn < made → pass_gives gate number (turn + 1) true
     pub ends : (made ≡ turns) ⊎ ((made < turns) × pass_gives gate number (made + 1) false)
 
-module _ {W : Type 0} (facts : WireFacts W) where
+module _ {P : Type 0} (facts : PortFacts P) where
   -- a turn that was made at some port, whose lock was held
   pub record PortTurn : Type 0 where
-    pub before : PortValue W
-    pub after : PortValue W
-    pub turns : PublishesAfter (Turns facts before) before after
+    pub before : P
+    pub after : P
+    pub turns : facts.turns before after
 
   -- A worker's turns: a list, of so many, that its gate let pass
   pub record IsWorked {G : Type 0} (pass_gives : GateFacts G) (gate : G) (number turns made : ℕ)

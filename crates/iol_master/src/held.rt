@@ -1,5 +1,5 @@
 //! What lies under a port's lock: the port, and its share of the tickets.
-ghost use Rattle.std.specs.Prelude.{◌≡◌, ◌<◌, ◌≤◌, ◌+◌, None, Some, IfOk, OnErr, [], length};
+ghost use Rattle.std.specs.Prelude.{◌≡◌, ◌<◌, ◌≤◌, ◌+◌, ℕ, None, Some, IfOk, OnErr, [], length};
 ghost use Rattle.std.specs.Vec.{vec_len, vec_capacity};
 ghost use Rattle.std.specs.Option.{option_copied};
 ghost use Rattle.iol_book.specs.BookModel.{IsReplayed};
@@ -11,11 +11,15 @@ ghost use Rattle.iol_port.specs.Claim.{Claim};
 ghost use Rattle.iol_port.specs.WireCalls.{ComesFrom};
 ghost use Rattle.iol_port.specs.RightDevice.{IsForRightDevice};
 ghost use Rattle.iol_port.specs.Clean.{IsLevelBetween};
-ghost use Rattle.iol_master.specs.Tickets.{HasGiven, SubmitsAs, Enters};
+ghost use Rattle.iol_master.specs.Entered.{Enters};
+ghost use Rattle.iol_master.specs.Master.{CountsSubmit};
 ghost use Rattle.iol_master.specs.Left.{LeavesNone};
+
+mod stored_calls;
 
 use crate::accounts::{Accounts, Desk};
 use crate::fault::MasterFault;
+use crate::ports::{DeskUrgency, MasterPort};
 use crate::tickets::{Tickets, abandon_each, outstanding_of};
 use iol_app::Status;
 use iol_book::{BookFault, Entry, Outcome, Ticket};
@@ -28,7 +32,7 @@ use iol_mode::Why;
 use iol_page::{CycleTime, Identity, Page};
 use iol_port::{Counters, Counting, Port, PortFault};
 use std::alloc::Global;
-use std::marker::Model;
+use std::marker::{Model, PhantomData};
 use std::sync::Wait;
 use std::sync::ledger::{Ledger, Share};
 
@@ -36,64 +40,41 @@ use std::sync::ledger::{Ledger, Share};
 /// which are fetched in pairs.
 const APART: usize = 128;
 
-/// Before which requests one waits.
-#[derive(Clone, Copy, PartialEq, Eq, Debug)]
-pub(crate) enum DeskUrgency {
-    /// Behind all others.
-    Ordinary,
-    /// Before all but the urgent ones.
-    Urgent,
-}
-
-/// The port's submit, or its urgent one.
-fn submit_as<W: Wire, A: Handle>(
-    port: &mut Port<W, A>,
-    urgency: DeskUrgency,
-    request: Request,
-) -> Result<Ticket, PortFault>
-    ensures { SubmitsAs port.old urgency request result port.new }
-{
-    match urgency {
-        DeskUrgency::Ordinary => port.submit(request),
-        DeskUrgency::Urgent => port.submit_urgent(request),
-    }
-}
-
 /// A port of a master, as it lies under its lock, with its share of the tickets that the master's
-/// ports gave.
+/// ports gave to desks.
 ///
-/// Contracts see it as its port: each call is the port's call of that name, and so one call of the
-/// abstract port that it stands for (crate iol_port). No call here allocates, and none takes a
-/// lock: who calls holds the port's.
+/// Contracts see it as its port: each call is the port's call of that name, and so, for a [`Port`],
+/// one call of the abstract port that it stands for (crate iol_port). No call here allocates, and
+/// none takes a lock: who calls holds the port's.
 #[derive(Drop)]
-pub struct Held<W: Wire, K: Ledger, A: Handle = Global> {
-    port: Port<W, A>,
-    /// How many tickets the port gave since it was opened.
+pub struct Held<W: Wire, K: Ledger, A: Handle = Global, P: MasterPort = Port<W, A>> {
+    port: P,
+    /// How many submits at desks were accepted here.
     tickets: u64,
     /// One part of the ledger of the tickets; its amount is that number.
     share: Share<K>,
     /// Nothing reads it. The ports of a master lie side by side, and each has a worker.
     apart: [u8; APART],
+    wire: PhantomData<W>,
+    memory: PhantomData<A>,
 }
 
-impl<W: Wire, K: Ledger, A: Handle> Model for Held<W, K, A> {
+impl<W: Wire, K: Ledger, A: Handle, P: MasterPort> Model for Held<W, K, A, P> {
     ghost use Rattle.std.specs.Prelude.{◌≡◌};
-    ghost use Rattle.iol_port.specs.View.{PortValue};
-    ghost use Rattle.iol_master.specs.Tickets.{HasGiven};
 
-    ghost Value = { PortValue W };
+    ghost Value = { P };
 
     ghost view = { λ h. h.port };
 
     ghost invariant = { λ h. (h.share.parts ≡ 1) × (h.share.amount ≡ h.tickets)
-        × HasGiven h.port h.tickets };
+        × P.facts.holds h.port h.tickets };
 }
 
-impl<W: Wire, K: Ledger, A: Handle> Held<W, K, A> {
-    /// A port that gave no ticket yet, with a part that has counted none.
-    pub(crate) fn new(port: Port<W, A>, share: Share<K>) -> Held<W, K, A>
+impl<W: Wire, K: Ledger, A: Handle, P: MasterPort> Held<W, K, A, P> {
+    /// A port at which no submit was accepted yet, with a part that has counted none.
+    pub(crate) fn new(port: P, share: Share<K>) -> Held<W, K, A, P>
         requires share { (share.parts ≡ 1) × (share.amount ≡ 0) }
-        requires fresh { HasGiven port 0 }
+        requires fresh { P.facts.holds port 0 }
         ensures { result ≡ port }
     {
         Held {
@@ -101,6 +82,8 @@ impl<W: Wire, K: Ledger, A: Handle> Held<W, K, A> {
             tickets: 0,
             share,
             apart: [0; APART],
+            wire: PhantomData,
+            memory: PhantomData,
         }
     }
 
@@ -117,8 +100,9 @@ impl<W: Wire, K: Ledger, A: Handle> Held<W, K, A> {
         urgency: DeskUrgency,
         request: Request,
     ) -> Result<Ticket, MasterFault>
-        ensures { Enters self.old accounts.old desk.old urgency request result
+        ensures enters { Enters P.facts self.old accounts.old desk.old urgency request result
             self.new accounts.new desk.new }
+        ensures counted { CountsSubmit P.facts.refuses desk.old result desk.new }
     {
         if accounts.is_spent() {
             return Err(MasterFault::Port(PortFault::Book(BookFault::TicketsSpent)));
@@ -128,23 +112,58 @@ impl<W: Wire, K: Ledger, A: Handle> Held<W, K, A> {
             tickets,
             share,
             apart: _,
+            wire: _,
+            memory: _,
         } = self;
         let mut left = outstanding_of(port, desk.tickets());
         if left.is_full() {
             return Err(MasterFault::Port(PortFault::Book(BookFault::Full)));
         }
-        match submit_as(port, urgency, request) {
-            Ok(ticket) => {
-                left.push(ticket);
-                desk.keep(left);
-                accounts.count(desk, share);
-                *tickets += 1;
-                Ok(ticket)
-            }
-            Err(fault) => Err(MasterFault::Port(fault)),
-        }
+        let ticket = port.enter(urgency, request)?;
+        left.push(ticket);
+        desk.keep(left);
+        accounts.count(desk, share);
+        *tickets += 1;
+        Ok(ticket)
     }
 
+    /// Abandons those of a desk's tickets that are outstanding. None of them is then, and each
+    /// other ticket stands where it did.
+    pub(crate) fn leave(&mut self, tickets: &Tickets)
+        ensures { LeavesNone P.facts self.old tickets.now self.new }
+    {
+        abandon_each(&mut self.port, tickets.as_slice());
+    }
+
+    /// One turn of the port, which publishes its image, if it does.
+    pub(crate) fn make_turn<R: Wait>(&mut self, rt: &R)
+        ensures { P.facts.turns self.old self.new }
+    {
+        self.port.make_turn(rt);
+    }
+
+    /// The share, and how many submits were accepted. The port is dropped.
+    pub(crate) fn close(self) -> (Share<K>, u64)
+    where
+        P: Drop,
+        ensures parts { result.0.parts ≡ 1 }
+        ensures amount { result.0.amount ≡ result.1 }
+        ensures accepted { P.facts.holds self result.1 }
+    {
+        let Held {
+            port: _,
+            tickets,
+            share,
+            apart: _,
+            wire: _,
+            memory: _,
+        } = self;
+        (share, tickets)
+    }
+}
+
+/// The calls of a port without Data Storage.
+impl<W: Wire, K: Ledger, A: Handle> Held<W, K, A> {
     /// As [`PortCore::collect`](iol_port::PortCore::collect).
     pub fn collect(&mut self, ticket: Ticket) -> Result<Outcome, PortFault>
         ensures { Collects (MakesCall self.old self.new) self.old.parts self.new.parts
@@ -175,14 +194,6 @@ impl<W: Wire, K: Ledger, A: Handle> Held<W, K, A> {
             ticket result }
     {
         self.port.abandon(ticket)
-    }
-
-    /// Abandons those of a desk's tickets that are outstanding. None of them is then, and each
-    /// other ticket stands where it did.
-    pub(crate) fn leave(&mut self, tickets: &Tickets)
-        ensures { LeavesNone self.old tickets.now self.new }
-    {
-        abandon_each(&mut self.port, tickets.as_slice());
     }
 
     /// As [`Port::restart_shown`].
@@ -349,22 +360,5 @@ impl<W: Wire, K: Ledger, A: Handle> Held<W, K, A> {
         ensures { IsForRightDevice self.now.parts }
     {
         self.port.serves_right_device();
-    }
-
-    /// The share, and how many tickets the port gave since it was opened. The port is dropped.
-    pub(crate) fn close(self) -> (Share<K>, u64)
-    where
-        W: Drop,
-        ensures parts { result.0.parts ≡ 1 }
-        ensures amount { result.0.amount ≡ result.1 }
-        ensures given { HasGiven self result.1 }
-    {
-        let Held {
-            port: _,
-            tickets,
-            share,
-            apart: _,
-        } = self;
-        (share, tickets)
     }
 }

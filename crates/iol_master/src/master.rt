@@ -1,22 +1,28 @@
 //! The master: its ports and its tally, each under a lock.
 ghost use Rattle.std.specs.Prelude.{◌≡◌, ◌≤◌, ◌⊎◌, Err, All, vec_len, MatchResult, MatchOption};
 ghost use Rattle.iol_master.specs.declared.fault.MasterFault.TheVariants as fault;
-ghost use Rattle.iol_master.specs.declared.held.DeskUrgency.TheVariants as urgency;
-ghost use Rattle.iol_master.specs.Tickets.{HasGiven, WasEntered, WasClosed};
+ghost use Rattle.iol_master.specs.declared.ports.DeskUrgency.TheVariants as urgency;
+ghost use Rattle.iol_master.specs.Tickets.{HasGiven};
+ghost use Rattle.iol_master.specs.Entered.{WasEntered, WasClosed};
 ghost use Rattle.iol_master.specs.Master.{IsPortNumber, Desks, DeskCountsSubmit, SettledAs};
 ghost use Rattle.iol_master.specs.Master.{WasOpened, WasSettled};
 ghost use Rattle.iol_master.specs.Counts.{IsClosed};
 ghost use Rattle.iol_master.specs.Left.{WasLeft};
 ghost use Rattle.iol_master.specs.Ledgers.{IsBlankFor};
+ghost use Rattle.iol_port.specs.declared.awaited.AwaitedAnswer.TheVariants as AwaitedAnswer;
+ghost use Rattle.iol_port.specs.CorePort.{awaited_answer};
 
 use crate::accounts::{Accounts, Desk, Settled, Tally};
 use crate::fault::MasterFault;
-use crate::held::{DeskUrgency, Held};
+use crate::held::Held;
+use crate::ports::{DeskUrgency, MasterPort};
+use crate::wired::Wired;
 use iol_book::Ticket;
 use iol_cell::Handle;
 use iol_isdu::Request;
 use iol_link::Wire;
 use iol_port::Port;
+use iol_storage::StoredPort;
 use std::alloc::Global;
 use std::marker::Model;
 use std::sync::ledger::{Blank, Ledger};
@@ -42,12 +48,12 @@ use std::sync::{Mutex, MutexGuard, Wait};
 /// clauses are those of the calls on a value whose lock is held: of [`Held`], and inside this crate
 /// of `Held::submit` and of the tally.
 #[derive(Drop)]
-pub struct Master<W: Wire, L: Ledger, K: Ledger, A: Handle = Global> {
-    pub(crate) ports: Vec<Mutex<Held<W, K, A>>, A>,
+pub struct Master<W: Wire, L: Ledger, K: Ledger, A: Handle = Global, P: MasterPort = Port<W, A>> {
+    pub(crate) ports: Vec<Mutex<Held<W, K, A, P>>, A>,
     accounts: Mutex<Accounts<L, K>>,
 }
 
-impl<W: Wire, L: Ledger, K: Ledger, A: Handle> Model for Master<W, L, K, A> {
+impl<W: Wire, L: Ledger, K: Ledger, A: Handle, P: MasterPort> Model for Master<W, L, K, A, P> {
     ghost use Rattle.std.specs.Prelude.{◌≡◌, ℕ, ◌<◌, ◌≤◌, vec_len};
 
     ghost Value = { ℕ };
@@ -79,6 +85,53 @@ impl<W: Wire, L: Ledger, K: Ledger, A: Handle> Master<W, L, K, A> {
         ensures { MatchResult result (λ m. m ≡ vec_len ports)
             (λ e. (e.0 ≡ fault.OutOfMemory) × (e.1 ≡ ports)) }
     {
+        Master::of_ports(alloc, ports, clients, tickets)
+    }
+}
+
+impl<W: Wire, L: Ledger, K: Ledger, A: Handle> Master<W, L, K, A, Wired<W, StoredPort<A>>> {
+    /// A master of these 1 to 32 ports with Data Storage, at which nothing is out, as
+    /// [`Master::open`].
+    pub fn open_stored(
+        alloc: A,
+        ports: Vec<Wired<W, StoredPort<A>>, A>,
+        clients: Blank,
+        tickets: Blank,
+    ) -> Result<
+        Master<W, L, K, A, Wired<W, StoredPort<A>>>,
+        (MasterFault, Vec<Wired<W, StoredPort<A>>, A>),
+    >
+    where
+        W: Drop,
+        requires clients { IsBlankFor clients L.name L.parts 1025 }
+        requires tickets { IsBlankFor tickets K.name K.parts (vec_len ports) }
+        requires count { (1 ≤ vec_len ports) × (vec_len ports ≤ 32) }
+        requires rest { All (λ p. awaited_answer p.port.port ≡ AwaitedAnswer.Nothing)
+            ports.items }
+        ensures { MatchResult result (λ m. m ≡ vec_len ports)
+            (λ e. (e.0 ≡ fault.OutOfMemory) × (e.1 ≡ ports)) }
+    {
+        Master::of_ports(alloc, ports, clients, tickets)
+    }
+}
+
+impl<W: Wire, L: Ledger, K: Ledger, A: Handle, P: MasterPort> Master<W, L, K, A, P> {
+    /// A master of these ports, as [`Master::open`].
+    fn of_ports(
+        alloc: A,
+        ports: Vec<P, A>,
+        clients: Blank,
+        tickets: Blank,
+    ) -> Result<Master<W, L, K, A, P>, (MasterFault, Vec<P, A>)>
+    where
+        P: Drop,
+        requires clients { IsBlankFor clients L.name L.parts 1025 }
+        requires tickets { IsBlankFor tickets K.name K.parts (vec_len ports) }
+        requires count { (1 ≤ vec_len ports) × (vec_len ports ≤ 32) }
+        requires fresh { All (λ p. P.facts.holds p 0) ports.items }
+        ensures { MatchResult result (λ m. m ≡ vec_len ports)
+            (λ e. (e.0 ≡ fault.OutOfMemory) × (e.1 ≡ ports)) }
+    {
         let count = ports.len();
         let Ok(mut locks) = Vec::with_capacity(alloc, count) else {
             return Err((MasterFault::OutOfMemory, ports));
@@ -96,7 +149,7 @@ impl<W: Wire, L: Ledger, K: Ledger, A: Handle> Master<W, L, K, A> {
 
     /// The lock of a port. No clause tells two locks apart, so which one it is a test holds, as at
     /// [`Master::lock`].
-    fn port(&self, port: u32) -> Option<&Mutex<Held<W, K, A>>>
+    fn port(&self, port: u32) -> Option<&Mutex<Held<W, K, A, P>>>
         ensures { MatchOption result (¬ IsPortNumber self.now port)
             (λ _. IsPortNumber self.now port) }
     {
@@ -141,9 +194,9 @@ impl<W: Wire, L: Ledger, K: Ledger, A: Handle> Master<W, L, K, A> {
         desk: &mut Desk<L>,
         request: Request,
     ) -> Result<Ticket, MasterFault>
-        ensures submitted { DeskCountsSubmit self.now desk.old result desk.new }
+        ensures submitted { DeskCountsSubmit P.facts.refuses self.now desk.old result desk.new }
         ensures entered { (result ≡ Err fault.NoSuchPort)
-            ⊎ WasEntered W desk.old urgency.Ordinary request result desk.new }
+            ⊎ WasEntered P.facts desk.old urgency.Ordinary request result desk.new }
     {
         self.enter(rt, desk, DeskUrgency::Ordinary, request)
     }
@@ -158,9 +211,9 @@ impl<W: Wire, L: Ledger, K: Ledger, A: Handle> Master<W, L, K, A> {
         desk: &mut Desk<L>,
         request: Request,
     ) -> Result<Ticket, MasterFault>
-        ensures submitted { DeskCountsSubmit self.now desk.old result desk.new }
+        ensures submitted { DeskCountsSubmit P.facts.refuses self.now desk.old result desk.new }
         ensures entered { (result ≡ Err fault.NoSuchPort)
-            ⊎ WasEntered W desk.old urgency.Urgent request result desk.new }
+            ⊎ WasEntered P.facts desk.old urgency.Urgent request result desk.new }
     {
         self.enter(rt, desk, DeskUrgency::Urgent, request)
     }
@@ -172,9 +225,9 @@ impl<W: Wire, L: Ledger, K: Ledger, A: Handle> Master<W, L, K, A> {
         urgency: DeskUrgency,
         request: Request,
     ) -> Result<Ticket, MasterFault>
-        ensures submitted { DeskCountsSubmit self.now desk.old result desk.new }
+        ensures submitted { DeskCountsSubmit P.facts.refuses self.now desk.old result desk.new }
         ensures entered { (result ≡ Err fault.NoSuchPort)
-            ⊎ WasEntered W desk.old urgency request result desk.new }
+            ⊎ WasEntered P.facts desk.old urgency request result desk.new }
     {
         let Some(port) = self.port(desk.port()) else {
             return Err(MasterFault::NoSuchPort);
@@ -193,7 +246,7 @@ impl<W: Wire, L: Ledger, K: Ledger, A: Handle> Master<W, L, K, A> {
         &self,
         rt: &R,
         port: u32,
-    ) -> Result<MutexGuard<'_, Held<W, K, A>>, MasterFault>
+    ) -> Result<MutexGuard<'_, Held<W, K, A, P>>, MasterFault>
         ensures { MatchResult result (λ _. IsPortNumber self.now port)
             (λ e. (e ≡ fault.NoSuchPort) × (¬ IsPortNumber self.now port)) }
     {
@@ -212,7 +265,7 @@ impl<W: Wire, L: Ledger, K: Ledger, A: Handle> Master<W, L, K, A> {
     pub fn settle<R: Wait>(&self, rt: &R, desk: Desk<L>) -> Settled
         ensures told { SettledAs desk.accepted result }
         ensures settled { WasSettled desk result }
-        ensures left { (¬ IsPortNumber self.now desk.port) ⊎ WasLeft W desk.tickets }
+        ensures left { (¬ IsPortNumber self.now desk.port) ⊎ WasLeft P.facts desk.tickets }
     {
         self.leave(rt, &desk);
         self.accounts.lock(rt).settle(desk)
@@ -220,7 +273,7 @@ impl<W: Wire, L: Ledger, K: Ledger, A: Handle> Master<W, L, K, A> {
 
     /// Abandons a desk's tickets at its port, whose lock alone is held meanwhile.
     fn leave<R: Wait>(&self, rt: &R, desk: &Desk<L>)
-        ensures { (¬ IsPortNumber self.now desk.now.port) ⊎ WasLeft W desk.now.tickets }
+        ensures { (¬ IsPortNumber self.now desk.now.port) ⊎ WasLeft P.facts desk.now.tickets }
     {
         if let Some(port) = self.port(desk.port()) {
             port.lock(rt).leave(desk.tickets());
@@ -230,9 +283,9 @@ impl<W: Wire, L: Ledger, K: Ledger, A: Handle> Master<W, L, K, A> {
     /// Closes the master, drops its ports and tells what was counted.
     pub fn close(self) -> Tally
     where
-        W: Drop,
+        P: Drop,
         ensures closed { IsClosed result }
-        ensures gathered { WasClosed W self result }
+        ensures gathered { WasClosed P.facts self result }
     {
         let Master {
             mut ports,
@@ -244,9 +297,9 @@ impl<W: Wire, L: Ledger, K: Ledger, A: Handle> Master<W, L, K, A> {
         };
         let (mut whole, mut tickets) = first.into_inner().close();
         for held in ports {
-            let (share, given) = held.into_inner().close();
+            let (share, accepted) = held.into_inner().close();
             accounts.gather(&mut whole, share);
-            tickets += given;
+            tickets += accepted;
         }
         accounts.close(whole, tickets)
     }

@@ -6,9 +6,11 @@ ghost use Rattle.iol_master.specs.Served.{IsWorked, Works};
 use crate::fault::MasterFault;
 use crate::held::Held;
 use crate::master::Master;
+use crate::ports::MasterPort;
 use crate::worker::Worker;
 use iol_cell::Handle;
 use iol_link::Wire;
+use std::alloc::Global;
 use std::marker::PhantomData;
 use std::snapshot::Snapshot;
 use std::sync::ledger::Ledger;
@@ -33,15 +35,15 @@ pub trait Gate {
 
 /// Makes the turns of one port, up to one at which the gate says no. Answers how many it made. The
 /// lock is held for one turn at a time.
-fn work<W: Wire, K: Ledger, A: Handle, G: Gate, R: Wait>(
+fn work<W: Wire, K: Ledger, A: Handle, P: MasterPort, G: Gate, R: Wait>(
     rt: &R,
-    port: &Mutex<Held<W, K, A>>,
+    port: &Mutex<Held<W, K, A, P>>,
     number: u32,
     gate: &G,
     turns: u64,
 ) -> u64
     requires { (1 ≤ number) × (number ≤ 32) }
-    ensures { IsWorked W.facts G.pass_gives gate.now number turns result }
+    ensures { IsWorked P.facts G.pass_gives gate.now number turns result }
 {
     let mut worker = Worker::new(port);
     for turn in 0..turns {
@@ -55,19 +57,22 @@ fn work<W: Wire, K: Ledger, A: Handle, G: Gate, R: Wait>(
 
 /// What is promised of a worker's thread: which turns it makes.
 #[derive(Drop)]
-struct Shift<W, G> {
-    wire: PhantomData<W>,
+struct Shift<P, G> {
+    port: PhantomData<P>,
     gate: Snapshot<G>,
     number: u32,
     turns: u64,
 }
 
-impl<W: Wire, G: Gate> Promise<u64> for Shift<W, G> {
+impl<P: MasterPort, G: Gate> Promise<u64> for Shift<P, G> {
     ghost kept_by = { λ shift made.
-        IsWorked W.facts G.pass_gives shift.gate.value shift.number shift.turns made };
+        IsWorked P.facts G.pass_gives shift.gate.value shift.number shift.turns made };
 }
 
-impl<W: Wire + Send, L: Ledger, K: Ledger + Sync> Master<W, L, K> {
+impl<W: Wire + Send, L: Ledger, K: Ledger + Sync, P> Master<W, L, K, Global, P>
+where
+    P: MasterPort + Send,
+{
     /// Makes so many turns of each port, by a worker thread for each, and returns when the workers
     /// have ended.
     ///
@@ -82,7 +87,7 @@ impl<W: Wire + Send, L: Ledger, K: Ledger + Sync> Master<W, L, K> {
         turns: u64,
     ) -> Result<(), MasterFault>
         ensures refused { IfErr result (λ e. e ≡ fault.NoThread) }
-        ensures works { Works W.facts G.pass_gives gate.now 1 (1 + self.now) turns result }
+        ensures works { Works P.facts G.pass_gives gate.now 1 (1 + self.now) turns result }
     {
         let ports = self.ports.as_slice();
         thread::scope(
@@ -91,7 +96,7 @@ impl<W: Wire + Send, L: Ledger, K: Ledger + Sync> Master<W, L, K> {
             |scope| -> Result<(), MasterFault>
                 requires { length ports.now ≤ 32 }
                 ensures refused { IfErr result (λ e. e ≡ fault.NoThread) }
-                ensures works { Works W.facts G.pass_gives gate.entry.now
+                ensures works { Works P.facts G.pass_gives gate.entry.now
                     1 (1 + length ports.entry.now) turns result }
             { work_all(scope, rt, ports, 1, gate, turns) },
         )
@@ -99,21 +104,29 @@ impl<W: Wire + Send, L: Ledger, K: Ledger + Sync> Master<W, L, K> {
 }
 
 /// Starts the worker of a port.
-fn start<'s, E, W: Wire + Send, K: Ledger + Sync, G: Gate + Sync, R: Threads + Wait + Sync>(
+fn start<
+    's,
+    E,
+    W: Wire + Send,
+    K: Ledger + Sync,
+    P: MasterPort + Send,
+    G: Gate + Sync,
+    R: Threads + Wait + Sync,
+>(
     scope: &Scope<'s, E>,
     rt: &'s R,
-    port: &'s Mutex<Held<W, K>>,
+    port: &'s Mutex<Held<W, K, Global, P>>,
     number: u32,
     gate: &'s G,
     turns: u64,
-) -> Result<PromisedHandle<u64, Shift<W, G>>, MasterFault>
+) -> Result<PromisedHandle<u64, Shift<P, G>>, MasterFault>
     requires { (1 ≤ number) × (number ≤ 32) }
     ensures refused { IfErr result (λ e. e ≡ fault.NoThread) }
     ensures shift { IfOk result (λ worker. (worker.promise.gate.value ≡ gate.now)
         × (worker.promise.number ≡ number) × (worker.promise.turns ≡ turns)) }
 {
     let shift = Shift {
-        wire: PhantomData,
+        port: PhantomData,
         gate: Snapshot::of(gate),
         number,
         turns,
@@ -123,7 +136,7 @@ fn start<'s, E, W: Wire + Send, K: Ledger + Sync, G: Gate + Sync, R: Threads + W
             shift,
             move || -> u64
                 requires { (1 ≤ number) × (number ≤ 32) }
-                ensures { IsWorked W.facts G.pass_gives gate.entry.now number turns result }
+                ensures { IsWorked P.facts G.pass_gives gate.entry.now number turns result }
             { work(rt, port, number, gate, turns) },
         )
         .map_err(|_| MasterFault::NoThread)
@@ -131,17 +144,25 @@ fn start<'s, E, W: Wire + Send, K: Ledger + Sync, G: Gate + Sync, R: Threads + W
 
 /// Starts the workers of these ports, of which the first has this number, up to one that can't be
 /// started; and waits until they have ended.
-fn work_all<'s, E, W: Wire + Send, K: Ledger + Sync, G: Gate + Sync, R: Threads + Wait + Sync>(
+fn work_all<
+    's,
+    E,
+    W: Wire + Send,
+    K: Ledger + Sync,
+    P: MasterPort + Send,
+    G: Gate + Sync,
+    R: Threads + Wait + Sync,
+>(
     scope: &Scope<'s, E>,
     rt: &'s R,
-    ports: &'s [Mutex<Held<W, K>>],
+    ports: &'s [Mutex<Held<W, K, Global, P>>],
     first: u32,
     gate: &'s G,
     turns: u64,
 ) -> Result<(), MasterFault>
     requires { (1 ≤ first) × (first + length ports.now ≤ 33) }
     ensures refused { IfErr result (λ e. e ≡ fault.NoThread) }
-    ensures works { Works W.facts G.pass_gives gate.now
+    ensures works { Works P.facts G.pass_gives gate.now
         first (first + length ports.now) turns result }
 {
     let [port, others @ ..] = ports else {

@@ -1,12 +1,10 @@
 //! The tickets of a desk, and what becomes of them at their port.
 ghost use Rattle.std.specs.Prelude.{◌≡◌, ◌<◌, ◌≤◌, ◌==◌, ◌∷◌, ◌++◌, [], filter, length};
-ghost use Rattle.iol_book.specs.BookModel.{is_outstanding};
+ghost use Rattle.iol_master.specs.Ports.{awaits_client};
 ghost use Rattle.iol_master.specs.Left.{LeavesNone};
 
+use crate::ports::MasterPort;
 use iol_book::Ticket;
-use iol_cell::Handle;
-use iol_link::Wire;
-use iol_port::Port;
 use std::marker::Model;
 
 /// The most tickets of a desk: as many as a port may have outstanding.
@@ -67,12 +65,12 @@ impl Tickets {
 }
 
 /// Those of these tickets that are outstanding at a port.
-pub(crate) fn outstanding_of<W: Wire, A: Handle>(port: &Port<W, A>, tickets: &Tickets) -> Tickets
-    ensures { result ≡ filter (is_outstanding port.now.parts.book.state.standing) tickets.now }
+pub(crate) fn outstanding_of<P: MasterPort>(port: &P, tickets: &Tickets) -> Tickets
+    ensures { result ≡ filter (awaits_client P.facts port.now) tickets.now }
 {
     let mut outstanding = Tickets::none();
     for ticket in tickets.as_slice() {
-        if port.is_outstanding(*ticket) {
+        if port.has(*ticket) {
             outstanding.push(*ticket);
         }
     }
@@ -82,18 +80,17 @@ pub(crate) fn outstanding_of<W: Wire, A: Handle>(port: &Port<W, A>, tickets: &Ti
 /// Abandons a ticket, where it is outstanding.
 ///
 /// Once is enough, as each ticket of a port names one request. No clause of a port says so.
-fn abandon<W: Wire, A: Handle>(port: &mut Port<W, A>, ticket: Ticket)
-    ensures { LeavesNone port.old (ticket ∷ []) port.new }
+fn abandon<P: MasterPort>(port: &mut P, ticket: Ticket)
+    ensures { LeavesNone P.facts port.old (ticket ∷ []) port.new }
 {
-    while port.is_outstanding(ticket) {
-        // It is outstanding, so it isn't refused.
-        let _ = port.abandon(ticket);
+    while port.has(ticket) {
+        port.give_up(ticket);
     }
 }
 
 /// Abandons those of these tickets that are outstanding.
-pub(crate) fn abandon_each<W: Wire, A: Handle>(port: &mut Port<W, A>, tickets: &[Ticket])
-    ensures { LeavesNone port.old tickets.now port.new }
+pub(crate) fn abandon_each<P: MasterPort>(port: &mut P, tickets: &[Ticket])
+    ensures { LeavesNone P.facts port.old tickets.now port.new }
 {
     for ticket in tickets {
         abandon(port, *ticket);

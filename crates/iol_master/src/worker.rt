@@ -3,6 +3,7 @@ ghost use Rattle.std.specs.Prelude.{◌≡◌, ◌+◌, ◌<◌, ◌^◌};
 ghost use Rattle.iol_master.specs.Served.{PortTurn};
 
 use crate::held::Held;
+use crate::ports::MasterPort;
 use iol_cell::Handle;
 use iol_link::Wire;
 use std::marker::Model;
@@ -14,12 +15,12 @@ use std::sync::{Mutex, Wait};
 /// Contracts see that count. Nothing else of a worker reaches the port, so what makes turns by it
 /// makes as many as it counts.
 #[derive(Drop)]
-pub(crate) struct Worker<'m, W: Wire, K: Ledger, A: Handle> {
-    port: &'m Mutex<Held<W, K, A>>,
+pub(crate) struct Worker<'m, W: Wire, K: Ledger, A: Handle, P: MasterPort> {
+    port: &'m Mutex<Held<W, K, A, P>>,
     made: u64,
 }
 
-impl<'m, W: Wire, K: Ledger, A: Handle> Model for Worker<'m, W, K, A> {
+impl<'m, W: Wire, K: Ledger, A: Handle, P: MasterPort> Model for Worker<'m, W, K, A, P> {
     ghost use Rattle.std.specs.Prelude.{ℕ};
 
     ghost Value = { ℕ };
@@ -27,9 +28,9 @@ impl<'m, W: Wire, K: Ledger, A: Handle> Model for Worker<'m, W, K, A> {
     ghost view = { λ w. w.made };
 }
 
-impl<'m, W: Wire, K: Ledger, A: Handle> Worker<'m, W, K, A> {
+impl<'m, W: Wire, K: Ledger, A: Handle, P: MasterPort> Worker<'m, W, K, A, P> {
     /// A worker that made no turn yet.
-    pub(crate) fn new(port: &'m Mutex<Held<W, K, A>>) -> Worker<'m, W, K, A>
+    pub(crate) fn new(port: &'m Mutex<Held<W, K, A, P>>) -> Worker<'m, W, K, A, P>
         ensures { result ≡ 0 }
     {
         Worker { port, made: 0 }
@@ -50,9 +51,9 @@ impl<'m, W: Wire, K: Ledger, A: Handle> Worker<'m, W, K, A> {
     pub(crate) fn turn<R: Wait>(&mut self, rt: &R)
         requires { self.old + 1 < 2 ^ 64 }
         ensures counted { self.new ≡ self.old + 1 }
-        ensures turned { PortTurn W.facts }
+        ensures turned { PortTurn P.facts }
     {
-        self.port.lock(rt).turn(rt);
+        self.port.lock(rt).make_turn(rt);
         self.made += 1;
     }
 }

@@ -8,12 +8,13 @@ use iol_book::{BookFault, Outcome, Ticket};
 use iol_cell::Handle;
 use iol_isdu::{Answer, Octets, Place, Request};
 use iol_link::Wire;
-use iol_master::{Held, Master, MasterFault};
+use iol_master::{Gate, Held, Master, MasterFault};
 use iol_port::PortFault;
 use std::process::Abort;
 use std::sync::ledger::Ledger;
 use std::sync::{MutexGuard, Wait};
 use std::test::Fail;
+use std::thread::Threads;
 
 /// Ends the test where a fact doesn't hold. See the head of this crate.
 pub fn check<R: Abort>(rt: &R, holds: bool) {
@@ -92,4 +93,17 @@ pub fn turns<W: Wire, L: Ledger, K: Ledger, A: Handle, R: Wait>(
         held.turn(rt);
     }
     true
+}
+
+/// The workers make so many turns of each port, as far as the gate lets them.
+pub fn serves<W: Wire + Send, L: Ledger, K: Ledger + Sync, G: Gate + Sync, R>(
+    rt: &R,
+    master: &Master<W, L, K>,
+    gate: &G,
+    turns: u64,
+) -> bool
+where
+    R: Threads + Wait + Sync,
+{
+    master.serve(rt, gate, turns) == Ok(())
 }

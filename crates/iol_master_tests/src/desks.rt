@@ -4,7 +4,7 @@ ghost use Rattle.std.specs.Prelude.{IfOk};
 ghost use Rattle.iol_master.specs.Tickets.{HasGiven};
 ghost use Rattle.iol_master.specs.Ledgers.{IsBlankFor};
 
-use crate::calls::{cancels_as, check, gives, of_book, read, turns};
+use crate::calls::{cancels_as, check, gives, of_book, read, serves, turns};
 use crate::opening::{alone, open_one};
 use iol_book::{BookFault, JournalLimit, Limits, Ticket};
 use iol_cell::Handle;
@@ -145,7 +145,7 @@ fn run_out<L: Ledger, K: Ledger + Sync, R: Threads + Wait + Abort + Sync>(
     let master = opened::<L, K, Global, R>(rt, alloc, &limits(), clients, tickets)?;
     check(rt, counts_both(rt, &master) == Ok(true));
     check(rt, has_no_more(rt, &master) == Ok(true));
-    check(rt, master.serve(rt, &Open, 1) == Ok(()));
+    check(rt, serves(rt, &master, &Open, 1));
     Ok(())
 }
 

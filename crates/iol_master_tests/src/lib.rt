@@ -34,4 +34,8 @@ mod slow;
 #[cfg(test)]
 mod stored_lines;
 #[cfg(test)]
+mod stored_masters;
+#[cfg(test)]
+mod units;
+#[cfg(test)]
 mod wide;

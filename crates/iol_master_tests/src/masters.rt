@@ -3,7 +3,7 @@ ghost use Rattle.std.specs.Prelude.{◌≤◌, All, vec_len};
 ghost use Rattle.iol_master.specs.Tickets.{HasGiven};
 ghost use Rattle.iol_master.specs.Ledgers.{IsBlankFor};
 
-use crate::calls::{answer, cancels_as, check, gives, read, turns};
+use crate::calls::{answer, cancels_as, check, gives, read, serves, turns};
 use crate::opening::{numbered, open_master};
 use crate::slow::is_set;
 use iol_book::{BookFault, Outcome, Ticket};
@@ -110,7 +110,7 @@ where
     thread::join(
         rt,
         move || both(rt, master),
-        move || master.serve(rt, gate, 100).is_ok(),
+        move || serves(rt, master, gate, 100),
     )
 }
 
@@ -191,7 +191,7 @@ fn serves_both<W: Wire + Send, L: Ledger + Sync, K: Ledger + Sync, R: Threads + 
     let ((one, two), is_served) = beside_workers(rt, master, &gate);
     let have_met = is_served && gate.have_met();
     let visits = (one?, two?);
-    let goes_on = master.serve(rt, &gate, 100) == Ok(());
+    let goes_on = serves(rt, master, &gate, 100);
     Ok(have_met && goes_on && met(rt, master, visits, answers))
 }
 

@@ -3,7 +3,7 @@
 //! and the journal is looked at afterwards.
 ghost use Rattle.iol_master.specs.Ledgers.{IsBlankFor};
 
-use crate::calls::{answer, check, read};
+use crate::calls::{answer, check, read, serves};
 use crate::desks::Open;
 use crate::lines::serve;
 use crate::opening::{open_one, open_port, wired};
@@ -311,15 +311,6 @@ fn archives<W: Wire, K: Ledger>(held: &mut Held<W, K>, wanted: &Wanted) -> bool 
     }
 }
 
-/// The workers make so many turns.
-fn served<W: Wire + Send, L: Ledger, K: Ledger + Sync, R: Threads + Wait + Sync>(
-    rt: &R,
-    master: &Master<W, L, K>,
-    turns: u64,
-) -> bool {
-    master.serve(rt, &Open, turns) == Ok(())
-}
-
 /// The port is served up to OPERATE, through the silence, and on.
 fn through<W: Wire + Send, L: Ledger, K: Ledger + Sync, R: Threads + Wait + Sync>(
     rt: &R,
@@ -328,11 +319,11 @@ fn through<W: Wire + Send, L: Ledger, K: Ledger + Sync, R: Threads + Wait + Sync
     form: Form,
     wanted: &Wanted,
 ) -> Result<bool, MasterFault> {
-    let is_up = served(rt, master, START_UP) && shows(rt, seat, &INPUT);
+    let is_up = serves(rt, master, &Open, START_UP) && shows(rt, seat, &INPUT);
     let is_wanted = wants_all(rt, master, &wanted.output)?;
-    let is_silent = served(rt, master, SILENCE) && is_empty(rt, seat);
-    let is_done = served(rt, master, TURNS) && has_all(rt, master, form, wanted);
-    let is_kept = served(rt, master, 1) && keeps_all(rt, master, wanted);
+    let is_silent = serves(rt, master, &Open, SILENCE) && is_empty(rt, seat);
+    let is_done = serves(rt, master, &Open, TURNS) && has_all(rt, master, form, wanted);
+    let is_kept = serves(rt, master, &Open, 1) && keeps_all(rt, master, wanted);
     Ok(is_up && is_wanted && is_silent && is_done && is_kept && shows(rt, seat, &LATER))
 }
 

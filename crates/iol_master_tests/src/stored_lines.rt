@@ -4,24 +4,23 @@ ghost use Rattle.iol_master.specs.Ledgers.{IsBlankFor};
 
 use crate::calls::{answer, check, read};
 use crate::lines::{COMMAND, ENOUGH, serve, start_up, turn};
-use crate::slow::{Flags, INPUT, is_set, slow_wire};
+use crate::slow::{Flags, is_set, slow_wire};
+use crate::units::{
+    CHANGED, LIMIT, MANY, MEMBERS, OTHER, SET, Unit, WRITTEN, port_with, read_limit,
+};
 use iol_app::Mode;
-use iol_book::{BookFault, Entry, Limits, Outcome, Ticket};
+use iol_book::{BookFault, Entry, Outcome, Ticket};
 use iol_image::Image;
-use iol_isdu::{Answer, Cause, Place, Request};
-use iol_link::{Rate, Wire};
+use iol_isdu::Cause;
+use iol_link::Wire;
 use iol_master::{Line, LinePort, LineWorker};
-use iol_mode::Devices;
-use iol_mseq::Message;
-use iol_page::{Identity, Page};
-use iol_param_device::{ParamDevice, UPLOAD_REQUEST, slot_size};
-use iol_params::{Access, DataType, IntegerWidth, Member, Table};
-use iol_peers::{AnyWire, PROCESS_DATA, Peer};
+use iol_param_device::UPLOAD_REQUEST;
+use iol_params::Table;
+use iol_peers::AnyWire;
 use iol_port::{Counting, PortFault};
-use iol_slots::RamSlots;
 use iol_storage::{
-    BlockTicket, DownloadResult, Keep, Objects, Served, Set, SetImage, StorageMode,
-    StorageStanding, StoredFault, StoredPort,
+    BlockTicket, DownloadResult, Keep, Objects, Served, Set, SetImage, StorageStanding,
+    StoredFault, StoredPort,
 };
 use std::alloc::Global;
 use std::marker::Brand;
@@ -33,92 +32,9 @@ use std::test::Fail;
 use std::thread;
 use std::thread::Threads;
 
-/// What Data Storage keeps of the unit.
-const LIMIT: Place = Place { index: 65, sub: 0 };
-
-/// The limit as it leaves the factory, and as a user sets it.
-const FACTORY: u8 = 90;
-
-const CHANGED: u8 = 50;
-/// The one of a block.
-const WRITTEN: u8 = 95;
-
-/// More turns than a start-up takes, with a fetch behind it up to the set that waits to be saved.
-const MANY: u64 = 400;
-
-/// The set of a unit whose limit is 50, by its octets.
-const SET: [u8; 16] = [
-    0, 0, 0, 0, 0x12, 0x34, 0x00, 0x01, 0x07, 0, 0, // checksum, device
-    0, 65, 0, 1, CHANGED,
-];
-
-/// A device that isn't there.
-const OTHER: Identity = Identity {
-    vendor: 0x1234,
-    device: 0x000108,
-};
-
-const MEMBERS: [Member; 1] = [Member {
-    place: LIMIT,
-    data_type: DataType::UInteger(IntegerWidth::One, 0, 100),
-    access: Access::Stored,
-    default: &[FACTORY],
-}];
-
-/// A unit, at the far end of a line.
-#[derive(Drop)]
-struct Unit<'t> {
-    device: ParamDevice<'t, RamSlots>,
-}
-
-impl<'t> Unit<'t> {
-    /// A unit as it leaves the factory, which measures.
-    fn new(alloc: Global, table: &'t Table<'t>) -> Result<Unit<'t>, Fail> {
-        let page = Page::from_octets(&PROCESS_DATA);
-        if page.layouts().is_err() {
-            return Err("a page without layouts")?;
-        }
-        let slots = RamSlots::open(alloc, slot_size(table))?;
-        let Ok(mut device) = ParamDevice::open(alloc, table, page, slots) else {
-            return Err("no device")?;
-        };
-        device.set_input(&Image::new(&INPUT)?)?;
-        Ok(Unit { device })
-    }
-
-    fn has_limit(&self, limit: u8) -> bool {
-        match self.device.manager().read(LIMIT) {
-            Answer::Read(octets) => octets.as_slice() == &[limit][..],
-            _ => false,
-        }
-    }
-}
-
-impl<'t> Peer for Unit<'t> {
-    fn wake(&mut self) -> Option<Rate> {
-        self.device.wake();
-        Some(Rate::Com2)
-    }
-
-    fn exchange(&mut self, sent: &[u8]) -> Option<Message> {
-        self.device.work();
-        self.device.hear(sent)
-    }
-}
-
 type Stored<K> = LinePort<K, StoredPort>;
 
 type Waited = Result<Outcome, PortFault>;
-
-fn read_limit() -> Request {
-    Request::read(LIMIT)
-}
-
-/// A port with this set.
-fn port_with(alloc: Global, kept: Option<Set>) -> Result<StoredPort, StoredFault> {
-    let limits = Limits::default();
-    StoredPort::open(alloc, &limits, Devices::Own, StorageMode::Both, kept)
-}
 
 /// A fetched set waits to be saved: the request of ticket 1 waits, and no image is handed out.
 fn awaits_saving<K: Ledger>(port: &mut Stored<K>) -> bool {

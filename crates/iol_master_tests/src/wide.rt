@@ -4,7 +4,7 @@ ghost use Rattle.std.specs.Prelude.{◌≤◌, All, vec_len};
 ghost use Rattle.iol_master.specs.Tickets.{HasGiven};
 ghost use Rattle.iol_master.specs.Ledgers.{IsBlankFor};
 
-use crate::calls::{answer, check, gives, read};
+use crate::calls::{answer, check, gives, read, serves};
 use crate::opening::{numbered, numbered_port, open_master, open_one};
 use iol_book::{BookFault, Entry, Outcome, Ticket};
 use iol_isdu::{Place, Request};
@@ -110,7 +110,7 @@ fn serve_all<W: Wire + Send, L: Ledger, K: Ledger + Sync, R: Threads + Wait + Ab
     for index in 0..PORTS {
         desks.push(client(rt, master, index + 1)?)?;
     }
-    check(rt, master.serve(rt, gate, 2_000) == Ok(()));
+    check(rt, serves(rt, master, gate, 2_000));
     for index in 0..PORTS {
         check(rt, was_served(rt, master, gate, index)?);
     }

@@ -3,6 +3,7 @@ use Rattle.std.proofs.Crossing.{crosses}
 use Rattle.iol_master.specs.Tickets.{HasGiven}
 use Rattle.iol_sim.proofs.Crosses.{sim_send}
 use Rattle.example_gateway.proofs.Pairs.{both}
+use Rattle.iol_port.proofs.Crosses.{heap_port_send}
 use Rattle.example_gateway.proofs.serve.serve.Goals as goal
 
 -- both ports are as they were opened, but for the first one's writer
@@ -16,3 +17,7 @@ submit_both-requires-send-W g c κs within = search (sim_send, crosses, sendable
 
 pub serve-requires-send-W : goal.serve-requires-send-W
 serve-requires-send-W g c κs within = search (sim_send, crosses, sendable) depth 60 fits 20000
+
+pub serve-requires-send-P : goal.serve-requires-send-P
+serve-requires-send-P g c κs within =
+    search (heap_port_send, sim_send, crosses, sendable) depth 60 fits 20000

@@ -2,8 +2,8 @@ use Rattle.std.proofs.Common.{◌≡◌, ◌+◌, ◌<◌, ◌≤◌, inl, inr, 
 use Rattle.std.proofs.lemmas.Bool.{cases_lt}
 use Rattle.std.specs.Prelude.{Result, Ok, Err}
 use Rattle.std.specs.Result.{IsErr}
-use Rattle.iol_link.specs.WireFacts.{WireFacts}
 use Rattle.iol_master.specs.declared.fault.MasterFault.{MasterFault}
+use Rattle.iol_master.specs.Ports.{PortFacts}
 use Rattle.iol_master.specs.Served.{GateFacts, IsWorked, AreWorked, Works}
 use Rattle.iol_master.proofs.serve.+work_all.Goals as goal
 
@@ -13,7 +13,7 @@ same number first a b = omega arith
 nowhere : (first number : ℕ) → first ≤ number → number < first → ⊥
 nowhere first number low high = omega arith
 
-module _ {W G : Type 0} (facts : WireFacts W) (pass_gives : GateFacts G) (gate : G)
+module _ {P G : Type 0} (facts : PortFacts P) (pass_gives : GateFacts G) (gate : G)
     (first turns made : ℕ)
     (worked : IsWorked facts pass_gives gate first turns made) where
   both : (end : ℕ) → AreWorked facts pass_gives gate (first + 1) end turns
@@ -30,7 +30,7 @@ module _ {W G : Type 0} (facts : WireFacts W) (pass_gives : GateFacts G) (gate :
   with_others end rest (Err _) e others =
       (others.0, omega (arith, others.1), rw (← e) others.2, both others.0 others.3)
 
-module _ {W G : Type 0} (facts : WireFacts W) (pass_gives : GateFacts G) (gate : G) (turns : ℕ)
+module _ {P G : Type 0} (facts : PortFacts P) (pass_gives : GateFacts G) (gate : G) (turns : ℕ)
   where
     none_started : (first end : ℕ) (all : Result (Unit {0}) MasterFault) → IsErr all → first < end
         → Works facts pass_gives gate first end turns all
@@ -40,13 +40,13 @@ module _ {W G : Type 0} (facts : WireFacts W) (pass_gives : GateFacts G) (gate :
 
 pub returns-in_err-worker-clause-works : goal.returns-in_err-worker-clause-works
 returns-in_err-worker-clause-works g t c =
-    none_started g.W.Wire.facts g.G.Gate.pass_gives _ _ _ _ _ c.from_residual.ensures.0
+    none_started g.P.MasterPort.facts g.G.Gate.pass_gives _ _ _ _ _ c.from_residual.ensures.0
     (omega (arith, c.in-len1-up.len_at_least))
 
 pub returns-clause-works : goal.returns-clause-works
 returns-clause-works g t c =
     let shift = c.in_ok-worker.ensures.shift in
-    with_others g.W.Wire.facts g.G.Gate.pass_gives c.args.gate.now c.args.first c.args.turns
+    with_others g.P.MasterPort.facts g.G.Gate.pass_gives c.args.gate.now c.args.first c.args.turns
     c.join.result
     (rw (← shift.0, ← shift.1, ← shift.2) c.join.ensures) _ _ _
     (simp (length-take, length-drop) (omega (arith, c.in-len1-up.len_at_least)))

@@ -6,7 +6,7 @@ use Rattle.iol_master.proofs.serve.work.Given as goal
 abbrev pub invariant-loop-turn : goal.invariant-loop-turn
 invariant-loop-turn g l = record {
   counted : l.worker ≡ l.turn;
-  list : List (PortTurn g.W.Wire.facts);
+  list : List (PortTurn g.P.MasterPort.facts);
   count : length list ≡ l.turn;
   yes : (turn : ℕ) → turn < l.turn → g.G.Gate.pass_gives l.gate l.number (turn + 1) true;
 }

@@ -1,7 +1,9 @@
-use Rattle.std.proofs.Common.{◌≡◌, List, All}
+use Rattle.std.proofs.Common.{◌≡◌, ℕ, List, All, false}
 use Rattle.std.specs.List.{FoldsTo}
 use Rattle.iol_book.specs.declared.entries.Ticket.{Ticket}
-use Rattle.iol_master.specs.Left.{AbandonsOne}
+use Rattle.iol_book.specs.Replay.{same_ticket}
+use Rattle.iol_book.specs.Abandoning.{IsToldAlike}
+use Rattle.iol_master.specs.Left.{IsGone}
 use Rattle.iol_master.proofs.Abandoning.{left_over}
 use Rattle.iol_master.proofs.tickets.abandon.Given as goal
 
@@ -9,11 +11,16 @@ use Rattle.iol_master.proofs.tickets.abandon.Given as goal
 abbrev pub invariant-loop-ticket : goal.invariant-loop-ticket
 invariant-loop-ticket g l = record {
   abandoned : List Ticket;
-  own : All (λ t. t ≡ l.ticket) abandoned;
-  calls : FoldsTo AbandonsOne l.fn.port abandoned l.port;
-  rest : l.port ≡ record l.fn.port { parts = l.port.parts };
-  last : l.port.parts.book.state.last ≡ l.fn.port.parts.book.state.last;
+  among : All (λ t. t ≡ l.ticket) abandoned;
+  calls : FoldsTo g.P.MasterPort.facts.abandons l.fn.port abandoned l.port;
+  still : (other : Ticket) → IsGone g.P.MasterPort.facts l.fn.port other
+      → IsGone g.P.MasterPort.facts l.port other;
+  others : (other : Ticket) → same_ticket l.ticket other ≡ false
+      → IsToldAlike (g.P.MasterPort.facts.standing l.fn.port)
+      (g.P.MasterPort.facts.standing l.port) other;
+  counts : (count : ℕ) → g.P.MasterPort.facts.holds l.fn.port count
+      → g.P.MasterPort.facts.holds l.port count;
 }
 
 abbrev pub decreases-loop-ticket : goal.decreases-loop-ticket
-decreases-loop-ticket g l = left_over l.port.parts.book.state.standing
+decreases-loop-ticket g l = left_over (g.P.MasterPort.facts.standing l.port)

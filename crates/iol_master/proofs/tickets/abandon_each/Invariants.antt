@@ -4,4 +4,5 @@ use Rattle.iol_master.proofs.tickets.abandon_each.Given as goal
 
 -- the tickets up to here are left
 abbrev pub invariant-loop-ticket : goal.invariant-loop-ticket
-invariant-loop-ticket g l = LeavesNone l.fn.port (take l.ticket-index l.tickets) l.port
+invariant-loop-ticket g l =
+    LeavesNone g.P.MasterPort.facts l.fn.port (take l.ticket-index l.tickets) l.port

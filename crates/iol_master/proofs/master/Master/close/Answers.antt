@@ -1,21 +1,22 @@
 use Rattle.std.proofs.Common.{◌≡◌, ℕ, ◌+◌, List, [], ◌∷◌, refl, sym, ◌∙◌, arith}
-use Rattle.iol_port.specs.View.{PortValue}
-use Rattle.iol_master.specs.Tickets.{HasGiven, HaveGiven}
+use Rattle.iol_master.specs.Ports.{PortFacts}
+use Rattle.iol_master.specs.Entered.{HaveAccepted}
 use Rattle.iol_master.proofs.master.Master.close.Goals as goal
 
-plus_none : (given : ℕ) → given ≡ given + 0
-plus_none given = omega arith
+plus_none : (accepted : ℕ) → accepted ≡ accepted + 0
+plus_none accepted = omega arith
 
 swapped : (one others : ℕ) → others + one ≡ one + others
 swapped one others = omega arith
 
-module _ {W : Type 0} (p : PortValue W) (given : ℕ) (has : HasGiven p given) where
-  first : HaveGiven (p ∷ []) given
-  first = (given, 0, has, refl, plus_none given)
+module _ {P : Type 0} (facts : PortFacts P) (p : P) (accepted : ℕ) (has : facts.holds p accepted)
+  where
+    first : HaveAccepted facts (p ∷ []) accepted
+    first = (accepted, 0, has, refl, plus_none accepted)
 
-  also : (ports : List (PortValue W)) (others : ℕ) → HaveGiven ports others
-      → HaveGiven (p ∷ ports) (others + given)
-  also ports others have = (given, others, has, have, swapped given others)
+    also : (ports : List P) (others : ℕ) → HaveAccepted facts ports others
+        → HaveAccepted facts (p ∷ ports) (others + accepted)
+    also ports others have = (accepted, others, has, have, swapped accepted others)
 
 pub loop-held-init : goal.loop-held-init
 loop-held-init g c =
@@ -25,7 +26,7 @@ loop-held-init g c =
       amount = share.amount;
       ports = c.into_inner.result ∷ [];
       all = sym share.parts;
-      given = first c.into_inner.result _ share.given;
+      accepted = first g.P.MasterPort.facts c.into_inner.result _ share.accepted;
     }
 
 pub loop-held-preserved : goal.loop-held-preserved
@@ -39,7 +40,8 @@ loop-held-preserved g c =
       amount = omega (arith, before.amount, gathered.amount, share.amount);
       ports = c.into_inner-in-loop-held.result ∷ before.ports;
       all = omega (arith, before.all, gathered.parts, share.parts);
-      given = also c.into_inner-in-loop-held.result _ share.given _ _ before.given;
+      accepted = also g.P.MasterPort.facts c.into_inner-in-loop-held.result _ share.accepted _ _
+          before.accepted;
     }
 
 pub returns-clause-gathered : goal.returns-clause-gathered
@@ -52,7 +54,7 @@ returns-clause-gathered g c =
     record {
       ports = loop.ports;
       all = omega (arith, loop.all, loop.parts, steps.0, iter.1, pop.len, c.self.view_is);
-      given = rw told.tickets.0 loop.given;
+      accepted = rw told.tickets.0 loop.accepted;
       accounts = c.loop-held.accounts;
       desks = told.desks;
       settled = told.settled;

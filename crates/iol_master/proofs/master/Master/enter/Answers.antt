@@ -8,5 +8,5 @@ returns-clause-entered g c = inr (
   c.deref_mut-2.result.now,
   c.submit.new.self,
   c.submit.new.accounts,
-  c.submit.ensures,
+  c.submit.ensures.enters,
 )
