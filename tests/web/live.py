@@ -5,16 +5,17 @@ The page has no protocol of its own. So each story and random sessions of its bu
 import json
 import os
 import random
+import re
 import subprocess
 
 from bad_lines import OF_LIVE as BAD_SCRIPTS
-from counting import more_than_asked
+from counting import is_stored, many, more_than_asked, requests_on_line
 from row import rows
-from trace_page import ROOT, is_plain, missing, unlike
+from trace_page import ROOT, is_plain, missing, script_of, unlike
 
 LIVE = f"{ROOT}/web/line.html"
 ADDRESS = f"file://{LIVE}"
-SESSIONS, ACTS = 200, 12
+SESSIONS, STORED_SESSIONS, ACTS = 200, 60, 12
 OPEN_MS = 2000
 SEEN = """({
   lines: page.bench.lines, trace: page.bench.ran.trace, judged: page.bench.ran.judged,
@@ -31,6 +32,10 @@ STORIES = [
     ("ticket 1 done written", [DID, DID], "Done more often than asked: write 16 0 43 44"),
     ("ticket 1 done written", [DID], NONE_TWICE),
     ("ticket 1 done written", [DID], NONE_TWICE),
+    (
+        "ticket 26 done read 32", None,
+        "Clients: 1 asked, 1 carried out. The port itself, for Data Storage: 25 asked, 25 carried out. None more than once.",
+    ),
     ("ticket 1 done read " + " ".join(f"{it:02X}" for it in range(1, 21)), None, NONE_TWICE),
     ("event F4 8CA0", [], "0 asked, 0 carried out: none more than once."),
 ]
@@ -73,7 +78,33 @@ def unlike_program(room, seen):
     if program(room, "judge", trace) != seen["judged"]:
         return f"`judge` prints otherwise for {seen['lines']}"
     again = more_than_asked(script, trace)
-    return "" if bool(again) == seen["isBad"] else f"{again} more than asked, and the page says {seen['once']}"
+    if bool(again) != seen["isBad"]:
+        return f"{again} more than asked, and the page says {seen['once']}"
+    return unlike_counts(room, script, trace, seen) if is_stored(script) and not again else ""
+
+
+APART = r"Clients: (\d+) asked, (\d+) carried out\. The port itself, for Data Storage(?: and blocks)?: (\d+) asked, (\d+) carried out\. .*"
+
+
+def unlike_counts(room, script, trace, seen):
+    """Whether the page counts clients and port apart, as the tickets, the line and the record do.
+
+    What a client asks last may still wait. So may a request of the port; or it never went out, as the link was lost."""
+    lines = trace.splitlines()
+    asked, did, own, own_did = map(int, re.fullmatch(APART, seen["once"]).groups())
+    clients, done = many(r"ticket \d+", lines), many(r"ticket \d+ done .*", lines)
+    unknown, ended = many(r"ticket \d+ unknown .*", lines), many(r"ticket \d+ .*", lines)
+    if asked != clients or did + own_did != many("carried .*", lines):
+        return f"{clients} asked, {many('carried .*', lines)} were carried out, and the page says {seen['once']}"
+    if not done <= did <= done + unknown + clients - ended:
+        return f"of clients {done} were done, {unknown} are unknown, and the page says {seen['once']}"
+    on_line = len(requests_on_line(trace)) - own
+    if not done + unknown <= on_line <= done + unknown + 1:
+        return f"{on_line} on the line are taken as clients', of which {done} were done, {unknown} are unknown"
+    given = re.findall(r"^ticket (\d+)$", program(room, "trace", f"{script}read 99 0\n"), re.M)
+    kept = int(given[-1]) - len(given) if len(given) > clients else own
+    wakes = many(r"\d+ wake .*", lines)
+    return "" if own <= kept <= own + wakes else f"the port had {kept} tickets for itself, and the page says {own}"
 
 
 # How long after the page was asked for its first picture was drawn.
@@ -157,6 +188,52 @@ def check_sessions(room):
     yield "sessions: what they bring", "" if carried > SESSIONS / 2 and unknown > SESSIONS / 20 else few
 
 
+# What a hand may do at a port with Data Storage.
+AT_STORED = [*BUTTONS, *["ten"] * 12, *["save"] * 6, "swap"]
+OF_PORT = "for the port: "
+STORED = "A sensor is exchanged without a tool"
+
+
+def stored_session(maker, lines):
+    """The story up to somewhere, and clicks behind that."""
+    yield f"page.begin({json.dumps(lines[: maker.randrange(6, len(lines))])})"
+    for _ in range(2 * ACTS):
+        index = maker.choice(["64", "64", "3", "21", "16"])
+        yield f"document.getElementById('index').value = {json.dumps(index)}"
+        yield f"document.getElementById('subindex').value = '{maker.choice([0, 2]) if index == '3' else 0}'"
+        yield f"document.getElementById('octets').value = '{maker.choice(['0B', '32', '41 42'])}'"
+        yield f"document.querySelector('[data-act={maker.choice(AT_STORED)}]').click()"
+
+
+def check_stored_sessions(room):
+    """The story with Data Storage, stopped somewhere, and random clicks: clients and port are counted apart."""
+    window = room.window
+    window.go(ADDRESS)
+    names = window.run("[...document.querySelectorAll('#story-of option')].slice(1).map((it) => it.text)")
+    window.run(f"page.tell({names.index(STORED)})")
+    lines = [it for it in seen_of(window)["lines"] if not it.startswith("collect ")]
+    shown = "!document.getElementById('save-set').hidden && !document.getElementById('storage').hidden"
+    yield "stored: its button and its standing", "" if window.run(shown) else "they are not shown"
+    own = both = 0
+    for at in range(6, len(lines)):
+        window.run(f"page.begin({json.dumps(lines[:at])})")
+        yield f"stored: the first {at} lines", unlike_program(room, seen_of(window))
+    for seed in range(1, STORED_SESSIONS + 1):
+        window.run(";\n".join(stored_session(random.Random(seed), lines)))
+        seen = seen_of(window)
+        yield f"stored session {seed}", unlike_program(room, seen)
+        yield f"stored session {seed}: at most once", seen["once"] if seen["isBad"] else ""
+        for_port = [OF_PORT in it for it in seen["did"].splitlines()]
+        own += sum(for_port)
+        both += any(for_port) and not all(for_port)
+    yield "stored sessions: what they bring", "" if own > 500 and both > STORED_SESSIONS / 2 else f"{own} of ports, {both} of both"
+    window.run(f"page.begin({json.dumps(script_of('storage/run_largest_set_of_a_line').splitlines())})")
+    yield "stored: a set longer than a line", missing("nothing is counted", seen_of(window)["once"])
+    window.run("document.getElementById('anew').click()")
+    window.rest_drawn()
+    yield "stored: none behind a start anew", "they are shown" if window.run(shown) else ""
+
+
 def check_anew(room):
     """A line of which no call was made yet: its script is shown, and what was before can be had again."""
     window = room.window
@@ -237,7 +314,7 @@ def check_rows(room):
 
 
 CHECKS = [
-    check_opening, check_stories, check_sessions, check_anew, check_script, *BAD_SCRIPTS, check_old_browser, check_rows,
+    check_opening, check_stories, check_sessions, check_stored_sessions, check_anew, check_script, *BAD_SCRIPTS, check_old_browser, check_rows,
 ]
 
 

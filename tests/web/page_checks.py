@@ -8,9 +8,10 @@ import time
 import xml.etree.ElementTree
 
 from bad_lines import CHECKS as BAD_LINES
-from counting import counted, cut_off_and_carried, more_than_asked
+from counting import asked_by_tickets, counted, cut_off_and_carried, is_stored, more_than_asked
 from large import EXCHANGES, check_large, repeated
 from layout import CHECKS as LAYOUT
+from owners import CHECKS as OWNERS
 from records import CHECKS as RECORDS
 from times import CHECKS as TIMES, OCTETS
 from trace_page import ROOT, missing, read, script_of, unlike
@@ -68,11 +69,39 @@ def check_traces(room):
         again = more_than_asked(script, text)
         room.open_text(text)
         yield f"{name}: fault", room.fault()
-        yield f"{name}: counts", unlike(room.counts(), {**counted(text), **({"again": again} if again else {})})
+        seldom = {"again": again, "own": own_requests(room, name, script, text) if is_stored(script) else 0}
+        wanted = {**counted(text), **{key: value for key, value in seldom.items() if value}}
+        yield f"{name}: counts", unlike(room.counts(), wanted)
         yield f"{name}: record", record_wrong(room, script, text)
         yield f"{name}: events", events_wrong(room, text)
-        without = room.window.run("page.state.trace.requests.filter((it) => !it.ticket).length")
+        without = room.window.run("page.state.trace.requests.filter((it) => !it.ticket && !it.isOwn).length")
         yield f"{name}: tickets", "" if without == 0 else f"{without} requests have none"
+        yield f"{name}: what was asked", asked_wrong(room, script, text)
+
+
+# In each of these the port submits a request that never goes out: it is withdrawn, or the device has no ISDU.
+NOT_SENT = {"storage/run_a_unit_is_swapped_in_a_restore", "storage/run_no_isdu"}
+
+
+def own_requests(room, name, script, text):
+    """How many requests the port asked by itself. It gave them the tickets that no client has, up to one given last."""
+    given = re.findall(r"^ticket (\d+)$", text, re.M)
+    more = re.findall(r"^ticket (\d+)$", room.trace_of(f"{script}read 99 0\n") or "", re.M)
+    return int(more[-1]) - len(more) - (name in NOT_SENT) if len(more) > len(given) else 0
+
+
+TICKETS = """Object.fromEntries(page.state.trace.requests.filter((it) => it.ticket && !it.byOrder && it.text).map(
+  ({ticket, text}) => [ticket.number, text]))"""
+
+
+def asked_wrong(room, script, text):
+    """Whether the page takes a request for another ticket's, where it says that it knows."""
+    asked = asked_by_tickets(script, text)
+    for ticket, said in room.window.run(TICKETS).items():
+        way, index, sub, *data = said.split(" ")
+        if asked.get(int(ticket)) != (way, index, sub, "".join(data)):
+            return f"ticket {ticket} asks {asked.get(int(ticket))}, and the page says {said}"
+    return ""
 
 
 FOUND = """(({kind, requests}) => {
@@ -609,6 +638,8 @@ def check_odd_lines(room):
     lines = ["5 > A2 00: refused 4 WrongLength", "5 <: refused 4 WrongLength", "image none", "archived 3"]
     lines += ["6 > 20 36 9A: write page 00 od 9A", "6 < 2D: ack event 0 pd valid"]
     lines += ["status down UnsupportedCode eventform", "drained 3 restated 1"]
+    lines += ["block 1", "block 1 flagset", "block 2 noisdu", "block 3 unknown Cancelled", "block 4 refused 64 0 80 30"]
+    lines += ["standing off", "standing empty", "standing released refused 3 1 80 11", "set 00 FF", "saved none"]
     lines += ["ticket 7", "ticket 7 noisdu", "ticket 8", "ticket 8 withdrawn", "record 0"]
     text = "\n".join(lines) + "\n"
     room.open_text(text)
@@ -617,6 +648,9 @@ def check_odd_lines(room):
     room.window.run("document.getElementById('picture').focus()")
     room.press("Home")
     yield "odd lines: choice", unlike(room.chosen(), 5)
+    for line in ("block", "block 1 done", "block 1 refused 64 80 30", "standing trouble", "standing Same", "set", "saved"):
+        room.open_text(f"{line}\n")
+        yield f"no form: {line}", "" if room.fault() else "the page reads it"
     room.open_text("")
     yield "no text", room.fault() or unlike(room.counts(), counted(""))
     yield "no text: choice", unlike(room.chosen(), None)
@@ -646,7 +680,7 @@ def check_silence(room):
 
 
 CHECKS = [
-    check_made, check_examples, check_traces, *RECORDS, check_without_texts, check_broken, *BAD_LINES, check_odd_lines,
+    check_made, check_examples, check_traces, *RECORDS, *OWNERS, check_without_texts, check_broken, *BAD_LINES, check_odd_lines,
     check_story, check_details, check_keys, check_pointer, check_touch, check_find, check_faults, check_fault_marks,
     check_keys_after_clicks, *LAYOUT,
     check_wanted, check_paste_and_drop, check_reload, check_picture_file, check_table, check_rules, check_contrast,

@@ -10,6 +10,7 @@ ROOT = os.path.dirname(os.path.dirname(os.path.dirname(os.path.realpath(__file__
 PAGE = f"file://{ROOT}/web/trace.html"
 # A larger row takes the page too long.
 MOST_OCTETS = 110_000
+LONGEST_LINE = 1024
 
 
 def read(path):
@@ -40,11 +41,6 @@ def is_plain(it):
     return not it.each and not it.is_directory and not it.is_bounded() and not it.is_made
 
 
-def has_storage(script):
-    """Whether the script's port has Data Storage, whose lines and requests the page doesn't know."""
-    return any(line.startswith(b"store ") for line in script.text.splitlines())
-
-
 class Room:
     """The open page, the program, and a folder for files."""
 
@@ -65,16 +61,16 @@ class Room:
 
     def row_traces(self):
         """The traces that the rows want, by name."""
-        found = [it for it in row.rows("*/trace_*") if 0 < len(it.stdout) <= MOST_OCTETS and not has_storage(it)]
+        found = [it for it in row.rows("*/trace_*") if 0 < len(it.stdout) <= MOST_OCTETS]
         return {it.name: it.stdout.decode() for it in found}
 
     def run_traces(self):
         """The traces of the rows of `run` that have one script, and that `trace` takes."""
         made = {}
         for it in row.rows("*/run_*"):
-            is_read = is_plain(it) and not it.status and not has_storage(it)
-            trace = self.trace_of(it.text.decode()) if is_read else None
-            if trace is not None:
+            trace = self.trace_of(it.text.decode()) if is_plain(it) and not it.status else None
+            # The octets of a set may be more than a line has room for, that `judge` and the page read.
+            if trace is not None and max(map(len, trace.splitlines()), default=0) <= LONGEST_LINE:
                 made[it.name] = trace
         return made
 

@@ -40,6 +40,7 @@ const ACTS = {
   cancel: call(() => `cancel ${ticket()}`),
   withdraw: call(() => `withdraw ${ticket()}`),
   output: call(() => `output ${compact('output-octets')}`),
+  save: call(() => 'save'),
   noOutput: call(() => 'output none'),
   restart: call(() => 'restart'),
   expect: call(() => `expect ${chosen('expect')}`),
@@ -154,12 +155,14 @@ const TO_COME = {
 };
 
 function showCable() {
-  const { lines, ran: { made, trace, status, image } } = bench;
+  const { lines, ran: { made, trace, status, image, standing } } = bench;
   const next = fatesToCome(lines, made).map(({ fate }) => TO_COME[fate]).filter(Boolean);
   byId('pending').textContent = next.length ? `to come: ${next.join(', ')}` : '';
   byId('cable').textContent = isPulled(lines) ? 'Plug the cable in' : 'Pull the cable';
   byId('cable').classList.toggle('on', isPulled(lines));
   byId('mode').textContent = `link: ${status.replace(/^status /, '')}`;
+  byId('storage').hidden = byId('save-set').hidden = !standing;
+  byId('storage').textContent = `Data Storage: ${(standing ?? '').slice('standing '.length)}`;
   byId('image').textContent = `input: ${image.replace(/^image /, '')}`;
   const last = trace.filter((it) => it.startsWith(`${made} `));
   byId('sent').textContent = last[0] ?? '';
@@ -174,21 +177,47 @@ function toldItem({ call: asked, answer }) {
   return item(/^(?:collect|event)/.test(asked) ? answer : `${asked}: ${answer}`, kind);
 }
 
+/** The entries of both records: that of the device that is out, if there is one, comes first. */
+function entriesOf(ran, requests) {
+  const [here, away] = atDevices(ran, requests);
+  const entries = (record, asked, isAway) => {
+    const owns = areOwn(record, asked);
+    return record.map((text, at) => ({ text, isAway, isOwn: owns[at] }));
+  };
+  return [...entries(ran.didAway, away, true), ...entries(ran.did, here, false)];
+}
+
+/** What a device did, and who asked it, where that was no client. */
+function didItem({ text, isAway, isOwn }, again) {
+  const kind = again.includes(requestIn(text)) ? 'twice' : isOwn ? 'own' : '';
+  return item(`${isAway ? 'the device that is out: ' : ''}${isOwn ? 'for the port: ' : ''}${text}`,
+    kind);
+}
+
+/** How much was asked and carried out: by clients, and apart from it by the port itself. */
+function onceInWords(asked, own, entries) {
+  const ofPort = entries.filter((it) => it.isOwn).length;
+  const ofClients = `${asked} asked, ${entries.length - ofPort} carried out`;
+  if (!isStored(bench.lines)) return `${ofClients}: none more than once.`;
+  const what = bench.lines.some((it) => it.startsWith('block ')) ? ' and blocks' : '';
+  return `Clients: ${ofClients}. The port itself, for Data Storage${what}: ${own} asked, ${
+    ofPort} carried out. None more than once.`;
+}
+
 function showBooks() {
-  const { answers, did, didAway } = bench.ran;
-  const { asked, again } = doneAgain(bench.ran);
-  const twice = new Set(again.map(([request]) => request));
-  const kindOf = (it) => (twice.has(it.slice(0, it.lastIndexOf(':'))) ? 'twice' : '');
-  byId('told').innerHTML = answers.map(toldItem).join('');
-  byId('did').innerHTML = [
-    ...did.map((it) => item(it, kindOf(it))),
-    ...didAway.map((it) => item(`the device that is out: ${it}`, kindOf(it))),
-  ].join('');
-  const done = did.length + didAway.length;
-  byId('once').className = again.length ? 'bad' : 'good';
-  byId('once').textContent = again.length
-    ? `Done more often than asked: ${again.map(([request]) => request).join('; ')}`
-    : `${asked} asked, ${done} carried out: none more than once.`;
+  const { ran } = bench;
+  const { requests } = state.trace;
+  const isUncounted = state.trace.fault && isStored(ran.lines);
+  const asked = [...askedBy(ran).values()];
+  const own = requests.filter((it) => it.isOwn).map((it) => it.text);
+  const again = isUncounted ? [] : doneAgain(ran, [...asked, ...own]);
+  const entries = entriesOf(ran, requests);
+  byId('told').innerHTML = ran.answers.map(toldItem).join('');
+  byId('did').innerHTML = entries.map((it) => didItem(it, again)).join('');
+  byId('once').className = isUncounted ? '' : again.length ? 'bad' : 'good';
+  byId('once').textContent = isUncounted ? 'The trace isn’t read to its end, so nothing is counted.'
+    : again.length ? `Done more often than asked: ${again.join('; ')}`
+      : onceInWords(asked.length, own.length, entries);
   for (const id of ['told', 'did']) byId(id).scrollTop = byId(id).scrollHeight;
 }
 
@@ -204,11 +233,12 @@ const hasTwoDevices = (lines) => lines.includes('wire swap');
 
 function showBench() {
   const { ran } = bench;
+  const { scale } = state.view;
+  open(textOfLines(ran.trace) + (hasTwoDevices(ran.lines) ? '' : ran.judged), 'a live line',
+    isStored(ran.lines) ? askedBy(ran) : undefined);
   showCable();
   showBooks();
   showJudged();
-  const { scale } = state.view;
-  open(textOfLines(ran.trace) + (hasTwoDevices(ran.lines) ? '' : ran.judged), 'a live line');
   choose(count() > 0 ? count() - 1 : null, { quiet: true });
   look(extent(), Math.min(SCALES[1], Math.max(SCALES[0], scale)));
   byId('script').textContent = textOfLines(bench.lines);

@@ -144,7 +144,7 @@ function drawRequest(scene, ink, { a, b, it, many, rank }, top) {
   }
   const left = Math.max(a, scene.left) + 3;
   const room = Math.min(b, scene.width) - left - 4;
-  const ticket = it.ticket ? `ticket ${it.ticket.number}` : 'no ticket';
+  const ticket = it.ticket ? `ticket ${it.ticket.number}` : it.isOwn ? 'the port' : 'no ticket';
   const text = whole(`${ticket}: ${STANDS[it.end]}`, room, BOLD) || whole(ticket, room, BOLD);
   ink.box(`bar ${KINDS[rank]}`, a + 0.5, top + 19, b - a - 1, 24, 4);
   ink.text('name', left, top + 14, text);

@@ -122,18 +122,19 @@ function recordTexts(it) {
   const answer = it.entries.at(-1)?.answer ?? 'carried out';
   if (!it.isSurprise) return [`${sign} ${answer}`, sign];
   const told = it.ticket?.outcome ? `told “${it.ticket.outcome.end}”` : 'told nothing';
+  const who = it.isOwn ? 'The port' : 'The client';
   const name = page.requestName(it.text);
   const times = page.timesName(it.times.least);
   if (it.isTwice) {
     return [
-      `${sign} The device carried it out ${times}: ${name}. The client asked once.`,
+      `${sign} The device carried it out ${times}: ${name}. ${who} asked once.`,
       `${sign} The device did it ${times}: ${name}.`, `${sign} did it ${times}`, sign,
     ];
   }
   if (it.isOther) return [`${sign} The device answered: ${answer}.`, `${sign} ${answer}`, sign];
   return [
-    `${sign} The device did it: ${name}, once. The client was ${told}.`,
-    `${sign} The device did it. The client was ${told}.`, `${sign} did it`, sign,
+    `${sign} The device did it: ${name}, once. ${who} was ${told}.`,
+    `${sign} The device did it. ${who} was ${told}.`, `${sign} did it`, sign,
   ];
 }
 

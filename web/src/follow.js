@@ -126,6 +126,8 @@ class Request {
   answerText = null;
   ticket = null;
   byOrder = false;
+  /** Whether no client asked it, but the port by itself. */
+  isOwn = false;
   carried = 'untold';
   /** How often the record has it, and which of its entries are known. */
   times = { least: 0, most: 0 };

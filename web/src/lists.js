@@ -104,15 +104,22 @@ function markedRecord(request, record) {
   return `<strong class="${kind}">${page.signOf(request)} ${record}</strong>`;
 }
 
-function ticketRow(ticket) {
-  const { request, submitted, outcome, number } = ticket;
-  const line = (submitted ?? outcome).line;
-  const order = request?.byOrder ? ' <small>by order</small>' : '';
+/** The name of what was asked: its ticket, with a link to its line, or that the port asked it. */
+function askedName({ submitted, outcome, number, request }) {
+  if (number === undefined) return 'port';
+  const { line } = submitted ?? outcome;
+  return `<a href="#line=${line}">${number}</a>${
+    request?.byOrder ? ' <small>by order</small>' : ''}`;
+}
+
+function askedRow(asked) {
+  const { request, number } = asked;
   const place = request ? `${exchangeLink(request.first)} to ${exchangeLink(request.last)}` : '–';
   const record = request ? safe(page.recordOf(request)) : 'not told';
-  return `<tr><td class="number"><a href="#line=${line}">${number}</a>${order}</td>
+  const told = number === undefined ? '–' : safe(page.toldInWords(asked));
+  return `<tr><td class="number">${askedName(asked)}</td>
     <td>${request ? safe(page.requestInWords(request.text)) : '–'}</td>
-    <td class="number">${place}</td><td>${safe(page.toldInWords(ticket))}</td>
+    <td class="number">${place}</td><td>${told}</td>
     <td>${markedRecord(request, record)}</td></tr>`;
 }
 
@@ -153,7 +160,8 @@ function exchangeRow(exchange) {
   const reply = rate ?? (came ? came.text : fate === 'open' ? 'no line' : 'none');
   const cell = (text, full) => `<td class="mono" title="${full}">${text}</td>`;
   const again = repeats >= 0 ? `repeats ${exchangeLink(repeats)}` : '';
-  const ticket = exchange.request?.ticket ? `ticket ${exchange.request.ticket.number}` : '';
+  const { ticket: given, isOwn } = exchange.request ?? {};
+  const ticket = given ? `ticket ${given.number}` : isOwn ? 'of the port itself' : '';
   const lost = losesLink ? 'link lost' : '';
   const notes = [
     noteOfFinding(exchange), ...otherNotes(exchange), again, ticket, lost, maybeNote(exchange),
@@ -168,7 +176,7 @@ function exchangeRow(exchange) {
 const tables = {
   requests: new Pages('requests-panel', 'Requests',
     () => ['Ticket', 'Request', 'On the line', 'Told the client', 'Device’s record'],
-    () => state.trace.tickets, ticketRow),
+    () => state.trace.asked, askedRow),
   exchanges: new Pages('exchanges-panel', 'Exchanges and wake-ups',
     () => ['Number', ...(state.trace.hasTimes ? ['Time'] : []), 'Mode', 'Message', 'Reply', 'Note'],
     () => state.listed, exchangeRow),

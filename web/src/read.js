@@ -23,6 +23,13 @@ const OUTCOME = new RegExp(
 );
 const REQUEST = `read \\d+ \\d+|write \\d+ \\d+ (?:${OCTETS}|-)`;
 const CARRIED = new RegExp(`^(${REQUEST}): (${ANSWER})$`);
+/** What a device refused, and of Data Storage how a block ended and what came of a session. */
+const REFUSAL = 'refused \\d+ \\d+ [0-9A-F]{2} [0-9A-F]{2}';
+const BLOCK = new RegExp(
+  `^\\d+(?: (?:applied|notapplied|flagset|noisdu|unknown (?:${CAUSES})|${REFUSAL}))?$`);
+const TROUBLE = `wrongidentity|nostorage|locked|toolarge|badlist|attempts|${REFUSAL}`;
+const STANDING = new RegExp('^(?:awaited|off|unsupported|empty|same|restored|fetched'
+  + `|(?:trouble|released) (?:${TROUBLE}))$`);
 const STATUS = /^(down|startup|preoperate|operate)( (?!eventform)\w+)?( eventform)?$/;
 /** A reason of `judge`: its number, its name, and in words what was found. */
 const REASON = '(\\d+) (\\w+): ([^()]+?)';
@@ -439,6 +446,10 @@ const CALLS = new Map([
   ['last', shown('last', /^(?:\w+|WrongDevice [0-9A-F]{4} [0-9A-F]{6})$/, 'last NAME|none')],
   ['archived', shown('archived', /^\d+$/, 'archived N')],
   ['drained', shown('drained', /^\d+ restated \d+$/, 'drained N restated N')],
+  ['block', shown('block', BLOCK, 'block N or block N END')],
+  ['standing', shown('standing', STANDING, 'standing NAME, trouble NAME or released NAME')],
+  ['set', shown('set', new RegExp(`^(?:${OCTETS}|none)$`), 'set OCTETS or set none')],
+  ['saved', shown('saved', /^(?:\d+|none)$/, 'saved N or saved none')],
   ['refused', shown('refused', /^\d+ \w+$/, 'refused N NAME')],
   ['record', readRecord],
   ['carried', readCarried],

@@ -131,13 +131,16 @@ function giveTime(requests, exchanges) {
   }
 }
 
-/** A followed trace, with tickets, and with what the record says of each request. */
-page.match = function match(trace) {
+/**
+ * A followed trace, with tickets, and with what the record says of each request. It is better told
+ * where it is known what each ticket asked.
+ */
+page.match = function match(trace, askedBy) {
   const { requests, calls, carried, exchanges, record } = trace;
-  const tickets = ticketsOf(calls);
-  giveTickets(requests, tickets);
-  giveTime(requests, exchanges);
+  const tickets = ticketsOf(calls, askedBy);
   const isWhole = (exchanges[0]?.number ?? 1) === 1;
+  giveOwners(trace, tickets, isWhole);
+  giveTime(requests, exchanges);
   const hasRecord = record !== null && carried.length === record;
   const kind = giveRecords(trace, isWhole);
   for (const it of requests) {
@@ -147,10 +150,21 @@ page.match = function match(trace) {
     it.isSurprise = it.isTwice || it.isOther || (it.carried === 'yes' && it.end !== 'done');
   }
   const again = isWhole && hasRecord ? moreThanAsked(trace) : [];
-  return { ...trace, tickets, hasRecord, kind, again, counts: countsOf(trace, tickets, again) };
+  return {
+    ...trace, tickets, asked: allAsked(requests, tickets), hasRecord, kind, again,
+    counts: countsOf(trace, tickets, again),
+  };
 };
 
-function countsOf({ exchanges, calls, carried, carriedAway }, tickets, again) {
+/** What clients asked, and what the port asked by itself, in turn. */
+function allAsked(requests, tickets) {
+  const own = requests.filter((it) => it.isOwn).map((request) => ({ request }));
+  const placeOf = ({ request, submitted }) => submitted?.at ?? request?.first ?? 0;
+  return own.length === 0 ? tickets
+    : [...own, ...tickets].sort((one, other) => placeOf(one) - placeOf(other));
+}
+
+function countsOf({ exchanges, calls, carried, carriedAway, requests }, tickets, again) {
   const fates = {};
   for (const { fate } of exchanges) fates[fate] = (fates[fate] ?? 0) + 1;
   const count = (fate) => fates[fate] ?? 0;
@@ -161,6 +175,7 @@ function countsOf({ exchanges, calls, carried, carriedAway }, tickets, again) {
     damaged: count('damaged'),
     repeats: exchanges.filter((it) => it.repeats >= 0).length,
     requests: tickets.filter((it) => it.submitted).length,
+    own: requests.filter((it) => it.isOwn).length,
     unknown: tickets.filter((it) => it.outcome?.end === 'unknown').length,
     events: calls.filter((it) => it.kind === 'event').length,
     carried: carried.length + carriedAway.length,

@@ -5,7 +5,8 @@
 // The calls of the wire that a script tells of are a list of their own, from the first on. Before
 // something is to happen now, the calls that were made already are passed over.
 
-const SETTING = /^(?:page [0-9A-F]{2} |(?:other|kind|pulses|devices|limits|param) )/;
+const SETTINGS = 'other|kind|pulses|devices|limits|param|kept|range|atmost|in|store';
+const SETTING = new RegExp(`^(?:page [0-9A-F]{2} |(?:${SETTINGS}) )`);
 const FATE = /^wire (clean|outlost|backlost|outdamaged|backdamaged|nowake) (\d+)$/;
 const TURN = /^turn (\d+)$/;
 const SUBMIT = /^(?:urgent )?(read \S+ \S+|write \S+ \S+ \S+)$/;
@@ -16,22 +17,31 @@ const OTHER = 'other 17 2D 11 00 00 12 34 00 02 08';
 
 const isPulled = (lines) => lines.findLast((it) => it === PULLED || it === PLUGGED) === PULLED;
 
-/** What the lines say of calls of the wire, call by call; of long stretches the end alone. */
-function fatesOf(lines) {
-  const stretches = lines.map((it) => FATE.exec(it)).filter(Boolean);
-  return stretches.map(([, fate, count]) => ({ fate, count: Number(count) }));
+/** Whether the port has Data Storage: then it asks by itself too, and has tickets for that. */
+const isStored = (lines) => lines.some((it) => it.startsWith('store '));
+
+/**
+ * What the lines say of calls of the wire: how many, the fates by their last call, and behind which
+ * call the devices are exchanged. With `in order`, turns above a line count as well.
+ */
+function wireOf(lines) {
+  const isInOrder = lines.includes('in order');
+  const [fates, swaps] = [[], []];
+  let [end, turns] = [0, 0];
+  for (const it of lines) {
+    const [, fate, count] = FATE.exec(it) ?? [];
+    turns += Number(TURN.exec(it)?.[1] ?? 0);
+    if (isInOrder) end = Math.max(end, turns);
+    if (fate) fates.push({ fate, end: (end += Number(count)) });
+    if (it === 'wire swap') swaps.push(end);
+  }
+  return { planned: end, fates, swaps };
 }
 
-const plannedIn = (lines) => fatesOf(lines).reduce((all, { count }) => all + count, 0);
+const plannedIn = (lines) => wireOf(lines).planned;
 
 /** The fates that are planned for the calls to come. */
-function fatesToCome(lines, made) {
-  let at = 0;
-  return fatesOf(lines).filter(({ count }) => {
-    at += count;
-    return at > made;
-  });
-}
+const fatesToCome = (lines, made) => wireOf(lines).fates.filter(({ end }) => end > made);
 
 /** The lines, and what is to happen on the wire from now on, where so many calls were made. */
 function withWire(lines, made, step) {
@@ -109,6 +119,12 @@ function answersIn(lines, said) {
   return lines.filter(isCall).map((call, at) => ({ call, answer: printed[at] ?? '' }));
 }
 
+/** The tickets that clients were given: from 1 on, but where a port has some for itself. */
+function ticketsOf(lines) {
+  if (!isStored(lines)) return lines.filter((it) => SUBMIT.test(it)).map((_, at) => at + 1);
+  return ran(lines).printed.split('\n').flatMap((it) => /^ticket (\d+)$/.exec(it)?.[1] ?? []);
+}
+
 /** What is asked behind a script, besides tickets and events: how the port stands. */
 const STANDS_NOW = ['status', 'image'];
 
@@ -117,17 +133,18 @@ const STANDS_NOW = ['status', 'image'];
  * what brought a ticket's outcome or an event stays in the script; the rest changes nothing.
  */
 function perform(lines) {
-  const tickets = lines.filter((it) => SUBMIT.test(it)).map((_, at) => `collect ${at + 1}`);
+  const tickets = ticketsOf(lines).map((it) => `collect ${it}`);
   const asked = [...tickets, ...Array(EVENTS).fill('event')];
-  const { said, behind, ...records } = traced(lines, [...asked, ...STANDS_NOW]);
-  const [status, image] = said.slice(-STANDS_NOW.length);
-  const end = said.length - STANDS_NOW.length - asked.length;
+  const stands = isStored(lines) ? [...STANDS_NOW, 'standing'] : STANDS_NOW;
+  const { said, behind, ...records } = traced(lines, [...asked, ...stands]);
+  const [status, image, standing] = said.slice(-stands.length);
+  const end = said.length - stands.length - asked.length;
   const isKept = (_, at) => !said[end + at].startsWith('refused ');
   const whole = [...lines, ...asked.filter(isKept)];
   const told = [...said.slice(0, end), ...asked.map((_, at) => said[end + at]).filter(isKept)];
   const trace = [...told, ...behind];
   return {
-    lines: whole, trace, status, image, made: callsIn(told), ...records,
+    lines: whole, trace, status, image, standing, made: callsIn(told), ...records,
     answers: answersIn(whole, told), judged: execute(['judge'], textOfLines(trace)).printed,
   };
 }
@@ -137,15 +154,44 @@ function requestOf(line) {
   const [, request] = SUBMIT.exec(line);
   const [way, index, subindex, octets] = request.split(' ');
   if (octets === undefined) return `${way} ${index} ${subindex}`;
-  return `${way} ${index} ${subindex} ${octets.match(/../g)?.join(' ') ?? octets}`;
+  return `${way} ${index} ${subindex} ${octets.toUpperCase().match(/../g)?.join(' ') ?? octets}`;
 }
 
-/** What was asked for, and each request that the devices did more often, with how often more. */
-function doneAgain({ answers, did, didAway }) {
+/** What clients asked for: each request by its ticket. */
+function askedBy({ answers }) {
+  const given = answers.map(({ call, answer }) => [/^ticket (\d+)$/.exec(answer)?.[1], call]);
+  const submits = given.filter(([ticket, call]) => ticket && SUBMIT.test(call));
+  return new Map(submits.map(([ticket, call]) => [Number(ticket), requestOf(call)]));
+}
+
+/** The request of an entry of a record. */
+const requestIn = (entry) => entry.slice(0, entry.lastIndexOf(':'));
+
+/** What the devices did more often than it was asked for, by clients or by the port itself. */
+function doneAgain({ did, didAway }, asked) {
   const left = new Map();
   const count = (request, by) => left.set(request, (left.get(request) ?? 0) + by);
-  const submits = answers.filter(({ call, answer }) => SUBMIT.test(call) && /^ticket/.test(answer));
-  submits.forEach(({ call }) => count(requestOf(call), -1));
-  [...did, ...didAway].forEach((it) => count(it.slice(0, it.lastIndexOf(':')), 1));
-  return { asked: submits.length, again: [...left].filter(([, times]) => times > 0) };
+  asked.forEach((it) => count(it, -1));
+  [...did, ...didAway].forEach((it) => count(requestIn(it), 1));
+  return [...left].filter(([, times]) => times > 0).map(([request]) => request);
+}
+
+/** The requests of the line at the device that is in, and at the one that is out, if there is. */
+function atDevices({ lines, made }, requests) {
+  const swaps = wireOf(lines).swaps.filter((it) => it < made);
+  const isAway = ({ first }) => swaps.filter((it) => it > first).length % 2 === 1;
+  return [requests.filter((it) => !isAway(it)), requests.filter(isAway)];
+}
+
+/** Of each entry of a device's record, whether the port asked it by itself: by their order. */
+function areOwn(entries, requests) {
+  let at = 0;
+  return entries.map((entry) => {
+    const fits = ({ text, end, answerText }) => text === requestIn(entry)
+      && (end !== 'done' || entry === `${text}: ${answerText}`);
+    const found = requests.findIndex((it, place) => place >= at && fits(it));
+    if (found < 0) return requests.some((it) => it.isOwn && it.text === requestIn(entry));
+    at = found + 1;
+    return requests[found].isOwn;
+  });
 }

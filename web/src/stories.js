@@ -3,6 +3,9 @@
 const PLAIN = 'page 17 2D 11 00 00 12 34 00 01 07';
 const PARAMETERS = ['param 16 0 rw 4142', 'param 17 0 ro 0102030405060708090A0B0C0D0E0F1011121314'];
 const WRITE = 'write 16 0 4344';
+const SENSOR = 'page 17 2D 11 00 08 12 34 00 01 07';
+/** Of a second sensor too, which is of the same type. */
+const SENSOR_PARAMETERS = [SENSOR.replace('page', 'other'), 'param 64 0 rw 0A', 'kept 64'];
 
 const STORIES = [
   {
@@ -42,6 +45,15 @@ const STORIES = [
     lines: [
       PLAIN, OTHER, ...PARAMETERS, 'expect 4660 263', 'turn 17', 'wire clean 17', 'wire swap',
       'turn 1', WRITE, 'turn 13', 'wire clean 14', 'wire swap', 'turn 24', 'collect 1',
+    ],
+  },
+  {
+    name: 'A sensor is exchanged without a tool',
+    says: 'The port kept a user’s change at the first one, and writes it to the next by itself.',
+    lines: [
+      'store both', SENSOR, ...SENSOR_PARAMETERS, 'turn 39', 'save', 'turn 7', 'wire clean 46',
+      'wire local 64 0 32', 'turn 6', 'event', 'turn 28', 'save', 'turn 7', 'wire clean 41',
+      'wire swap', 'turn 46', 'read 64 0', 'turn 3',
     ],
   },
   {

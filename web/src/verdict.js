@@ -46,5 +46,5 @@ page.judge = function judge(read) {
   return { ...trace, verdict: { ...verdict, at }, findings: findings.list };
 };
 
-/** Reads, follows, matches and judges a text. */
-page.open = (text) => page.judge(page.match(page.follow(page.read(text))));
+/** Reads, follows, matches and judges a text. What its tickets asked may be known. */
+page.open = (text, askedBy) => page.judge(page.match(page.follow(page.read(text)), askedBy));

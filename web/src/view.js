@@ -19,9 +19,9 @@ page.state = state;
 
 // Opening a text.
 
-function open(text, name) {
+function open(text, name, askedBy) {
   performance.mark('open');
-  state.trace = page.prepare(page.open(text));
+  state.trace = page.prepare(page.open(text, askedBy));
   state.lanes = page.lanesOf(state.trace);
   Object.assign(state, { name, chosen: null, pointed: null, asked: '', found: [], foundAt: -1 });
   document.title = `${name} – IO-Link`;

@@ -43,11 +43,12 @@ const COUNTS = [
   ['exchanges', 'exchange', 'exchanges'], ['wakes', 'wake-up', 'wake-ups'],
   ['lost', 'unanswered', 'unanswered'], ['damaged', 'damaged', 'damaged'],
   ['repeats', 'repeat', 'repeats'], ['requests', 'request', 'requests'],
+  ['own', 'more by the port itself', 'more by the port itself'],
   ['unknown', 'told unknown', 'told unknown'], ['carried', 'carried out', 'carried out'],
   ['again', 'more than asked', 'more than asked'], ['events', 'event', 'events'],
 ];
 /** What is shown only if there is some. */
-const SELDOM = ['again'];
+const SELDOM = ['again', 'own'];
 const HOT = ['lost', 'damaged', 'unknown', 'again'];
 
 function countOf([key, one, many]) {
@@ -142,24 +143,36 @@ function oddInWords({ odd, oddities }) {
     ${linkToNumber(first)}</li>`];
 }
 
+/** Whose request it is. */
+function ownerInWords({ ticket, isOwn }) {
+  if (isOwn) return 'A request of the port itself';
+  return ticket ? `Ticket ${ticket.number}` : 'A request';
+}
+
+/** What who asked was told of a request. */
+function toldTo({ ticket, isOwn, answerText }) {
+  if (isOwn && answerText) return page.answerInWords(answerText);
+  return ticket ? page.toldInWords(ticket) : 'nothing';
+}
+
 /** A request of which the record tells more than the client was told. */
 function surpriseInWords(request) {
-  const { ticket, first, text, isTwice, isOther, times, entries } = request;
-  const name = `${ticket ? `Ticket ${ticket.number}` : 'A request'},
-    ${safe(page.requestInWords(text))}`;
-  const told = `<strong>${safe(ticket ? page.toldInWords(ticket) : 'nothing')}</strong>`;
+  const { isOwn, first, text, isTwice, isOther, times, entries } = request;
+  const name = `${ownerInWords(request)}, ${safe(page.requestInWords(text))}`;
+  const told = `<strong>${safe(toldTo(request))}</strong>`;
+  const who = isOwn ? 'port' : 'client';
   const link = `<a href="#exchange=${state.trace.exchanges[first].number}">See it</a>`;
   if (isTwice) {
     return `<li class="twice">${page.signOf(request)} Carried out
-      ${page.timesName(times.least)}: ${name}. The client asked once, and was told ${told}.
+      ${page.timesName(times.least)}: ${name}. The ${who} asked once, and was told ${told}.
       ${rules(['REQ-15'])} ${link}</li>`;
   }
   if (isOther) {
-    return `<li class="other">${name}: the client was told ${told}; the device answered
+    return `<li class="other">${name}: the ${who} was told ${told}; the device answered
       <strong>${safe(page.answerInWords(entries.at(-1).answer))}</strong>. ${rules(['REQ-15'])}
       ${link}</li>`;
   }
-  return `<li>${name}: the client was told ${told}; the device <strong>did it</strong>, once.
+  return `<li>${name}: the ${who} was told ${told}; the device <strong>did it</strong>, once.
     ${link}</li>`;
 }
 
@@ -230,9 +243,11 @@ function printedLines(exchange) {
 
 function aboutRequest({ request }) {
   if (!request) return '';
-  const { ticket, byOrder, text } = request;
+  const { ticket, byOrder, text, isOwn } = request;
   const found = byOrder ? ' (by order)' : '';
-  const name = ticket ? `ticket ${ticket.number}${found}` : 'a request without a ticket';
+  const other = isOwn ? 'the port itself (no client asked it)'
+    : 'a request without a ticket';
+  const name = ticket ? `ticket ${ticket.number}${found}` : other;
   const told = ticket ? ` Its client was told: ${page.toldInWords(ticket)}.` : '';
   return `<li>It belongs to ${name}: ${safe(page.requestInWords(text))}.${safe(told)}
     The device’s record: ${safe(page.recordOf(request))}.</li>`;
