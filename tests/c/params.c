@@ -275,6 +275,22 @@ static void cut_off(void)
     IS(value_of(GROUP, 1), 8);
 }
 
+/* A reset at the device lets nothing in of a block that silence cut off. */
+static void reset_behind_silence(void)
+{
+    IS(WRITES(2, 0, "\x03"), 0);
+    IS(iol_params_silence(&device), 0);
+    IS(iol_params_reset(&device, &error), 0);
+    IS(iol_params_work(&device), IOL_TO_SAVE);
+    IS(iol_params_saved(&device), 0);
+    IS(WRITES(GROUP, 1, "\x07"), 0x36);
+    IS(WRITES(2, 0, "\x04"), 0x36);
+    IS(value_of(GROUP, 1), 1);
+    IS(WRITES(2, 0, "\x06"), 0);
+    IS(WRITES(GROUP, 1, "\x08"), 0);
+    IS(value_of(GROUP, 1), 8);
+}
+
 static void at_the_device(void)
 {
     iol_event event = {0};
@@ -375,6 +391,7 @@ int main(void)
     requests();
     saving();
     cut_off();
+    reset_behind_silence();
     at_the_device();
     the_rest();
     IS(iol_params_close(&device), 0);
