@@ -113,6 +113,8 @@ class Life:
         self.heard = None
         # Whether the kept set is another one since the last turn, and a check is due.
         self.has_loaded, self.owes_check = False, False
+        # Whether the message that was out when a standing ended may still go out again.
+        self.may_repeat = False
         self.session()
 
     def session(self):
@@ -185,7 +187,7 @@ class Life:
         self.see_cut("the master begins anew", self.port > 1)
         self.seen["the master begins anew, and a set isn't saved"] += self.unsaved
         self.kept, self.unsaved, self.standing, self.link, self.image = kept, False, ("awaited",), "Down", False
-        self.wants_output, self.awaited_at = False, 0
+        self.wants_output, self.awaited_at, self.may_repeat = False, 0, False
         self.session()
 
     def at_plug(self, name):
@@ -204,7 +206,10 @@ class Life:
         if code == "FF91":
             self.looks = 0
 
-    at_js = at_jt = at_takeback = at_restart = at_release = at_calm = at_full = at_crowd = at_seed
+    def at_jt(self, *_):
+        self.may_repeat = False
+
+    at_js = at_takeback = at_restart = at_release = at_calm = at_full = at_crowd = at_seed
 
     def at_ja(self, ticket, *_outcome):
         self.heard = int(ticket)
@@ -253,13 +258,16 @@ class Life:
             hold(all(value in values for value in wanted), f"{cause}, but not each value is in force")
 
     def at_out(self, name, valid):
+        """STO-14. A message that was out already goes out again until it is answered, before any other (PORT-8)."""
         self.units[name].output = valid == "1"
         if valid == "1":
-            hold(self.is_served(), f"an output is valid while {' '.join(self.standing)}")
+            hold(self.is_served() or self.may_repeat, f"an output is valid while {' '.join(self.standing)}")
+        self.may_repeat = False
 
     # what units carry out
 
     def at_carry(self, name, port, ended, *words):
+        self.may_repeat = False
         unit, journal = self.units[name], self.journals[int(port)]
         request, answer = " ".join(words[:-1]), words[-1]
         hold(int(ended) < len(journal.taken), f"{request} was carried out, and not taken")
@@ -342,6 +350,7 @@ class Life:
         return self.mode == "Off" or self.standing[0] in SERVED
 
     def at_mode(self, mode, _turn):
+        self.may_repeat = False
         if mode == "Operate":
             self.session()
         self.see_cut("the link is lost", self.link == "Operate" and mode == "Down")
@@ -387,7 +396,8 @@ class Life:
             self.seen[f"served, then trouble {standing[1]}"] += 1
         self.has_loaded, self.owes_check, self.looks = False, False, 0
         self.seen[" ".join(standing)] += 1
-        self.standing = standing
+        was_served, self.standing = self.is_served(), standing
+        self.may_repeat = was_served and not self.is_served()
 
     def look_at_standing(self, how, word):
         """STO-3 to STO-6, STO-8, STO-10: by what was read in this session."""
