@@ -15,8 +15,6 @@ mod error_type;
 mod image;
 mod laws;
 mod manager;
-#[cfg(test)]
-mod manager_tests;
 mod member;
 mod owned;
 mod parts;
@@ -26,7 +24,8 @@ mod table;
 
 pub use error_type::ErrorType;
 pub use laws::{
-    downloads_are_whole, flag_stays, sets_fit, stays_consistent, uploads_are_one_moment,
+    cut_offs_stay_out, downloads_are_whole, flag_stays, sets_fit, stays_consistent,
+    uploads_are_one_moment,
 };
 pub use manager::Manager;
 pub use member::{Access, DataType, IntegerWidth, Member};

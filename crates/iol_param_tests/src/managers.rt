@@ -1,14 +1,11 @@
 //! What a manager answers, in the cases that the page of its rules has.
 ghost use Rattle.std.specs.Prelude.{◌≤◌, length};
 
-use crate::cells;
-use crate::error_type::ErrorType;
-use crate::laws::{cut_offs_stay_out, sets_fit};
-use crate::manager::Manager;
-use crate::member::{Access, DataType, IntegerWidth, Member};
-use crate::state::{Command, Restart, Scope};
-use crate::table::{OrderRule, Table};
-use iol_isdu::{Answer, Place, Request};
+use iol_isdu::{Answer, Octets, Place, Request};
+use iol_params::{
+    Access, Command, DataType, ErrorType, IntegerWidth, Manager, Member, OrderRule, Restart, Scope,
+    Table, cut_offs_stay_out, sets_fit,
+};
 use std::alloc::Allocator;
 use std::test::Fail;
 
@@ -207,7 +204,9 @@ fn read_at<A: Allocator + Copy>(manager: &mut Manager<A>, index: u16, sub: u8) -
 fn read_as(octets: &[u8]) -> Answer
     requires { length octets.now ≤ 232 }
 {
-    Answer::Read(cells::octets_of(octets))
+    let mut value = Octets::new();
+    value.try_extend_from_slice(octets).unwrap();
+    Answer::Read(value)
 }
 
 #[test]
