@@ -1,5 +1,5 @@
 -- A port under the lock of a line, whose wire a worker owns, and the turn that the worker makes.
-use Rattle.std.specs.Prelude.{◌≡◌, ◌<◌, ◌≤◌, ℕ, zero, suc, Bool, true, false, List, length, Option, is_some}
+use Rattle.std.specs.Prelude.{◌≡◌, ◌<◌, ◌≤◌, ◌+◌, ◌/◌, ◌%◌, ℕ, zero, suc, Bool, true, false, List, length, Option, is_some}
 use Rattle.arrayvec.specs.ArrayVec.{ArrayVec}
 use Rattle.iol_far.specs.Octets.{octets_in}
 use Rattle.iol_link.specs.declared.wire.Rate.{Rate}
@@ -80,6 +80,8 @@ pub record LineState (P : Type 0) : Type 0 where
   pub port : P
   -- a restart waits until what is out has been answered
   pub restart_waits : Bool
+  -- how many turns were made
+  pub turns : ℕ
 
 -- The port's own call, through which a restart that waits waits
 pub record LineCalled (old new : LineState PortParts) (c : Call) (reply : Answered)
@@ -92,34 +94,49 @@ module _ {P : Type 0} (line : LineFacts P) where
 
   -- a restart is made at once where nothing is out, else it waits
   abbrev pub RestartsIn : AwaitedAnswer → LineState P → LineState P → Type 0
-  RestartsIn Nothing p next = restarts p.port next.port × (next.restart_waits ≡ p.restart_waits)
+  RestartsIn Nothing p next =
+      restarts p.port next.port × (next ≡ record p { port = next.port })
   RestartsIn Wake p next = next ≡ record p { restart_waits = true }
   RestartsIn Reply p next = next ≡ record p { restart_waits = true }
 
   abbrev pub RestartsOnce : LineState P → LineState P → Type 0
   RestartsOnce p next = RestartsIn (awaits p.port) p next
 
-  -- once what was out has been answered the restart that waited is made, and waits no more
-  abbrev pub RestartsWhere : Bool → P → LineState P → Type 0
-  RestartsWhere true p next = restarts p next.port × (next.restart_waits ≡ false)
-  RestartsWhere false p next = next ≡ record { port = p; restart_waits = false }
+  -- once what was out has been answered the restart that waited is made, and none waits any more
+  abbrev pub RestartsWhere : Bool → P → P → Type 0
+  RestartsWhere true p next = restarts p next
+  RestartsWhere false p next = next ≡ p
 
   -- The port's own sending, which the restart that waits waits through
   pub record LineSends (p : LineState P) (asked : Asked) (next : LineState P) : Type 0 where
     pub port : sends p.port asked next.port
-    pub waits : next.restart_waits ≡ p.restart_waits
+    pub rest : next ≡ record p { port = next.port }
 
-  -- what came back is taken
-  abbrev pub TakesReply : LineState P → Option (List ℕ) → LineState P → Type 0
-  TakesReply p came next = (mid : P) × receives p.port came mid
-      × RestartsWhere p.restart_waits mid next
+  -- what came back is taken, which makes one turn more
+  pub record TakesReply (p : LineState P) (came : Option (List ℕ)) (next : LineState P) :
+      Type 0 where
+    pub mid : P
+    pub takes : receives p.port came mid
+    pub restarted : RestartsWhere p.restart_waits mid next.port
+    pub waits : next.restart_waits ≡ false
+    pub turns : next.turns ≡ p.turns + 1
 
   -- and so is what came of a wake
-  abbrev pub TakesRate : LineState P → Bool → LineState P → Type 0
-  TakesRate p answered next = (mid : P) × wakes p.port answered mid
-      × RestartsWhere p.restart_waits mid next
+  pub record TakesRate (p : LineState P) (answered : Bool) (next : LineState P) : Type 0 where
+    pub mid : P
+    pub takes : wakes p.port answered mid
+    pub restarted : RestartsWhere p.restart_waits mid next.port
+    pub waits : next.restart_waits ≡ false
+    pub turns : next.turns ≡ p.turns + 1
 
--- The ledger by which a port and its worker agree on what is out
+-- The ledger by which a port and its worker agree on how many turns were made, and on what is out:
+-- it has three for each turn, and besides what is out
+
+abbrev pub turns_in : ℕ → ℕ
+turns_in total = total / 3
+
+abbrev pub out_in : ℕ → ℕ
+out_in total = total % 3
 
 abbrev pub awaited_number : AwaitedAnswer → ℕ
 awaited_number Nothing = 0
@@ -133,6 +150,13 @@ awaited_of (asked.Exchange out) = Reply
 -- all of the ledger
 abbrev pub HasWholeLedger : ℕ → ℕ → Type 0
 HasWholeLedger held parts = (0 < held) × (held ≡ parts)
+
+-- A worker: its wire, how many turns it made, and what it knows to be out
+
+pub record WorkerState (W : Type 0) : Type 0 where
+  pub wire : W
+  pub turns : ℕ
+  pub out : ℕ
 
 -- A worker's turns
 
@@ -152,27 +176,32 @@ module _ {W P : Type 0} (facts : WireFacts W) (line : LineFacts P) where
       (came : Option (ArrayVec ℕ)) × exchange_gives old out.octets.items came new
       × TakesReply line p (octets_in came) next
 
-  -- A turn: some port, whose lock was held, sent; the wire was called once, as it asked; and some
-  -- port, whose lock was held again, awaited that, and took what came
-  pub record IsLineTurn (old new : W) : Type 0 where
+  -- A turn: the line's port, whose lock was held, sent; the wire was called once, as it asked; and
+  -- the port, whose lock was held again, awaited that, and took what came. It was the port's next
+  -- turn and no other was made, and nothing is out behind it.
+  pub record IsLineTurn (old new : WorkerState W) : Type 0 where
     pub asked : Asked
     pub first : LineState P
+    pub after : first.turns ≡ old.turns
     pub sent : LineState P
     pub sends : LineSends line first asked sent
     pub again : LineState P
     pub awaits : line.awaits again.port ≡ awaited_of asked
+    pub between : again.turns ≡ old.turns
     pub taken : LineState P
-    pub brings : Brings asked old new again taken
+    pub brings : Brings asked old.wire new.wire again taken
+    pub turns : new.turns ≡ taken.turns
+    pub nothing_out : new.out ≡ awaited_number Nothing
 
   -- so many turns, one after another
-  abbrev pub AreLineTurns : ℕ → W → W → Type 0
+  abbrev pub AreLineTurns : ℕ → WorkerState W → WorkerState W → Type 0
   AreLineTurns zero old new = new ≡ old
   AreLineTurns (suc before) old new =
-      (mid : W) × AreLineTurns before old mid × IsLineTurn mid new
+      (mid : WorkerState W) × AreLineTurns before old mid × IsLineTurn mid new
 
   -- A worker's turns, that its gate let pass
   pub record IsLineWorked {G : Type 0} (pass_gives : GateFacts G) (gate : G) (number turns : ℕ)
-      (old new : W) : Type 0 where
+      (old new : WorkerState W) : Type 0 where
     pub made : ℕ
     pub let_in : IsLet pass_gives gate number turns made
     pub all : AreLineTurns made old new

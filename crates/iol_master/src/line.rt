@@ -8,7 +8,7 @@ ghost use Rattle.iol_port.specs.declared.awaited.AwaitedAnswer.TheVariants as Aw
 ghost use Rattle.iol_master.specs.Ledgers.{IsBlankFor};
 ghost use Rattle.iol_master.specs.Line.{RestartsOnce, LineSends, TakesReply, TakesRate};
 ghost use Rattle.iol_master.specs.Line.{HasWholeLedger, IsLineTurn, IsServed, IsLineWorked};
-ghost use Rattle.iol_master.specs.Line.{awaited_number, awaited_of};
+ghost use Rattle.iol_master.specs.Line.{awaited_number, awaited_of, turns_in, out_in};
 
 mod core_calls;
 mod stored_calls;
@@ -62,11 +62,14 @@ pub trait LineCore: Drop {
         ensures awaits { facts.awaits self.new ≡ AwaitedAnswer.Nothing };
 }
 
-/// How much the ledger of a line has while a wake-up request is out, and while a message is. It
-/// has nothing while nothing is.
+/// How much the ledger of a line has while a wake-up request is out, and while a message is,
+/// beside what it has for the turns that were made. While nothing is out it has no more than that.
 const WAKE: u64 = 1;
 
 const REPLY: u64 = 2;
+
+/// How much it has for each turn.
+const TURN: u64 = 3;
 
 fn amount_of(awaited: AwaitedAnswer) -> u64
     ensures { result ≡ awaited_number awaited }
@@ -93,43 +96,50 @@ fn answer_to(asked: &Asked) -> AwaitedAnswer
 /// Clients make every call but a turn. Each may come while an exchange is under way, and changes
 /// nothing of what is out. What came is judged by what was sent.
 ///
-/// Contracts see the port, and whether a restart waits: each call has the clauses of the port's
-/// call of that name, word for word, but a restart, which may have to wait. The calls that only
-/// look are the port's own. No call here takes a lock: who calls holds it.
+/// Contracts see the port, whether a restart waits, and how many turns the worker made: each call
+/// has the clauses of the port's call of that name, word for word, but a restart, which may have to
+/// wait. The calls that only look are the port's own. No call here takes a lock: who calls holds
+/// it.
 #[derive(Drop)]
 pub struct LinePort<K: Ledger, P: LineCore = PortCore> {
     port: P,
     /// A restart waits until what is out has been answered.
     restart_waits: bool,
-    /// Its total says what is out.
-    out: Book<K>,
+    /// Its total says how many turns were made, and what is out.
+    ledger: Book<K>,
 }
 
 impl<K: Ledger, P: LineCore> Model for LinePort<K, P> {
     ghost use Rattle.std.specs.Prelude.{◌≡◌, ◌<◌, IsTrue};
-    ghost use Rattle.iol_master.specs.Line.{LineState, awaited_number};
+    ghost use Rattle.iol_master.specs.Line.{LineState, awaited_number, turns_in, out_in};
 
     ghost Value = { LineState P };
 
-    ghost view = { λ p. record { port = p.port; restart_waits = p.restart_waits } };
+    ghost view = { λ p. record {
+      port = p.port;
+      restart_waits = p.restart_waits;
+      turns = turns_in p.ledger.total;
+    } };
 
-    ghost invariant = { λ p. (IsTrue p.restart_waits → 0 < p.out.total)
-        × (p.out.total ≡ awaited_number (P.facts.awaits p.port)) };
+    ghost invariant = { λ p. (IsTrue p.restart_waits → 0 < out_in p.ledger.total)
+        × (out_in p.ledger.total ≡ awaited_number (P.facts.awaits p.port)) };
 }
 
 impl<K: Ledger, P: LineCore> LinePort<K, P> {
-    /// This port, with no restart that waits, and all of the ledger in the worker's hand.
+    /// This port, with no turn and no restart that waits, and all of the ledger in the worker's
+    /// hand.
     fn open(port: P, hands: Blank) -> (LinePort<K, P>, Share<K>)
         requires { IsBlankFor hands K.name K.parts 1 }
-        ensures port { result.0 ≡ record { port = port; restart_waits = false } }
+        ensures port { result.0 ≡ record { port = port; restart_waits = false; turns = 0 } }
         ensures whole { HasWholeLedger result.1.parts K.parts }
+        ensures hand { result.1.amount ≡ awaited_number (P.facts.awaits port) }
     {
-        let (mut out, mut hand) = hands.open::<K>();
-        out.add(&mut hand, amount_of(port.awaits()));
+        let (mut ledger, mut hand) = hands.open::<K>();
+        ledger.add(&mut hand, amount_of(port.awaits()));
         let port = LinePort {
             port,
             restart_waits: false,
-            out,
+            ledger,
         };
         (port, hand)
     }
@@ -163,28 +173,33 @@ impl<K: Ledger, P: LineCore> LinePort<K, P> {
         requires whole { HasWholeLedger hand.old.parts K.parts }
         ensures sends { LineSends P.facts self.old result self.new }
         ensures whole { HasWholeLedger hand.new.parts K.parts }
-        ensures out { hand.new.amount ≡ awaited_number (awaited_of result) }
+        ensures after { self.old.turns ≡ turns_in hand.old.amount }
+        ensures turns { turns_in hand.new.amount ≡ turns_in hand.old.amount }
+        ensures out { out_in hand.new.amount ≡ awaited_number (awaited_of result) }
     {
-        self.out.audit(hand);
-        self.out.sub(hand, amount_of(self.port.awaits()));
+        self.ledger.audit(hand);
+        self.ledger.sub(hand, amount_of(self.port.awaits()));
         let asked = self.port.send();
-        self.out.add(hand, amount_of(answer_to(&asked)));
+        self.ledger.add(hand, amount_of(answer_to(&asked)));
         asked
     }
 
     /// Takes what came back, and makes the restart that waited.
     fn receive(&mut self, hand: &mut Share<K>, came: &Option<Message>)
         requires whole { HasWholeLedger hand.old.parts K.parts }
-        requires out { hand.old.amount ≡ awaited_number AwaitedAnswer.Reply }
+        requires out { out_in hand.old.amount ≡ awaited_number AwaitedAnswer.Reply }
         ensures awaits { P.facts.awaits self.old.port ≡ AwaitedAnswer.Reply }
         ensures takes { TakesReply P.facts self.old (octets_in came.now) self.new }
         ensures whole { HasWholeLedger hand.new.parts K.parts }
+        ensures after { self.old.turns ≡ turns_in hand.old.amount }
+        ensures turns { self.new.turns ≡ turns_in hand.new.amount }
+        ensures none_out { out_in hand.new.amount ≡ awaited_number AwaitedAnswer.Nothing }
     {
-        self.out.audit(hand);
+        self.ledger.audit(hand);
         let waited = self.restart_waits;
         self.restart_waits = false;
         self.port.receive(came);
-        self.out.sub(hand, REPLY);
+        self.ledger.add(hand, TURN - REPLY);
         if waited {
             self.port.restart();
         }
@@ -193,16 +208,19 @@ impl<K: Ledger, P: LineCore> LinePort<K, P> {
     /// Takes what came of a wake-up request, and makes the restart that waited.
     fn receive_wake(&mut self, hand: &mut Share<K>, rate: Option<Rate>)
         requires whole { HasWholeLedger hand.old.parts K.parts }
-        requires out { hand.old.amount ≡ awaited_number AwaitedAnswer.Wake }
+        requires out { out_in hand.old.amount ≡ awaited_number AwaitedAnswer.Wake }
         ensures awaits { P.facts.awaits self.old.port ≡ AwaitedAnswer.Wake }
         ensures takes { TakesRate P.facts self.old (is_some rate) self.new }
         ensures whole { HasWholeLedger hand.new.parts K.parts }
+        ensures after { self.old.turns ≡ turns_in hand.old.amount }
+        ensures turns { self.new.turns ≡ turns_in hand.new.amount }
+        ensures none_out { out_in hand.new.amount ≡ awaited_number AwaitedAnswer.Nothing }
     {
-        self.out.audit(hand);
+        self.ledger.audit(hand);
         let waited = self.restart_waits;
         self.restart_waits = false;
         self.port.receive_wake(rate);
-        self.out.sub(hand, WAKE);
+        self.ledger.add(hand, TURN - WAKE);
         if waited {
             self.port.restart();
         }
@@ -225,7 +243,8 @@ impl<K: Ledger, P: LineCore> Deref for LinePort<K, P> {
 /// A port whose wire a worker owns, under a lock.
 ///
 /// There is one worker: only it sends and receives, so what comes is the answer to what is out.
-/// K names a ledger, by which the worker and the port agree on what that is; it takes no memory.
+/// K names a ledger, by which the worker and the port agree on what that is, and on how many turns
+/// were made; it takes no memory.
 #[derive(Drop)]
 pub struct Line<K: Ledger, P: LineCore = PortCore> {
     port: Mutex<LinePort<K, P>>,
@@ -236,7 +255,11 @@ impl<K: Ledger, P: LineCore> Line<K, P> {
     /// up.
     pub fn open<W: Wire>(port: P, wire: W, hands: Blank) -> (Line<K, P>, LineWorker<W, K>)
         requires { IsBlankFor hands K.name K.parts 1 }
-        ensures { result.1 ≡ wire }
+        ensures { result.1 ≡ record {
+          wire = wire;
+          turns = 0;
+          out = awaited_number (P.facts.awaits port);
+        } }
     {
         let (port, hand) = LinePort::open(port, hands);
         let line = Line {
@@ -266,21 +289,26 @@ impl<K: Ledger, P: LineCore> Line<K, P> {
 /// It holds the port's lock before and after each call of the wire, and not while that is under
 /// way: so no client waits for an exchange.
 ///
-/// Contracts see the wire. What lies under the lock no clause here can name, so they say that there
-/// was such a port. The exact clauses are those of the calls on a port whose lock is held.
+/// Contracts see the wire, how many turns were made, and what is out. What lies under the lock no
+/// clause here can name, so they say that there was such a port, behind so many turns. The exact
+/// clauses are those of the calls on a port whose lock is held.
 #[derive(Drop)]
 pub struct LineWorker<W: Wire, K: Ledger> {
     wire: W,
-    /// All of the ledger. Its amount says what is out.
+    /// All of the ledger. Its amount says how many turns were made, and what is out.
     hand: Share<K>,
 }
 
 impl<W: Wire, K: Ledger> Model for LineWorker<W, K> {
-    ghost use Rattle.iol_master.specs.Line.{HasWholeLedger};
+    ghost use Rattle.iol_master.specs.Line.{HasWholeLedger, WorkerState, turns_in, out_in};
 
-    ghost Value = { W };
+    ghost Value = { WorkerState W };
 
-    ghost view = { λ w. w.wire };
+    ghost view = { λ w. record {
+      wire = w.wire;
+      turns = turns_in w.hand.amount;
+      out = out_in w.hand.amount;
+    } };
 
     ghost invariant = { λ w. HasWholeLedger w.hand.parts K.parts };
 }
@@ -291,7 +319,7 @@ impl<W: Wire, K: Ledger> LineWorker<W, K> {
     /// Under the lock the port says what goes out; without it the wire is called, once; under it
     /// again the port takes what came, and makes a restart that was wanted meanwhile.
     pub fn turn<P: LineCore, R: Wait>(&mut self, rt: &R, line: &Line<K, P>)
-        ensures asked { (asked : Asked) × IsCall W.facts asked self.old self.new }
+        ensures asked { (asked : Asked) × IsCall W.facts asked self.old.wire self.new.wire }
         ensures turned { IsLineTurn W.facts P.facts self.old self.new }
     {
         let LineWorker { wire, hand } = self;
@@ -320,7 +348,7 @@ impl<W: Wire, K: Ledger> LineWorker<W, K> {
         turns: u64,
     )
         requires { (1 ≤ number) × (number ≤ 32) }
-        ensures called { IsServed W.facts turns self.old self.new }
+        ensures called { IsServed W.facts turns self.old.wire self.new.wire }
         ensures worked { IsLineWorked W.facts P.facts
             G.pass_gives gate.now number turns self.old self.new }
     {
@@ -334,7 +362,7 @@ impl<W: Wire, K: Ledger> LineWorker<W, K> {
 
     /// The wire. The line has no worker from then on.
     pub fn into_wire(self) -> W
-        ensures { result ≡ self }
+        ensures { result ≡ self.wire }
     {
         self.wire
     }

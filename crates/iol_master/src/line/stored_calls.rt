@@ -59,7 +59,7 @@ impl<K: Ledger, A: Allocator + Copy> LinePort<K, StoredPort<A>> {
         ensures ok { OnOk result (self.new.port
             ≡ record self.old.port { storage = storage_saved self.old.port.storage }) }
         ensures err { OnErr result (self.new.port ≡ self.old.port) }
-        ensures waits { self.new.restart_waits ≡ self.old.restart_waits }
+        ensures only_port { self.new ≡ record self.old { port = self.new.port } }
     {
         self.port.saved(number)
     }
@@ -71,7 +71,7 @@ impl<K: Ledger, A: Allocator + Copy> LinePort<K, StoredPort<A>> {
           storage = storage_loaded self.old.port.storage (Some set);
         }) }
         ensures err { OnErr result (self.new.port ≡ self.old.port) }
-        ensures waits { self.new.restart_waits ≡ self.old.restart_waits }
+        ensures only_port { self.new ≡ record self.old { port = self.new.port } }
     {
         self.port.load(set)
     }
@@ -82,7 +82,7 @@ impl<K: Ledger, A: Allocator + Copy> LinePort<K, StoredPort<A>> {
         ensures ok { OnOk result (self.new.port
             ≡ record self.old.port { storage = storage_loaded self.old.port.storage None }) }
         ensures err { OnErr result (self.new.port ≡ self.old.port) }
-        ensures waits { self.new.restart_waits ≡ self.old.restart_waits }
+        ensures only_port { self.new ≡ record self.old { port = self.new.port } }
     {
         self.port.forget()
     }
@@ -91,7 +91,7 @@ impl<K: Ledger, A: Allocator + Copy> LinePort<K, StoredPort<A>> {
     pub fn release(&mut self)
         ensures port { self.new.port
             ≡ record self.old.port { storage = storage_released self.old.port.storage } }
-        ensures waits { self.new.restart_waits ≡ self.old.restart_waits }
+        ensures only_port { self.new ≡ record self.old { port = self.new.port } }
     {
         self.port.release();
     }
@@ -108,7 +108,7 @@ impl<K: Ledger, A: Allocator + Copy> LinePort<K, StoredPort<A>> {
         }) }
         ensures taken { OnOk result (writes.new ≡ []) }
         ensures err { OnErr result ((self.new.port ≡ self.old.port) × (writes.new ≡ writes.old)) }
-        ensures waits { self.new.restart_waits ≡ self.old.restart_waits }
+        ensures only_port { self.new ≡ record self.old { port = self.new.port } }
     {
         self.port.submit_block(writes, keep)
     }
@@ -119,7 +119,7 @@ impl<K: Ledger, A: Allocator + Copy> LinePort<K, StoredPort<A>> {
         ensures block { self.new.port ≡ record self.old.port {
           storage = storage_behind_block self.old.port.storage block;
         } }
-        ensures waits { self.new.restart_waits ≡ self.old.restart_waits }
+        ensures only_port { self.new ≡ record self.old { port = self.new.port } }
     {
         self.port.collect_block(block)
     }
@@ -136,7 +136,7 @@ impl<K: Ledger, A: Allocator + Copy> LinePort<K, StoredPort<A>> {
             self.new.port.port request)) }
         ensures tickets { self.new.port.tickets
             ≡ tickets_behind_submit self.old.port.tickets result }
-        ensures waits { self.new.restart_waits ≡ self.old.restart_waits }
+        ensures only_port { self.new ≡ record self.old { port = self.new.port } }
     {
         self.port.submit(request)
     }
@@ -150,7 +150,7 @@ impl<K: Ledger, A: Allocator + Copy> LinePort<K, StoredPort<A>> {
             self.new.port.port request)) }
         ensures tickets { self.new.port.tickets
             ≡ tickets_behind_submit self.old.port.tickets result }
-        ensures waits { self.new.restart_waits ≡ self.old.restart_waits }
+        ensures only_port { self.new ≡ record self.old { port = self.new.port } }
     {
         self.port.submit_urgent(request)
     }
@@ -164,7 +164,7 @@ impl<K: Ledger, A: Allocator + Copy> LinePort<K, StoredPort<A>> {
             self.new.port.port ticket result }
         ensures tickets { self.new.port.tickets
             ≡ tickets_without (is_ok result) self.old.port.tickets }
-        ensures waits { self.new.restart_waits ≡ self.old.restart_waits }
+        ensures only_port { self.new ≡ record self.old { port = self.new.port } }
     {
         self.port.collect(ticket)
     }
@@ -179,7 +179,7 @@ impl<K: Ledger, A: Allocator + Copy> LinePort<K, StoredPort<A>> {
         ensures kept { IfErr result (λ _. into.new ≡ into.old) }
         ensures tickets { self.new.port.tickets
             ≡ tickets_without (is_ok result) self.old.port.tickets }
-        ensures waits { self.new.restart_waits ≡ self.old.restart_waits }
+        ensures only_port { self.new ≡ record self.old { port = self.new.port } }
     {
         self.port.collect_into(ticket, into)
     }
@@ -192,7 +192,7 @@ impl<K: Ledger, A: Allocator + Copy> LinePort<K, StoredPort<A>> {
             → Withdraws (StoredCalled self.old.port self.new.port) self.old.port.port
             self.new.port.port ticket result }
         ensures tickets { self.new.port.tickets ≡ self.old.port.tickets }
-        ensures waits { self.new.restart_waits ≡ self.old.restart_waits }
+        ensures only_port { self.new ≡ record self.old { port = self.new.port } }
     {
         self.port.withdraw(ticket)
     }
@@ -205,7 +205,7 @@ impl<K: Ledger, A: Allocator + Copy> LinePort<K, StoredPort<A>> {
             → Cancels (StoredCalled self.old.port self.new.port) self.old.port.port
             self.new.port.port ticket result }
         ensures tickets { self.new.port.tickets ≡ self.old.port.tickets }
-        ensures waits { self.new.restart_waits ≡ self.old.restart_waits }
+        ensures only_port { self.new ≡ record self.old { port = self.new.port } }
     {
         self.port.cancel(ticket)
     }
@@ -219,7 +219,7 @@ impl<K: Ledger, A: Allocator + Copy> LinePort<K, StoredPort<A>> {
             self.new.port.port ticket result }
         ensures tickets { self.new.port.tickets
             ≡ tickets_without (is_ok result) self.old.port.tickets }
-        ensures waits { self.new.restart_waits ≡ self.old.restart_waits }
+        ensures only_port { self.new ≡ record self.old { port = self.new.port } }
     {
         self.port.abandon(ticket)
     }
@@ -230,7 +230,7 @@ impl<K: Ledger, A: Allocator + Copy> LinePort<K, StoredPort<A>> {
     /// As [`StoredPort::set_output`].
     pub fn set_output(&mut self, image: &Image) -> Result<(), PortFault>
         ensures sets { SetsStoredOutput image.now result self.old.port self.new.port }
-        ensures waits { self.new.restart_waits ≡ self.old.restart_waits }
+        ensures only_port { self.new ≡ record self.old { port = self.new.port } }
     {
         self.port.set_output(image)
     }
@@ -241,7 +241,7 @@ impl<K: Ledger, A: Allocator + Copy> LinePort<K, StoredPort<A>> {
             self.old.port.port self.new.port.port }
         ensures rest { self.new.port
             ≡ record self.old.port { port = self.new.port.port; output = None } }
-        ensures waits { self.new.restart_waits ≡ self.old.restart_waits }
+        ensures only_port { self.new ≡ record self.old { port = self.new.port } }
     {
         self.port.clear_output();
     }
@@ -254,7 +254,7 @@ impl<K: Ledger, A: Allocator + Copy> LinePort<K, StoredPort<A>> {
           port = self.new.port.port;
           storage = storage_behind_event self.old.port.storage result;
         } }
-        ensures waits { self.new.restart_waits ≡ self.old.restart_waits }
+        ensures only_port { self.new ≡ record self.old { port = self.new.port } }
     {
         self.port.take_event()
     }
@@ -263,7 +263,7 @@ impl<K: Ledger, A: Allocator + Copy> LinePort<K, StoredPort<A>> {
     pub fn expect(&mut self, identity: Identity) -> Counting
         ensures is { Expects (StoredForwards self.old.port self.new.port) self.old.port.port
             self.new.port.port (Some identity) result }
-        ensures waits { self.new.restart_waits ≡ self.old.restart_waits }
+        ensures only_port { self.new ≡ record self.old { port = self.new.port } }
     {
         self.port.expect(identity)
     }
@@ -272,7 +272,7 @@ impl<K: Ledger, A: Allocator + Copy> LinePort<K, StoredPort<A>> {
     pub fn expect_any(&mut self) -> Counting
         ensures is { Expects (StoredForwards self.old.port self.new.port) self.old.port.port
             self.new.port.port None result }
-        ensures waits { self.new.restart_waits ≡ self.old.restart_waits }
+        ensures only_port { self.new ≡ record self.old { port = self.new.port } }
     {
         self.port.expect_any()
     }
@@ -281,7 +281,7 @@ impl<K: Ledger, A: Allocator + Copy> LinePort<K, StoredPort<A>> {
     pub fn set_cycle(&mut self, cycle: Option<CycleTime>) -> Counting
         ensures is { SetsCycle (StoredForwards self.old.port self.new.port) self.old.port.port
             self.new.port.port cycle result }
-        ensures waits { self.new.restart_waits ≡ self.old.restart_waits }
+        ensures only_port { self.new ≡ record self.old { port = self.new.port } }
     {
         self.port.set_cycle(cycle)
     }
@@ -291,7 +291,7 @@ impl<K: Ledger, A: Allocator + Copy> LinePort<K, StoredPort<A>> {
         ensures is { Archives (StoredForwards self.old.port self.new.port) self.old.port.port
             self.new.port.port (λ entries. entries.items) result }
         ensures within { IfOk result (λ entries. length entries.items ≤ 1000000) }
-        ensures waits { self.new.restart_waits ≡ self.old.restart_waits }
+        ensures only_port { self.new ≡ record self.old { port = self.new.port } }
     {
         self.port.archive()
     }
@@ -301,7 +301,7 @@ impl<K: Ledger, A: Allocator + Copy> LinePort<K, StoredPort<A>> {
         ensures is { Drains (StoredForwards self.old.port self.new.port) self.old.port.port
             self.new.port.port (λ entries. entries.items) result }
         ensures within { IfOk result (λ entries. length entries.items ≤ 1000000) }
-        ensures waits { self.new.restart_waits ≡ self.old.restart_waits }
+        ensures only_port { self.new ≡ record self.old { port = self.new.port } }
     {
         self.port.drain()
     }
@@ -312,7 +312,7 @@ impl<K: Ledger, A: Allocator + Copy> LinePort<K, StoredPort<A>> {
             self.new.port.port list.old.items list.new.items result }
         ensures full { OnErr result (vec_capacity list.old
             < vec_len list.old + length self.old.port.port.book.state.journal) }
-        ensures waits { self.new.restart_waits ≡ self.old.restart_waits }
+        ensures only_port { self.new ≡ record self.old { port = self.new.port } }
     {
         self.port.drain_into(list)
     }

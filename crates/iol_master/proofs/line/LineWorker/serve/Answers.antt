@@ -29,7 +29,7 @@ loop-turn-preserved g c =
     let before = c.loop-turn.invariant in
     record {
       called = λ more last are.
-          let made = before.called (asked.0 ∷ more) last (c.turn.new.self, asked.1, are) in
+          let made = before.called (asked.0 ∷ more) last (c.turn.new.self.wire, asked.1, are) in
           (made.0, made.1, one_more _ _ asked.0 more made.2);
       all = rw add-one (c.loop-turn.self, before.all, c.turn.ensures.turned);
       yes = one_turn_more g.G.Gate.pass_gives _ _ _ before.yes
@@ -39,7 +39,7 @@ loop-turn-preserved g c =
 pub returns-then-not-pass : goal.returns-then-not-pass
 returns-then-not-pass g c =
     let loop = c.loop-turn.invariant in
-    let made = loop.called [] c.loop-turn.self refl in
+    let made = loop.called [] c.loop-turn.self.wire refl in
     record {
       called = (made.0, made.1, few _ _ _ made.2 c.loop-turn.auto.turn-end);
       worked = record {
@@ -55,7 +55,7 @@ returns-then-not-pass g c =
 pub returns : goal.returns
 returns g c =
     let loop = c.loop-turn.invariant in
-    let made = loop.called [] c.loop-turn.self refl in
+    let made = loop.called [] c.loop-turn.self.wire refl in
     record {
       called = (made.0, made.1, few _ _ _ made.2 c.loop-turn.auto.turn-end);
       worked = record {

@@ -1,3 +1,4 @@
+use Rattle.std.proofs.Common.{sym, ◌∙◌}
 use Rattle.iol_app.specs.declared.asked.Asked.TheVariants as asked
 use Rattle.iol_master.proofs.line.LineWorker.turn.Goals as goal
 use Rattle.iol_master.proofs.line.LineWorker.turn.Goals.{in-Wake, in-Exchange}
@@ -11,22 +12,28 @@ returns-clause-turned g c =
           (record {
             asked = asked.Wake;
             first = c.deref_mut.result.now;
+            after = w.in-Wake.ensures.after;
             sent = c.send-asked.new.self;
             sends = w.in-Wake.ensures.sends;
             again = w.deref_mut-in-Wake.result.now;
             awaits = w.receive_wake.ensures.awaits;
+            between = w.receive_wake.ensures.after ∙ w.in-Wake.ensures.turns;
             taken = w.receive_wake.new.self;
             brings = (w.wake-rate.result, w.wake-rate.ensures.gives, w.receive_wake.ensures.takes);
+            turns = sym w.receive_wake.ensures.turns;
+            nothing_out = w.receive_wake.ensures.none_out;
           })
       | in-Exchange w ↦
           rw (← c.self.view_is, w.self-inside-is)
           (record {
             asked = asked.Exchange w.in-Exchange.out;
             first = c.deref_mut.result.now;
+            after = w.in-Exchange.ensures.after;
             sent = c.send-asked.new.self;
             sends = w.in-Exchange.ensures.sends;
             again = w.deref_mut-in-Exchange.result.now;
             awaits = w.receive.ensures.awaits;
+            between = w.receive.ensures.after ∙ w.in-Exchange.ensures.turns;
             taken = w.receive.new.self;
             brings = (
               w.exchange-came.result,
@@ -34,5 +41,7 @@ returns-clause-turned g c =
                   w.exchange-came.ensures.gives,
               w.receive.ensures.takes,
             );
+            turns = sym w.receive.ensures.turns;
+            nothing_out = w.receive.ensures.none_out;
           })
     ]
