@@ -1,7 +1,5 @@
 //! What a manager answers, in the cases that the page of its rules has.
-ghost use Rattle.std.specs.Prelude.{◌≤◌, length};
-
-use iol_isdu::{Answer, Octets, Place, Request};
+use iol_isdu::{Answer, Place, Request};
 use iol_params::{
     Access, Command, DataType, ErrorType, IntegerWidth, Manager, Member, OrderRule, Restart, Scope,
     Table, cut_offs_stay_out, sets_fit,
@@ -55,8 +53,7 @@ fn a_block_is_applied_whole(rt: HostRuntime) -> Result<(), Fail> {
     manager.write(at(65), &[99])?;
     assert_eq!(rt; octet_at(&manager, 64), Some(10));
     manager.command(Scope::Block, Command::DownloadEnd)?;
-    assert_eq!(rt; octet_at(&manager, 64), Some(95));
-    assert_eq!(rt; octet_at(&manager, 65), Some(99));
+    assert_eq!(rt; octets_at(&manager, 64, 65), Some((95, 99)));
     Ok(())
 }
 
@@ -147,8 +144,7 @@ fn a_reset_at_the_device_lets_no_cut_off_block_in(rt: HostRuntime) -> Result<(),
     );
     let end = manager.command(Scope::Block, Command::DownloadEnd);
     assert_eq!(rt; end, Err(ErrorType::FunctionUnavailable));
-    assert_eq!(rt; octet_at(&manager, 64), Some(10));
-    assert_eq!(rt; octet_at(&manager, 65), Some(90));
+    assert_eq!(rt; octets_at(&manager, 64, 65), Some((10, 90)));
     manager.command(Scope::Block, Command::FactoryReset)?;
     manager.write(at(65), &[99])?;
     assert_eq!(rt; octet_at(&manager, 65), Some(99));
@@ -184,30 +180,75 @@ fn the_flag_is_set_and_cleared(rt: HostRuntime) -> Result<(), Fail> {
     Ok(())
 }
 
-fn written<A: Allocator + Copy>(
-    manager: &mut Manager<A>,
-    index: u16,
-    sub: u8,
-    octets: &[u8],
-) -> Answer {
-    let place = Place { index, sub };
-    match Request::write(place, octets) {
-        Ok(request) => manager.carry(&request),
-        Err(_) => Answer::Written,
+/// How a request is answered.
+#[derive(Clone, Copy)]
+enum Reply {
+    Is(&'static [u8]),
+    Written,
+    /// With 0x80, and this additional code.
+    Refused(u8),
+}
+
+/// A request of a master, Index and Subindex first, and how it is answered.
+#[derive(Clone, Copy)]
+enum Step {
+    Read(u16, u8, Reply),
+    Write(u16, u8, &'static [u8], Reply),
+}
+
+fn is_answered<A: Allocator + Copy>(manager: &mut Manager<A>, step: Step) -> bool {
+    match step {
+        Step::Read(index, sub, reply) => {
+            let request = Request::read(Place { index, sub });
+            is_so(&manager.carry(&request), reply)
+        }
+        Step::Write(index, sub, octets, reply) => {
+            is_so(&written(manager, Place { index, sub }, octets), reply)
+        }
     }
 }
 
-fn read_at<A: Allocator + Copy>(manager: &mut Manager<A>, index: u16, sub: u8) -> Answer {
-    manager.carry(&Request::read(Place { index, sub }))
+fn written<A: Allocator + Copy>(manager: &mut Manager<A>, place: Place, octets: &[u8]) -> Answer {
+    match Request::write(place, octets) {
+        Ok(request) => manager.carry(&request),
+        Err(_) => Answer::Refused(0, 0),
+    }
 }
 
-fn read_as(octets: &[u8]) -> Answer
-    requires { length octets.now ≤ 232 }
-{
-    let mut value = Octets::new();
-    value.try_extend_from_slice(octets).unwrap();
-    Answer::Read(value)
+fn is_so(answer: &Answer, reply: Reply) -> bool {
+    match (answer, reply) {
+        (Answer::Read(octets), Reply::Is(wanted)) => octets.as_slice() == wanted,
+        (Answer::Written, Reply::Written) => true,
+        (Answer::Refused(0x80, code), Reply::Refused(wanted)) => *code == wanted,
+        _ => false,
+    }
 }
+
+/// The first of the steps, by its number, that is answered otherwise.
+fn first_otherwise<A: Allocator + Copy>(manager: &mut Manager<A>, steps: &[Step]) -> Option<usize> {
+    for (number, step) in steps.iter().enumerate() {
+        if !is_answered(manager, *step) {
+            return Some(number);
+        }
+    }
+    None
+}
+
+/// What Data Storage reads, and how a fetch clears the flag.
+const FETCHED: [Step; 8] = [
+    Step::Read(3, 2, Reply::Is(&[0x80])),
+    Step::Read(3, 3, Reply::Is(&[0, 0, 0, 40])),
+    Step::Read(3, 4, Reply::Is(&[0xFC, 0xA3, 0xC5, 0xA3])),
+    Step::Read(
+        3,
+        5,
+        Reply::Is(&[0, 24, 0, 0, 64, 0, 0, 65, 0, 0, 80, 0, 0, 0]),
+    ),
+    Step::Write(3, 1, &[1], Reply::Written),
+    Step::Read(3, 2, Reply::Is(&[0x82])),
+    Step::Write(3, 1, &[2], Reply::Written),
+    Step::Read(3, 2, Reply::Is(&[0])),
+];
 
 #[test]
 fn data_storage_reads_what_a_sensor_has(rt: HostRuntime) -> Result<(), Fail> {
@@ -224,20 +265,24 @@ fn data_storage_reads_what_a_sensor_has(rt: HostRuntime) -> Result<(), Fail> {
     ];
     let table = Table::new(&members, &RULES)?;
     let mut manager = Manager::open(rt.alloc(), &table)?;
-    let sum = read_at(&mut manager, 3, 4);
-    assert_eq!(rt; sum, read_as(&[0x16, 0xB4, 0xB2, 0xDE]));
+    let sum = [Step::Read(3, 4, Reply::Is(&[0x16, 0xB4, 0xB2, 0xDE]))];
+    assert_eq!(rt; first_otherwise(&mut manager, &sum), None);
     manager.set(at(65), &[50])?;
-    assert_eq!(rt; read_at(&mut manager, 3, 2), read_as(&[0x80]));
-    assert_eq!(rt; read_at(&mut manager, 3, 3), read_as(&[0, 0, 0, 40]));
-    let sum = read_at(&mut manager, 3, 4);
-    assert_eq!(rt; sum, read_as(&[0xFC, 0xA3, 0xC5, 0xA3]));
-    let list = [0, 24, 0, 0, 64, 0, 0, 65, 0, 0, 80, 0, 0, 0];
-    assert_eq!(rt; read_at(&mut manager, 3, 5), read_as(&list));
-    assert_eq!(rt; written(&mut manager, 3, 1, &[1]), Answer::Written);
-    assert_eq!(rt; read_at(&mut manager, 3, 2), read_as(&[0x82]));
-    assert_eq!(rt; written(&mut manager, 3, 1, &[2]), Answer::Written);
-    assert_eq!(rt; read_at(&mut manager, 3, 2), read_as(&[0]));
+    assert_eq!(rt; first_otherwise(&mut manager, &FETCHED), None);
     Ok(())
+}
+
+/// Writes each value of the one to the other. Answers whether each is written.
+fn moves_each<A: Allocator + Copy>(from: &mut Manager<A>, to: &mut Manager<A>) -> bool {
+    for index in [24, 64, 65] {
+        let Answer::Read(value) = from.read(at(index)) else {
+            return false;
+        };
+        if written(to, at(index), value.as_slice()) != Answer::Written {
+            return false;
+        }
+    }
+    true
 }
 
 #[test]
@@ -250,19 +295,14 @@ fn a_set_fits_another_device_of_its_table(rt: HostRuntime) -> Result<(), Fail> {
     from.set(at(24), b"")?;
     let mut to = Manager::open(rt.alloc(), &table)?;
     to.set(at(65), &[10])?;
-    assert_eq!(rt; written(&mut to, 3, 1, &[3]), Answer::Written);
-    for index in [24, 64, 65] {
-        if let Answer::Read(value) = read_at(&mut from, index, 0) {
-            assert_eq!(rt;
-                written(&mut to, index, 0, value.as_slice()),
-                Answer::Written
-            );
-        }
-    }
-    assert_eq!(rt; written(&mut to, 3, 1, &[4]), Answer::Written);
-    assert_eq!(rt; read_at(&mut to, 3, 4), read_at(&mut from, 3, 4));
-    assert_eq!(rt; octet_at(&to, 64), Some(20));
-    assert_eq!(rt; octet_at(&to, 65), Some(30));
+    let begin = [Step::Write(3, 1, &[3], Reply::Written)];
+    assert_eq!(rt; first_otherwise(&mut to, &begin), None);
+    assert!(rt; moves_each(&mut from, &mut to));
+    let end = [Step::Write(3, 1, &[4], Reply::Written)];
+    assert_eq!(rt; first_otherwise(&mut to, &end), None);
+    let checksum = Request::read(Place { index: 3, sub: 4 });
+    assert_eq!(rt; to.carry(&checksum), from.carry(&checksum));
+    assert_eq!(rt; octets_at(&to, 64, 65), Some((20, 30)));
     assert!(rt; !to.flag());
     Ok(())
 }
@@ -273,64 +313,48 @@ fn a_reset_may_ask_for_a_restart(rt: HostRuntime) -> Result<(), Fail> {
     let mut manager = Manager::open(rt.alloc(), &table)?;
     assert_eq!(rt; manager.restart(), Restart::NotDue);
     manager.set(at(64), &[5])?;
-    assert_eq!(rt; written(&mut manager, 2, 0, &[0x80]), Answer::Written);
+    let reset = [Step::Write(2, 0, &[0x80], Reply::Written)];
+    assert_eq!(rt; first_otherwise(&mut manager, &reset), None);
     assert_eq!(rt; manager.restart(), Restart::Warm);
     assert_eq!(rt; octet_at(&manager, 64), Some(5));
     assert!(rt; manager.flag());
-    assert_eq!(rt; written(&mut manager, 2, 0, &[0x83]), Answer::Written);
+    let back_to_box = [Step::Write(2, 0, &[0x83], Reply::Written)];
+    assert_eq!(rt; first_otherwise(&mut manager, &back_to_box), None);
     assert_eq!(rt; manager.restart(), Restart::Silent);
     assert_eq!(rt; octet_at(&manager, 64), Some(10));
     assert!(rt; !manager.flag());
     Ok(())
 }
 
+const LOCKS_AND_COMMANDS: [Step; 15] = [
+    Step::Write(12, 0, &[0, 16], Reply::Refused(0x30)),
+    Step::Write(12, 0, &[0], Reply::Refused(0x34)),
+    Step::Write(12, 0, &[0, 0, 0], Reply::Refused(0x33)),
+    Step::Write(12, 0, &[0, 3], Reply::Written),
+    Step::Read(12, 0, Reply::Is(&[0, 3])),
+    Step::Write(64, 0, &[1], Reply::Refused(0x23)),
+    Step::Write(3, 1, &[1], Reply::Refused(0x23)),
+    Step::Read(3, 2, Reply::Is(&[6])),
+    Step::Write(2, 0, &[9], Reply::Refused(0x35)),
+    Step::Write(2, 1, &[9], Reply::Refused(0x12)),
+    Step::Read(2, 0, Reply::Refused(0x23)),
+    Step::Write(2, 0, &[0x82], Reply::Written),
+    Step::Write(64, 0, &[1], Reply::Written),
+    Step::Write(3, 1, &[6], Reply::Refused(0x30)),
+    Step::Write(3, 3, &[6], Reply::Refused(0x23)),
+];
+
 #[test]
 fn locks_and_commands_are_carried_out(rt: HostRuntime) -> Result<(), Fail> {
     let table = Table::new(&MEMBERS, &RULES)?;
     let mut manager = Manager::open(rt.alloc(), &table)?;
-    assert_eq!(rt;
-        written(&mut manager, 12, 0, &[0, 16]),
-        Answer::Refused(0x80, 0x30)
-    );
-    assert_eq!(rt;
-        written(&mut manager, 12, 0, &[0]),
-        Answer::Refused(0x80, 0x34)
-    );
-    assert_eq!(rt;
-        written(&mut manager, 12, 0, &[0, 0, 0]),
-        Answer::Refused(0x80, 0x33)
-    );
-    assert_eq!(rt; written(&mut manager, 12, 0, &[0, 3]), Answer::Written);
-    assert_eq!(rt; read_at(&mut manager, 12, 0), read_as(&[0, 3]));
-    assert_eq!(rt;
-        written(&mut manager, 64, 0, &[1]),
-        Answer::Refused(0x80, 0x23)
-    );
-    assert_eq!(rt;
-        written(&mut manager, 3, 1, &[1]),
-        Answer::Refused(0x80, 0x23)
-    );
-    assert_eq!(rt; read_at(&mut manager, 3, 2), read_as(&[6]));
-    assert_eq!(rt;
-        written(&mut manager, 2, 0, &[9]),
-        Answer::Refused(0x80, 0x35)
-    );
-    assert_eq!(rt;
-        written(&mut manager, 2, 1, &[9]),
-        Answer::Refused(0x80, 0x12)
-    );
-    assert_eq!(rt; read_at(&mut manager, 2, 0), Answer::Refused(0x80, 0x23));
-    assert_eq!(rt; written(&mut manager, 2, 0, &[0x82]), Answer::Written);
-    assert_eq!(rt; written(&mut manager, 64, 0, &[1]), Answer::Written);
-    assert_eq!(rt;
-        written(&mut manager, 3, 1, &[6]),
-        Answer::Refused(0x80, 0x30)
-    );
-    assert_eq!(rt;
-        written(&mut manager, 3, 3, &[6]),
-        Answer::Refused(0x80, 0x23)
-    );
+    assert_eq!(rt; first_otherwise(&mut manager, &LOCKS_AND_COMMANDS), None);
     Ok(())
+}
+
+/// The first octets of two values.
+fn octets_at<A: Allocator + Copy>(manager: &Manager<A>, one: u16, other: u16) -> Option<(u8, u8)> {
+    Some((octet_at(manager, one)?, octet_at(manager, other)?))
 }
 
 fn octet_at<A: Allocator + Copy>(manager: &Manager<A>, index: u16) -> Option<u8> {
