@@ -7,7 +7,7 @@ import random
 import re
 import subprocess
 
-from large import EXCHANGES, SCALES, TENTH, least_move_time, limits, open_time, repeated, within
+from large import check_long, repeated
 from trace_page import ROOT, missing, read, unlike
 
 OCTETS = """time 0.001868000
@@ -269,6 +269,7 @@ def check_maybe(room):
 def check_large_times(room):
     """As large.py, with a time before each exchange, and some pauses."""
     maker = random.Random(1)
+    one_read = room.examples()["one_read"]
 
     def begun():
         time = 0
@@ -276,18 +277,7 @@ def check_large_times(room):
             yield time
             time += maker.choice([2_300_000] * 50 + [10**10])
 
-    def timed(count):
-        return with_times(repeated(room.examples()["one_read"], count), begun())
-
-    room.window.ask("Performance.enable", timeDomain="threadTicks")
-    open_limit, move_limits = limits(room, timed(TENTH))
-    opened = open_time(room, timed(EXCHANGES))
-    yield "large, with times: fault", room.fault()
-    yield "large, with times: opens", within(opened, open_limit)
-    moved = {scale: least_move_time(room, scale) for scale in SCALES}
-    for scale in SCALES:
-        yield f"large, with times: moves at {scale} px an exchange", within(moved[scale], move_limits[scale])
-    print(f"{EXCHANGES:,} exchanges with times: {opened:.0f} ms to open, at most {max(moved.values()):.0f} ms to move")
+    yield from check_long("large, with times", room, lambda count: with_times(repeated(one_read, count), begun()))
 
 
 CHECKS = [

@@ -94,9 +94,9 @@ function drawCall(scene, { at, calls }, room, top) {
 
 function drawCalls(scene, top) {
   const { otherCalls } = scene.trace;
-  const isSeen = ({ at }) => scene.x(at) >= scene.left - 1 && scene.x(at) < scene.width;
+  const seen = partOf(otherCalls, scene.left - 1, scene.width, ({ at }) => scene.x(at));
   const shown = [];
-  for (const it of otherCalls.filter(isSeen)) {
+  for (const it of seen) {
     if (shown.length === 0 || scene.x(it.at) - scene.x(shown.at(-1).at) >= 2) shown.push(it);
   }
   return shown.map((it, place) => {

@@ -104,16 +104,19 @@ class Scene {
 
   /**
    * The spans that are seen; those too narrow to draw are joined, with the highest rank. They start
-   * and end where an exchange begins (`x`), or where the one before it ends (`behind`).
+   * and end where an exchange begins (`x`), or where the one before it ends (`behind`). The list is
+   * in the order of the trace, and no span covers another: what isn't seen is passed over at once.
    */
   spans(list, asked = {}) {
     const { from = (it) => it.from, to = (it) => it.to, rank = () => 0 } = asked;
     const { starts = 'x', ends = 'x' } = asked;
     const drawn = [];
     let crowd = null;
-    for (const it of list) {
+    let at = firstPlace(list.length, (place) => this[ends](to(list[place])) >= this.left);
+    for (; at < list.length; at += 1) {
+      const it = list[at];
       const [a, b] = [this[starts](from(it)), this[ends](to(it))];
-      if (b < this.left || a > this.width) continue;
+      if (a > this.width) break;
       if (b - a >= NARROW) crowd = null;
       if (crowd && a - crowd.b < NARROW) {
         crowd.b = Math.max(crowd.b, b);

@@ -15,11 +15,13 @@ function drawMode(scene, { a, b, it, many }, top) {
 }
 
 /** The mode of each exchange, and behind the last one the mode that was left. */
+function allModes({ modes, mode, exchanges: { length } }) {
+  return [...modes, { from: length, to: length + 1e6, value: mode ?? 'untold' }];
+}
+
 function drawModes(scene, { top }) {
-  const { modes, mode } = scene.trace;
-  const last = { from: scene.count, to: scene.count + 1e6, value: mode ?? 'untold' };
   const rank = (it) => MODE_RANKS[it.value];
-  const spans = scene.spans([...modes, last], { ...MODE_EDGES, rank });
+  const spans = scene.spans(scene.trace.allModes, { ...MODE_EDGES, rank });
   return spans.map((it) => drawMode(scene, it, top)).join('');
 }
 

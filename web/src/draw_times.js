@@ -105,9 +105,8 @@ function placeOfMaybe({ at, time }, axis) {
 function drawMaybes(scene, lanes) {
   const { maybes, axis } = scene.trace;
   const [top, foot] = [lanes[3].top + 4, lanes[4].top + lanes[4].height - 4];
-  return maybes.filter(({ at }) => at >= scene.first && at <= scene.end).slice(0, MOST_PAUSES)
-    .map((it) => {
-      const x = scene.xOfPlace(placeOfMaybe(it, axis));
-      return line('maybe', x, top, x, foot) + words('maybe-text', x + 3, top + 9, 'W?');
-    }).join('');
+  return partOf(maybes, scene.first, scene.end + 1).slice(0, MOST_PAUSES).map((it) => {
+    const x = scene.xOfPlace(placeOfMaybe(it, axis));
+    return line('maybe', x, top, x, foot) + words('maybe-text', x + 3, top + 9, 'W?');
+  }).join('');
 }

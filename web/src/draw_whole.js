@@ -22,6 +22,8 @@ page.prepare = function prepare(trace) {
     axis: page.axisOf(trace.exchanges),
     hasTimes: trace.exchanges.some((it) => it.time !== null),
     otherCalls: otherCallsOf(trace.calls),
+    allModes: allModes(trace),
+    oddInOrder: trace.odd.filter((it) => it.at !== null).sort((a, b) => a.at - b.at),
     surprises: trace.requests.filter((it) => it.isSurprise),
     toldOfDevice: trace.requests.filter((it) => (
       it.carried === 'yes' || (it.carried === 'no' && it.end !== 'done' && it.end !== 'open'))),
@@ -133,16 +135,16 @@ function drawLost(scene, lanes) {
 
 /** Signs at what `judge` says of the master, and at what is odd. */
 function drawNamed(scene, lanes) {
-  const { master, odd } = scene.trace;
-  const isSeen = ({ at }) => at !== null && at >= scene.first && at < scene.end;
+  const { trace: { master, oddInOrder }, first, end } = scene;
+  const isSeen = ({ at }) => at !== null && at >= first && at < end;
   const sign = (text, lane) => ({ at }) => words('named', scene.middle(at), lane.top + 14, text);
   const faults = master?.number === undefined ? [] : [master];
   return faults.filter(isSeen).map(sign('§', lanes[3])).join('')
-    + odd.filter(isSeen).slice(0, MOST_SIGNS).map(sign('~', lanes[4])).join('');
+    + partOf(oddInOrder, first, end).slice(0, MOST_SIGNS).map(sign('~', lanes[4])).join('');
 }
 
 /** Draws what is seen, and returns the inside of an SVG. */
-page.draw = function draw(trace, { view, width, left, chosen, pointed, found, lanes }) {
+page.draw = function draw(trace, { view, width, left, chosen, pointed, marked, lanes }) {
   const scene = new Scene(trace, view, width, left);
   const height = lanes.at(-1).top + lanes.at(-1).height;
   const drawn = lanes.map((it) => drawLane(scene, it));
@@ -155,7 +157,7 @@ page.draw = function draw(trace, { view, width, left, chosen, pointed, found, la
       ...surprises.map((it) => drawSurprise(scene, it, lanes)),
       drawLost(scene, lanes), drawMaybes(scene, lanes),
       drawLanes(scene, lanes, height), drawNamed(scene, lanes),
-      ...found.filter((at) => at >= scene.first && at < scene.end).slice(0, 2000)
+      ...partOf(marked, scene.first, scene.end, (at) => at).slice(0, 2000)
         .map((at) => path('found', `M${round(scene.middle(at) - 4)} 24 h8 l-4 -6z`)),
     ].join(''))
     + drawn.map((it) => it.rest).join('') + drawn.map((it) => it.label).join('');

@@ -105,6 +105,8 @@ function find() {
   state.asked = `${what} ${text}`;
   state.found = isUsable ? FINDERS[what](text) : [];
   state.foundAt = -1;
+  // In the order of the trace, for the picture.
+  state.marked = [...state.found].sort((a, b) => a - b);
   if (state.found.length) goToFound(1);
   else byId('found').value = text || isUsable ? 'none' : '';
   redraw();

@@ -34,20 +34,24 @@ function step(by) {
 }
 
 /** The faults of a trace: what was missed or sent again, what was cut off, what `judge` names. */
-function faultsOf({ exchanges, verdict, master, odd }) {
-  const named = [verdict, master, ...odd].map((it) => it?.at ?? null);
+function faultsOf(trace) {
+  const { exchanges, verdict, master, odd } = trace;
+  if (trace.faults) return trace.faults;
+  const named = new Set([verdict, master, ...odd].map((it) => it?.at));
   const isFault = ({ at, fate, repeats, step: its }) => (
-    ['lost', 'damaged', 'nowake'].includes(fate) || repeats >= 0 || named.includes(at)
+    ['lost', 'damaged', 'nowake'].includes(fate) || repeats >= 0 || named.has(at)
     || ['abort', 'refused', 'none'].includes(its));
-  return exchanges.filter(isFault);
+  trace.faults = exchanges.filter(isFault);
+  return trace.faults;
 }
 
 /** Chooses the next fault, or the one before. */
 function goToFault(isBack) {
   const faults = faultsOf(state.trace);
   const { chosen } = state;
-  const next = isBack ? faults.findLast((it) => it.at < (chosen ?? count()))
-    : faults.find((it) => it.at > (chosen ?? -1));
+  const from = isBack ? chosen ?? count() : (chosen ?? -1) + 1;
+  const behind = page.firstPlace(faults.length, (at) => faults[at].at >= from);
+  const next = faults[isBack ? behind - 1 : behind];
   if (next) choose(next.at);
   else say(isBack ? 'No fault before this one.' : 'No fault behind this one.');
 }
@@ -133,8 +137,9 @@ function noteOfFinding({ at, finding }) {
 
 /** What it found of the master, or odd, as notes. */
 function otherNotes({ at }) {
-  const { master, odd } = state.trace;
-  const notes = odd.filter((it) => it.at === at).map((it) => `odd: ${page.reasonShort(it)}`);
+  const { master, oddInOrder } = state.trace;
+  const odd = page.partOf(oddInOrder, at, at + 1);
+  const notes = odd.map((it) => `odd: ${page.reasonShort(it)}`);
   const isNamed = master?.number !== undefined && master.at === at;
   return (isNamed ? [page.masterShort(master), ...notes] : notes).map(safe);
 }
@@ -151,8 +156,8 @@ function timeCell(exchange) {
   return `<td class="number time">${times.begun}${since}</td>`;
 }
 
-const maybeNote = ({ at }) => (
-  state.trace.maybes.some((it) => it.at === at) ? 'maybe a wake-up before' : '');
+const maybesAt = (at) => page.partOf(state.trace.maybes, at, at + 1);
+const maybeNote = ({ at }) => (maybesAt(at).length > 0 ? 'maybe a wake-up before' : '');
 
 function exchangeRow(exchange) {
   const { sent, came, rate, repeats, fate, losesLink } = exchange;
@@ -202,10 +207,10 @@ function listExchanges() {
 
 function markRows() {
   const { first } = tables.exchanges;
-  const { chosen } = state;
-  const place = state.listed.findIndex((it) => it.at === chosen);
-  const isShown = place < 0 || (place >= first && place < first + Pages.SIZE);
-  if (!isShown) tables.exchanges.show(place);
+  const { chosen, listed } = state;
+  const place = page.firstPlace(listed.length, (at) => listed[at].at >= chosen);
+  const isShown = place >= first && place < first + Pages.SIZE;
+  if (listed[place]?.at === chosen && !isShown) tables.exchanges.show(place);
   for (const row of byId('exchanges-panel').querySelectorAll('tr[data-at]')) {
     row.classList.toggle('is-chosen', Number(row.dataset.at) === chosen);
   }
@@ -222,16 +227,12 @@ function namedPlaces() {
 
 /** The exchange that a line of the text belongs to: of `judge`, the one that it names. */
 function exchangeOfLine(number) {
-  const { exchanges } = state.trace;
-  const said = namedPlaces().find((it) => it.line === number);
-  if (said) return exchanges[said.at];
-  let [low, high] = [0, exchanges.length];
-  while (low < high) {
-    const middle = (low + high) >> 1;
-    if (exchanges[middle].begins <= number) low = middle + 1;
-    else high = middle;
-  }
-  return exchanges[Math.max(0, low - 1)];
+  const { trace } = state;
+  const { exchanges } = trace;
+  trace.named ??= new Map(namedPlaces().map((it) => [it.line, it.at]));
+  if (trace.named.has(number)) return exchanges[trace.named.get(number)];
+  const behind = page.firstPlace(exchanges.length, (at) => exchanges[at].begins > number);
+  return exchanges[Math.max(0, behind - 1)];
 }
 
 function showText() {

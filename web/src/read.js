@@ -184,11 +184,12 @@ class Reader {
   }
 }
 
-/** The value for a text, which is made once. */
-function once(known, rest, make) {
-  let value = known.get(rest);
-  if (value === undefined) known.set(rest, (value = make(rest)));
-  return value;
+/** The value for a text, which is made once, of the text in full. */
+function once(known, rest, make, inFull) {
+  if (known.has(rest)) return known.get(rest);
+  const whole = inFull(rest);
+  if (!known.has(whole)) known.set(whole, make(whole));
+  return known.get(whole);
 }
 
 /** The most octets of a message or a reply, as a text. */
@@ -244,8 +245,8 @@ function readWake(reader, rest, number) {
 
 function readSent(reader, rest, number) {
   reader.begin(number);
-  const whole = withText(reader, rest, (octets) => reader.decoder.message(octets));
-  const sent = once(reader.messages, whole, messageOf);
+  const inFull = (it) => withText(reader, it, (octets) => reader.decoder.message(octets));
+  const sent = once(reader.messages, rest, messageOf, inFull);
   const exchange = new Exchange(number, reader.line, null, sent);
   exchange.came = undefined;
   reader.add(exchange);
@@ -261,8 +262,8 @@ function readCame(reader, rest, number) {
     const why = `not the number of the message before; wanted: ${last.number}`;
     throw new BadLine(why, 1, 'wrong number');
   }
-  const whole = withText(reader, rest, (octets) => reader.decoder.reply(octets));
-  last.came = rest === 'none' ? null : once(reader.replies, whole, replyOf);
+  const inFull = (it) => withText(reader, it, (octets) => reader.decoder.reply(octets));
+  last.came = rest === 'none' ? null : once(reader.replies, rest, replyOf, inFull);
 }
 
 const NANOSECONDS = 9;

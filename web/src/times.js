@@ -21,6 +21,25 @@ page.timeText = function timeText(time) {
   return `${Number((time / size).toFixed(Math.log10(size)))} ${name}`;
 };
 
+/** The first of so many places at which a test holds, which then holds at each one behind it. */
+function firstPlace(count, holds) {
+  let [low, high] = [0, count];
+  while (low < high) {
+    const middle = (low + high) >> 1;
+    if (holds(middle)) high = middle;
+    else low = middle + 1;
+  }
+  return low;
+}
+page.firstPlace = firstPlace;
+
+/** What of a list is seen: its items from one place up to another, in whose order it is. */
+function partOf(list, from, end, placeOf = (it) => it.at) {
+  const first = (least) => firstPlace(list.length, (at) => placeOf(list[at]) >= least);
+  return list.slice(first(from), first(end));
+}
+page.partOf = partOf;
+
 /** Exchanges in a row, one a unit. */
 class Row {
   isTimed = false;
@@ -76,13 +95,7 @@ class TimeAxis {
 
   at(place) {
     if (place < 0 || place >= this.extent) return place < 0 ? -1 : this.count;
-    let [low, high] = [0, this.count - 1];
-    while (low < high) {
-      const middle = (low + high + 1) >> 1;
-      if (this.places[middle] <= place) low = middle;
-      else high = middle - 1;
-    }
-    return low;
+    return firstPlace(this.count, (at) => this.places[at] > place) - 1;
   }
 
   endAt(place) { return this.at(place) + 2; }

@@ -13,7 +13,8 @@ const RIGHT = 170;
 
 const state = {
   name: '', trace: null, lanes: [], view: { from: 0, scale: FIRST_SCALE }, width: 1000, left: 148,
-  chosen: null, pointed: null, asked: '', found: [], foundAt: -1, drawing: false, listed: [],
+  chosen: null, pointed: null, asked: '', found: [], foundAt: -1, marked: [], drawing: false,
+  listed: [],
 };
 page.state = state;
 
@@ -23,7 +24,8 @@ function open(text, name, askedBy) {
   performance.mark('open');
   state.trace = page.prepare(page.open(text, askedBy));
   state.lanes = page.lanesOf(state.trace);
-  Object.assign(state, { name, chosen: null, pointed: null, asked: '', found: [], foundAt: -1 });
+  Object.assign(state, { name, chosen: null, pointed: null, asked: '' });
+  Object.assign(state, { found: [], foundAt: -1, marked: [] });
   document.title = `${name} – IO-Link`;
   byId('found').value = '';
   measure();
@@ -135,9 +137,9 @@ function redraw() {
 
 function drawNow() {
   performance.mark('draw');
-  const { trace, view, width, left, chosen, pointed, found, lanes } = state;
+  const { trace, view, width, left, chosen, pointed, marked, lanes } = state;
   const height = lanes.at(-1).top + lanes.at(-1).height;
-  const inner = page.draw(trace, { view, width, left, chosen, pointed, found, lanes });
+  const inner = page.draw(trace, { view, width, left, chosen, pointed, marked, lanes });
   const size = `viewBox="0 0 ${width} ${height}" width="${width}" height="${height}"`;
   byId('picture').innerHTML = `<svg xmlns="http://www.w3.org/2000/svg" role="img"
     aria-label="${safe(state.name)}" ${size}>${inner}</svg>`;

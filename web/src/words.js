@@ -263,10 +263,11 @@ function meaningTable({ sent, came }) {
 
 /** What `judge` says of the master, and of what is odd, where it names this exchange. */
 function alsoFound({ at }) {
-  const { master, odd } = state.trace;
+  const { master, oddInOrder } = state.trace;
   const line = (said, text) => `<p class="verdict ${said.kind ?? 'odd'}"><code>iolink judge</code>
     says ${text} <a href="#line=${said.line}">Its line</a></p>`;
-  const found = odd.filter((it) => it.at === at).map((it) => line(it, `odd: ${reasonInWords(it)}`));
+  const odd = page.partOf(oddInOrder, at, at + 1);
+  const found = odd.map((it) => line(it, `odd: ${reasonInWords(it)}`));
   if (master?.number !== undefined && master.at === at) {
     found.push(line(master, `the master ${masterRest(master)}`));
   }
@@ -295,7 +296,7 @@ function timeInWords(exchange) {
 }
 
 function maybeInWords({ at }) {
-  return state.trace.maybes.filter((it) => it.at === at).map(({ time }) => (
+  return maybesAt(at).map(({ time }) => (
     `<li>Before it, a wake-up that isn’t shown may have been made${
       time === null ? '' : `, at ${page.timeText(time)}`}.</li>`)).join('');
 }
