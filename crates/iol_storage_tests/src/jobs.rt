@@ -1,5 +1,7 @@
 //! What becomes of a block, of a restore and of a fetch, by what the device answers.
-use crate::sensor::{MEMBERS, RULES, at, has, limits};
+use crate::sensor::{
+    Cut, at, check, has, has_limits, is_set, limits, outcome, read, sensor, table_of_sensor,
+};
 use iol_book::Outcome;
 use iol_isdu::{Answer, Cause, Place, Request};
 use iol_params::{Manager, Table};
@@ -13,33 +15,42 @@ use std::test::Fail;
 /// More requests than any download or upload of these tests has.
 const MANY: usize = 20;
 
-/// What comes of a request, where it isn't the device that answers.
-#[derive(Clone, Copy)]
-struct Cut {
-    /// At which request, 0 the first.
-    at: usize,
-    cause: Cause,
-}
+/// The requests of a block of two limits: its start, two writes, and its end.
+const REQUESTS: usize = 4;
 
-/// Has a device carry out a download, but for a request that is cut off and never reaches it.
+/// The second limit is out of its range.
+const OUT_OF_RANGE: Refusal = Refusal {
+    place: Place { index: 65, sub: 0 },
+    error: 0x80,
+    additional: 0x30,
+};
+
+/// The two limits together break their order.
+const INCONSISTENT: Refusal = Refusal {
+    place: Place { index: 2, sub: 0 },
+    error: 0x80,
+    additional: 0x41,
+};
+
+/// Has a device carry out a download, but for a request that is cut off. How it ends, if it does.
 fn downloaded<A: Allocator + Copy>(
     manager: &mut Manager<A>,
     objects: &Objects,
     purpose: DownloadPurpose,
     cut: Option<Cut>,
-) -> DownloadStage {
+) -> Option<DownloadResult> {
     let mut download = Download::new(purpose);
     for index in 0..MANY {
         let Some(request) = download.asks(objects) else {
             break;
         };
-        let outcome = match cut {
-            Some(cut) if cut.at == index => Outcome::Unknown(cut.cause),
-            _ => Outcome::Done(manager.carry(&request)),
-        };
+        let outcome = outcome(manager, &request, index, cut);
         download.hear(objects, &outcome);
     }
-    download.stage
+    match download.stage {
+        DownloadStage::Over(result) => Some(result),
+        _ => None,
+    }
 }
 
 /// Has a device carry out an upload.
@@ -70,106 +81,94 @@ fn checksum<A: Allocator + Copy>(manager: &mut Manager<A>) -> [u8; 4] {
     }
 }
 
+/// How a block of these limits ends at a device, if it does.
+fn block_ended<A: Allocator + Copy>(
+    manager: &mut Manager<A>,
+    low: u8,
+    high: u8,
+    keep: Keep,
+    cut: Option<Cut>,
+) -> Option<DownloadResult> {
+    match limits(low, high) {
+        Ok(writes) => downloaded(manager, &writes, DownloadPurpose::Block(keep), cut),
+        Err(_) => None,
+    }
+}
+
+/// Whether a device applies a block of these limits.
+fn applies<A: Allocator + Copy>(manager: &mut Manager<A>, low: u8, high: u8, keep: Keep) -> bool {
+    block_ended(manager, low, high, keep, None) == Some(DownloadResult::Applied)
+        && has_limits(manager, low, high)
+}
+
+/// Whether a device refuses a block of these limits, and has those that it left the factory with.
+fn refuses<A: Allocator + Copy>(
+    manager: &mut Manager<A>,
+    low: u8,
+    high: u8,
+    refusal: Refusal,
+) -> bool {
+    block_ended(manager, low, high, Keep::No, None) == Some(DownloadResult::Refused(refusal))
+        && has_limits(manager, 10, 90)
+}
+
 #[test]
 fn a_block_is_applied_whole(rt: HostRuntime) -> Result<(), Fail> {
-    let table = Table::new(&MEMBERS, &RULES)?;
-    let mut manager = Manager::open(rt.alloc(), &table)?;
-    let objects = limits(95, 99)?;
-    let stage = downloaded(
-        &mut manager,
-        &objects,
-        DownloadPurpose::Block(Keep::No),
-        None,
-    );
-    assert_eq!(rt; stage, DownloadStage::Over(DownloadResult::Applied));
-    assert!(rt; has(&manager, 64, &[95]) && has(&manager, 65, &[99]));
-    assert!(rt; !manager.flag());
-    let objects = limits(20, 30)?;
-    let stage = downloaded(
-        &mut manager,
-        &objects,
-        DownloadPurpose::Block(Keep::Yes),
-        None,
-    );
-    assert_eq!(rt; stage, DownloadStage::Over(DownloadResult::Applied));
-    assert!(rt; has(&manager, 64, &[20]) && has(&manager, 65, &[30]));
-    assert!(rt; manager.flag());
+    let table = table_of_sensor()?;
+    let mut manager = sensor(rt.alloc(), &table)?;
+    check(&rt, applies(&mut manager, 95, 99, Keep::No));
+    check(&rt, !manager.flag());
+    check(&rt, applies(&mut manager, 20, 30, Keep::Yes));
+    check(&rt, manager.flag());
     Ok(())
 }
 
 #[test]
 fn a_block_that_is_refused_changes_nothing(rt: HostRuntime) -> Result<(), Fail> {
-    let table = Table::new(&MEMBERS, &RULES)?;
-    let mut manager = Manager::open(rt.alloc(), &table)?;
-    let objects = limits(95, 101)?;
-    let stage = downloaded(
-        &mut manager,
-        &objects,
-        DownloadPurpose::Block(Keep::No),
-        None,
-    );
-    let out_of_range = Refusal {
-        place: at(65),
-        error: 0x80,
-        additional: 0x30,
-    };
-    assert_eq!(rt;
-        stage,
-        DownloadStage::Over(DownloadResult::Refused(out_of_range))
-    );
-    assert!(rt; has(&manager, 64, &[10]) && has(&manager, 65, &[90]));
+    let table = table_of_sensor()?;
+    let mut manager = sensor(rt.alloc(), &table)?;
+    check(&rt, refuses(&mut manager, 95, 101, OUT_OF_RANGE));
     // It was broken off, so that a block can begin at once.
-    let objects = limits(95, 94)?;
-    let stage = downloaded(
-        &mut manager,
-        &objects,
-        DownloadPurpose::Block(Keep::No),
-        None,
-    );
-    let inconsistent = Refusal {
-        place: at(2),
-        error: 0x80,
-        additional: 0x41,
-    };
-    assert_eq!(rt;
-        stage,
-        DownloadStage::Over(DownloadResult::Refused(inconsistent))
-    );
-    assert!(rt; has(&manager, 64, &[10]) && has(&manager, 65, &[90]));
+    check(&rt, refuses(&mut manager, 95, 94, INCONSISTENT));
     Ok(())
+}
+
+/// What is known of a block behind a request that was cut off: of its end it isn't known whether it
+/// was carried out.
+fn known_of(cut: Cut) -> DownloadResult {
+    if cut.at == REQUESTS - 1 {
+        DownloadResult::Unknown(cut.cause)
+    } else {
+        DownloadResult::NotApplied
+    }
+}
+
+/// Whether a block that is cut off ends so at a new device, which doesn't apply it.
+fn is_cut_off<A: Allocator + Copy>(alloc: A, table: &Table, cut: Cut) -> bool {
+    let Ok(mut manager) = sensor(alloc, table) else {
+        return false;
+    };
+    block_ended(&mut manager, 95, 99, Keep::No, Some(cut)) == Some(known_of(cut))
+        && has_limits(&manager, 10, 90)
+}
+
+/// The same, whichever request is cut off.
+fn are_cut_off<A: Allocator + Copy>(alloc: A, table: &Table, cause: Cause) -> bool {
+    for at in 0..REQUESTS {
+        if !is_cut_off(alloc, table, Cut { at, cause }) {
+            return false;
+        }
+    }
+    true
 }
 
 #[test]
 fn a_block_that_is_cut_off_is_known_not_to_be_applied(rt: HostRuntime) -> Result<(), Fail> {
-    let table = Table::new(&MEMBERS, &RULES)?;
-    for at_request in 0..4 {
-        for cause in [
-            Cause::LinkLost,
-            Cause::Restarted,
-            Cause::BusyTooLong,
-            Cause::Cancelled,
-        ] {
-            let mut manager = Manager::open(rt.alloc(), &table)?;
-            let objects = limits(95, 99)?;
-            let cut = Cut {
-                at: at_request,
-                cause,
-            };
-            let stage = downloaded(
-                &mut manager,
-                &objects,
-                DownloadPurpose::Block(Keep::No),
-                Some(cut),
-            );
-            let result = if at_request == 3 {
-                DownloadResult::Unknown(cause)
-            } else {
-                DownloadResult::NotApplied
-            };
-            assert_eq!(rt; stage, DownloadStage::Over(result));
-            assert!(rt; has(&manager, 64, &[10]) && has(&manager, 65, &[90]));
-        }
-    }
+    let table = table_of_sensor()?;
+    check(&rt, are_cut_off(rt.alloc(), &table, Cause::LinkLost));
+    check(&rt, are_cut_off(rt.alloc(), &table, Cause::Restarted));
+    check(&rt, are_cut_off(rt.alloc(), &table, Cause::BusyTooLong));
+    check(&rt, are_cut_off(rt.alloc(), &table, Cause::Cancelled));
     Ok(())
 }
 
@@ -178,104 +177,155 @@ fn a_device_without_isdu_gets_no_block(rt: HostRuntime) -> Result<(), Fail> {
     let objects = limits(95, 99)?;
     let mut download = Download::new(DownloadPurpose::Block(Keep::No));
     download.hear(&objects, &Outcome::NoIsdu);
-    assert_eq!(rt; download.stage, DownloadStage::Over(DownloadResult::NoIsdu));
-    assert_eq!(rt; download.asks(&objects), None);
+    check(
+        &rt,
+        download.stage == DownloadStage::Over(DownloadResult::NoIsdu),
+    );
+    check(&rt, download.asks(&objects).is_none());
     Ok(())
+}
+
+/// How a restore ends at a device, if it does.
+fn restored<A: Allocator + Copy>(
+    manager: &mut Manager<A>,
+    set: &Objects,
+    flag: Flag,
+) -> Option<DownloadResult> {
+    downloaded(manager, set, DownloadPurpose::Restore(flag), None)
+}
+
+/// A user changes a device.
+fn is_changed<A: Allocator + Copy>(manager: &mut Manager<A>) -> bool {
+    is_set(manager, 65, 50) && manager.set(at(24), b"pump 7").is_ok()
+}
+
+/// The whole set of a device is fetched, with all that the sensor has.
+fn fetches<A: Allocator + Copy>(
+    manager: &mut Manager<A>,
+    set: &mut Objects,
+    checksum: [u8; 4],
+) -> bool {
+    uploaded(manager, set, checksum) == UploadStage::Over(UploadResult::Whole) && set.len() == 4
+}
+
+/// A new device takes the set over, and has its checksum then.
+fn takes<A: Allocator + Copy>(alloc: A, table: &Table, set: &Objects, expected: [u8; 4]) -> bool {
+    let Ok(mut new) = sensor(alloc, table) else {
+        return false;
+    };
+    restored(&mut new, set, Flag::Counts) == Some(DownloadResult::Applied)
+        && has(&new, 65, &[50])
+        && has(&new, 24, b"pump 7")
+        && checksum(&mut new) == expected
+}
+
+/// The set of a device that a user changed moves to a new one.
+fn moves<A: Allocator + Copy>(old: &mut Manager<A>, alloc: A, table: &Table) -> bool {
+    let expected = checksum(old);
+    let mut set = Objects::new();
+    fetches(old, &mut set, expected) && takes(alloc, table, &set, expected)
 }
 
 #[test]
 fn a_set_moves_to_another_device(rt: HostRuntime) -> Result<(), Fail> {
-    let table = Table::new(&MEMBERS, &RULES)?;
-    let mut old = Manager::open(rt.alloc(), &table)?;
-    old.set(at(65), &[50])?;
-    old.set(at(24), b"pump 7")?;
-    let expected = checksum(&mut old);
-    let mut set = Objects::new();
-    let stage = uploaded(&mut old, &mut set, expected);
-    assert_eq!(rt; stage, UploadStage::Over(UploadResult::Whole));
-    assert_eq!(rt; set.len(), 4);
-    let mut new = Manager::open(rt.alloc(), &table)?;
-    let stage = downloaded(&mut new, &set, DownloadPurpose::Restore(Flag::Counts), None);
-    assert_eq!(rt; stage, DownloadStage::Over(DownloadResult::Applied));
-    assert!(rt; has(&new, 65, &[50]) && has(&new, 24, b"pump 7"));
-    assert_eq!(rt; checksum(&mut new), expected);
+    let table = table_of_sensor()?;
+    let mut old = sensor(rt.alloc(), &table)?;
+    check(&rt, is_changed(&mut old));
+    check(&rt, moves(&mut old, rt.alloc(), &table));
     Ok(())
+}
+
+/// Whether a restore of these limits ends so.
+fn restore_ends<A: Allocator + Copy>(
+    manager: &mut Manager<A>,
+    flag: Flag,
+    wanted: DownloadResult,
+) -> bool {
+    match limits(20, 30) {
+        Ok(set) => restored(manager, &set, flag) == Some(wanted),
+        Err(_) => false,
+    }
 }
 
 #[test]
 fn a_flag_that_counts_ends_a_restore(rt: HostRuntime) -> Result<(), Fail> {
-    let table = Table::new(&MEMBERS, &RULES)?;
-    let objects = limits(20, 30)?;
-    let mut manager = Manager::open(rt.alloc(), &table)?;
-    manager.set(at(65), &[50])?;
-    let stage = downloaded(
-        &mut manager,
-        &objects,
-        DownloadPurpose::Restore(Flag::Counts),
-        None,
+    let table = table_of_sensor()?;
+    let mut manager = sensor(rt.alloc(), &table)?;
+    check(&rt, is_set(&mut manager, 65, 50));
+    check(
+        &rt,
+        restore_ends(&mut manager, Flag::Counts, DownloadResult::FlagSet),
     );
-    assert_eq!(rt; stage, DownloadStage::Over(DownloadResult::FlagSet));
-    assert!(rt; has(&manager, 64, &[10]) && has(&manager, 65, &[50]));
-    let stage = downloaded(
-        &mut manager,
-        &objects,
-        DownloadPurpose::Restore(Flag::Ignored),
-        None,
+    check(&rt, has_limits(&manager, 10, 50));
+    check(
+        &rt,
+        restore_ends(&mut manager, Flag::Ignored, DownloadResult::Applied),
     );
-    assert_eq!(rt; stage, DownloadStage::Over(DownloadResult::Applied));
-    assert!(rt; has(&manager, 64, &[20]) && has(&manager, 65, &[30]));
+    check(&rt, has_limits(&manager, 20, 30));
     Ok(())
+}
+
+/// Whether the values of a device are no set beside the checksum that it had before.
+fn is_no_set<A: Allocator + Copy>(manager: &mut Manager<A>, before: [u8; 4]) -> bool {
+    let mut set = Objects::new();
+    uploaded(manager, &mut set, before) == UploadStage::Over(UploadResult::Changed)
 }
 
 #[test]
 fn a_device_that_changed_meanwhile_is_no_set(rt: HostRuntime) -> Result<(), Fail> {
-    let table = Table::new(&MEMBERS, &RULES)?;
-    let mut manager = Manager::open(rt.alloc(), &table)?;
+    let table = table_of_sensor()?;
+    let mut manager = sensor(rt.alloc(), &table)?;
     let before = checksum(&mut manager);
-    manager.set(at(65), &[50])?;
-    let mut set = Objects::new();
-    let stage = uploaded(&mut manager, &mut set, before);
-    assert_eq!(rt; stage, UploadStage::Over(UploadResult::Changed));
+    check(&rt, is_set(&mut manager, 65, 50));
+    check(&rt, is_no_set(&mut manager, before));
     Ok(())
 }
 
-#[test]
-fn an_upload_takes_only_whole_lists(rt: HostRuntime) -> Result<(), Fail> {
+/// Whether an upload ends where a device answers the read of the list with these octets.
+fn is_no_list(list: &[u8]) -> bool {
     let mut set = Objects::new();
-    for list in [
-        &[][..],
-        &[0],
-        &[0, 64, 0, 0],
-        &[0, 64, 0, 0, 1],
-        &[0, 64, 0, 1, 0],
-    ] {
-        let mut upload = Upload::new([0; 4]);
-        upload.hear(&mut set, &Outcome::Done(Answer::Written));
-        let mut answer = Answer::Written;
-        answer.set_read(list);
-        upload.hear(&mut set, &Outcome::Done(answer));
-        assert_eq!(rt; upload.stage, UploadStage::Breaking(UploadResult::BadList));
+    let mut upload = Upload::new([0; 4]);
+    upload.hear(&mut set, &Outcome::Done(Answer::Written));
+    upload.hear(&mut set, &read(list));
+    upload.stage == UploadStage::Breaking(UploadResult::BadList)
+}
+
+#[test]
+fn an_upload_takes_only_whole_lists(rt: HostRuntime) {
+    check(&rt, is_no_list(&[]));
+    check(&rt, is_no_list(&[0]));
+    check(&rt, is_no_list(&[0, 64, 0, 0]));
+    check(&rt, is_no_list(&[0, 64, 0, 0, 1]));
+    check(&rt, is_no_list(&[0, 64, 0, 1, 0]));
+}
+
+/// Whether a value has no room behind others.
+fn is_too_large(objects: &mut Objects, index: u16, octets: &[u8]) -> bool {
+    objects.push(at(index), octets) == Err(StorageFault::TooLarge)
+}
+
+/// Whether there is room for this value so many times.
+fn are_pushed(objects: &mut Objects, count: u16, octets: &[u8]) -> bool {
+    for index in 0..count {
+        if objects.push(at(index), octets).is_err() {
+            return false;
+        }
     }
-    Ok(())
+    true
 }
 
 #[test]
-fn a_set_has_its_limits(rt: HostRuntime) -> Result<(), Fail> {
+fn a_set_has_its_limits(rt: HostRuntime) {
     let mut objects = Objects::new();
-    assert_eq!(rt; objects.push(at(1), &[7; 233]), Err(StorageFault::TooLarge));
-    for index in 0..8 {
-        objects.push(at(index), &[7; 232])?;
-    }
-    assert_eq!(rt; objects.push(at(8), &[7; 157]), Err(StorageFault::TooLarge));
-    objects.push(at(8), &[7; 156])?;
-    assert_eq!(rt; objects.push(at(9), &[]), Err(StorageFault::TooLarge));
-    assert_eq!(rt; objects.len(), 9);
+    check(&rt, is_too_large(&mut objects, 1, &[7; 233]));
+    check(&rt, are_pushed(&mut objects, 8, &[7; 232]));
+    check(&rt, is_too_large(&mut objects, 8, &[7; 157]));
+    check(&rt, objects.push(at(8), &[7; 156]).is_ok());
+    check(&rt, is_too_large(&mut objects, 9, &[]));
+    check(&rt, objects.len() == 9);
     objects.clear();
-    for index in 0..76 {
-        objects.push(at(index), &[])?;
-    }
-    assert_eq!(rt; objects.push(at(76), &[]), Err(StorageFault::TooLarge));
-    Ok(())
+    check(&rt, are_pushed(&mut objects, 76, &[]));
+    check(&rt, is_too_large(&mut objects, 76, &[]));
 }
 
 /// The octets of a set: a text, two limits and six octets.
@@ -288,25 +338,24 @@ const IMAGE: [u8; 38] = [
 #[test]
 fn a_set_is_read_back(rt: HostRuntime) -> Result<(), Fail> {
     let set = Set::read(&IMAGE)?;
-    assert_eq!(rt; set.checksum, [0xFC, 0xA3, 0xC5, 0xA3]);
-    assert_eq!(rt; set.device, [0x12, 0x34, 0x00, 0x01, 0x07]);
-    assert_eq!(rt; set.objects.len(), 4);
+    check(&rt, set.checksum == [0xFC, 0xA3, 0xC5, 0xA3]);
+    check(&rt, set.device == [0x12, 0x34, 0x00, 0x01, 0x07]);
+    check(&rt, set.objects.len() == 4);
     let mut image = SetImage::new();
     image.push(7);
     set.write_into(&mut image);
-    assert_eq!(rt; image.as_slice(), &IMAGE[..]);
+    check(&rt, image.as_slice() == &IMAGE[..]);
     Ok(())
 }
 
 #[test]
-fn octets_of_no_set_are_refused(rt: HostRuntime) -> Result<(), Fail> {
+fn octets_of_no_set_are_refused(rt: HostRuntime) {
     for size in 0..IMAGE.len() {
         // Where a value ends, the octets are a smaller set.
         let whole = matches!(size, 11 | 18 | 23 | 28);
-        assert_eq!(rt; Set::read(&IMAGE[..size]).is_ok(), whole);
+        check(&rt, Set::read(&IMAGE[..size]).is_ok() == whole);
     }
     let mut image = IMAGE;
     image[9] = 1;
-    assert!(rt; Set::read(&image).is_err());
-    Ok(())
+    check(&rt, Set::read(&image).is_err());
 }
