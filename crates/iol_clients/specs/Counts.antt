@@ -95,8 +95,3 @@ abbrev pub AreCounted : (W : Type 0) → ℕ → List ClientState → List PortC
 AreCounted W first clients [] = ⊤
 AreCounted W first clients (port ∷ ports) =
     WasCounted W first clients port × AreCounted W (first + 1) clients ports
-
--- Some clients, whose tickets were all counted, and whose desks were settled with this total
-abbrev pub ClientsAreServed : (W : Type 0) → List PortCounts → ℕ → Type 0
-ClientsAreServed W ports total = (clients : List ClientState)
-    × AreCounted W 1 clients ports × AreSettled clients total

@@ -1,7 +1,8 @@
 //! A client of one port: its desk, and the tickets that it was given.
-ghost use Rattle.std.specs.Prelude.{◌≡◌, ◌+◌, ◌*◌, ◌≤◌, vec_len};
+ghost use Rattle.std.specs.Prelude.{◌≡◌, ◌+◌, ◌*◌, ◌<◌, ◌≤◌, IfErr, IfOk, OnOk, vec_len};
 
 use crate::counts::RequestCounts;
+use crate::fault::ClientsFault;
 use crate::ports::PLACE;
 use iol_book::{BookFault, Ticket};
 use iol_isdu::Request;
@@ -12,10 +13,8 @@ use std::alloc::{AllocError, Global};
 use std::sync::Wait;
 use std::sync::ledger::Ledger;
 
-/// The most tickets of a client, as many as a port has outstanding.
-const MOST_TICKETS: usize = 64;
-
-/// A client: its desk, and the tickets that it was given there.
+/// A client: its desk, and the tickets that it was given there, as many as a port has outstanding
+/// at most.
 #[derive(Drop)]
 pub(crate) struct Client<L: Ledger> {
     desk: Desk<L>,
@@ -25,26 +24,32 @@ pub(crate) struct Client<L: Ledger> {
 }
 
 impl<L: Ledger> Client<L> {
-    ghost use Rattle.std.specs.Result.{result_map_both};
-    ghost use Rattle.iol_master.specs.Master.{Desks};
-    ghost use Rattle.iol_master.specs.Master.{WasSettled};
+    ghost use Rattle.iol_master.specs.Master.{IsPortNumber, WasSettled};
+    ghost use Rattle.iol_master.specs.Ports.{port_facts};
+    ghost use Rattle.iol_clients.specs.declared.fault.ClientsFault.TheVariants.{DesksFull};
     ghost use Rattle.iol_clients.specs.Counts.{AddsUp, accepted_at, client_state, NotesClientTickets};
+    ghost use Rattle.iol_clients.specs.Submitted.{new_client, SubmitsRead, HasSubmitted};
 
-    /// A client at a new desk of a port. Refused as the master refuses a desk.
+    /// A client at a new desk of a port. Refused by 33 where 1,024 desks are open at the master.
     pub(crate) fn open<W: Wire, K: Ledger, R: Wait>(
         rt: &R,
         alloc: Global,
         master: &Master<W, L, K>,
         port: u32,
-    ) -> Result<Client<L>, MasterFault>
-        ensures { Desks master.now port
-            (result_map_both (λ client. client.desk) (λ why. why) result) }
+    ) -> Result<Client<L>, ClientsFault>
+        requires { IsPortNumber master.now port }
+        ensures opened { IfOk result (λ client. client_state client.desk client.tickets.items
+            ≡ new_client port) }
+        ensures refused { IfErr result (λ why. why ≡ DesksFull) }
     {
-        let desk = master.desk(rt, port)?;
-        Ok(Client {
-            desk,
-            tickets: Vec::new(alloc),
-        })
+        match master.desk(rt, port) {
+            Ok(desk) => Ok(Client {
+                desk,
+                tickets: Vec::new(alloc),
+            }),
+            Err(MasterFault::DesksFull) => Err(ClientsFault::DesksFull),
+            Err(_) => unreachable!(),
+        }
     }
 
     /// Submits so many reads. Refused where a request for memory is.
@@ -53,7 +58,14 @@ impl<L: Ledger> Client<L> {
         rt: &R,
         master: &Master<W, L, K>,
         each: u32,
-    ) -> Result<Client<L>, AllocError> {
+    ) -> Result<Client<L>, AllocError>
+        requires port { IsPortNumber master.now self.desk.port }
+        requires new { client_state self.desk self.tickets.items ≡ new_client self.desk.port }
+        requires few { each ≤ 64 }
+        ensures port { IfOk result (λ client. client.desk.port ≡ self.desk.port) }
+        ensures submitted { IfOk result (λ client. HasSubmitted (port_facts W.facts) each
+            (client_state client.desk client.tickets.items)) }
+    {
         let mut client = self;
         for _ in 0..each {
             client.submit_one(rt, master)?;
@@ -61,23 +73,25 @@ impl<L: Ledger> Client<L> {
         Ok(client)
     }
 
-    /// Submits a read, and keeps its ticket. Where it is refused, there is none, and
-    /// want of memory is told.
+    /// Submits a read, and keeps its ticket. Where it is refused, there is none. Refused for want
+    /// of memory alone.
     fn submit_one<W: Wire, K: Ledger, R: Wait>(
         &mut self,
         rt: &R,
         master: &Master<W, L, K>,
-    ) -> Result<(), AllocError> {
-        if self.tickets.len() >= MOST_TICKETS {
-            return Ok(());
-        }
+    ) -> Result<(), AllocError>
+        requires port { IsPortNumber master.now self.old.desk.port }
+        requires room { vec_len self.old.tickets < 64 }
+        ensures port { self.new.desk.port ≡ self.old.desk.port }
+        ensures more { vec_len self.new.tickets ≤ vec_len self.old.tickets + 1 }
+        ensures submitted { OnOk result (SubmitsRead (port_facts W.facts)
+            (client_state self.old.desk self.old.tickets.items)
+            (client_state self.new.desk self.new.tickets.items)) }
+    {
         self.tickets.reserve(1)?;
         match master.submit(rt, &mut self.desk, Request::read(PLACE)) {
             Ok(ticket) => self.tickets.push_reserved(ticket),
-            Err(MasterFault::Port(PortFault::Book(BookFault::OutOfMemory))) => {
-                return Err(AllocError);
-            }
-            Err(_) => {}
+            Err(why) => pass_over(why)?,
         }
         Ok(())
     }
@@ -116,5 +130,21 @@ impl<L: Ledger> Client<L> {
     {
         let Client { desk, tickets: _ } = self;
         master.settle(rt, desk)
+    }
+}
+
+ghost use Rattle.std.specs.Prelude.{◌≢◌, MatchResult};
+ghost use Rattle.iol_book.specs.declared.fault.BookFault.TheVariants.{OutOfMemory as NoMemory};
+ghost use Rattle.iol_port.specs.declared.fault.PortFault.TheVariants.{Book};
+ghost use Rattle.iol_master.specs.declared.fault.MasterFault.TheVariants.{Port};
+
+/// Passes over why a submit is refused, but for want of memory.
+fn pass_over(why: MasterFault) -> Result<(), AllocError>
+    ensures { MatchResult result (λ _. why ≢ Port (Book NoMemory))
+        (λ _. why ≡ Port (Book NoMemory)) }
+{
+    match why {
+        MasterFault::Port(PortFault::Book(BookFault::OutOfMemory)) => Err(AllocError),
+        _ => Ok(()),
     }
 }

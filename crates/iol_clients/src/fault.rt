@@ -14,6 +14,9 @@ pub enum ClientsFault {
     /// 32: a thread can't be started.
     #[error("NoThread")]
     NoThread,
+    /// 33: a client gets no desk, since 1,024 are open.
+    #[error("DesksFull")]
+    DesksFull,
 }
 
 impl ClientsFault {
@@ -26,6 +29,7 @@ impl ClientsFault {
         match self {
             ClientsFault::OutOfMemory => 24,
             ClientsFault::NoThread => 32,
+            ClientsFault::DesksFull => 33,
         }
     }
 }

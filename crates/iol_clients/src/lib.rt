@@ -4,7 +4,8 @@
 //! of their own submit while its workers make turns, counts what became of the tickets, and tells
 //! what the ports counted.
 //!
-//! Its definitions are `specs/Counts`: the tickets of a port are those done, unknown and waiting.
+//! Its definitions begin in `specs/Served`: which clients there are, what each of them submits
+//! (`Submitted`), and what is counted (`Counts`).
 #![tactic(auto)]
 
 mod client;

@@ -1,10 +1,12 @@
 //! A plan from its ports to its counts.
-ghost use Rattle.std.specs.Prelude.{◌≡◌, List, All, IfOk, vec_len};
-ghost use Rattle.iol_clients.specs.Counts.{AddsUp, ClientsAreServed};
+ghost use Rattle.std.specs.Prelude.{◌≡◌, All, IfOk, vec_len};
+ghost use Rattle.iol_clients.specs.Counts.{AddsUp};
+ghost use Rattle.iol_clients.specs.Served.{ClientsAreServed};
 ghost use Rattle.iol_master.specs.Ledgers.{IsBlankFor};
-ghost use Rattle.iol_sim.specs.Sim.{SimulatedWire};
-ghost use Rattle.iol_sim.specs.declared.beside.Nothing.{Nothing};
-ghost use Rattle.iol_sim.specs.declared.params.ParameterEntry.{ParameterEntry};
+ghost use Rattle.iol_script.specs.Plan.{numbers_of};
+ghost use Rattle.iol_sim.specs.Beside.{plain_facts};
+ghost use Rattle.iol_sim.specs.Params.{Stores};
+ghost use Rattle.iol_sim.specs.Sim.{sim_facts};
 
 use crate::collect::{count_ports, settle_all};
 use crate::counts::MasterCounts;
@@ -30,8 +32,14 @@ use std::thread::Threads;
 /// make as many again. Then each client's tickets are collected, each port tells what it
 /// counted, and each desk is settled.
 ///
-/// Refused by 24 where a request for memory is refused, and by 32 where a thread
-/// can't be started. Threads that were started have then ended.
+/// An `Ok` tells of all clients: so many at each port as the plan says, each of which submitted so
+/// often, whether a ticket was answered or not. The clause says of the turns that each port made so
+/// many. That it made them twice, it can't say, since a lock hides which ones they were: row
+/// `clients/many_some_wait` of tests/rows holds it.
+///
+/// Refused by 24 where a request for memory is refused, a submit's too, by 32 where a thread
+/// can't be started, and by 33 where a client gets no desk. Threads that were started have then
+/// ended.
 pub fn serve_clients<R: Threads + Wait + Sync>(
     rt: &R,
     alloc: Global,
@@ -40,9 +48,8 @@ pub fn serve_clients<R: Threads + Wait + Sync>(
     ensures ports { IfOk result (λ counts. vec_len counts.ports ≡ plan.now.ports) }
     ensures up { IfOk result (λ counts.
         All (λ port. AddsUp port.requests) counts.ports.items) }
-    ensures served { IfOk result (λ counts.
-        ClientsAreServed (SimulatedWire (List ParameterEntry) Nothing) counts.ports.items
-        counts.total) }
+    ensures served { IfOk result
+        (ClientsAreServed (sim_facts (plain_facts Stores)) (numbers_of plan.now)) }
 {
     let ports = u64::from(plan.ports);
     with_ledgers::<Brand, Brand, R>(rt, alloc, plan, Blank::new(1025), Blank::new(ports))
@@ -61,9 +68,8 @@ fn with_ledgers<L: Ledger + Sync, K: Ledger + Sync, R: Threads + Wait + Sync>(
     ensures ports { IfOk result (λ counts. vec_len counts.ports ≡ plan.now.ports) }
     ensures up { IfOk result (λ counts.
         All (λ port. AddsUp port.requests) counts.ports.items) }
-    ensures served { IfOk result (λ counts.
-        ClientsAreServed (SimulatedWire (List ParameterEntry) Nothing) counts.ports.items
-        counts.total) }
+    ensures served { IfOk result
+        (ClientsAreServed (sim_facts (plain_facts Stores)) (numbers_of plan.now)) }
 {
     let ports = open_ports(alloc, plan.ports)?;
     let opened: Result<Master<Sim<Params>, L, K>, _> = Master::open(alloc, ports, clients, tickets);

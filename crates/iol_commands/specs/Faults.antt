@@ -15,3 +15,4 @@ fault_of script.OutOfMemory = fault.OutOfMemory
 abbrev pub clients_fault_of : ClientsFault → ProgramFault
 clients_fault_of clients.OutOfMemory = fault.OutOfMemory
 clients_fault_of clients.NoThread = fault.NoThread
+clients_fault_of clients.DesksFull = fault.NoDesk

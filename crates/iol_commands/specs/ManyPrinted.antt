@@ -1,11 +1,12 @@
 -- What `many` prints.
 use Rattle.std.specs.Prelude.{◌≡◌, ℕ, List, [], ◌++◌, All, Ok, vec_len, flat_map, codes}
 use Rattle.std.specs.List.{enumerate_from}
-use Rattle.iol_sim.specs.Sim.{SimulatedWire}
-use Rattle.iol_sim.specs.declared.beside.Nothing.{Nothing}
-use Rattle.iol_sim.specs.declared.params.ParameterEntry.{ParameterEntry}
+use Rattle.iol_sim.specs.Beside.{plain_facts}
+use Rattle.iol_sim.specs.Params.{Stores}
+use Rattle.iol_sim.specs.Sim.{sim_facts}
 use Rattle.iol_port.specs.declared.counters.Counters.{Counters}
-use Rattle.iol_clients.specs.Counts.{AddsUp, ClientsAreServed}
+use Rattle.iol_clients.specs.Counts.{AddsUp}
+use Rattle.iol_clients.specs.Served.{ClientsAreServed}
 use Rattle.iol_clients.specs.declared.counts.RequestCounts.{RequestCounts}
 use Rattle.iol_clients.specs.declared.counts.PortCounts.{PortCounts}
 use Rattle.iol_clients.specs.declared.counts.MasterCounts.{MasterCounts}
@@ -54,6 +55,5 @@ pub record PrintsCounts (lines : List (ℕ × List ℕ)) (text : List ℕ) : Typ
   pub planned : plan_of lines ≡ Ok plan
   pub ports : vec_len counts.ports ≡ plan.ports
   pub up : All (λ port. AddsUp port.requests) counts.ports.items
-  pub served : ClientsAreServed (SimulatedWire (List ParameterEntry) Nothing) counts.ports.items
-      counts.total
+  pub served : ClientsAreServed (sim_facts (plain_facts Stores)) plan counts
   pub text_is : text ≡ counts_text plan.shown counts

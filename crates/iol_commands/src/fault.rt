@@ -33,6 +33,9 @@ pub enum ProgramFault {
     /// A thread couldn't be started: only `many` says it, which works in threads.
     #[error("no thread")]
     NoThread,
+    /// A client got no desk, which `many` alone says too.
+    #[error("no desk")]
+    NoDesk,
 }
 
 /// A flaw, and among the lines of its kind, counted from 1, the one that has it.
@@ -89,6 +92,7 @@ impl From<ClientsFault> for ProgramFault {
         match fault {
             ClientsFault::OutOfMemory => ProgramFault::OutOfMemory,
             ClientsFault::NoThread => ProgramFault::NoThread,
+            ClientsFault::DesksFull => ProgramFault::NoDesk,
         }
     }
 }

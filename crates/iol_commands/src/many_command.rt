@@ -5,8 +5,8 @@ ghost use Rattle.std.specs.Io.KnownBytes.{Keeps};
 ghost use Rattle.std.specs.String.{string_bytes};
 ghost use Rattle.iol_script.specs.Plan.{plan_of};
 ghost use Rattle.iol_script.specs.Text.{numbered_lines};
-ghost use Rattle.iol_commands.specs.declared.fault.ProgramFault.TheVariants.{Line, NoThread};
-ghost use Rattle.iol_commands.specs.declared.fault.ProgramFault.TheVariants.{OutOfMemory};
+ghost use Rattle.iol_commands.specs.declared.fault.ProgramFault.TheVariants.{Line, NoDesk};
+ghost use Rattle.iol_commands.specs.declared.fault.ProgramFault.TheVariants.{NoThread, OutOfMemory};
 ghost use Rattle.iol_commands.specs.declared.fault.ProgramFault.TheVariants.{WriteFailed};
 ghost use Rattle.iol_commands.specs.ManyPrinted.{PrintsCounts};
 ghost use Rattle.iol_commands.specs.Input.{AnswersInput, OfLines};
@@ -61,7 +61,7 @@ fn served<T: Threads + Wait + Sync>(
         (string_bytes output)) }
     ensures line { (n : ℕ) → result ≡ Err (Line n) → plan_of (numbered_lines input.now) ≡ Err n }
     ensures no_thread { result ≡ Err NoThread → IsOk (plan_of (numbered_lines input.now)) }
-    ensures faults { IfErr result (λ e. (e ≡ OutOfMemory) ⊎ (e ≡ NoThread)
+    ensures faults { IfErr result (λ e. (e ≡ OutOfMemory) ⊎ (e ≡ NoThread) ⊎ (e ≡ NoDesk)
         ⊎ ((n : ℕ) × (e ≡ Line n))) }
 {
     let plan = Plan::read(input)?;

@@ -80,6 +80,7 @@ const TABLE: &str = "\
 33 DesksFull
 24 OutOfMemory
 32 NoThread
+33 DesksFull
 line 7: bad line
 out of memory
 line 7: bad line
@@ -88,6 +89,7 @@ read failed
 write failed
 out of memory
 no thread
+no desk
 ";
 
 /// The rows so far, and whether memory was there for each of them.
@@ -219,7 +221,11 @@ fn add_ports(table: &mut Table) {
     ] {
         table.add(fault.code(), fault);
     }
-    for fault in &[ClientsFault::OutOfMemory, ClientsFault::NoThread] {
+    for fault in &[
+        ClientsFault::OutOfMemory,
+        ClientsFault::NoThread,
+        ClientsFault::DesksFull,
+    ] {
         table.add(fault.code(), fault);
     }
     for fault in &[ScriptFault::Line(7), ScriptFault::OutOfMemory] {
@@ -232,6 +238,7 @@ fn add_ports(table: &mut Table) {
         ProgramFault::WriteFailed,
         ProgramFault::OutOfMemory,
         ProgramFault::NoThread,
+        ProgramFault::NoDesk,
     ] {
         table.add_text(fault);
     }
