@@ -20,12 +20,14 @@ use Rattle.iol_app.specs.Abstract.OfDevice.{Hidden, IsOpen, hidden_through, told
 use Rattle.iol_app.specs.Abstract.Session.{MayMove, MaySession, session_after}
 use Rattle.iol_app.specs.Abstract.Events.{untold_events, MayFrozen, frozen_after}
 use Rattle.iol_app.specs.Abstract.Images.{MayImages, images_after}
-use Rattle.iol_app.specs.Abstract.Shown.{frozen_of, images_of}
+use Rattle.iol_app.specs.Abstract.Shown.{frozen_of, images_of, past_of}
 use Rattle.iol_app.specs.BothEnds.{Resting}
 use Rattle.iol_app.proofs.Given.{Laws, page_locals, page_after, kind_after, sees_kept, misses_passed}
 use Rattle.iol_app.proofs.Parts.{runs-append}
 use Rattle.iol_app.proofs.OwnSession.{SessionRuns, wake_session, exchange_session, own_open, woken_if, woken_as}
 use Rattle.iol_app.proofs.FrozenPart.{FrozenRuns, ConfirmsTold, wake_frozen, exchange_frozen}
+use Rattle.iol_app.proofs.PastPart.{PastRuns, NoneWaits, wake_past, exchange_past, brought_past}
+use Rattle.iol_app.specs.Abstract.Past.{MayPast, past_after}
 use Rattle.iol_app.proofs.ImagesPart.{ImagesRuns, OutputsSent, wake_images, exchange_images}
 use Rattle.iol_app.proofs.Aside.{Aside, wake_aside, exchange_aside}
 use Rattle.iol_app.specs.Requests.{request_under_way}
@@ -72,6 +74,7 @@ module _ (c : CoreState) (g : Ghost) (far : Far) where
     pub session : (m : Moment) → SessionRuns m (seen_in c g) g.request.hidden far.carried steps
         (seen_in c g) hidden far'.carried
     pub frozen : FrozenRuns far.events.frozen g.events.told steps far'.events.frozen told
+    pub past : PastRuns (past_of far) steps (past_of far')
     pub images : (m : Moment) → CallFits (mode_in c.state) m.call
         → ImagesRuns m (images_in c g far) steps (images_of (shown_in c.session g.sent) far')
     pub aside : (ys : List PortStep) → Aside steps ys
@@ -84,7 +87,8 @@ module _ (c : CoreState) (g : Ghost) (far : Far) where
     pub misses : far'.misses_pulses ≡ far.misses_pulses
 
   module _ (laws : Laws) (free : request_under_way c.session.current ≡ None)
-      (opens : IsOpen far.isdu None g.request.hidden) (own : List LocalStep) where
+      (opens : IsOpen far.isdu None g.request.hidden) (none : NoneWaits far.events)
+      (own : List LocalStep) where
     pub opens_seen : IsOpen far.isdu (request_under_way c.session.current) g.request.hidden
     opens_seen = rw free opens
 
@@ -112,6 +116,7 @@ module _ (c : CoreState) (g : Ghost) (far : Far) where
           session = λ m.
               wake_session m (seen_in c g) g.request.hidden far own wakes free opens_seen;
           frozen = wake_frozen far own wakes g.events.told;
+          past = wake_past far own wakes none;
           images = λ m fits.
               wake_images m (shown_in c.session g.sent) far own wakes (rw down at fits);
           aside = wake_aside far own wakes;
@@ -146,6 +151,7 @@ module _ (c : CoreState) (g : Ghost) (far : Far) where
           passage o opens_seen));
       frozen = exchange_frozen None far own passage o g.events.told
           (unconfirming o there (told_through far own g.events.told) unconfirmed);
+      past = exchange_past None far own passage o none;
       images = λ m fits. exchange_images m None (shown_in c.session g.sent) far own passage o sent;
       aside = exchange_aside None far own passage o;
       order = free_order (mode_in c.state) g.request.hidden far own passage o unconfirmed opens;
@@ -235,6 +241,8 @@ module _ (c : CoreState) (g : Ghost) (far : Far) where
               let none : [] ≡ Report events ∷ [] = sym (aside.reports ∙ e.reports) ∙ k in cc;
           session = runs-append (MaySession m) session_after _ _ _ (effect.session m) e.session;
           frozen = runs-append MayFrozen frozen_after _ _ _ effect.frozen e.frozen;
+          past = runs-append MayPast past_after _ _ _ effect.past
+              (brought_past (mode_in c.state) call ys _ e.brings);
           images = runs-append (MayImages m) (images_after m) _ _ _
               (effect.images m fits_call) e.images;
           awake = effect.awake call fits_call silence;

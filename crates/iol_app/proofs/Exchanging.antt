@@ -41,6 +41,8 @@ use Rattle.iol_app.specs.Abstract.Images.{Images, MayImages, images_after}
 use Rattle.iol_app.proofs.Parts.{runs-append}
 use Rattle.iol_app.proofs.OwnSession.{SessionRuns, MayAgain, exchange_session, again_session}
 use Rattle.iol_app.proofs.FrozenPart.{FrozenRuns, exchange_frozen, again_frozen}
+use Rattle.iol_app.proofs.PastPart.{NoneWaits, exchange_past, again_past, brought_past}
+use Rattle.iol_app.specs.Abstract.Past.{MayPast, past_after}
 use Rattle.iol_app.proofs.ImagesPart.{ImagesRuns, OutputsSent, exchange_images, again_images}
 use Rattle.iol_app.specs.Ends.{OutputTold, EventsTold, output_for, SentSeen}
 use Rattle.iol_app.proofs.OpenLevel.{lost_opens, IsTied, tied_locals, again_late, carried_after}
@@ -217,6 +219,7 @@ module _ (turn : Turn) (passage : Passage) where
       pub kept : repeats ≡ false → hidden ≡ own
       pub outputs : OutputTold g.sent (output_for e ≡ None) t.output.told passed
       pub sends : OutputsSent g.sent (locals far steps) o
+      pub none : NoneWaits far.events
 
 module _ (turn : Turn) (passage : Passage) (e : Purpose) (current : Option Current)
     (stands : BothEndsStand (core_out turn.layouts turn.w turn.t e current) turn.g turn.far
@@ -342,6 +345,9 @@ module _ (turn : Turn) (passage : Passage) (e : Purpose) (current : Option Curre
               (told_through far steps g.events.told)
               (told_locals laws.events R (octets_confirm o) steps far g.events.told told_before)))
               (again_frozen request passed.isdu h _ _ _ _ ys b.frozen);
+          past = runs-append MayPast past_after _ _ _
+              (exchange_past request far steps passage o p.none)
+              (again_past request passed.isdu h _ _ ys (brought_past ModeOperate call ys _ b.brings));
           images = runs-append (MayImages m) (images_after m) _ _ _
               (exchange_images m request (shown_in t g.sent) far steps passage o p.sends)
               (again_images m request passed.isdu h _ _ ys b.images);

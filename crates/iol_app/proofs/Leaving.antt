@@ -44,6 +44,7 @@ use Rattle.iol_app.proofs.Shown.{shown_as}
 use Rattle.iol_app.proofs.FirstOctet.{confirms_of}
 use Rattle.iol_app.proofs.StartMessages.{step_channel, page_confirms}
 use Rattle.iol_app.proofs.SmallFacts.{third_time}
+use Rattle.iol_app.proofs.PastPart.{none_waits}
 use Rattle.arrayvec.specs.ArrayVec.{ArrayVec}
 use Rattle.iol_app.specs.Requests.{request_under_way}
 use Rattle.iol_app.specs.State.{SessionState}
@@ -102,7 +103,8 @@ module _ (laws : Laws) (leaves : OrderlyLaws) (heard : TextsAreHeard) (s : Start
   nothing = ap request_under_way stands.joined.0.0
 
   abbrev effect : Effect c g far passed n n'
-  effect = untold_effect c g far laws nothing stands.request.1 x.steps n n' x.passage o
+  effect = untold_effect c g far laws nothing stands.request.1
+      (none_waits far.events x.regular.memory) x.steps n n' x.passage o
       x.silence_is unconfirmed
       (opens_passed g.request.hidden far x.steps x.passage o
       (leaves.holds there o message to_page) stands.request.1)

@@ -4,6 +4,7 @@ pub mod FirstOctet
 pub mod Parts
 pub mod OwnSession
 pub mod FrozenPart
+pub mod PastPart
 pub mod ImagesPart
 pub mod Aside
 pub mod Told

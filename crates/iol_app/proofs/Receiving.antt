@@ -55,6 +55,7 @@ use Rattle.iol_app.proofs.FarSide.{Goes, IsGoing, silent, replied, says_of, outp
 use Rattle.iol_app.proofs.Exchanging.{Turn, Passes, Ends, words, request_words, gives, again, unheard, away, unreported, missed_is, checked_is, misses, unconfirms, loses, at, level_here, tied'}
 use Rattle.iol_app.proofs.Had.{Good, Replied, progress_fits, had}
 use Rattle.iol_app.proofs.Cases.{message}
+use Rattle.iol_app.proofs.PastPart.{none_waits}
 
 unrepeated : (devices : Devices) (hands_over : HandsOver) (size : ℕ) (what : Move) (times : ℕ)
     → (devices ≡ Any → IsOutOnce hands_over size what times)
@@ -188,6 +189,7 @@ module _ (names : TextNamesAnswer) (taken : AnswersAreTakenUp) (laws : Laws)
         outputs = rw (← commands) (outputs_after laws going goes passage there same_page level
             outputs);
         sends = outputs_sent laws going goes there same_page level outputs;
+        none = none_waits far.events x.regular.memory;
       }
 
     by_tries : (b : Bool) → (w.tries == 2) ≡ b → n' ≡ min 3 (n + 1)

@@ -79,6 +79,7 @@ use Rattle.iol_mode.specs.Exchanges.{text_out, mode_after_reply}
 use Rattle.iol_app.proofs.SmallFacts.{third_time}
 use Rattle.iol_app.proofs.Stations.{resting_quiet}
 use Rattle.iol_app.proofs.Leaving.{leaving_rises}
+use Rattle.iol_app.proofs.PastPart.{none_waits}
 use Rattle.iol_app.specs.BothEnds as steps
 use Rattle.iol_app.specs.Abstract.Turn.{may_bring}
 
@@ -324,7 +325,8 @@ module _ {start : Start} {session : SessionState} {g : Ghost} {far far' : Far} {
       goes.sent_at.spells) ∙ page_confirms k.message k.page
 
   abbrev effect : Effect c g far passed n n'
-  effect = untold_effect c g far laws refl rests.opens x.steps n n' x.passage o
+  effect = untold_effect c g far laws refl rests.opens (none_waits far.events x.regular.memory)
+      x.steps n n' x.passage o
       x.silence_is unconfirmed opens
       (outputs_sent laws going goes there page_there level outputs) rests.untold
 

@@ -27,6 +27,7 @@ use Rattle.iol_app.proofs.OwnSession.{woken_if}
 use Rattle.iol_app.proofs.Orderly.{orderly_locals, alike_sent, test_confirms, test_to_page}
 use Rattle.iol_app.proofs.Effects.{Effect, seen_effect, passed_effect, opens_passed, untold_of, gives, loses}
 use Rattle.iol_app.proofs.Shown.{shown_as}
+use Rattle.iol_app.proofs.PastPart.{none_waits}
 use Rattle.iol_app.specs.Requests.{request_under_way}
 use Rattle.iol_app.specs.State.{SessionState}
 use Rattle.iol_app.specs.StationState.{settled_session, waked_session}
@@ -144,10 +145,11 @@ module _ (s : Down) (t : SessionState) (g : Ghost) (far : Far) (silence : ℕ)
         let there : Far = locals far w.steps in
         let is : far' ≡ far_after_wake there = w.far_is
         ∙ ap (λ (b : Bool). woken_if b there) (w.answered_is refl) in
-        rw is (answers there (seen_effect c g far laws free stands.request w.steps silence refl
-        true) _ refl)
+        rw is (answers there (seen_effect c g far laws free stands.request
+        (none_waits far.events w.regular.memory) w.steps silence refl true) _ refl)
     by_seen far' false w = rw w.far_is (fails (woken_if w.wakes (locals far w.steps))
-        (seen_effect c g far laws free stands.request w.steps silence refl w.wakes)
+        (seen_effect c g far laws free stands.request (none_waits far.events w.regular.memory)
+        w.steps silence refl w.wakes)
         t.configuration.devices)
 
     by_unseen : (far' : Far) (answered : Bool) → UnseenWake far answered far'
@@ -156,7 +158,8 @@ module _ (s : Down) (t : SessionState) (g : Ghost) (far : Far) (silence : ℕ)
         let there : Far = locals far w.steps in
         let to_page : IsToPage test_read (page_read 2) = test_to_page heard in
         rw w.far_is (unseen (hear there test_read).far
-        (passed_effect c g far laws free stands.request w.steps silence silence BackLost test_read
+        (passed_effect c g far laws free stands.request (none_waits far.events w.regular.memory)
+        w.steps silence silence BackLost test_read
         (λ call fits silent k. absurd (rw k at fits)) test_confirms
         (opens_passed g.request.hidden far w.steps BackLost test_read
         (leaves.holds there test_read (page_read 2) to_page) stands.request)

@@ -4,6 +4,7 @@ pub mod Steps
 pub mod Session
 pub mod Events
 pub mod Images
+pub mod Past
 pub mod Turn
 pub mod OfDevice
 pub mod OfMaster

@@ -32,9 +32,10 @@ use Rattle.iol_app.specs.Abstract.OfMaster.{is_for_book, book_said, reports_said
 use Rattle.iol_app.specs.Abstract.Session.{Session, MaySession, session_after}
 use Rattle.iol_app.specs.Abstract.Events.{Frozen, MayFrozen, frozen_after}
 use Rattle.iol_app.specs.Abstract.Images.{Images, MayImages, images_after, image_or}
+use Rattle.iol_app.specs.Abstract.Past.{MayPast, past_after}
 use Rattle.iol_app.specs.Abstract.OfDevice.{Hidden, IsOpen}
 use Rattle.iol_app.specs.Abstract.Shown.{MasterFields}
-use Rattle.iol_app.specs.Abstract.Shown.{ShownProcessData, session_of, frozen_of, images_of}
+use Rattle.iol_app.specs.Abstract.Shown.{ShownProcessData, session_of, frozen_of, images_of, past_of}
 use Rattle.iol_app.specs.BothEnds.{AnswerFits, WaitsElsewhere, ReadingState, wants_confirm, wants_octet}
 use Rattle.iol_app.specs.BothEnds as steps
 use Rattle.iol_app.specs.Exchange.{reading_flagged, is_output_told, hidden_lost}
@@ -358,7 +359,7 @@ TermsStay c next g after = (next.session.limit ≡ c.session.limit) × (after.pa
     × (next.session.configuration ≡ c.session.configuration) × (after.kind ≡ g.kind)
 
 -- one call of the wire, and one list of steps, each allowed where it is taken, whose effects on the
--- three parts of the abstract port are what happened; and both ends stand together afterwards
+-- four parts of the abstract port are what happened; and both ends stand together afterwards
 pub record CallGives (c : CoreState) (g : Ghost) (far : Far) (silence : ℕ) (said : Said)
     (next : CoreState)
     (far_new : Far) (silence_new : ℕ) : Type 0 where
@@ -377,6 +378,7 @@ pub record CallGives (c : CoreState) (g : Ghost) (far : Far) (silence : ℕ) (sa
       TakesSteps (MaySession (moment_of c g silence call)) session_after (session_in c g far) steps
       (session_in next after far_new)
   pub frozen : TakesSteps MayFrozen frozen_after (frozen_in g far) steps (frozen_in after far_new)
+  pub past : TakesSteps MayPast past_after (past_of far) steps (past_of far_new)
   pub images :
       TakesSteps (MayImages (moment_of c g silence call))
       (images_after (moment_of c g silence call))

@@ -9,7 +9,7 @@ use crate::app::App;
 use crate::data::{copy_of, message_of, take_image};
 use crate::fault::DeviceFault;
 use crate::isdu::{IsduSide, is_kind_of};
-use crate::record::{Kept, Record};
+use crate::record::{Kept, Record, Unkept};
 use iol_event::{Event, EventMemory};
 use iol_far::{
     Carried, DeviceMode, Kind, ModeCommand, command_in, flow_of, is_confirm, message_in, mode_asked,
@@ -46,6 +46,8 @@ pub(crate) struct FarEnd<R: Record = Kept> {
     cycle_time: u8,
     misses_pulses: bool,
     carried: R,
+    /// Its history.
+    past: Unkept,
 }
 
 impl<R: Record> Model for FarEnd<R> {
@@ -71,6 +73,7 @@ impl<R: Record> Model for FarEnd<R> {
       cycle_time = d.cycle_time;
       carried = R.carried d.carried;
       room = R.room d.carried;
+      history = d.past.noted.history;
     } };
 
     ghost invariant = { λ d. IsSound d.page d.mode d.layouts d.layout d.isdu.size d.input d.out };
@@ -121,6 +124,7 @@ impl<R: Record> FarEnd<R> {
             cycle_time: 0,
             misses_pulses: false,
             carried,
+            past: Unkept::new(),
         }
     }
 
@@ -587,7 +591,9 @@ impl<R: Record> FarEnd<R> {
     {
         self.events
             .raise(event)
-            .map_err(|_| DeviceFault::MemoryFull)
+            .map_err(|_| DeviceFault::MemoryFull)?;
+        self.past = self.past.with_history(&event);
+        Ok(())
     }
 
     /// Whether an image can be the input.
@@ -613,6 +619,7 @@ impl<R: Record> FarEnd<R> {
             return Err(DeviceFault::WrongImageLength);
         }
         self.input = Some(copy_of(image));
+        self.past = self.past.with_history(image);
         Ok(())
     }
 
@@ -621,6 +628,7 @@ impl<R: Record> FarEnd<R> {
         ensures { self.new ≡ local self.old LocalStep.NoInput }
     {
         self.input = None;
+        self.past = self.past.with_history(&());
     }
 
     /// The power fails and comes back.
@@ -634,6 +642,7 @@ impl<R: Record> FarEnd<R> {
         self.events.clear();
         self.input = None;
         self.valid = false;
+        self.past = self.past.with_history(&());
     }
 
     /// A wake-up request came.

@@ -5,6 +5,8 @@ ghost use Rattle.iol_isdu.specs.declared.values.Answer.{Answer};
 ghost use Rattle.iol_far.specs.declared.carried.Carried.{Carried};
 ghost use Rattle.iol_far.specs.Level.{grown_by};
 ghost use Rattle.iol_far.specs.Record.{takes_more};
+ghost use Rattle.iol_far.specs.History.{HistoryEntry};
+ghost use Rattle.iol_device.specs.Record.{Noted, nothing_noted};
 ghost use base.Fml.{ftrue};
 
 use iol_far::Carried;
@@ -90,10 +92,11 @@ impl<A: Allocator + Copy> Record for Kept<A> {
     }
 }
 
-/// A record without bound that takes no memory: clauses alone know it.
+/// What clauses alone know, at no cost of memory: a record without bound, or what else happened
+/// at a device.
 pub struct Unkept {
     marker: PhantomData<u8>,
-    pub ghost pairs: { List Carried },
+    pub ghost noted: { Noted },
 }
 
 impl Model for Unkept {
@@ -101,10 +104,10 @@ impl Model for Unkept {
 }
 
 impl Unkept {
-    /// The record that the caller names; its name may speak of `near`.
+    /// What the caller says; it may speak of `near`.
     pub(crate) fn of<T>(near: &T) -> Unkept
-        ghost pairs: { List Carried }
-        ensures { result.pairs ≡ pairs }
+        ghost noted: { Noted }
+        ensures { result.noted ≡ noted }
     {
         let _ = near;
         Unkept {
@@ -112,18 +115,28 @@ impl Unkept {
         }
     }
 
-    /// An empty record.
+    /// Nothing yet.
     pub(crate) fn new() -> Unkept
-        ensures { result.pairs ≡ [] }
+        ensures { result.noted ≡ nothing_noted }
     {
         Unkept::of(&())
     }
 
     /// The record with one more pair.
     fn grown_by(&self, request: &Request, answer: &Answer) -> Unkept
-        ensures { result.pairs ≡ grown_by self.now.pairs request.now answer.now }
+        ensures { result.noted ≡ record self.now.noted {
+          carried = grown_by self.now.noted.carried request.now answer.now;
+        } }
     {
         Unkept::of(&(self, request, answer))
+    }
+
+    /// With this history.
+    pub(crate) fn with_history<T>(&self, near: &T) -> Unkept
+        ghost history: { List HistoryEntry }
+        ensures { result.noted ≡ record self.now.noted { history = history } }
+    {
+        Unkept::of(&(self, near))
     }
 }
 
@@ -139,7 +152,7 @@ unsafe impl Send for Unkept {}
 unsafe impl Sync for Unkept {}
 
 impl Record for Unkept {
-    ghost carried = { λ r. r.pairs };
+    ghost carried = { λ r. r.noted.carried };
 
     ghost room = { λ r. None };
 

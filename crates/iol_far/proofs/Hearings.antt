@@ -8,14 +8,15 @@ use Rattle.std.specs.Prelude.{Option, Some, None, IfSome, IsTrue, if◌then◌el
 use Rattle.iol_mseq.specs.Shape.{Shape}
 use Rattle.iol_mseq.specs.declared.master.MasterMsg.{MasterMsg}
 use Rattle.iol_event.specs.declared.event.Event.{Event}
-use Rattle.iol_event.specs.Memory.{events_after_raise, Events}
+use Rattle.iol_event.specs.Memory.{Events}
 use Rattle.iol_isdu.specs.declared.values.Request.{Request}
 use Rattle.iol_isdu.specs.declared.values.Answer.{Answer}
 use Rattle.iol_far.specs.declared.mode.DeviceMode.{DeviceMode}
 use Rattle.iol_far.specs.Codec.{message_in, layout_in}
 use Rattle.iol_far.specs.Isdu.{IsduState, Handed, Answered, fits}
 use Rattle.iol_far.specs.Far.{Far, WaitingCommand, HearResult, layout_of, accepted_message, accepted_by, far_in_mode, far_after_message, hear, heard_as, with_reply}
-use Rattle.iol_far.specs.Local.{LocalStep, Carry, Raise, Input, NoInput, Power, local, carried_by, has_room, is_input}
+use Rattle.iol_far.specs.History.{HistoryEntry}
+use Rattle.iol_far.specs.Local.{LocalStep, Carry, Raise, Input, NoInput, Power, local, with_input, carried_by, has_room, is_input}
 use Rattle.iol_far.specs.Level.{grown_by, Happening, Own, Hears, far_after_all, hearings, FarLink, accepting_link, turned_link}
 use Rattle.iol_far.specs.Linked.{IsAt, IsLinked, LinkSays, LinkLaws}
 use Rattle.iol_far.specs.declared.carried.Carried.{Carried}
@@ -95,9 +96,9 @@ accepted_again o m g awake mine reads = grind (arith, common_steps, bytes_same o
 module _ (P : Far → Type 0) (g : Far)
     (carries : (q : Request) (a : Answer) → g.isdu ≡ Handed q → IsTrue (fits q a)
     → P (record g { isdu = Answered q a None; carried = grown_by g.carried q a }))
-    (raises : (e : Event) → P (record g { events = events_after_raise g.events e }))
+    (raises : (e : Event) → P (local g (Raise e)))
     (inputs : (image : Option (List ℕ)) → IfSome image (λ octets. is_input g octets ≡ true)
-    → P (record g { input = image }))
+    → P (with_input g image))
     (power : P (local g Power)) where
   keeps_carried : (a : Answer) (s : IsduState) → g.isdu ≡ s → P g → P (carried_by s g a)
   keeps_carried a (Handed q) e h = cond_both (has_room g && fits q a) _ _ P
@@ -151,8 +152,14 @@ there_by (Some w) g o = if bytes_eq o w.octets then g else far_in_mode g w.into
 
 -- local steps but a power cycle change neither the link nor whether it is awake
 pub at_beside : {page : List ℕ} {link : FarLink} {g : Far} {s : IsduState} {carried : List Carried}
-    {events : Events} {input : Option (List ℕ)} → IsAt page link g
-    → IsAt page link (record g { isdu = s; carried = carried; events = events; input = input })
+    {events : Events} {input : Option (List ℕ)} {history : List HistoryEntry} → IsAt page link g
+    → IsAt page link (record g {
+      isdu = s;
+      carried = carried;
+      events = events;
+      input = input;
+      history = history;
+    })
 at_beside h = record { awake = h.awake; page_is = h.page_is; link_is = h.link_is }
 
 module _ (page : List ℕ) (link : FarLink) (o : List ℕ) (m : MasterMsg)

@@ -19,6 +19,7 @@ use Rattle.iol_far.specs.Codec.{layout_in, flow_of}
 use Rattle.iol_far.specs.Isdu.{Empty, Handed, Answered, isdu_data, fits}
 use Rattle.iol_far.specs.Far.{Far, isdu_after, counted_after, far_after_message, HearResult, hear, heard_as, with_reply}
 use Rattle.iol_far.specs.Local.{LocalStep, local}
+use Rattle.iol_far.specs.History.{HistoryEntry}
 use Rattle.iol_far.specs.Level.{IsIdle, Move, Begin, FarLink, accepting_link, turned_link, Happening, Own, Hears, far_after_all, hearings, base_after, Progress, Clear, Perhaps, Stands, IsGrown, IsMove, RecallsAtLeast, hands_whole, IsOutOnce, IsSent, under_way, HasIsduFor, IsLevelBefore, IsLevel, grown_by}
 use Rattle.iol_far.specs.Laws.{LevelLaws, ReplySays}
 use Rattle.iol_far.proofs.Standing.{request_long, Mid, Needs, Leaves, first_hear, whole_hear, again_hear, mid_done, stands_done, mid_grown, stands_grown, begins_by, needs_of, isdu_next, under_way_grown}
@@ -204,11 +205,12 @@ module _ (page : List ℕ) (kind : Kind) (size : ℕ) (texts : TextLaws size)
       let now_is = same once in mid_grown_here g (rw now_is at mid)
 
   during_beside : {times : ℕ} {g : Far} (events : Events) (input : Option (List ℕ))
-      → During times g → During times (record g { events = events; input = input })
-  during_beside events input (asleep w i k) = asleep w i k
-  during_beside events input (unheard h) =
+      (history : List HistoryEntry) → During times g
+      → During times (record g { events = events; input = input; history = history })
+  during_beside events input history (asleep w i k) = asleep w i k
+  during_beside events input history (unheard h) =
       unheard (before_by (at_beside (before_at h)) h.kind_is h.isdu h.stands)
-  during_beside events input (heard low at k i now same mid) =
+  during_beside events input history (heard low at k i now same mid) =
       heard low (at_beside at) k i now same mid
 
   -- the application answers
@@ -228,8 +230,8 @@ module _ (page : List ℕ) (kind : Kind) (size : ℕ) (texts : TextLaws size)
       → During times (local g step)
   during_local {times} g step d =
       keeps_local (During times) g (λ q a e f. during_done q a e f d)
-      (λ e. during_beside (events_after_raise g.events e) g.input d)
-      (λ image f. during_beside g.events image d)
+      (λ e. during_beside (events_after_raise g.events e) g.input _ d)
+      (λ image f. during_beside g.events image _ d)
       (asleep refl refl (during_grown d)) step d
 
   during_happened : (most : ℕ) (rest : List Happening) (times : ℕ) (g : Far)

@@ -17,6 +17,7 @@ use Rattle.iol_far.specs.declared.mode.DeviceMode.TheVariants.{Startup, Preopera
 use Rattle.iol_far.specs.declared.carried.Carried.{Carried}
 use Rattle.iol_far.specs.declared.kind.Kind.{Kind}
 use Rattle.iol_far.specs.declared.kind.HandsOver.{HandsOver}
+use Rattle.iol_far.specs.History.{HistoryEntry}
 use Rattle.iol_far.specs.Isdu.{IsduState, Empty, isdu_read, isdu_data, own, remaining_isdu, written_by, counted_by}
 use Rattle.iol_far.specs.Codec.{layout_in, message_in, reply_octets, flow_of}
 
@@ -50,6 +51,8 @@ pub record Far : Type 0 where
   -- what was carried out, and the most that this may be, where there is a most
   pub carried : List Carried
   pub room : Option ℕ
+  -- what else happened at it by itself
+  pub history : List HistoryEntry
 
 -- the layout that it speaks
 abbrev pub layout_of : Far → Shape
@@ -73,6 +76,7 @@ opened_as kind page room = record {
   cycle_time = 0;
   carried = [];
   room = room;
+  history = [];
 }
 
 -- the same of our own kind

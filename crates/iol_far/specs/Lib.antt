@@ -1,6 +1,7 @@
 pub mod Codec
 pub mod Isdu
 pub mod Record
+pub mod History
 pub mod Far
 pub mod Local
 pub mod Level

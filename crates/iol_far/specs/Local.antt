@@ -8,6 +8,7 @@ use Rattle.iol_far.specs.declared.mode.DeviceMode.TheVariants.{Startup, Operate}
 use Rattle.iol_far.specs.Isdu.{IsduState, Empty, Handed, Answered, fits, handed_request}
 use Rattle.iol_far.specs.Codec.{layout_in}
 use Rattle.iol_far.specs.Record.{takes_more}
+use Rattle.iol_far.specs.History.{history_after_raise, history_after_input, history_after_power_cycle}
 use Rattle.iol_far.specs.Far.{Far}
 
 -- DEV-16
@@ -56,15 +57,28 @@ input_size far = (layout_in far.page Operate).pd_in
 abbrev pub is_input : Far → List ℕ → Bool
 is_input far image = not (input_size far == 0) && (length image == input_size far)
 
+abbrev pub with_input : Far → Option (List ℕ) → Far
+with_input far input =
+    record far { input = input; history = history_after_input input far.history }
+
 -- the far end after the step, unchanged where that can't be done
 -- DEV-16
 abbrev pub local : Far → LocalStep → Far
 local far (Carry answer) = carried_by far.isdu far answer
-local far (Raise event) = record far { events = events_after_raise far.events event }
-local far (Input image) = if is_input far image then record far { input = Some image } else far
-local far NoInput = record far { input = None }
-local far Power =
-    record far { awake = false; isdu = Empty; events = no_events; input = None; valid = false }
+local far (Raise event) = record far {
+  events = events_after_raise far.events event;
+  history = history_after_raise far.events event far.history;
+}
+local far (Input image) = if is_input far image then with_input far (Some image) else far
+local far NoInput = with_input far None
+local far Power = record far {
+  awake = false;
+  isdu = Empty;
+  events = no_events;
+  input = None;
+  valid = false;
+  history = history_after_power_cycle far.history;
+}
 
 abbrev pub locals : Far → List LocalStep → Far
 locals far [] = far

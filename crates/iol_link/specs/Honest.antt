@@ -74,6 +74,7 @@ pub record HonestExchange (far : Far) (silence : ℕ) (sent : List ℕ) (answer 
 -- answered only where it took effect
 -- WIRE-3
 pub record SeenWake (far : Far) (answered : Bool) (far_new : Far) : Type 0 where
+  pub regular : IsRegular far
   pub steps : List LocalStep
   pub wakes : Bool
   pub far_is : far_new ≡ (if wakes then far_after_wake (locals far steps) else locals far steps)
@@ -87,6 +88,7 @@ test_read = 0xA2 ∷ 0x00 ∷ []
 -- holds; a rate is answered only where its layout has a reply
 -- WIRE-3
 pub record UnseenWake (far : Far) (answered : Bool) (far_new : Far) : Type 0 where
+  pub regular : IsRegular far
   pub misses : far.misses_pulses ≡ true
   pub orderly : IsOrderly far
   pub steps : List LocalStep

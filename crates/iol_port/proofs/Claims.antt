@@ -1,5 +1,8 @@
 -- The claim holds of each port: for the clauses `claim` of `run` and `keeps_record`.
-use Rattle.std.proofs.Common.{List, [], ◌++◌, refl, map, append-nil}
+use Rattle.std.proofs.Common.{◌≡◌, Bool, List, [], ◌∷◌, ◌++◌, refl, sym, map, append-nil}
+use Rattle.iol_event.specs.declared.event.Event.{Event}
+use Rattle.iol_app.specs.Abstract.Events.{frozen_events}
+use Rattle.iol_app.specs.Abstract.Shown.{frozen_of}
 use Rattle.iol_link.specs.WireFacts.{WireFacts}
 use Rattle.iol_port.specs.declared.call.Call.{Call}
 use Rattle.iol_port.specs.declared.call.Answered.{Answered}
@@ -8,8 +11,16 @@ use Rattle.iol_port.specs.Claim.{Claim, Has, opened_with}
 use Rattle.iol_port.specs.View.{PortOver, Opening, OpensWell, StandsOver, IsRun, Runs}
 use Rattle.iol_port.proofs.OwnerRuns.{each_done_has_its_pair, opened_sound, runs_sound}
 use Rattle.iol_port.proofs.PieceLemmas.{runs_join}
+use Rattle.iol_port.proofs.HistoryRuns.{each_fits_history}
+
+frozen_are : (events : List Event) (told : Bool)
+    → frozen_events (frozen_of events told) ≡ events
+frozen_are [] told = refl
+frozen_are (event ∷ events) told = refl
 
 module _ {W : Type 0} (facts : WireFacts W) (o : Opening W) (q : PortOver W) where
+  open facts use {far}
+
   has_it : (a : PortState) → StandsOver facts q a → Has facts a q
   has_it a (up, stands) = let (c, shows, same) = stands in rw same
       record {
@@ -20,6 +31,13 @@ module _ {W : Type 0} (facts : WireFacts W) (o : Opening W) (q : PortOver W) whe
         output = refl;
         awake = refl;
         carried = refl;
+        history = refl;
+        waiting = refl;
+        frozen = sym (frozen_are (far q.wire).events.frozen c.ghost.events.told);
+        mode = refl;
+        why = refl;
+        wanted = refl;
+        page = refl;
       }
 
   holds : (earlier calls : List Call) (answered replies : List Answered) (b : PortState)
@@ -31,6 +49,8 @@ module _ {W : Type 0} (facts : WireFacts W) (o : Opening W) (q : PortOver W) whe
     port = b;
     run = run;
     has = has_it b stands;
+    history = each_fits_history o.devices o.limits o.far o.silence
+        (map Whole (earlier ++ calls)) (answered ++ replies) b run;
     carries = each_done_has_its_pair o.devices o.limits o.far o.silence
         (map Whole (earlier ++ calls)) (answered ++ replies) b run;
     in_order = (runs_sound (opened_with o) b (earlier ++ calls) (answered ++ replies) run

@@ -152,6 +152,7 @@ goes_out {start = start} {after = after} {made = made} p next far n u none kept 
           owners = refl;
           frozen = s.frozen;
           kept = kept;
+          past = refl;
           silence = refl;
           terms = terms_of s.terms;
           pending = refl;
@@ -240,6 +241,7 @@ module _ (p next : PortParts) (far far' : Far) (n n' : ℕ) (said : Said) (free 
               was_frozen = x.was_frozen;
               kept = sym (settles.keeps
                   ∙ (rw (← x.said_reports) (sym (kept_through-filter x.steps p.kept))));
+              past = x.past;
             };
             images = record {
               images = x.images;

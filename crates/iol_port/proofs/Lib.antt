@@ -4,6 +4,7 @@ pub mod PieceLemmas
 pub mod PairLists
 pub mod OwnerSteps
 pub mod OwnerRuns
+pub mod HistoryRuns
 pub mod CallLemmas
 pub mod Filters
 pub mod TurnLemmas

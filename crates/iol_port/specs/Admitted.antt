@@ -24,7 +24,7 @@ pub record TurnParts : Type 0 where
 abbrev pub part_steps : TurnParts → List PortStep
 part_steps parts = parts.own ++ parts.heard ++ parts.brought
 
--- by which a turn is judged, but for the book and the owners
+-- by which a turn is judged, but for the book, the owners and the device's history
 pub record MayTurn (m : Moment) (parts : TurnParts) (s t : Session) (f g : Option Frozen)
     (i j : Images) : Type 0 where
   pub fits : CallFits m.began m.call

@@ -1,5 +1,7 @@
 -- The claim, in one record: what those who use a port may rely on over a lossy line.
-use Rattle.std.specs.Prelude.{◌≡◌, List, ◌++◌, map}
+use Rattle.std.specs.Prelude.{◌≡◌, List, ◌++◌, map, option_map}
+use Rattle.iol_app.specs.Abstract.Events.{frozen_events}
+use Rattle.iol_app.specs.StationState.{mode_in, why_in}
 use Rattle.iol_far.specs.Far.{output_of}
 use Rattle.iol_link.specs.WireFacts.{WireFacts}
 use Rattle.iol_port.specs.declared.call.Call.{Call}
@@ -8,6 +10,7 @@ use Rattle.iol_port.specs.Run.{PortState, Whole, Run, port_at_opening}
 use Rattle.iol_port.specs.Owners.{allowance_of}
 use Rattle.iol_port.specs.Sound.{RecordFits}
 use Rattle.iol_port.specs.CarriesOut.{CarriesOut}
+use Rattle.iol_port.specs.History.{FitsHistory}
 use Rattle.iol_port.specs.View.{PortOver, Opening}
 
 -- the abstract port with which a port begins
@@ -18,7 +21,8 @@ module _ {W : Type 0} (facts : WireFacts W) where
   open facts use {far}
 
   -- what an abstract port has of this is what is there: the book, the events that are kept, the
-  -- images, and what the device carried out
+  -- images, the mode, the page that was read; what the device carried out, and what else happened
+  -- at it
   pub record Has (a : PortState) (q : PortOver W) : Type 0 where
     pub book : q.parts.book.state ≡ a.book
     pub kept : q.parts.kept ≡ a.kept
@@ -27,12 +31,21 @@ module _ {W : Type 0} (facts : WireFacts W) where
     pub output : output_of (far q.wire) ≡ a.images.output
     pub awake : (far q.wire).awake ≡ a.images.awake
     pub carried : (far q.wire).carried ≡ a.session.carried
+    pub history : (far q.wire).history ≡ a.past.history
+    pub waiting : (far q.wire).events.waiting ≡ a.past.waiting
+    pub frozen : (far q.wire).events.frozen ≡ frozen_events a.frozen
+    pub mode : mode_in q.parts.core.state ≡ a.session.mode
+    pub why : why_in q.parts.core.state ≡ a.session.why
+    pub wanted : q.parts.core.session.output.wanted ≡ a.images.wanted
+    pub page : option_map (λ known. known.page) q.parts.core.session.present ≡ a.images.page
 
   -- All calls since the opening, these the last of them, with what each answered are a run of an
   -- abstract port, which has what is there. The device carried out only whole requests of these
   -- calls, each at most once, in the order taken; and each Done tells its answer to that very
   -- request. Otherwise is only what the allowance says, which is none at a port for any device. The
   -- journal has the requests that were taken since it began, which all ended but the one under way.
+  -- Each event that was reported was raised at the device, each image was its input at some moment
+  -- of what happened there, and its output is one that a client set.
   --
   -- A run may still choose these, and nothing else. What the device does by itself, and when: it
   -- answers a request that it was handed, or is busy with it; it freezes events; its input changes;
@@ -47,6 +60,8 @@ module _ {W : Type 0} (facts : WireFacts W) where
     pub port : PortState
     pub run : Run (opened_with o) (earlier ++ calls) (answered ++ replies) port
     pub has : Has port q
+    pub history :
+        FitsHistory (opened_with o) (map Whole (earlier ++ calls)) (answered ++ replies) port
     pub carries :
         CarriesOut (opened_with o) (map Whole (earlier ++ calls)) (answered ++ replies) port
     pub in_order : RecordFits (allowance_of port.terms) port.book port.session port.owners

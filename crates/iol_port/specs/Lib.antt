@@ -16,6 +16,7 @@ pub mod Turns
 pub mod Clean
 pub mod Owners
 pub mod CarriesOut
+pub mod History
 pub mod Claim
 pub mod Denials
 pub mod CorePort

@@ -7,6 +7,7 @@ ghost use Rattle.iol_port.specs.Promises.{CancelledWasAsked, AskedByCancel};
 ghost use Rattle.iol_port.specs.Clean.{CleanLaws};
 ghost use Rattle.iol_port.specs.Denials.{CarriesNone, IsDeniedWithoutIsdu};
 ghost use Rattle.iol_port.specs.CarriesOut.{EachDoneHasItsPair, LateEnds, CutForGoodStaysOut};
+ghost use Rattle.iol_port.specs.History.{EachFitsHistory, EachIsReportedOnce};
 
 use iol_far::{modes_have_layouts, page_and_room_stay, replies_are_read, requests_are_received};
 use iol_isdu::one_text_each;
@@ -71,6 +72,26 @@ pub fn turns_admit()
     ensures shows { InputsAreShown }
     ensures reads { RightPagesAreRead }
     ensures leads { PagesLeadOn }
+{}
+
+/// A law of the definitions, over whole runs of a port that is opened, and over their pieces: what
+/// is said of events, images and outputs is of what happened at the device.
+///
+/// The device's history goes on by some entries: each event that was raised and taken, each input
+/// that was set, each power cycle, in order. Each event that the port reported was raised in them,
+/// or was in the device's memory when the port was opened. Each image that was handed out was the
+/// input at a moment of them. The output that the device has is one that a client set, or the one
+/// that it had at the opening.
+///
+/// In a run in which nothing that was reported counts as unreported again, each event is reported
+/// at most once, in the order of raising. It counts so behind a wake or a reset of the device, and,
+/// at a port for any device, where a confirm had no good reply: then it may come once more.
+///
+/// Rule EVT-9.
+#[tactic(auto, using(crate::proofs::HistoryRuns::each_fits_history, crate::proofs::HistoryRuns::each_is_reported_once))]
+pub fn runs_fit_history()
+    ensures fits { EachFitsHistory }
+    ensures once { EachIsReportedOnce }
 {}
 
 /// A law of the definitions: the two pieces of a turn, with no call between, are that turn.

@@ -26,10 +26,12 @@ own_steps {P} gives (Some request) old before new after h = split (has_room old)
 
 module _ {P : Type 0} (gives : Gives P) (old : Far) (before : P) (worked : Far) (after : P)
     (work : IsCarriedOut gives (handed_request old.isdu) old before worked after) where
-  pub woken_is_honest : (new : Far) → new ≡ far_after_wake worked → HonestWake old true new
-  woken_is_honest new woke =
+  pub woken_is_honest : (new : Far) → IsRegular old → new ≡ far_after_wake worked
+      → HonestWake old true new
+  woken_is_honest new regular woke =
       let made = own_steps gives (handed_request old.isdu) old before worked after work in
       inl (record {
+        regular = regular;
         steps = made.0;
         wakes = true;
         far_is = woke ∙ ap far_after_wake made.1;

@@ -41,6 +41,7 @@ fn port_to(alloc: Global, device: &Device<Parameter>) -> Result<HonestPort, Port
 fn wake<P: App>(device: &mut Device<P>)
     ensures { HonestWake device.old.far true device.new.far }
 {
+    device.parts_are_regular();
     device.work();
     device.wake();
 }

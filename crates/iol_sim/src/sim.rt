@@ -578,6 +578,7 @@ impl<P: App, A: Allocator + Copy, B: Beside<P>> Wire for Sim<P, A, B> {
 
     fn wake(&mut self) -> Option<Rate> {
         page_and_room_stay();
+        self.here.parts_are_regular();
         let orderly = self.here.is_orderly();
         let fate = self.prepare();
         self.make_wake(fate, orderly)

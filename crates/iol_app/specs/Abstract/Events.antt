@@ -1,5 +1,5 @@
 -- The events that the device has frozen: where each step is allowed, and what it does.
-use Rattle.std.specs.Prelude.{◌≡◌, ◌≤◌, Bool, true, false, List, length, Option, Some, None, IsSomeAnd, ⊤}
+use Rattle.std.specs.Prelude.{◌≡◌, ◌≤◌, Bool, true, false, if◌then◌else◌, List, [], length, Option, Some, None, IsSomeAnd, ⊤}
 use Rattle.iol_event.specs.declared.event.Event.{Event}
 use Rattle.iol_app.specs.Abstract.Steps.{PortStep, Freeze, Report, Confirm, Untell, PowerLoss, Start, Reset}
 
@@ -7,6 +7,15 @@ use Rattle.iol_app.specs.Abstract.Steps.{PortStep, Freeze, Report, Confirm, Unte
 pub record Frozen : Type 0 where
   pub events : List Event
   pub told : Bool
+
+-- the events that are frozen, and those of them that were not reported
+abbrev pub frozen_events : Option Frozen → List Event
+frozen_events None = []
+frozen_events (Some frozen) = frozen.events
+
+abbrev pub unreported_events : Option Frozen → List Event
+unreported_events None = []
+unreported_events (Some frozen) = if frozen.told then [] else frozen.events
 
 abbrev pub MayFrozen : PortStep → Option Frozen → Type 0
 MayFrozen (Freeze events) f = (f ≡ None) × (1 ≤ length events) × (length events ≤ 6)

@@ -6,12 +6,12 @@ use Rattle.iol_mseq.specs.declared.master.MasterMsg.{MasterMsg}
 use Rattle.iol_isdu.specs.declared.values.Request.{Request}
 use Rattle.iol_isdu.specs.declared.values.Answer.{Answer}
 use Rattle.iol_event.specs.declared.event.Event.{Event}
-use Rattle.iol_event.specs.Memory.{Events, is_empty, freezes_at_once}
+use Rattle.iol_event.specs.Memory.{Events, is_empty, is_full, freezes_at_once}
 use Rattle.iol_far.specs.Isdu.{IsduState, Handed, fits}
 use Rattle.iol_far.specs.Far.{Far, accepted_message, far_after_message, is_confirm, output_of}
 use Rattle.iol_far.specs.Local.{LocalStep, local, locals, has_room, is_input, Carry as OwnCarry, Raise as OwnRaise, Input as OwnInput, NoInput as OwnNoInput, Power as OwnPower}
 use Rattle.iol_link.specs.Honest.{Passage, OutLost, BackLost, Clean}
-use Rattle.iol_app.specs.Abstract.Steps.{PortStep, Carry, Again, LateCarry, Freeze, Confirm, OutputOn, OutputOff, Input, PowerLoss, ImageOctets}
+use Rattle.iol_app.specs.Abstract.Steps.{PortStep, Carry, Again, LateCarry, Raise, Freeze, Confirm, OutputOn, OutputOff, Input, PowerLoss, ImageOctets}
 use Rattle.iol_app.specs.Abstract.Session.{unanswered_request}
 
 -- the answer that the device gave to the request under way, and a request that was
@@ -44,7 +44,8 @@ carry_steps request (Handed held) far answer =
 carry_steps request state far answer = []
 
 abbrev pub raise_steps : Events → Event → List PortStep
-raise_steps memory event = if freezes_at_once memory then Freeze (event ∷ []) ∷ [] else []
+raise_steps memory event = if is_full memory then [] else
+    Raise event ∷ (if freezes_at_once memory then Freeze (event ∷ []) ∷ [] else [])
 
 abbrev pub own_step : Option Request → Far → LocalStep → List PortStep
 own_step request far (OwnCarry answer) = carry_steps request far.isdu far answer

@@ -11,6 +11,7 @@ use Rattle.iol_app.specs.Abstract.Steps.{ImageOctets}
 use Rattle.iol_app.specs.Abstract.Session.{Job, Session}
 use Rattle.iol_app.specs.Abstract.Events.{Frozen}
 use Rattle.iol_app.specs.Abstract.Images.{Images}
+use Rattle.iol_app.specs.Abstract.Past.{Past}
 use Rattle.iol_app.specs.Abstract.OfDevice.{Hidden}
 
 -- what the master's fields say of the request under way, and of the link
@@ -53,6 +54,9 @@ session_of seen hidden carried =
 abbrev pub frozen_of : List Event → Bool → Option Frozen
 frozen_of [] told = None
 frozen_of (event ∷ events) told = Some (record { events = event ∷ events; told = told })
+
+abbrev pub past_of : Far → Past
+past_of far = record { history = far.history; waiting = far.events.waiting }
 
 abbrev pub images_of : ShownProcessData → Far → Images
 images_of shown far =

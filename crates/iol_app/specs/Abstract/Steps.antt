@@ -46,6 +46,8 @@ pub data PortStep : Type 0 where
   Start : PortStep
   -- the device was reset by a wake-up request, or it has left the mode that it was in
   Reset : PortStep
+  -- an event is raised at the device, which takes it
+  Raise : Event → PortStep
   -- the device freezes events; the master has read them; the device hears the confirm
   Freeze : List Event → PortStep
   Report : List Event → PortStep

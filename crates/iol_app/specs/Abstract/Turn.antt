@@ -7,7 +7,7 @@ use Rattle.iol_event.specs.declared.event.Event.{Event}
 use Rattle.iol_mode.specs.declared.why.Why.TheVariants.{NoWake, Lost}
 use Rattle.iol_app.specs.declared.mode.Mode.{Mode}
 use Rattle.iol_app.specs.declared.mode.Mode.TheVariants.{Down, Startup, Preoperate, Operate}
-use Rattle.iol_app.specs.Abstract.Steps.{PortStep, Carry, Again, Done, Unknown, LateCarry, Start, Reset, Freeze, Report, Confirm, Untell, ShowImage, DropImage, OutputOn, OutputOff, Input, PowerLoss, TellLength, Busy, Move, WireCall, Woke, Exchanged, silence_by, is_report, Moment}
+use Rattle.iol_app.specs.Abstract.Steps.{PortStep, Carry, Again, Done, Unknown, LateCarry, Start, Reset, Raise, Freeze, Report, Confirm, Untell, ShowImage, DropImage, OutputOn, OutputOff, Input, PowerLoss, TellLength, Busy, Move, WireCall, Woke, Exchanged, silence_by, is_report, Moment}
 use Rattle.iol_app.specs.Abstract.Events.{Frozen}
 use Rattle.iol_app.specs.Abstract.Images.{Images}
 
@@ -17,6 +17,7 @@ use Rattle.iol_app.specs.Abstract.Images.{Images}
 abbrev pub is_own_step : PortStep → Bool
 is_own_step (Carry answer) = true
 is_own_step (LateCarry answer) = true
+is_own_step (Raise event) = true
 is_own_step (Freeze events) = true
 is_own_step (Input input) = true
 is_own_step PowerLoss = true

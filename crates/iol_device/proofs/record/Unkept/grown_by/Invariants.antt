@@ -1,5 +1,10 @@
 use Rattle.iol_far.specs.Level.{grown_by}
+use Rattle.iol_device.specs.Record.{Noted}
 use Rattle.iol_device.proofs.record.Unkept.grown_by.Given as goal
 
 abbrev pub ghost-of : goal.ghost-of
-ghost-of a = grown_by a.near.now.0.now.pairs a.near.now.1.now a.near.now.2.now
+ghost-of a =
+    let self = a.near.now.0.now in
+    record self.noted {
+      carried = grown_by self.noted.carried a.near.now.1.now a.near.now.2.now;
+    }

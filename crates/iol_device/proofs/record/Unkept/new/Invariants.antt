@@ -1,5 +1,5 @@
-use Rattle.std.specs.Prelude.{[]}
+use Rattle.iol_device.specs.Record.{nothing_noted}
 use Rattle.iol_device.proofs.record.Unkept.new.Given as goal
 
 abbrev pub ghost-of : goal.ghost-of
-ghost-of a = []
+ghost-of a = nothing_noted

@@ -70,7 +70,7 @@ module _ (Y : RattleType) (L : Laws Y) {M : Type 1} {𝓤 : Ura M} (𝓛 : Logic
     walks =
         let v : Val = vstruct (vcons (vstruct vnil) vnil) in
         let r : denote.Triple.Entry.Res (ended Y).signature z.0.0 =
-        record { marker = record {}; pairs = z.1 } in
+        record { marker = record {}; noted = z.1 } in
         let O : Fml = (type_at (ended Y).signature.result z.0.0).own_val r (v ∷ []) in
         qed 𝓛 ((raw (alive 𝓛 (ended Y).signature z.0.0 z.0.1)
         ⊛ ‵ (owns (types_at (ended Y).signature.params z.0.0) z.0.3 (given, tt))) ∷ raw

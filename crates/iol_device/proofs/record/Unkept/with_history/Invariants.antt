@@ -1,0 +1,5 @@
+use Rattle.iol_device.specs.Record.{Noted}
+use Rattle.iol_device.proofs.record.Unkept.with_history.Given as goal
+
+abbrev pub ghost-of : goal.ghost-of
+ghost-of g a = record a.near.now.0.now.noted { history = g.history }
