@@ -24,7 +24,7 @@ use Rattle.iol_port.specs.declared.call.Answered.{Answered}
 use Rattle.iol_port.specs.declared.call.Answered.TheVariants as answered
 use Rattle.iol_port.specs.declared.fault.PortFault.TheVariants as fault
 use Rattle.iol_port.specs.Run.{PortState, Run, port_at_opening}
-use Rattle.iol_port.specs.View.{PortOver, Runs, IsNewFor, IsUnused}
+use Rattle.iol_port.specs.View.{PortOver, Runs, IsNewFor}
 use Rattle.iol_port.specs.EveryWire.{RunGives}
 use Rattle.iol_script.specs.Script.{ScriptValue, script_in, calls_in}
 use Rattle.iol_script.specs.Tables.{AreMembers, has_no_table, order_rule_of}
@@ -100,12 +100,11 @@ records_text sim = record_text sim.device.far.carried
 abbrev pub ending_text : {P M : Type 0} → List Call → SimulatedWire P M → List ℕ
 ending_text calls sim = records_text sim ++ refused_events_text calls sim.refused_events
 
--- a wire with one device, which was handed no request, and sees each pulse where the port is for
--- our own
+-- a wire with one device, which sees each pulse where the port is for our own
 pub record HasItsDevice {P M : Type 0} (devices : Devices) (wire : SimulatedWire P M)
     : Type 0 where
   pub one : wire.away ≡ None
-  pub unused : IsUnused devices wire.device.far
+  pub sees : SeesPulses devices wire.device.far
 
 -- Calls are made on a port, one after the other: none of the answers lacks memory,
 -- and the text is what they are.

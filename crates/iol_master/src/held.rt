@@ -336,9 +336,9 @@ impl<W: Wire, K: Ledger, A: Handle> Held<W, K, A> {
     /// A law of each port under its lock, without code: whenever the lock is got, the
     /// journal says where each ticket stands; the port is what a run of the one that
     /// was opened has made of it, and its wire what the one at the opening became by
-    /// the calls of turns; and, if the wire was honest and the device had been handed no
-    /// request when the port was opened, the device's record fits the journal, and both
-    /// ends are level between requests.
+    /// the calls of turns; and, if the wire was honest when the port was opened, and the
+    /// device of a port for our own sees each pulse of a wake, the device's record fits
+    /// the journal, and both ends are level between requests.
     pub fn keeps_record(&self)
         ensures replayed { IsReplayed self.now.parts.book.state }
         ensures run { IsRun W.facts self.now.opening (over self.now) }

@@ -2,6 +2,7 @@ pub mod Replaying
 pub mod Joining
 pub mod PieceLemmas
 pub mod PairLists
+pub mod OwnersGoOn
 pub mod OwnerSteps
 pub mod OwnerRuns
 pub mod HistoryRuns

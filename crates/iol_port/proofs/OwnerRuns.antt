@@ -1,11 +1,14 @@
 -- The owners in a whole run: it stays sound, their requests were submitted in the run, and none
 -- that
 -- was cut off before a reset of the device, or for good, has more answers then.
-use Rattle.std.proofs.Common.{◌≡◌, ◌⊎◌, ◌∷◌, ◌++◌, [], List, ℕ, ◌+◌, ◌≤◌, true, false, Option, Some, None, append-nil, refl, sym, ap, ◌∙◌, inl, inr, subst, arith}
+use Rattle.std.proofs.Common.{◌≡◌, ◌⊎◌, ◌∷◌, ◌++◌, [], List, ℕ, ◌+◌, ◌≤◌, Bool, true, false, Option, Some, None, append-nil, refl, sym, ap, ◌∙◌, inl, inr, subst, arith}
 use Rattle.std.proofs.lemmas.Bool.{eq-eqb}
 use Rattle.std.proofs.lemmas.Bool.Decides.{nat_tests}
 use Rattle.std.proofs.lemmas.Grind.{common_steps}
 use Rattle.iol_isdu.specs.declared.values.Request.{Request}
+use Rattle.iol_isdu.specs.declared.values.Answer.{Answer}
+use Rattle.iol_far.specs.declared.carried.Carried.{Carried}
+use Rattle.iol_far.specs.Isdu.{handed_request}
 use Rattle.iol_isdu.specs.declared.values.Cause.{Cause}
 use Rattle.iol_isdu.specs.declared.values.Cause.TheVariants.{Restarted}
 use Rattle.iol_book.specs.declared.entries.Ticket.{Ticket}
@@ -24,18 +27,19 @@ use Rattle.iol_app.specs.Abstract.OfMaster.{restart_steps}
 use Rattle.iol_port.specs.declared.call.Call.TheVariants as call
 use Rattle.iol_port.specs.declared.call.Answered.{Answered}
 use Rattle.iol_port.specs.declared.call.Answered.TheVariants as answered
-use Rattle.iol_port.specs.Owners.{Owner, Owners, all, pairs_of, owner_with_answer, owner_with_outcome, owners_after, IsOneOf, Fits, HasEnded, allowance_of, times_of}
+use Rattle.iol_port.specs.Owners.{Owner, Owners, all, pairs_of, owner_with_answer, owner_with_outcome, owners_after, owners_after_late, IsOneOf, Fits, HasEnded, allowance_of, times_of}
 use Rattle.iol_port.specs.Steps.{ticket_of, MayBook, book_after}
 use Rattle.iol_port.specs.Run.{PortState, Piece, Whole, PieceOf, Pieces, port_at_opening, job_request}
-use Rattle.iol_port.specs.Sound.{Each, IsOutcome, PortIsSound, times_ever}
-use Rattle.iol_port.specs.CarriesOut.{CarriesOut, IsSubmitted, IsCutOff, Happens, EachDoneHasItsPair, LeavesOut, IsBelow, LateEnds, CutForGoodStaysOut}
+use Rattle.iol_port.specs.Sound.{Each, IsOutcome, LastIsOpen, IsToldLast, PortIsSound, times_ever}
+use Rattle.iol_port.specs.CarriesOut.{CarriesOut, GrewBy, IsSubmitted, IsCutOff, Happens, EachDoneHasItsPair, LeavesOut, IsBelow, LateEnds, CutForGoodStaysOut}
 use Rattle.iol_port.specs.Denials.{CarriesNone, IsDeniedWithoutIsdu}
 use Rattle.iol_port.specs.Promises.{OpensSound, PiecesSound, RunsSound}
 use Rattle.iol_port.proofs.PieceLemmas.{Did, Stays, Submits, Urges, Collects, Withdraws, Cancels, Abandons, Serves, Restarts, Archives, Drains, Moves, piece_did, told_outcome, pieces_join}
 use Rattle.iol_port.proofs.Replaying.{entered_replayed, free_archive, next_is, steps_keep}
 use Rattle.iol_port.proofs.Joining.{grown_says, grown_takings, last_pushed}
 use Rattle.iol_port.proofs.PairLists.{each_removed, each_push, each_inserted, each_looked, waiting_push, waiting_left, counted}
-use Rattle.iol_port.proofs.OwnerSteps.{go_on_then, go_on_each, outcome_on, closed, closed_of, closed_has, Goes, goes_then, goes_itself, goes_book, serves_goes, marked_goes, restart_goes, archive_goes, drain_goes, step_goes}
+use Rattle.iol_port.proofs.OwnersGoOn.{go_on_then, go_on_each, outcome_on, closed, closed_of, closed_in, grew_by, before_stays}
+use Rattle.iol_port.proofs.OwnerSteps.{Goes, goes_then, goes_itself, goes_book, serves_goes, marked_goes, restart_goes, archive_goes, drain_goes, step_goes}
 
 -- The pieces
 
@@ -113,27 +117,30 @@ piece_leads a b c reply is sound = by b (piece_did a b c reply is)
     by _ (Serves which) = record { terms_are = refl; goes = serves_goes which sound }
     by _ (Cancels t e r) = record {
       terms_are = refl;
-      goes = marked_goes a.session a.session.job a.session.late a.owners a.owners.current sound;
+      goes = marked_goes a.session a.session.job a.session.late a.owners a.owners.late
+          a.owners.current sound;
     }
     by _ Restarts = record {
       terms_are = refl;
-      goes = restart_goes a.session a.session.job a.session.late a.owners a.owners.current sound;
+      goes = restart_goes a.session a.session.job a.session.late a.owners a.owners.late
+          a.owners.current sound;
     }
     by _ (Archives may) = record {
       terms_are = refl;
-      goes = archive_goes a.session a.session.job a.session.late a.owners a.owners.current
-          (free_archive a.book sound.says.replayed may) sound;
+      goes = archive_goes a.session a.session.job a.session.late a.owners a.owners.late
+          a.owners.current (free_archive a.book sound.says.replayed may) sound;
     }
     by _ (Drains replayed) = record {
       terms_are = refl;
-      goes = drain_goes a.session a.session.job a.session.late a.owners a.owners.current replayed
-          sound;
+      goes = drain_goes a.session a.session.job a.session.late a.owners a.owners.late
+          a.owners.current replayed sound;
     }
     by _ (Moves m steps w) = rw (← w.book.1, ← w.session.1, ← w.owners) record {
       terms_are = ap allowance_of w.terms;
       goes = rw w.at at (steps_keep (Goes (allowance_of m.terms) a.session a.owners) m
-          (λ step d s l next may g. goes_then g (step_goes m step d s s.job s.late l l.current next
-          may g.sound))
+          (λ step d s l next may g. goes_then g
+          (step_goes m step d s s.job s.late l l.late l.current
+          next may g.sound))
           steps a.book a.session a.owners w.book.0 w.session.0 (goes_itself (rw w.at sound)));
     }
     by _ (Stays kept images expected) = record { terms_are = refl; goes = goes_itself sound }
@@ -167,6 +174,16 @@ pieces_sound a b pieces replies run sound = leads_sound (run_leads a b pieces re
 pub runs_sound : RunsSound
 runs_sound a b calls replies run sound = pieces_sound a b _ replies run sound
 
+-- of what the device was handed before, if anything
+held_opens : (repeats : Request → Bool) (late : Option Request)
+    → LastIsOpen late repeats None late None [] []
+held_opens repeats None = refl
+held_opens repeats (Some q) = (refl, refl, refl, refl)
+
+held_last : (late : Option Request) → IsToldLast None late None []
+held_last None = tt
+held_last (Some q) = tt
+
 pub opened_sound : OpensSound
 opened_sound devices limits far silence = record {
   says = record { replayed = refl; whole = refl; head = omega arith };
@@ -176,8 +193,8 @@ opened_sound devices limits far silence = record {
     fit = λ owner i. absurd i;
     ended = λ owner i. absurd i;
   };
-  opens = refl;
-  last = tt;
+  opens = held_opens _ (handed_request far.isdu);
+  last = held_last (handed_request far.isdu);
   sure = λ _. refl;
   once = λ n. grind (arith, nat_tests);
   above = λ n low. grind (arith, nat_tests);
@@ -229,6 +246,16 @@ module _ (P : Ticket → Request → Type 0) where
     asked_first (owner_with_outcome out) (λ x. (refl, refl)) l.current l.archived taken,
   )
 
+  asked_late : (a : Answer) (late : Option Request) (b : BookState) (l : Owners) → Asked P b l
+      → Asked P b (owners_after_late a late l)
+  asked_late a None b l (urgent, waiting, taken) = (
+    urgent,
+    waiting,
+    asked_first (owner_with_answer a) (λ x. (refl, refl)) l.current
+        l.archived taken,
+  )
+  asked_late a (Some q) b l asked = asked
+
   asked_step : (m : Moment) (step : PortStep) (b : BookState) (s : Session) (l : Owners)
       → MayBook step b → MaySession m step s → Asked P b l
       → Asked P (book_after step b) (owners_after step l)
@@ -250,12 +277,7 @@ module _ (P : Ticket → Request → Type 0) where
     asked_first (owner_with_answer a) (λ x. (refl, refl)) l.current
         l.archived taken,
   )
-  asked_step m (LateCarry a) b s l next may (urgent, waiting, taken) = (
-    urgent,
-    waiting,
-    asked_first (owner_with_answer a) (λ x. (refl, refl)) l.current
-        l.archived taken,
-  )
+  asked_step m (LateCarry a) b s l next may asked = asked_late a l.late b l asked
   asked_step m (Done a) b s l next may asked = asked_ended (outcome.Done a) b l asked
   asked_step m (Unknown cause) b s l next may asked =
       asked_ended (outcome.Unknown cause) b l asked
@@ -321,9 +343,10 @@ each_done_has_its_pair devices limits far silence pieces replies b run =
     let (leads, told) = run_leads from b pieces replies run sound in
     let goes = leads.goes in
     record {
-      record_is = goes.sound.fits.record_is ∙ ap (λ c. c ++ pairs_of (all b.owners)) goes.same.1;
+      before = grew_by goes.before;
+      record_is = goes.sound.fits.record_is;
       once = λ n. omega (arith, goes.sound.once n);
-      above = λ n low. omega (arith, goes.sound.above n (rw goes.same.0 low));
+      above = λ n low. omega (arith, goes.sound.above n (rw goes.given low));
       fits = goes.sound.fits.fit;
       asked = (asked_run pieces pieces replies replies from b run (λ c r i. i)
           (tt, tt, λ x i. absurd i)).2;
@@ -405,8 +428,8 @@ cut_for_good_stays_out devices limits far silence pieces more replies others a c
       leaves_out _ a c (run_leads a c more others rest sound).0 (λ t (cause, sure, cut).
           let (x, i, same, is) = cut_ended from a pieces replies run start t cause cut in (
             x,
-            closed_has _ a.session.job a.session.late a.book.standing.taken a.owners
-                a.owners.current sound.opens x i (outcome.Unknown cause) is (inl sure),
+            closed_in a.owners.late _ a.session a.book.standing.taken a.owners sound.opens x i
+                (outcome.Unknown cause) is (inl sure),
             same,
           )),
     )
@@ -419,10 +442,21 @@ below_stays : (m : Moment) (step : PortStep) (s : Session) → IsBelow m.terms.d
 below_stays m step s below may = grind (arith, common_steps)
 
 -- what had ended at this port has no more answers
-abbrev IsPast : PortState → Session → Owners → Type 0
-IsPast a s l = (x : Owner) → IsOneOf x (all a.owners) → (out : Outcome)
+abbrev HasEndedOut : PortState → Session → Owners → Type 0
+HasEndedOut a s l = (x : Owner) → IsOneOf x (all a.owners) → (out : Outcome)
     → x.taking.outcome ≡ Some out
     → (y : Owner) × IsOneOf y (closed s l) × (y.taking.ticket ≡ x.taking.ticket)
+
+-- and nothing of before is late
+abbrev IsPast : PortState → Session → Owners → Type 0
+IsPast a s l = (l.late ≡ None) × HasEndedOut a s l
+
+none_before : (before : Option Request) (repeats : Request → Bool) (s : Session)
+    (taken : Option (Ticket × Request)) (xs ys : List Owner)
+    → LastIsOpen before repeats s.job s.late taken xs ys → s.late ≡ None → before ≡ None
+none_before None repeats s taken xs ys opens none = refl
+none_before (Some q) repeats s taken xs ys opens none =
+    absurd (let never : None ≡ Some q = sym none ∙ opens.1 in cc)
 
 module _ (a : PortState) (m : Moment) where
   abbrev Wakes : BookState → Session → Owners → Type 0
@@ -436,7 +470,7 @@ module _ (a : PortState) (m : Moment) where
     where
       one : Goes (allowance_of m.terms) s l (book_after step d) (session_after step s)
           (owners_after step l)
-      one = step_goes m step d s s.job s.late l l.current next may g.sound
+      one = step_goes m step d s s.job s.late l l.late l.current next may g.sound
 
       all_goes : Goes (allowance_of m.terms) a.session a.owners (book_after step d)
           (session_after step s) (owners_after step l)
@@ -445,19 +479,24 @@ module _ (a : PortState) (m : Moment) where
       by : IsBelow m.terms.devices s.mode ⊎ IsPast a s l
           → IsBelow m.terms.devices (session_after step s).mode
           ⊎ IsPast a (session_after step s) (owners_after step l)
-      by (inr past) = inr (λ x i out is. let (y, j, same) = past x i out is in
-          (y, one.stays y j, same))
+      by (inr (free, past)) = inr (
+        (before_stays one.before free).0,
+        λ x i out is. let (y, j, same) = past x i out is in (y, one.stays y j, same),
+      )
       by (inl below) = elim (below_stays m step s below may) [
         | inr stays ↦ inl stays
-        | inl none ↦ inr (λ x i out is.
-            let (y, j, goes) = go_on_each all_goes.on x i in (
-              y,
-              closed_has _ (session_after step s).job (session_after step s).late
-                  (book_after step d).standing.taken (owners_after step l)
-                  (owners_after step l).current one.sound.opens y j out (goes.ends out is)
-                  (inr none),
-              goes.ticket_is,
-            ))
+        | inl none ↦ inr (
+          none_before (owners_after step l).late _ (session_after step s) _ _ _ one.sound.opens
+              none,
+          λ x i out is.
+              let (y, j, goes) = go_on_each all_goes.on x i in (
+                y,
+                closed_in (owners_after step l).late _ (session_after step s)
+                    (book_after step d).standing.taken (owners_after step l) one.sound.opens y j
+                    out (goes.ends out is) (inr none),
+                goes.ticket_is,
+              ),
+        )
       ]
 
 -- one that leads on from below the reset had one
@@ -484,30 +523,34 @@ late_ends devices limits far silence pieces more piece replies others a b c run 
     let start = opened_sound devices limits far silence in
     let sound = pieces_sound from a pieces replies run start in
     let one = piece_leads a b piece answered.Nothing resets.is sound in
-    let past = piece_wakes a b piece answered.Nothing resets.is resets.below resets.up sound in (
+    let past = piece_wakes a b piece answered.Nothing resets.is resets.below resets.up sound in
+    let behind = (run_leads b c more others rest (leads_sound one)).0 in (
       each_done_has_its_pair devices limits far silence (pieces ++ piece ∷ more)
           (replies ++ answered.Nothing ∷ others) c (pieces_join from a c pieces (piece ∷ more)
           replies (answered.Nothing ∷ others) run (b, resets.is, rest)),
-      leaves_out _ b c (run_leads b c more others rest (leads_sound one)).0 (λ t (cause, cut).
+      leaves_out _ b c behind (λ t (cause, cut).
           let (x, i, same, is) = cut_ended from a pieces replies run start t cause cut in
-          let (y, j, also) = past x i (outcome.Unknown cause) is in (y, j, also ∙ same)),
+          let (y, j, also) = past.1 x i (outcome.Unknown cause) is in (y, j, also ∙ same)),
+      (before_stays behind.goes.before past.0).1,
     )
 
 -- At a device without ISDU none is taken, and at one with ISDU none is denied
 
 pub carries_none : CarriesNone
 carries_none devices limits far silence pieces replies b run none =
-    by (all b.owners) done.fits done.record_is
+    by (all b.owners) b.owners.before done.fits done.before done.record_is
   where
     done : CarriesOut (port_at_opening devices limits far silence) pieces replies b
     done = each_done_has_its_pair devices limits far silence pieces replies b run
 
-    by : (owners : List Owner)
+    by : (owners : List Owner) (before : List Carried)
         → ((x : Owner) → IsOneOf x owners
         → Fits (allowance_of (port_at_opening devices limits far silence).terms) x)
-        → b.session.carried ≡ far.carried ++ pairs_of owners → b.session.carried ≡ far.carried
-    by [] fits is = is ∙ append-nil far.carried
-    by (x ∷ owners) fits is =
+        → GrewBy (handed_request far.isdu) far.carried before
+        → b.session.carried ≡ before ++ pairs_of owners
+        → GrewBy (handed_request far.isdu) far.carried b.session.carried
+    by [] before fits grew is = rw (is, append-nil before) grew
+    by (x ∷ owners) before fits grew is =
         let known = (fits x (inl refl)).isdu in
         absurd (let never : true ≡ false = sym known ∙ none in cc)
 

@@ -1,11 +1,13 @@
 -- What a client may conclude of a whole run: which requests the device carried out
 -- in it, each once, or more than once in a row.
-use Rattle.std.specs.Prelude.{◌≡◌, ◌≤◌, ◌⊎◌, ℕ, false, List, [], ◌∷◌, ◌++◌, Some, ⊤}
+use Rattle.std.specs.Prelude.{◌≡◌, ◌≤◌, ◌⊎◌, ℕ, false, List, [], ◌∷◌, ◌++◌, Option, Some, ⊤}
 use Rattle.std.specs.Map.{lookup}
 use Rattle.iol_isdu.specs.declared.values.Request.{Request}
 use Rattle.iol_isdu.specs.declared.values.Answer.{Answer}
 use Rattle.iol_isdu.specs.declared.values.Cause.{Cause}
 use Rattle.iol_far.specs.Far.{Far}
+use Rattle.iol_far.specs.declared.carried.Carried.{Carried}
+use Rattle.iol_far.specs.Level.{grown_by}
 use Rattle.iol_book.specs.declared.limits.Limits.{Limits}
 use Rattle.iol_book.specs.declared.entries.Outcome.{Outcome}
 use Rattle.iol_book.specs.declared.entries.Outcome.TheVariants.{Done, Unknown}
@@ -35,14 +37,21 @@ IsSubmitted pieces replies ticket request =
     Happens pieces replies (Whole (call.Submit request)) (answered.Ticket ticket)
     ⊎ Happens pieces replies (Whole (call.SubmitUrgent request)) (answered.Ticket ticket)
 
--- Of a run from an opening that led here: the record grew by the pairs of the owners, in this
--- order.
--- Each of them was submitted in the run, under a ticket of its own; it has at most one pair,
+-- a record grew by nothing, or by one pair of this request
+abbrev pub GrewBy : Option Request → List Carried → List Carried → Type 0
+GrewBy late from before = (before ≡ from)
+    ⊎ ((request : Request) × (answer : Answer) × (late ≡ Some request)
+    × (before ≡ grown_by from request answer))
+
+-- Of a run from an opening that led here: the record grew by at most one pair of the request that
+-- the device was handed before the opening, and then by the pairs of the owners, in this order.
+-- Each owner was submitted in the run, under a ticket of its own; it has at most one pair,
 -- or more only where it may be carried out more than once; and each outcome Done that was collected
 -- is that of such a request, whose last pair has the answer, but for what the allowance is
 pub record CarriesOut (from : PortState) (pieces : List Piece) (replies : List Answered)
     (a : PortState) : Type 0 where
-  pub record_is : a.session.carried ≡ from.session.carried ++ pairs_of (all a.owners)
+  pub before : GrewBy from.session.late from.session.carried a.owners.before
+  pub record_is : a.session.carried ≡ a.owners.before ++ pairs_of (all a.owners)
   pub once : (number : ℕ) → times_of number (all a.owners) ≤ 1
   pub above : (number : ℕ) → number ≤ from.book.last → times_of number (all a.owners) ≡ 0
   pub fits : (owner : Owner) → IsOneOf owner (all a.owners)
@@ -124,7 +133,7 @@ pub record Resets (piece : Piece) (a b : PortState) : Type 0 where
   pub up : IsBelow b.terms.devices b.session.mode → ⊥
 
 -- A run comes to `a`, by such a piece to `b`, and goes on to `c`: of what is carried
--- out from `b` on, nothing was cut off before
+-- out from `b` on, nothing was cut off before, nor handed over before the opening
 -- REQ-12
 abbrev pub LateEnds : Type 0
 LateEnds =
@@ -136,3 +145,4 @@ LateEnds =
     → CarriesOut (port_at_opening devices limits far silence) (pieces ++ piece ∷ more)
     (replies ++ answered.Nothing ∷ others) c
     × LeavesOut b c (λ ticket. (cause : Cause) × IsCutOff pieces replies a ticket cause)
+    × (c.owners.before ≡ b.owners.before)

@@ -42,10 +42,11 @@ module _ {W : Type 0} (facts : WireFacts W) where
   -- All calls since the opening, these the last of them, with what each answered are a run of an
   -- abstract port, which has what is there. The device carried out only whole requests of these
   -- calls, each at most once, in the order taken; and each Done tells its answer to that very
-  -- request. Otherwise is only what the allowance says, which is none at a port for any device. The
-  -- journal has the requests that were taken since it began, which all ended but the one under way.
-  -- Each event that was reported was raised at the device, each image was its input at some moment
-  -- of what happened there, and its output is one that a client set.
+  -- request. Before them it may have carried out, once, what it was handed before the opening.
+  -- Otherwise is only what the allowance says, which is none at a port for any device. The journal
+  -- has the requests that were taken since it began, which all ended but the one under way. Each
+  -- event that was reported was raised at the device, each image was its input at some moment of
+  -- what happened there, and its output is one that a client set.
   --
   -- A run may still choose these, and nothing else. What the device does by itself, and when: it
   -- answers a request that it was handed, or is busy with it; it freezes events; its input changes;

@@ -6,6 +6,7 @@ use Rattle.iol_mode.specs.declared.states.State.{State}
 use Rattle.iol_mode.specs.declared.states.State.TheVariants.{Down as AtDown}
 use Rattle.iol_mode.specs.States.{is_reset}
 use Rattle.iol_mode.specs.Exchanges.{text_out}
+use Rattle.iol_mode.specs.Kinds.{SeesPulses}
 use Rattle.iol_mode.specs.declared.configuration.Devices.{Devices}
 use Rattle.iol_mode.specs.declared.configuration.Devices.TheVariants.{Own}
 use Rattle.iol_book.specs.declared.limits.Limits.{Limits}
@@ -27,7 +28,7 @@ use Rattle.iol_port.specs.Run.{PortState, Piece, Send, Receive, CallOf, PieceOf,
 use Rattle.iol_port.specs.Counters.{call_counted, said_counted}
 use Rattle.iol_port.specs.Clean.{IsLevelBetween}
 use Rattle.iol_port.specs.Sound.{PortIsSound}
-use Rattle.iol_port.specs.View.{PortParts, IsUnused, StandsFor, BookDoes, KeepsRecord}
+use Rattle.iol_port.specs.View.{PortParts, StandsFor, BookDoes, KeepsRecord}
 use Rattle.iol_port.specs.Steps.{book_after, kept_after}
 
 -- what waits for its answer
@@ -51,9 +52,9 @@ pub record CoreDoes (p : PortParts) (c : Call) (reply : Answered) (next : PortPa
   pub follows : IsCoreCall p c reply next
   pub book : BookDoes c reply p.book.state next.book.state
 
--- it stands for the abstract port that is opened, with each unused device
+-- it stands for the abstract port that is opened, with each device of these
 abbrev pub CoreOpensFor : Devices → Limits → PortParts → Type 0
-CoreOpensFor devices limits p = (far : Far) (silence : ℕ) → IsUnused devices far
+CoreOpensFor devices limits p = (far : Far) (silence : ℕ) → SeesPulses devices far
     → StandsFor far silence p (port_at_opening devices limits far silence)
 
 abbrev pub CoreOpens : Limits → PortParts → Type 0

@@ -2,12 +2,13 @@
 use Rattle.std.specs.Prelude.{◌≡◌, ℕ, List, Option}
 use Rattle.iol_link.specs.Honest.{HonestExchange}
 use Rattle.iol_mode.specs.Exchanges.{text_out}
+use Rattle.iol_mode.specs.Kinds.{SeesPulses}
 use Rattle.iol_mode.specs.declared.configuration.Devices.{Devices}
 use Rattle.iol_book.specs.declared.limits.Limits.{Limits}
 use Rattle.iol_port.specs.declared.call.Call.{Call}
 use Rattle.iol_port.specs.declared.call.Answered.{Answered}
 use Rattle.iol_port.specs.Run.{PortState, Piece, Pieces, port_at_opening}
-use Rattle.iol_port.specs.View.{PortParts, IsUnused, StandsFor, KeepsRecord}
+use Rattle.iol_port.specs.View.{PortParts, StandsFor, KeepsRecord}
 use Rattle.iol_port.specs.Clean.{IsLevelBetween}
 use Rattle.iol_port.specs.Called.{CoreCalled}
 use Rattle.iol_port.specs.Standing.{LinePosition}
@@ -21,10 +22,9 @@ pub record HonestParts : Type 0 where
   pub limits : Limits
   pub from : LinePosition
 
--- the device is one of those that it was opened for, and had been handed no request then; at a port
--- for our own it is also one that misses no pulse of a wake
+-- at a port for our own devices its device is one that misses no pulse of a wake
 abbrev pub BeganWell : HonestParts → Type 0
-BeganWell p = IsUnused p.devices p.from.far
+BeganWell p = SeesPulses p.devices p.from.far
 
 -- What every such port keeps: where it began well, it stands, with the device that the line
 -- stands at, for an abstract port that is a run, in pieces, of the one that was opened

@@ -1,6 +1,6 @@
 -- The owners of the pairs in the device's record, as an abstract port has them: each request that
 -- was taken, how it ended, and what the device answered it.
-use Rattle.std.specs.Prelude.{◌≡◌, ◌≤◌, ◌⊎◌, ℕ, Bool, true, false, List, [], ◌∷◌, ◌++◌, length, Option, Some, IsTrue, nat_eq, count_by}
+use Rattle.std.specs.Prelude.{◌≡◌, ◌≤◌, ◌⊎◌, ℕ, Bool, true, false, List, [], ◌∷◌, ◌++◌, length, Option, Some, None, IsTrue, nat_eq, count_by}
 use Rattle.iol_isdu.specs.declared.values.Request.{Request}
 use Rattle.iol_isdu.specs.declared.values.Answer.{Answer}
 use Rattle.iol_far.specs.declared.carried.Carried.{Carried}
@@ -14,7 +14,7 @@ use Rattle.iol_book.specs.declared.entries.Entry.{Entry}
 use Rattle.iol_book.specs.BookModel.{BookState}
 use Rattle.iol_book.specs.OneJournal.{entries_since}
 use Rattle.iol_book.specs.Takings.{Taking, taking_of, taking_with_outcome, first_with}
-use Rattle.iol_app.specs.Abstract.Steps.{PortStep, Take, Carry, Done, Unknown, LateCarry, Terms, may_repeat, may_misread}
+use Rattle.iol_app.specs.Abstract.Steps.{PortStep, Take, Carry, Done, Unknown, LateCarry, Reset, Terms, may_repeat, may_misread}
 use Rattle.iol_port.specs.Steps.{ticket_of}
 
 -- an owner: a request that was taken, and what the device answered it, the last answer first. Each
@@ -23,11 +23,14 @@ pub record Owner : Type 0 where
   pub taking : Taking
   pub answers : List Answer
 
--- The last ticket and the record at the opening. What drains handed out since the last archive,
--- each entry once. And the owners, the one taken last first: those since it, and those before
+-- The last ticket and the record at the opening, this with the pair of the request that the device
+-- was handed before, once it has carried that out; and that request, while it may. What drains
+-- handed out since the last archive, each entry once. And the owners, the one taken last first:
+-- those since it, and those before
 pub record Owners : Type 0 where
   pub given : ℕ
   pub before : List Carried
+  pub late : Option Request
   pub drained : List Entry
   pub current : List Owner
   pub archived : List Owner
@@ -51,7 +54,14 @@ owner_with_answer answer owner = record owner { answers = answer ∷ owner.answe
 abbrev pub owner_with_outcome : Outcome → Owner → Owner
 owner_with_outcome result owner = record owner { taking = taking_with_outcome result owner.taking }
 
--- What a step does: whatever is carried out, or ends, is the request that was taken last
+-- late is the request of before, while it may be, else that taken last
+abbrev pub owners_after_late : Answer → Option Request → Owners → Owners
+owners_after_late answer None owners =
+    record owners { current = first_with (owner_with_answer answer) owners.current }
+owners_after_late answer (Some request) owners =
+    record owners { before = grown_by owners.before request answer; late = None }
+
+-- What a step does: whatever else is carried out, or ends, is the request that was taken last
 abbrev pub owners_after : PortStep → Owners → Owners
 owners_after (Take ticket request) owners = record owners {
   current =
@@ -59,8 +69,8 @@ owners_after (Take ticket request) owners = record owners {
 }
 owners_after (Carry answer) owners =
     record owners { current = first_with (owner_with_answer answer) owners.current }
-owners_after (LateCarry answer) owners =
-    record owners { current = first_with (owner_with_answer answer) owners.current }
+owners_after (LateCarry answer) owners = owners_after_late answer owners.late owners
+owners_after Reset owners = record owners { late = None }
 owners_after (Done answer) owners =
     record owners { current = first_with (owner_with_outcome (outcome.Done answer)) owners.current }
 owners_after (Unknown cause) owners =

@@ -77,6 +77,14 @@ LastTakenIsOpen repeats None (Some request) taken (last ∷ owners) =
     (taken ≡ None) × IsLate repeats request last
 LastTakenIsOpen repeats job late taken owners = ⊥
 
+-- so it is, unless the late one is of before: then none was taken yet
+abbrev pub LastIsOpen : Option Request → (Request → Bool) → Option Job → Option Request
+    → Option (Ticket × Request) → List Owner → List Owner → Type 0
+LastIsOpen None repeats job late taken current archived =
+    LastTakenIsOpen repeats job late taken current
+LastIsOpen (Some request) repeats job late taken current archived =
+    (job ≡ None) × (late ≡ Some request) × (taken ≡ None) × (current ++ archived ≡ [])
+
 -- of the request under way, or of the late one, the journal says that it was taken last
 abbrev pub IsToldLast : Option Job → Option Request → Option Ticket → List Owner → Type 0
 IsToldLast None None last owners = Unit {0}
@@ -108,11 +116,12 @@ pub record Sound (allowance : Allowance) (book : BookState) (s : Session) (owner
     Type 0 where
   pub says : SaysWhere owners.drained book
   pub fits : RecordFits allowance book s owners
-  pub opens : LastTakenIsOpen allowance.repeats s.job s.late book.standing.taken owners.current
-  -- so a late request is the one in doubt
+  pub opens : LastIsOpen owners.late allowance.repeats s.job s.late book.standing.taken
+      owners.current owners.archived
+  -- so a late request that was taken is the one in doubt
   pub last : IsToldLast s.job s.late (last_taken None book.journal) owners.current
-  -- a request may be late only while that isn't sure
-  pub sure : book.unsure ≡ false → s.late ≡ None
+  -- a request that was taken may be late only while that isn't sure
+  pub sure : book.unsure ≡ false → s.late ≡ owners.late
   -- each ticket is that of one request, and above those that were given before
   pub once : (number : ℕ) → times_ever number book owners ≤ 1
   pub above : (number : ℕ) → number ≤ owners.given → times_ever number book owners ≡ 0

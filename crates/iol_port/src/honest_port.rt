@@ -348,9 +348,10 @@ impl<A: Allocator + Copy> HonestPort<A> {
     }
 
     /// A law of each such port, without code: at every moment the journal says where each ticket
-    /// stands; the port is a run, in pieces, of the one that was opened; and if when the port was
-    /// opened the device had been handed no request, and at a port for our own devices sees each
-    /// pulse of a wake, its record fits the journal, and between requests both ends are level.
+    /// stands; the port is a run, in pieces, of the one that was opened; its record fits the
+    /// journal, and between requests both ends are level, if at a port for our own devices the
+    /// device sees each pulse of a wake. A request that it was handed before the opening may have
+    /// one pair in the record, before all others.
     pub fn keeps_record(&self)
         ensures replayed { IsReplayed self.now.parts.book.state }
         ensures run { IsRunInPieces self.now }

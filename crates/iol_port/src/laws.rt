@@ -21,9 +21,9 @@ use iol_segment::{cut_is_whole, segments_join, texts_join};
 /// journal says where each ticket stands. Joined with what drains handed out since the last
 /// archive it is one journal. The record's pairs have their owners, which are the requests that
 /// this one says were taken: in the order taken, at most one pair for each, and exactly one, with
-/// that answer, for each that is done. A request that was cut off, and that the device may still
-/// carry out, is in doubt by the journal alone: it is the one taken last. Of a request that the
-/// device may carry out more than once, the record may have more pairs. At a port for our own
+/// that answer, for each that is done. A request of them that was cut off, and that the device may
+/// still carry out, is in doubt by the journal alone: it is the one taken last. Of a request that
+/// the device may carry out more than once, the record may have more pairs. At a port for our own
 /// devices whose device forgets its answer once the last segment was sent, the answer that is told
 /// may be another than that of the pair.
 ///
@@ -113,7 +113,8 @@ pub fn runs_join()
 ///
 /// The pairs stand behind what the record had at the opening, and no two owners have one ticket,
 /// nor one of them two pairs, across losses, restarts, drains and archives: so each request is
-/// carried out once at most, one that was cut off as well.
+/// carried out once at most, one that was cut off as well. Before them may stand one pair that has
+/// no owner: that of the request which the device had been handed when the port was opened.
 ///
 /// It is otherwise only at a port for our own devices whose device hands a request over with its
 /// last segment. There a request whose text fits in one START write may have several pairs, next
@@ -133,8 +134,9 @@ pub fn each_done_has_its_pair()
 /// The run has a turn, or the second piece of one, that leads out of down; at a port for any
 /// device one that leads out of STARTUP, and not back to down. Over the whole of it the pairs are
 /// as [`each_done_has_its_pair`] says; and no request that the device carries out after that had
-/// been cut off before it. One that was cut off for another cause than a lost link or a
-/// restart, as a cancelled one, isn't carried out after that at all.
+/// been cut off before it, nor was it handed over before the opening. One that was cut off for
+/// another cause than a lost link or a restart, as a cancelled one, isn't carried out after that at
+/// all.
 ///
 /// Rule REQ-12.
 pub fn late_requests_end()
@@ -143,7 +145,8 @@ pub fn late_requests_end()
 {}
 
 /// A law of the definitions, over whole runs of a port that is opened: a device without ISDU
-/// carries nothing out, and each outcome NoIsdu that was collected is that of such a device.
+/// carries nothing out but, once, what it had been handed when the port was opened; and each
+/// outcome NoIsdu that was collected is that of such a device.
 #[tactic(auto, using(crate::proofs::OwnerRuns::carries_none, crate::proofs::OwnerRuns::denied_without_isdu))]
 pub fn denied_requests_stay_out()
     ensures carries { CarriesNone }

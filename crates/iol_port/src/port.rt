@@ -527,8 +527,9 @@ impl<W: Wire, A: Handle> Port<W, A> {
     /// A law of each port, without code: at every moment the journal says where each
     /// ticket stands, and the wire is what the one at the opening became by wakes and
     /// exchanges, and by nothing else; its book has the limits of the opening; and the device's
-    /// record fits the journal, if when the port was opened the wire was honest, and the device had
-    /// been handed no request; at a port for our own devices it has to see each pulse of a wake.
+    /// record fits the journal, if when the port was opened the wire was honest; at a port for our
+    /// own devices the device has to see each pulse of a wake. A request that it was handed before
+    /// the opening may have one pair in the record, before all others.
     pub fn keeps_record(&self)
         ensures replayed { IsReplayed self.now.parts.book.state }
         ensures run { IsRun W.facts self.now.opening (over self.now) }

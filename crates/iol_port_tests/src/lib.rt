@@ -47,6 +47,8 @@ mod sim;
 #[cfg(test)]
 mod small;
 #[cfg(test)]
+mod starts;
+#[cfg(test)]
 mod stations;
 #[cfg(test)]
 mod tap;
