@@ -1,19 +1,16 @@
 -- Owners that go on: what they had stays, and those that have no more answers.
-use Rattle.std.proofs.Common.{◌≡◌, ◌⊎◌, ◌∷◌, ◌++◌, [], List, ◌+◌, Bool, false, Option, Some, None, append_assoc, refl, ap, sym, ◌∙◌, subst, arith, inl, inr, drop}
+use Rattle.std.proofs.Common.{◌≡◌, ◌⊎◌, ◌∷◌, ◌++◌, [], List, Bool, false, Option, Some, None, append_assoc, refl, ap, sym, ◌∙◌, subst, arith, inl, inr, drop}
 use Rattle.std.proofs.lemmas.Grind.{common_steps}
 use Rattle.iol_isdu.specs.declared.values.Request.{Request}
 use Rattle.iol_book.specs.declared.entries.Ticket.{Ticket}
 use Rattle.iol_book.specs.declared.entries.Entry.{Entry}
 use Rattle.iol_book.specs.declared.entries.Outcome.{Outcome}
 use Rattle.iol_book.specs.declared.entries.Outcome.TheVariants as outcome
-use Rattle.iol_book.specs.Replay.{nothing}
 use Rattle.iol_book.specs.BookModel.{leaves_unsure}
-use Rattle.iol_app.specs.Abstract.Steps.{Done, Unknown}
 use Rattle.iol_app.specs.Abstract.Session.{Job, Session}
 use Rattle.iol_port.specs.Owners.{Owner, Owners, all, IsOneOf, HasEnded}
 use Rattle.iol_port.specs.Sound.{not_under_way, LastTakenIsOpen, LastIsOpen, IsOutcome}
 use Rattle.iol_port.specs.CarriesOut.{GrewBy, OwnerGoesOn, LastGoesOn, GoOn}
-use Rattle.iol_port.proofs.PairLists.{ticket_is}
 
 -- Owners that go on
 
@@ -103,7 +100,7 @@ go_on_each {xs} goes x i = rw goes.owners_are (
     by (z ∷ xs) [] last i = absurd last
 
 -- how a request ended, it has ended from then on
-pub ended_on : {xs ys : List Owner} → GoOn xs ys → (t : Ticket) (out : Outcome)
+ended_on : {xs ys : List Owner} → GoOn xs ys → (t : Ticket) (out : Outcome)
     → HasEnded xs t out → HasEnded ys t out
 ended_on goes t out (x, i, same, is) =
     let (y, j, one) = go_on_each goes x i in (y, j, one.ticket_is ∙ same, one.ends out is)
@@ -143,7 +140,7 @@ closed_same None None l es z i = i
 closed_same _ _ l es z i = i
 
 -- one that ended is closed, unless it is late
-pub closed_has : (repeats : Request → Bool) (job : Option Job) (late : Option Request)
+closed_has : (repeats : Request → Bool) (job : Option Job) (late : Option Request)
     (taken : Option (Ticket × Request)) (l : Owners) (xs : List Owner)
     → LastTakenIsOpen repeats job late taken xs
     → (x : Owner) → IsOneOf x (xs ++ l.archived) → (out : Outcome)
@@ -189,11 +186,12 @@ others_all (Some job) (x ∷ xs) z i = inr i
 
 -- The request of before
 
--- nothing is of before, or that request is carried out or comes no more
+-- the request of before is carried out, or comes no more
 pub record BeforeEnds (l m : Owners) : Type 0 where
   pub none : m.late ≡ None
   pub grew : GrewBy l.late l.before m.before
 
+-- or it stays late, if one was
 abbrev pub BeforeGoes : Owners → Owners → Type 0
 BeforeGoes l m = ((m.late ≡ l.late) × (m.before ≡ l.before)) ⊎ BeforeEnds l m
 
