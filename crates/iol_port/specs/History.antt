@@ -87,7 +87,6 @@ pub data IsPartOf {X : Type 0} : List X → List X → Type 0 where
 
 -- what was reported counts as unreported again: behind a wake or a reset of the device, and, at a
 -- port for any device, where a confirm had no good reply
--- EVT-9
 abbrev pub reports_again : PortStep → Bool
 reports_again Untell = true
 reports_again Start = true

@@ -86,8 +86,6 @@ pub fn turns_admit()
 /// In a run in which nothing that was reported counts as unreported again, each event is reported
 /// at most once, in the order of raising. It counts so behind a wake or a reset of the device, and,
 /// at a port for any device, where a confirm had no good reply: then it may come once more.
-///
-/// Rule EVT-9.
 #[tactic(auto, using(crate::proofs::HistoryRuns::each_fits_history, crate::proofs::HistoryRuns::each_is_reported_once))]
 pub fn runs_fit_history()
     ensures fits { EachFitsHistory }
