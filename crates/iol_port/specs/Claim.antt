@@ -45,15 +45,18 @@ module _ {W : Type 0} (facts : WireFacts W) where
   -- request. Before them it may have carried out, once, what it was handed before the opening.
   -- Otherwise is only what the allowance says, which is none at a port for any device. The journal
   -- has the requests that were taken since it began, which all ended but the one under way. Each
-  -- event that was reported was raised at the device, each image was its input at some moment of
-  -- what happened there, and its output is one that a client set.
+  -- event that was reported was raised at the device, or in its memory at the opening; each image
+  -- was its input at some moment of what happened there; and its output is one that a client set,
+  -- or the one of the opening.
   --
-  -- A run may still choose these, and nothing else. What the device does by itself, and when: it
-  -- answers a request that it was handed, or is busy with it; it freezes events; its input changes;
-  -- it has a power cycle, and then answers nothing until a wake. What the line loses. How soon the
-  -- port gets on: takes the next request, tells an answer that is there, reports what is frozen,
-  -- has read the page, and changes the mode. That a port which may be in doubt of a request cuts it
-  -- off. That a submit or a drain lacks memory. What the counters and the last loss say.
+  -- A run may still choose these, and nothing else. When the device does by itself what its record
+  -- and its history have: it answers a request that it was handed, an event is raised, its input
+  -- changes, it has a power cycle, and then answers nothing until a wake. When it freezes events,
+  -- first those that wait longest, and how often it is busy with a request. What the line loses.
+  -- How soon the port gets on: takes the next request, tells an answer that is there, reports what
+  -- is frozen, has read the page, and changes the mode. That a port which may be in doubt of a
+  -- request cuts it off. That a submit or a drain lacks memory. What the counters and the last loss
+  -- say.
   pub record Claim (o : Opening W) (calls : List Call) (replies : List Answered) (q : PortOver W) :
       Type 0 where
     pub earlier : List Call
