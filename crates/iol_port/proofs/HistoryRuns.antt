@@ -13,7 +13,6 @@ use Rattle.iol_app.specs.Abstract.Steps.{PortStep, Take, Deny, Carry, Again, Don
 use Rattle.iol_app.specs.Abstract.Events.{Frozen, MayFrozen, frozen_after, untold_events, frozen_events, unreported_events}
 use Rattle.iol_app.specs.Abstract.Images.{Images, images_after}
 use Rattle.iol_app.specs.Abstract.Past.{Past, MayPast, past_after}
-use Rattle.iol_app.proofs.Parts.{through_steps-append}
 use Rattle.iol_port.specs.Steps.{kept_after}
 use Rattle.iol_port.specs.declared.call.Call.{Call}
 use Rattle.iol_port.specs.declared.call.Call.TheVariants as call
@@ -22,7 +21,7 @@ use Rattle.iol_port.specs.declared.call.Answered.TheVariants as answered
 use Rattle.iol_port.specs.declared.fault.PortFault.TheVariants as fault
 use Rattle.iol_port.specs.Owners.{IsOneOf}
 use Rattle.iol_port.specs.CarriesOut.{Happens}
-use Rattle.iol_port.specs.History.{input_behind, WasInput, raised_in, events_handed_out, held_events, FitsHistory, EachFitsHistory, IsPartOf, nothing, takes, leaves, reports_again, receives_again, does_again, is_again_in, unreported_in, ReportsOnce, EachIsReportedOnce}
+use Rattle.iol_port.specs.History.{input_behind, WasInput, raised_in, events_handed_out, held_events, EachFitsHistory, IsPartOf, nothing, takes, leaves, reports_again, receives_again, does_again, is_again_in, unreported_in, EachIsReportedOnce}
 use Rattle.iol_port.specs.Run.{PortState, port_at_opening, SendOf, ReceiveOf, is_sending_step, moment_by, Is, set_output_of, take_event_of, CallOf, Piece, Whole, Send, Receive, PieceOf, Pieces}
 
 -- Lists

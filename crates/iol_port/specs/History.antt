@@ -1,12 +1,12 @@
 -- What a client may conclude of a whole run, of events, images and outputs: they are of what
 -- happened at the device.
-use Rattle.std.specs.Prelude.{◌≡◌, ◌⊎◌, ℕ, Bool, true, false, ◌||◌, List, [], ◌∷◌, ◌++◌, Option, Some, None, ⊤}
+use Rattle.std.specs.Prelude.{◌≡◌, ◌⊎◌, ℕ, Bool, true, false, ◌||◌, List, [], ◌∷◌, ◌++◌, Option, Some, None}
 use Rattle.std.specs.List.{list_any}
 use Rattle.iol_event.specs.declared.event.Event.{Event}
 use Rattle.iol_far.specs.Far.{Far}
 use Rattle.iol_far.specs.History.{HistoryEntry, Raised, InputSet, PowerCycled}
 use Rattle.iol_app.specs.Abstract.Steps.{PortStep, ImageOctets, Untell, Start, Reset}
-use Rattle.iol_app.specs.Abstract.Events.{Frozen, frozen_events, unreported_events}
+use Rattle.iol_app.specs.Abstract.Events.{frozen_events, unreported_events}
 use Rattle.iol_mode.specs.declared.configuration.Devices.{Devices}
 use Rattle.iol_book.specs.declared.limits.Limits.{Limits}
 use Rattle.iol_port.specs.declared.call.Call.TheVariants as call
@@ -14,7 +14,7 @@ use Rattle.iol_port.specs.declared.call.Answered.{Answered}
 use Rattle.iol_port.specs.declared.call.Answered.TheVariants as answered
 use Rattle.iol_port.specs.Owners.{IsOneOf}
 use Rattle.iol_port.specs.CarriesOut.{Happens}
-use Rattle.iol_port.specs.Run.{PortState, port_at_opening, ReceiveOf, Piece, Whole, Send, Receive, PieceOf, Pieces}
+use Rattle.iol_port.specs.Run.{PortState, port_at_opening, ReceiveOf, Piece, Whole, Receive, PieceOf, Pieces}
 
 -- Of a history
 

@@ -1,5 +1,4 @@
 use Rattle.iol_far.specs.Level.{grown_by}
-use Rattle.iol_device.specs.Record.{Noted}
 use Rattle.iol_device.proofs.record.Unkept.grown_by.Given as goal
 
 abbrev pub ghost-of : goal.ghost-of

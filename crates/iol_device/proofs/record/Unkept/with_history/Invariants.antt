@@ -1,4 +1,3 @@
-use Rattle.iol_device.specs.Record.{Noted}
 use Rattle.iol_device.proofs.record.Unkept.with_history.Given as goal
 
 abbrev pub ghost-of : goal.ghost-of
