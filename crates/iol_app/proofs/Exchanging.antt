@@ -347,7 +347,8 @@ module _ (turn : Turn) (passage : Passage) (e : Purpose) (current : Option Curre
               (again_frozen request passed.isdu h _ _ _ _ ys b.frozen);
           past = runs-append MayPast past_after _ _ _
               (exchange_past request far steps passage o p.none)
-              (again_past request passed.isdu h _ _ ys (brought_past ModeOperate call ys _ b.brings));
+              (again_past request passed.isdu h _ _ ys
+              (brought_past ModeOperate call ys _ b.brings));
           images = runs-append (MayImages m) (images_after m) _ _ _
               (exchange_images m request (shown_in t g.sent) far steps passage o p.sends)
               (again_images m request passed.isdu h _ _ ys b.images);

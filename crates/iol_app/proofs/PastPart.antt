@@ -66,8 +66,8 @@ step_past request far step none = grind (arith, common_steps)
 own_past : (request : Option Request) (steps : List LocalStep) (far : Far) → NoneWaits far.events
     → Leaves far (own_steps request far steps) (locals far steps)
 own_past request steps far none =
-    own_runs MayPast past_after {X = Unit {0}} request (λ f x. past_of f) (λ f x. NoneWaits f.events)
-    (λ f step x. x) (λ f step x none. stays_none f step none)
+    own_runs MayPast past_after {X = Unit {0}} request (λ f x. past_of f)
+    (λ f x. NoneWaits f.events) (λ f step x. x) (λ f step x none. stays_none f step none)
     (λ f step x none. step_past request f step none) far steps tt none
 
 -- What is heard

@@ -1,5 +1,5 @@
--- A device's history: what happened at it by itself, but for the requests that it carried out, which
--- are in its record. It only grows.
+-- A device's history: what happened at it by itself, but for the requests that it carried out,
+-- which are in its record. It only grows.
 use Rattle.std.specs.Prelude.{ℕ, if◌then◌else◌, List, [], ◌∷◌, ◌++◌, Option}
 use Rattle.iol_event.specs.declared.event.Event.{Event}
 use Rattle.iol_event.specs.Memory.{Events, is_full}

@@ -1,5 +1,5 @@
--- What happened at the device by itself, and the events that wait at it: where each step is allowed,
--- and what it does.
+-- What happened at the device by itself, and the events that wait at it: where each step is
+-- allowed, and what it does.
 use Rattle.std.specs.Prelude.{◌≡◌, List, [], ◌∷◌, ◌++◌, length, drop, ⊤}
 use Rattle.iol_event.specs.declared.event.Event.{Event}
 use Rattle.iol_far.specs.History.{HistoryEntry, Raised, history_after_input, history_after_power_cycle}

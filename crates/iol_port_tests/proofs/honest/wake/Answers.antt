@@ -4,4 +4,5 @@ use Rattle.iol_port_tests.proofs.honest.wake.Goals as goal
 
 pub returns : goal.returns
 returns g c =
-    woken_is_honest _ _ _ _ _ c.work.ensures.carried _ c.parts_are_regular.ensures (ap (λ d. d.far) c.wake.ensures)
+    woken_is_honest _ _ _ _ _ c.work.ensures.carried _ c.parts_are_regular.ensures
+    (ap (λ d. d.far) c.wake.ensures)
