@@ -762,10 +762,8 @@ each_fits_history devices limits far silence pieces replies b run =
       entries = x.entries;
       history_is = x.history;
       input_is = x.input;
-      images = λ image shown. elim (x.looks image shown) [
-        | inl before ↦ absurd (cc before)
-        | inr was ↦ was
-      ];
+      shown = λ image e. since_opening (x.image image e);
+      images = λ image e. since_opening (x.looks image e);
       outputs = λ image e. elim (x.output image (inl e)) [
         | inl before ↦ elim before [
           | inl output ↦ inl output
@@ -776,6 +774,13 @@ each_fits_history devices limits far silence pieces replies b run =
       events = λ event one.
           x.held event (one_first event x.reported (held_events b) (rw (← x.reported_is) at one));
     }
+  where
+    -- no image is shown at the opening
+    since_opening : {entries : List HistoryEntry} {image : ImageOctets}
+        → WasShown entries (port_at_opening devices limits far silence).images image
+        → WasInput entries far.input image
+    since_opening (inl before) = absurd (cc before)
+    since_opening (inr was) = was
 
 pub each_is_reported_once : EachIsReportedOnce
 each_is_reported_once a b pieces replies run once =

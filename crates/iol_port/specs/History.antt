@@ -52,7 +52,8 @@ abbrev pub held_events : PortState → List Event
 held_events a = frozen_events a.frozen ++ a.past.waiting
 
 -- A run from here led there. The device's history went on by some entries, by which its input is
--- what it is. Each image that was handed out was the input at a moment of them. Each event that the
+-- what it is. The image that is shown, and each that was handed out, was the input at a moment of
+-- them. Each event that the
 -- port reported was raised in them, or was in the device's memory before. The output that the
 -- device has is the one of before, or one that a client set.
 pub record FitsHistory (from : PortState) (pieces : List Piece) (replies : List Answered)
@@ -60,6 +61,8 @@ pub record FitsHistory (from : PortState) (pieces : List Piece) (replies : List 
   pub entries : List HistoryEntry
   pub history_is : a.past.history ≡ from.past.history ++ entries
   pub input_is : a.images.input ≡ input_behind entries from.images.input
+  pub shown : (image : ImageOctets) → a.images.image ≡ Some image
+      → WasInput entries from.images.input image
   pub images : (image : ImageOctets)
       → Happens pieces replies (Whole call.Look) (answered.Image (Some image))
       → WasInput entries from.images.input image

@@ -1,3 +1,4 @@
 mod FirstApp
 mod MeetLemmas
 mod MissedPulse
+mod ShowsHistory

@@ -1,5 +1,5 @@
 -- A device that runs TYPE_0 in OPERATE answers a wake whose pulse it misses, and keeps its request.
-use Rattle.std.proofs.Common.{◌≡◌, ℕ, true, List, [], ◌∷◌, refl, ap, subst, ◌∙◌}
+use Rattle.std.proofs.Common.{◌≡◌, ℕ, true, List, [], ◌∷◌, refl, ap, subst, ◌∙◌, arith}
 use Rattle.std.specs.Prelude.{Option, Some, None, is_some, option_map}
 use Rattle.iol_octets.specs.Control.{control_of}
 use Rattle.iol_octets.specs.Checksum as checksum
@@ -56,6 +56,17 @@ accepted_is heard kind request =
 answered : TextsAreHeard → (kind : Kind) (request : Request)
     → UnseenWake (misses kind request) true (hear (misses kind request) test_read).far
 answered heard kind request = record {
+  regular = record {
+    page = refl;
+    sized = tt;
+    input = tt;
+    memory = record {
+      frozen = omega arith;
+      waiting = omega arith;
+      held = λ held. refl;
+      waits = λ none free. refl;
+    };
+  };
   misses = refl;
   orderly = record { startup = λ e. absurd (cc); waits = tt; valid = λ e. absurd (cc) };
   steps = [];

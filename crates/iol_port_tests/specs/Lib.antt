@@ -1,1 +1,2 @@
 pub mod MissedPulse
+pub mod ShowsHistory

@@ -4,11 +4,14 @@ ghost use Rattle.iol_device.specs.App.{Follows};
 ghost use Rattle.iol_sim.specs.Params.{AnsweredBy};
 ghost use Rattle.iol_sim.specs.Script.{AreThose};
 ghost use Rattle.iol_sim.specs.Sim.{sim_devices};
+ghost use Rattle.iol_port.specs.View.{OpensWell};
 ghost use Rattle.iol_port_tests.specs.MissedPulse.{PulsesAreMissed};
+ghost use Rattle.iol_port_tests.specs.ShowsHistory.{ShowsHistory};
 
 use iol_cell::Handle;
 use iol_device::App;
 use iol_far::texts_are_heard;
+use iol_link::Wire;
 use iol_port::Port;
 use iol_sim::{Params, Sim};
 use std::alloc::Allocator;
@@ -56,6 +59,16 @@ pub fn record_is_answered_by_the_first_params<B: Allocator + Copy, A: Handle>(
 {
     port.keeps_record();
     port.wire().record_is_answered_by_params();
+}
+
+/// A law of each port, by its claim alone: the image that it shows was its device's input at a
+/// moment since the opening, and each event that it keeps was raised since, or was in the device's
+/// memory then.
+#[tactic(auto, using(crate::proofs::ShowsHistory::shows_history))]
+pub fn ports_show_what_devices_had<W: Wire, A: Handle>(port: &Port<W, A>)
+    ensures { OpensWell port.now.opening → ShowsHistory W.facts port.now }
+{
+    port.keeps_record();
 }
 
 /// A law of the definitions, without code: a lossy line may have a device that answers a wake whose

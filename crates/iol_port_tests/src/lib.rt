@@ -13,7 +13,8 @@
 mod laws;
 
 pub use laws::{
-    first_app_follows_record, pulses_are_missed, record_is_answered_by_the_first_params,
+    first_app_follows_record, ports_show_what_devices_had, pulses_are_missed,
+    record_is_answered_by_the_first_params,
 };
 
 #[cfg(test)]
