@@ -36,6 +36,49 @@ const WRITE: [&[u8]; 5] = [
     &[0xF0, 0x2D],
 ];
 
+type Device<'t> = ParamDevice<'t, RamSlots>;
+
+/// Whether a device answers each of these messages.
+fn hears(device: &mut Device, messages: &[&[u8]]) -> bool {
+    for message in messages {
+        if device.hear(message).is_none() {
+            return false;
+        }
+    }
+    true
+}
+
+/// A block begins, and a write of it was handed over.
+fn begins(device: &mut Device) -> bool {
+    if !hears(device, &BEGIN) {
+        return false;
+    }
+    device.work();
+    device.manager().activity().is_download()
+        && hears(device, &WRITE)
+        && device.device().handed().is_some()
+}
+
+/// The block ends with the master's silence, and the write of it is carried out no more.
+fn is_cut_off(device: &mut Device) -> bool {
+    device.silence();
+    let is_at_rest = device.manager().activity().is_at_rest();
+    device.work();
+    is_at_rest && device.device().handed().is_none()
+}
+
+/// A further write isn't in force either.
+fn keeps_its_value(device: &mut Device) -> bool {
+    if !hears(device, &WRITE) {
+        return false;
+    }
+    device.work();
+    match device.manager().read(PLACE) {
+        Answer::Read(octets) => octets.as_slice() == &[10][..],
+        _ => false,
+    }
+}
+
 #[test]
 fn a_write_of_a_block_cut_off_by_silence_is_not_in_force(rt: HostRuntime) -> Result<(), Fail> {
     let table = Table::new(&MEMBERS, &[])?;
@@ -43,24 +86,7 @@ fn a_write_of_a_block_cut_off_by_silence_is_not_in_force(rt: HostRuntime) -> Res
     let page = Page::from_octets(&PAGE);
     let mut device = ParamDevice::open(rt.alloc(), &table, page, slots)?;
     device.wake();
-    for message in BEGIN {
-        assert!(rt; device.hear(message).is_some());
-    }
-    device.work();
-    assert!(rt; device.manager().activity().is_download());
-    for message in WRITE {
-        assert!(rt; device.hear(message).is_some());
-    }
-    assert!(rt; device.device().handed().is_some());
-    device.silence();
-    assert!(rt; device.manager().activity().is_at_rest());
-    device.work();
-    assert!(rt; device.device().handed().is_none());
-    for message in WRITE {
-        assert!(rt; device.hear(message).is_some());
-    }
-    device.work();
-    let answer = device.manager().read(PLACE);
-    assert!(rt; matches!(answer, Answer::Read(octets) if octets.as_slice() == [10].as_slice()));
+    let holds = begins(&mut device) && is_cut_off(&mut device) && keeps_its_value(&mut device);
+    assert!(rt; holds);
     Ok(())
 }

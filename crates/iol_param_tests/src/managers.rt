@@ -1,184 +1,75 @@
 //! What a manager answers, in the cases that the page of its rules has.
+//!
+//! A test is a table of steps. The prover's work grows with the calls of a function, and one
+//! function makes each call of a manager.
 use iol_isdu::{Answer, Place, Request};
 use iol_params::{
     Access, Command, DataType, ErrorType, IntegerWidth, Manager, Member, OrderRule, Restart, Scope,
     Table, cut_offs_stay_out, sets_fit,
 };
-use std::alloc::Allocator;
+use std::alloc::{Allocator, Global};
+use std::process::Abort;
 use std::test::Fail;
 
-const fn at(index: u16) -> Place {
-    Place { index, sub: 0 }
-}
+const TAG: Place = Place { index: 24, sub: 0 };
+
+const LOW: Place = Place { index: 64, sub: 0 };
+
+const HIGH: Place = Place { index: 65, sub: 0 };
+
+const SERIAL: Place = Place { index: 21, sub: 0 };
+
+/// What Data Storage keeps: a text and two limits.
+const STORED_TAG: Member = Member {
+    place: TAG,
+    data_type: DataType::Text(16),
+    access: Access::Stored,
+    default: b"tag",
+};
+
+const STORED_LOW: Member = Member {
+    place: LOW,
+    data_type: DataType::UInteger(IntegerWidth::One, 0, 100),
+    access: Access::Stored,
+    default: &[10],
+};
+
+const STORED_HIGH: Member = Member {
+    place: HIGH,
+    data_type: DataType::UInteger(IntegerWidth::One, 0, 100),
+    access: Access::Stored,
+    default: &[90],
+};
 
 const MEMBERS: [Member; 4] = [
+    STORED_TAG,
+    STORED_LOW,
+    STORED_HIGH,
     Member {
-        place: Place { index: 24, sub: 0 },
-        data_type: DataType::Text(16),
-        access: Access::Stored,
-        default: b"tag",
-    },
-    Member {
-        place: Place { index: 64, sub: 0 },
-        data_type: DataType::UInteger(IntegerWidth::One, 0, 100),
-        access: Access::Stored,
-        default: &[10],
-    },
-    Member {
-        place: Place { index: 65, sub: 0 },
-        data_type: DataType::UInteger(IntegerWidth::One, 0, 100),
-        access: Access::Stored,
-        default: &[90],
-    },
-    Member {
-        place: Place { index: 21, sub: 0 },
+        place: SERIAL,
         data_type: DataType::OctetString(4),
         access: Access::ReadOnly,
         default: &[1, 2, 3, 4],
     },
 ];
 
+/// The members of a sensor that has six octets in the place of the serial number.
+const SENSOR_MEMBERS: [Member; 4] = [
+    STORED_TAG,
+    STORED_LOW,
+    STORED_HIGH,
+    Member {
+        place: Place { index: 80, sub: 0 },
+        data_type: DataType::OctetString(6),
+        access: Access::Stored,
+        default: &[0; 6],
+    },
+];
+
 const RULES: [OrderRule; 1] = [OrderRule {
-    low: Place { index: 64, sub: 0 },
-    high: Place { index: 65, sub: 0 },
+    low: LOW,
+    high: HIGH,
 }];
-
-#[test]
-fn a_block_is_applied_whole(rt: HostRuntime) -> Result<(), Fail> {
-    let table = Table::new(&MEMBERS, &RULES)?;
-    let mut manager = Manager::open(rt.alloc(), &table)?;
-    assert_eq!(rt; manager.write(at(64), &[95]), Err(ErrorType::InvalidSet));
-    manager.command(Scope::Block, Command::DownloadStart)?;
-    manager.write(at(64), &[95])?;
-    manager.write(at(65), &[99])?;
-    assert_eq!(rt; octet_at(&manager, 64), Some(10));
-    manager.command(Scope::Block, Command::DownloadEnd)?;
-    assert_eq!(rt; octets_at(&manager, 64, 65), Some((95, 99)));
-    Ok(())
-}
-
-#[test]
-fn each_write_is_refused_for_its_first_reason(rt: HostRuntime) -> Result<(), Fail> {
-    let table = Table::new(&MEMBERS, &RULES)?;
-    let mut manager = Manager::open(rt.alloc(), &table)?;
-    assert_eq!(rt;
-        manager.write(at(99), &[]),
-        Err(ErrorType::IndexNotAvailable)
-    );
-    let part = Place { index: 64, sub: 1 };
-    assert_eq!(rt;
-        manager.write(part, &[]),
-        Err(ErrorType::SubindexNotAvailable)
-    );
-    assert_eq!(rt; manager.write(at(21), &[]), Err(ErrorType::AccessDenied));
-    assert_eq!(rt; manager.write(at(64), &[1, 2]), Err(ErrorType::TooLong));
-    assert_eq!(rt; manager.write(at(64), &[]), Err(ErrorType::TooShort));
-    assert_eq!(rt;
-        manager.write(at(64), &[101]),
-        Err(ErrorType::ValueOutOfRange)
-    );
-    assert_eq!(rt; manager.write(at(64), &[91]), Err(ErrorType::InvalidSet));
-    manager.command(Scope::Block, Command::UploadStart)?;
-    assert_eq!(rt;
-        manager.write(at(64), &[1, 2]),
-        Err(ErrorType::FunctionUnavailable)
-    );
-    assert_eq!(rt; octet_at(&manager, 64), Some(10));
-    assert!(rt; !manager.flag());
-    Ok(())
-}
-
-#[test]
-fn a_block_with_a_hole_is_none(rt: HostRuntime) -> Result<(), Fail> {
-    let table = Table::new(&MEMBERS, &RULES)?;
-    let mut manager = Manager::open(rt.alloc(), &table)?;
-    manager.command(Scope::Block, Command::DownloadStart)?;
-    manager.write(at(64), &[20])?;
-    assert_eq!(rt;
-        manager.write(at(65), &[101]),
-        Err(ErrorType::ValueOutOfRange)
-    );
-    let end = manager.command(Scope::Block, Command::DownloadEnd);
-    assert_eq!(rt; end, Err(ErrorType::InconsistentSet));
-    assert_eq!(rt; octet_at(&manager, 64), Some(10));
-    let end = manager.command(Scope::Block, Command::DownloadEnd);
-    assert_eq!(rt; end, Err(ErrorType::FunctionUnavailable));
-    Ok(())
-}
-
-#[test]
-fn an_activity_stands_alone(rt: HostRuntime) -> Result<(), Fail> {
-    let table = Table::new(&MEMBERS, &RULES)?;
-    let mut manager = Manager::open(rt.alloc(), &table)?;
-    manager.command(Scope::Storage, Command::DownloadStart)?;
-    let other = manager.command(Scope::Block, Command::FactoryReset);
-    assert_eq!(rt; other, Err(ErrorType::FunctionUnavailable));
-    assert_eq!(rt;
-        manager.set(at(64), &[5]),
-        Err(ErrorType::FunctionUnavailable)
-    );
-    manager.write(at(64), &[5])?;
-    manager.over();
-    assert_eq!(rt; octet_at(&manager, 64), Some(10));
-    manager.set(at(64), &[5])?;
-    assert_eq!(rt; octet_at(&manager, 64), Some(5));
-    Ok(())
-}
-
-#[test]
-fn a_reset_at_the_device_lets_no_cut_off_block_in(rt: HostRuntime) -> Result<(), Fail> {
-    cut_offs_stay_out();
-    let table = Table::new(&MEMBERS, &RULES)?;
-    let mut manager = Manager::open(rt.alloc(), &table)?;
-    manager.set(at(64), &[20])?;
-    manager.command(Scope::Block, Command::DownloadStart)?;
-    manager.write(at(64), &[30])?;
-    assert_eq!(rt; manager.local_reset(), Err(ErrorType::FunctionUnavailable));
-    manager.silence();
-    assert_eq!(rt; octet_at(&manager, 64), Some(20));
-    manager.local_reset()?;
-    assert!(rt; !manager.flag() && !manager.is_event_due());
-    assert_eq!(rt;
-        manager.write(at(65), &[99]),
-        Err(ErrorType::FunctionUnavailable)
-    );
-    let end = manager.command(Scope::Block, Command::DownloadEnd);
-    assert_eq!(rt; end, Err(ErrorType::FunctionUnavailable));
-    assert_eq!(rt; octets_at(&manager, 64, 65), Some((10, 90)));
-    manager.command(Scope::Block, Command::FactoryReset)?;
-    manager.write(at(65), &[99])?;
-    assert_eq!(rt; octet_at(&manager, 65), Some(99));
-    manager.local_reset()?;
-    manager.write(at(65), &[98])?;
-    assert_eq!(rt; octet_at(&manager, 65), Some(98));
-    Ok(())
-}
-
-#[test]
-fn the_flag_is_set_and_cleared(rt: HostRuntime) -> Result<(), Fail> {
-    let table = Table::new(&MEMBERS, &RULES)?;
-    let mut manager = Manager::open(rt.alloc(), &table)?;
-    manager.write(at(64), &[5])?;
-    assert!(rt; !manager.flag());
-    manager.set(at(64), &[6])?;
-    assert!(rt; manager.flag() && manager.is_event_due());
-    manager.event_raised();
-    manager.command(Scope::Block, Command::UploadStart)?;
-    manager.command(Scope::Block, Command::UploadEnd)?;
-    assert!(rt; manager.flag() && manager.is_event_due());
-    manager.command(Scope::Storage, Command::UploadStart)?;
-    manager.command(Scope::Storage, Command::UploadEnd)?;
-    assert!(rt; !manager.flag() && !manager.is_event_due());
-    manager.command(Scope::Block, Command::DownloadStart)?;
-    manager.command(Scope::Block, Command::DownloadStore)?;
-    assert!(rt; manager.flag());
-    manager.command(Scope::Block, Command::FactoryReset)?;
-    assert!(rt; !manager.flag());
-    assert_eq!(rt; octet_at(&manager, 64), Some(10));
-    manager.command(Scope::Block, Command::ApplicationReset)?;
-    assert!(rt; manager.flag());
-    Ok(())
-}
 
 /// How a request is answered.
 #[derive(Clone, Copy)]
@@ -189,11 +80,28 @@ enum Reply {
     Refused(u8),
 }
 
-/// A request of a master, Index and Subindex first, and how it is answered.
+/// What is answered where a call is taken or refused.
+type Taken = Result<(), ErrorType>;
+
+/// A call of a manager, and what it is to answer.
 #[derive(Clone, Copy)]
 enum Step {
+    /// A request of a master, Index and Subindex first.
     Read(u16, u8, Reply),
     Write(u16, u8, &'static [u8], Reply),
+    /// The calls that these requests become, and those of the device itself.
+    Put(Place, &'static [u8], Taken),
+    Command(Scope, Command, Taken),
+    Set(Place, &'static [u8], Taken),
+    Reset(Taken),
+    Over,
+    Silence,
+    EventRaised,
+    /// The first octet of a value in force.
+    Has(Place, u8),
+    Flag(bool),
+    EventDue(bool),
+    Restart(Restart),
 }
 
 fn is_answered<A: Allocator + Copy>(manager: &mut Manager<A>, step: Step) -> bool {
@@ -205,6 +113,46 @@ fn is_answered<A: Allocator + Copy>(manager: &mut Manager<A>, step: Step) -> boo
         Step::Write(index, sub, octets, reply) => {
             is_so(&written(manager, Place { index, sub }, octets), reply)
         }
+        Step::Put(place, octets, taken) => manager.write(place, octets) == taken,
+        Step::Command(scope, command, taken) => manager.command(scope, command) == taken,
+        _ => is_done(manager, step),
+    }
+}
+
+fn is_done<A: Allocator + Copy>(manager: &mut Manager<A>, step: Step) -> bool {
+    match step {
+        Step::Set(place, octets, taken) => manager.set(place, octets) == taken,
+        Step::Reset(taken) => manager.local_reset() == taken,
+        Step::Over => {
+            manager.over();
+            true
+        }
+        Step::Silence => {
+            manager.silence();
+            true
+        }
+        Step::EventRaised => {
+            manager.event_raised();
+            true
+        }
+        _ => is_seen(manager, step),
+    }
+}
+
+fn is_seen<A: Allocator + Copy>(manager: &Manager<A>, step: Step) -> bool {
+    match step {
+        Step::Has(place, octet) => octet_at(manager, place) == Some(octet),
+        Step::Flag(flag) => manager.flag() == flag,
+        Step::EventDue(is_due) => manager.is_event_due() == is_due,
+        Step::Restart(restart) => manager.restart() == restart,
+        _ => false,
+    }
+}
+
+fn octet_at<A: Allocator + Copy>(manager: &Manager<A>, place: Place) -> Option<u8> {
+    match manager.read(place) {
+        Answer::Read(octets) => octets.first().copied(),
+        _ => None,
     }
 }
 
@@ -234,8 +182,173 @@ fn first_otherwise<A: Allocator + Copy>(manager: &mut Manager<A>, steps: &[Step]
     None
 }
 
+/// Each of the steps is answered so by a new manager of a device with these members.
+fn are_answered<R: Abort>(
+    rt: &R,
+    alloc: Global,
+    members: &[Member],
+    steps: &[Step],
+) -> Result<(), Fail> {
+    let table = Table::new(members, &RULES)?;
+    let mut manager = Manager::open(alloc, &table)?;
+    assert_eq!(rt; first_otherwise(&mut manager, steps), None);
+    Ok(())
+}
+
+const BLOCK: [Step; 8] = [
+    Step::Put(LOW, &[95], Err(ErrorType::InvalidSet)),
+    Step::Command(Scope::Block, Command::DownloadStart, Ok(())),
+    Step::Put(LOW, &[95], Ok(())),
+    Step::Put(HIGH, &[99], Ok(())),
+    Step::Has(LOW, 10),
+    Step::Command(Scope::Block, Command::DownloadEnd, Ok(())),
+    Step::Has(LOW, 95),
+    Step::Has(HIGH, 99),
+];
+
+#[test]
+fn a_block_is_applied_whole(rt: HostRuntime) -> Result<(), Fail> {
+    are_answered(&rt, rt.alloc(), &MEMBERS, &BLOCK)
+}
+
+const REFUSED: [Step; 11] = [
+    Step::Put(
+        Place { index: 99, sub: 0 },
+        &[],
+        Err(ErrorType::IndexNotAvailable),
+    ),
+    Step::Put(
+        Place { index: 64, sub: 1 },
+        &[],
+        Err(ErrorType::SubindexNotAvailable),
+    ),
+    Step::Put(SERIAL, &[], Err(ErrorType::AccessDenied)),
+    Step::Put(LOW, &[1, 2], Err(ErrorType::TooLong)),
+    Step::Put(LOW, &[], Err(ErrorType::TooShort)),
+    Step::Put(LOW, &[101], Err(ErrorType::ValueOutOfRange)),
+    Step::Put(LOW, &[91], Err(ErrorType::InvalidSet)),
+    Step::Command(Scope::Block, Command::UploadStart, Ok(())),
+    Step::Put(LOW, &[1, 2], Err(ErrorType::FunctionUnavailable)),
+    Step::Has(LOW, 10),
+    Step::Flag(false),
+];
+
+#[test]
+fn each_write_is_refused_for_its_first_reason(rt: HostRuntime) -> Result<(), Fail> {
+    are_answered(&rt, rt.alloc(), &MEMBERS, &REFUSED)
+}
+
+const HOLE: [Step; 6] = [
+    Step::Command(Scope::Block, Command::DownloadStart, Ok(())),
+    Step::Put(LOW, &[20], Ok(())),
+    Step::Put(HIGH, &[101], Err(ErrorType::ValueOutOfRange)),
+    Step::Command(
+        Scope::Block,
+        Command::DownloadEnd,
+        Err(ErrorType::InconsistentSet),
+    ),
+    Step::Has(LOW, 10),
+    Step::Command(
+        Scope::Block,
+        Command::DownloadEnd,
+        Err(ErrorType::FunctionUnavailable),
+    ),
+];
+
+#[test]
+fn a_block_with_a_hole_is_none(rt: HostRuntime) -> Result<(), Fail> {
+    are_answered(&rt, rt.alloc(), &MEMBERS, &HOLE)
+}
+
+const ALONE: [Step; 8] = [
+    Step::Command(Scope::Storage, Command::DownloadStart, Ok(())),
+    Step::Command(
+        Scope::Block,
+        Command::FactoryReset,
+        Err(ErrorType::FunctionUnavailable),
+    ),
+    Step::Set(LOW, &[5], Err(ErrorType::FunctionUnavailable)),
+    Step::Put(LOW, &[5], Ok(())),
+    Step::Over,
+    Step::Has(LOW, 10),
+    Step::Set(LOW, &[5], Ok(())),
+    Step::Has(LOW, 5),
+];
+
+#[test]
+fn an_activity_stands_alone(rt: HostRuntime) -> Result<(), Fail> {
+    are_answered(&rt, rt.alloc(), &MEMBERS, &ALONE)
+}
+
+/// A download, a reset at the device in it, and silence.
+const CUT_OFF: [Step; 19] = [
+    Step::Set(LOW, &[20], Ok(())),
+    Step::Command(Scope::Block, Command::DownloadStart, Ok(())),
+    Step::Put(LOW, &[30], Ok(())),
+    Step::Reset(Err(ErrorType::FunctionUnavailable)),
+    Step::Silence,
+    Step::Has(LOW, 20),
+    Step::Reset(Ok(())),
+    Step::Flag(false),
+    Step::EventDue(false),
+    Step::Put(HIGH, &[99], Err(ErrorType::FunctionUnavailable)),
+    Step::Command(
+        Scope::Block,
+        Command::DownloadEnd,
+        Err(ErrorType::FunctionUnavailable),
+    ),
+    Step::Has(LOW, 10),
+    Step::Has(HIGH, 90),
+    Step::Command(Scope::Block, Command::FactoryReset, Ok(())),
+    Step::Put(HIGH, &[99], Ok(())),
+    Step::Has(HIGH, 99),
+    Step::Reset(Ok(())),
+    Step::Put(HIGH, &[98], Ok(())),
+    Step::Has(HIGH, 98),
+];
+
+#[test]
+fn a_reset_at_the_device_lets_no_cut_off_block_in(rt: HostRuntime) -> Result<(), Fail> {
+    cut_offs_stay_out();
+    are_answered(&rt, rt.alloc(), &MEMBERS, &CUT_OFF)
+}
+
+/// A change at the device sets the flag, and an upload by Data Storage clears it; a block that is
+/// to be stored sets it, and a reset sets or clears it.
+const FLAG: [Step; 22] = [
+    Step::Put(LOW, &[5], Ok(())),
+    Step::Flag(false),
+    Step::Set(LOW, &[6], Ok(())),
+    Step::Flag(true),
+    Step::EventDue(true),
+    Step::EventRaised,
+    Step::Command(Scope::Block, Command::UploadStart, Ok(())),
+    Step::Command(Scope::Block, Command::UploadEnd, Ok(())),
+    Step::Flag(true),
+    Step::EventDue(true),
+    Step::Command(Scope::Storage, Command::UploadStart, Ok(())),
+    Step::Command(Scope::Storage, Command::UploadEnd, Ok(())),
+    Step::Flag(false),
+    Step::EventDue(false),
+    Step::Command(Scope::Block, Command::DownloadStart, Ok(())),
+    Step::Command(Scope::Block, Command::DownloadStore, Ok(())),
+    Step::Flag(true),
+    Step::Command(Scope::Block, Command::FactoryReset, Ok(())),
+    Step::Flag(false),
+    Step::Has(LOW, 10),
+    Step::Command(Scope::Block, Command::ApplicationReset, Ok(())),
+    Step::Flag(true),
+];
+
+#[test]
+fn the_flag_is_set_and_cleared(rt: HostRuntime) -> Result<(), Fail> {
+    are_answered(&rt, rt.alloc(), &MEMBERS, &FLAG)
+}
+
 /// What Data Storage reads, and how a fetch clears the flag.
-const FETCHED: [Step; 8] = [
+const FETCHED: [Step; 10] = [
+    Step::Read(3, 4, Reply::Is(&[0x16, 0xB4, 0xB2, 0xDE])),
+    Step::Set(HIGH, &[50], Ok(())),
     Step::Read(3, 2, Reply::Is(&[0x80])),
     Step::Read(3, 3, Reply::Is(&[0, 0, 0, 40])),
     Step::Read(3, 4, Reply::Is(&[0xFC, 0xA3, 0xC5, 0xA3])),
@@ -252,37 +365,53 @@ const FETCHED: [Step; 8] = [
 
 #[test]
 fn data_storage_reads_what_a_sensor_has(rt: HostRuntime) -> Result<(), Fail> {
-    let members = [
-        MEMBERS[0],
-        MEMBERS[1],
-        MEMBERS[2],
-        Member {
-            place: at(80),
-            data_type: DataType::OctetString(6),
-            access: Access::Stored,
-            default: &[0; 6],
-        },
-    ];
-    let table = Table::new(&members, &RULES)?;
-    let mut manager = Manager::open(rt.alloc(), &table)?;
-    let sum = [Step::Read(3, 4, Reply::Is(&[0x16, 0xB4, 0xB2, 0xDE]))];
-    assert_eq!(rt; first_otherwise(&mut manager, &sum), None);
-    manager.set(at(65), &[50])?;
-    assert_eq!(rt; first_otherwise(&mut manager, &FETCHED), None);
-    Ok(())
+    are_answered(&rt, rt.alloc(), &SENSOR_MEMBERS, &FETCHED)
 }
 
 /// Writes each value of the one to the other. Answers whether each is written.
 fn moves_each<A: Allocator + Copy>(from: &mut Manager<A>, to: &mut Manager<A>) -> bool {
-    for index in [24, 64, 65] {
-        let Answer::Read(value) = from.read(at(index)) else {
+    for place in [TAG, LOW, HIGH] {
+        let Answer::Read(value) = from.read(place) else {
             return false;
         };
-        if written(to, at(index), value.as_slice()) != Answer::Written {
+        if written(to, place, value.as_slice()) != Answer::Written {
             return false;
         }
     }
     true
+}
+
+/// Whether the two have the same checksum of Data Storage.
+fn are_same<A: Allocator + Copy>(one: &mut Manager<A>, other: &mut Manager<A>) -> bool {
+    let checksum = Request::read(Place { index: 3, sub: 4 });
+    one.carry(&checksum) == other.carry(&checksum)
+}
+
+const FROM: [Step; 3] = [
+    Step::Set(LOW, &[20], Ok(())),
+    Step::Set(HIGH, &[30], Ok(())),
+    Step::Set(TAG, b"", Ok(())),
+];
+
+const BEGIN: [Step; 2] = [
+    Step::Set(HIGH, &[10], Ok(())),
+    Step::Write(3, 1, &[3], Reply::Written),
+];
+
+const END: [Step; 4] = [
+    Step::Write(3, 1, &[4], Reply::Written),
+    Step::Has(LOW, 20),
+    Step::Has(HIGH, 30),
+    Step::Flag(false),
+];
+
+/// A set of the one is the other's, behind a download of Data Storage.
+fn fits<A: Allocator + Copy>(from: &mut Manager<A>, to: &mut Manager<A>) -> bool {
+    first_otherwise(from, &FROM).is_none()
+        && first_otherwise(to, &BEGIN).is_none()
+        && moves_each(from, to)
+        && first_otherwise(to, &END).is_none()
+        && are_same(from, to)
 }
 
 #[test]
@@ -290,40 +419,27 @@ fn a_set_fits_another_device_of_its_table(rt: HostRuntime) -> Result<(), Fail> {
     sets_fit();
     let table = Table::new(&MEMBERS, &RULES)?;
     let mut from = Manager::open(rt.alloc(), &table)?;
-    from.set(at(64), &[20])?;
-    from.set(at(65), &[30])?;
-    from.set(at(24), b"")?;
     let mut to = Manager::open(rt.alloc(), &table)?;
-    to.set(at(65), &[10])?;
-    let begin = [Step::Write(3, 1, &[3], Reply::Written)];
-    assert_eq!(rt; first_otherwise(&mut to, &begin), None);
-    assert!(rt; moves_each(&mut from, &mut to));
-    let end = [Step::Write(3, 1, &[4], Reply::Written)];
-    assert_eq!(rt; first_otherwise(&mut to, &end), None);
-    let checksum = Request::read(Place { index: 3, sub: 4 });
-    assert_eq!(rt; to.carry(&checksum), from.carry(&checksum));
-    assert_eq!(rt; octets_at(&to, 64, 65), Some((20, 30)));
-    assert!(rt; !to.flag());
+    assert!(rt; fits(&mut from, &mut to));
     Ok(())
 }
 
+const RESETS: [Step; 10] = [
+    Step::Restart(Restart::NotDue),
+    Step::Set(LOW, &[5], Ok(())),
+    Step::Write(2, 0, &[0x80], Reply::Written),
+    Step::Restart(Restart::Warm),
+    Step::Has(LOW, 5),
+    Step::Flag(true),
+    Step::Write(2, 0, &[0x83], Reply::Written),
+    Step::Restart(Restart::Silent),
+    Step::Has(LOW, 10),
+    Step::Flag(false),
+];
+
 #[test]
 fn a_reset_may_ask_for_a_restart(rt: HostRuntime) -> Result<(), Fail> {
-    let table = Table::new(&MEMBERS, &RULES)?;
-    let mut manager = Manager::open(rt.alloc(), &table)?;
-    assert_eq!(rt; manager.restart(), Restart::NotDue);
-    manager.set(at(64), &[5])?;
-    let reset = [Step::Write(2, 0, &[0x80], Reply::Written)];
-    assert_eq!(rt; first_otherwise(&mut manager, &reset), None);
-    assert_eq!(rt; manager.restart(), Restart::Warm);
-    assert_eq!(rt; octet_at(&manager, 64), Some(5));
-    assert!(rt; manager.flag());
-    let back_to_box = [Step::Write(2, 0, &[0x83], Reply::Written)];
-    assert_eq!(rt; first_otherwise(&mut manager, &back_to_box), None);
-    assert_eq!(rt; manager.restart(), Restart::Silent);
-    assert_eq!(rt; octet_at(&manager, 64), Some(10));
-    assert!(rt; !manager.flag());
-    Ok(())
+    are_answered(&rt, rt.alloc(), &MEMBERS, &RESETS)
 }
 
 const LOCKS_AND_COMMANDS: [Step; 15] = [
@@ -346,20 +462,5 @@ const LOCKS_AND_COMMANDS: [Step; 15] = [
 
 #[test]
 fn locks_and_commands_are_carried_out(rt: HostRuntime) -> Result<(), Fail> {
-    let table = Table::new(&MEMBERS, &RULES)?;
-    let mut manager = Manager::open(rt.alloc(), &table)?;
-    assert_eq!(rt; first_otherwise(&mut manager, &LOCKS_AND_COMMANDS), None);
-    Ok(())
-}
-
-/// The first octets of two values.
-fn octets_at<A: Allocator + Copy>(manager: &Manager<A>, one: u16, other: u16) -> Option<(u8, u8)> {
-    Some((octet_at(manager, one)?, octet_at(manager, other)?))
-}
-
-fn octet_at<A: Allocator + Copy>(manager: &Manager<A>, index: u16) -> Option<u8> {
-    match manager.read(at(index)) {
-        Answer::Read(octets) => octets.first().copied(),
-        _ => None,
-    }
+    are_answered(&rt, rt.alloc(), &MEMBERS, &LOCKS_AND_COMMANDS)
 }
