@@ -9,8 +9,7 @@ use iol_mseq::Message;
 use iol_octets::checksum6;
 use iol_page::Page;
 use iol_peers::PLAIN;
-use std::alloc::AllocError;
-use std::test::Fail;
+use std::alloc::Global;
 
 /// Refuses each request: index not available. The answer has four octets, none of which is 0.
 #[derive(Clone, Copy)]
@@ -114,30 +113,38 @@ fn judge_of<R: Record>(device: &mut Device<Refuses, R>) -> Judge {
     judge
 }
 
-/// The kind of each shows, and stays over wake-up requests, lost or not, and a power cycle.
-#[test]
-fn the_kind_of_a_device_shows(rt: HostRuntime) -> Result<(), Fail> {
-    for kind in &KINDS {
-        let mut device = Device::open_as(
-            rt.alloc(),
-            *kind,
-            Refuses,
-            Page::from_octets(&PLAIN),
-            ROOM,
-        ).map_err(|_| AllocError)?;
-        let mut judge = judge_of(&mut device);
-        assert!(rt; judge.verdict() == Verdict::Honest);
-        assert!(rt; judge.kinds() == Kinds::only(*kind));
-        assert!(rt; judge.kinds().has(*kind));
-        judge.wake(Wake::Unanswered);
-        device.power_cycle();
-        device.wake();
-        judge.wake(Wake::Answered);
-        read(&mut device, &mut judge, 0xA2);
-        assert!(rt; judge.verdict() == Verdict::Honest);
-        assert!(rt; judge.kinds() == Kinds::only(*kind));
+/// Whether a judge finds nothing against a device, and that it is of this kind.
+fn is_only(judge: &Judge, kind: Kind) -> bool {
+    judge.verdict() == Verdict::Honest
+        && judge.kinds() == Kinds::only(kind)
+        && judge.kinds().has(kind)
+}
+
+/// Whether the kind of a device shows, and stays over wake-up requests, lost or not, and a power
+/// cycle.
+fn shows<R: Record>(device: &mut Device<Refuses, R>, kind: Kind) -> bool {
+    let mut judge = judge_of(device);
+    let is_shown = is_only(&judge, kind);
+    judge.wake(Wake::Unanswered);
+    device.power_cycle();
+    device.wake();
+    judge.wake(Wake::Answered);
+    read(device, &mut judge, 0xA2);
+    is_shown && is_only(&judge, kind)
+}
+
+fn kind_shows(alloc: Global, kind: Kind) -> bool {
+    match Device::open_as(alloc, kind, Refuses, Page::from_octets(&PLAIN), ROOM) {
+        Ok(mut device) => shows(&mut device, kind),
+        Err(_) => false,
     }
-    Ok(())
+}
+
+#[test]
+fn the_kind_of_a_device_shows(rt: HostRuntime) {
+    for kind in &KINDS {
+        assert!(rt; kind_shows(rt.alloc(), *kind));
+    }
 }
 
 /// Which of the kinds are left, in the order of `KINDS`.
@@ -175,31 +182,31 @@ fn judge_behind() -> Judge {
     judge
 }
 
+/// A judge that was told a request, and these replies to START reads.
+fn judge_of_reads(replies: &[Option<&[u8]>]) -> Judge {
+    let mut judge = judge_behind();
+    for reply in replies {
+        judge.exchange(&message(START, None), *reply);
+    }
+    judge
+}
+
 /// All kinds are left where nothing tells them apart, and none where no device is.
 #[test]
-fn all_kinds_are_left_or_none(rt: HostRuntime) -> Result<(), Fail> {
+fn all_kinds_are_left_or_none(rt: HostRuntime) {
     assert!(rt; Judge::new(Odd::Blamed).kinds() == Kinds::all());
-    let mut judge = judge_behind();
-    judge.exchange(&message(START, None), BUSY);
-    judge.exchange(&message(START, None), NONE);
-    judge.exchange(&message(START, None), BUSY);
+    let mut judge = judge_of_reads(&[BUSY, NONE, BUSY]);
     assert!(rt; left(&judge) == [true, true, true, true]);
     judge.exchange(&message(0xF1, None), BUSY);
     assert!(rt; judge.verdict() == Verdict::NotHonest(7, Reason::NoAnswerDue));
     assert!(rt; judge.kinds() == Kinds::none());
-    Ok(())
 }
 
 /// No device forgets an answer of which it sent one octet, since the shortest has two.
 #[test]
-fn an_octet_is_no_answer(rt: HostRuntime) -> Result<(), Fail> {
-    let mut judge = judge_behind();
-    judge.exchange(&message(START, None), BUSY);
-    judge.exchange(&message(START, None), NONE);
-    assert!(rt; judge.verdict() == Verdict::Honest);
-    judge.exchange(&message(START, None), ZERO);
-    assert!(rt; judge.kinds() == Kinds::none());
-    Ok(())
+fn an_octet_is_no_answer(rt: HostRuntime) {
+    assert!(rt; judge_of_reads(&[BUSY, NONE]).verdict() == Verdict::Honest);
+    assert!(rt; judge_of_reads(&[BUSY, NONE, ZERO]).kinds() == Kinds::none());
 }
 
 /// Which kinds are left where the last segment of a request comes again behind a START read with
@@ -212,15 +219,23 @@ fn left_by(first: Option<&[u8]>, second: Option<&[u8]>) -> [bool; 4] {
     left(&judge)
 }
 
+/// The two replies, and the kinds that are left.
+type Case = (Option<&'static [u8]>, Option<&'static [u8]>, [bool; 4]);
+
+const CASES: [Case; 6] = [
+    (BUSY, BUSY, [false, false, true, true]),
+    (BUSY, ZERO, [true, true, false, false]),
+    (NONE, BUSY, [true, true, true, true]),
+    (NONE, ZERO, [true, true, true, true]),
+    (ANSWER, ZERO, [false, false, true, true]),
+    (NONE, ANSWER, [false, false, true, true]),
+];
+
 /// A device that hands over at the last segment takes that again, unless an answer was sent; any
 /// other drops the request, if it heard the read.
 #[test]
-fn a_segment_again_tells_kinds_apart(rt: HostRuntime) -> Result<(), Fail> {
-    assert!(rt; left_by(BUSY, BUSY) == [false, false, true, true]);
-    assert!(rt; left_by(BUSY, ZERO) == [true, true, false, false]);
-    assert!(rt; left_by(NONE, BUSY) == [true, true, true, true]);
-    assert!(rt; left_by(NONE, ZERO) == [true, true, true, true]);
-    assert!(rt; left_by(ANSWER, ZERO) == [false, false, true, true]);
-    assert!(rt; left_by(NONE, ANSWER) == [false, false, true, true]);
-    Ok(())
+fn a_segment_again_tells_kinds_apart(rt: HostRuntime) {
+    for (first, second, kinds) in &CASES {
+        assert!(rt; left_by(*first, *second) == *kinds);
+    }
 }

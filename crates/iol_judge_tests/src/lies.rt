@@ -113,141 +113,221 @@ const REST: [Exchange; 3] = [
     (&[0xA2, 0x58], &[0x17, 1, 0, 0, 0, 0, 0, 0, 0x0A]),
 ];
 
+/// Exchanges, the page that is told first, if any, and what is said of them.
+type Case = (Option<&'static [u8; 10]>, &'static [Exchange], Verdict);
+
+const LIES: [Case; 10] = [
+    (
+        Some(&PLAIN),
+        &NOT_TAKEN,
+        Verdict::NotHonest(1, Reason::NotTaken),
+    ),
+    (
+        Some(&TWO_THEN_EIGHT),
+        &REPLY_LENGTH,
+        Verdict::NotHonest(2, Reason::ReplyLength),
+    ),
+    (
+        None,
+        &STATUS,
+        Verdict::NotHonest(1, Reason::StatusWithoutData),
+    ),
+    (
+        Some(&PROCESS_DATA),
+        &INVALID,
+        Verdict::NotHonest(3, Reason::InvalidNotZero),
+    ),
+    (None, &FLAG, Verdict::NotHonest(1, Reason::FlagAtConfirm)),
+    (None, &CHANGED, Verdict::NotHonest(2, Reason::PageChanged)),
+    (None, &ZERO, Verdict::NotHonest(2, Reason::PageZero)),
+    (None, &CYCLE, Verdict::NotHonest(3, Reason::CycleTime)),
+    (
+        None,
+        &PROCESS,
+        Verdict::NotHonest(2, Reason::ProcessNotZero),
+    ),
+    (
+        Some(&PLAIN),
+        &REST,
+        Verdict::NotHonest(3, Reason::RestNotZero),
+    ),
+];
+
+/// Whether this is said of each.
+fn are_judged(odd: Odd, cases: &[Case]) -> bool {
+    for (page, exchanges, verdict) in cases {
+        if judge_of(odd, *page, *exchanges).verdict() != *verdict {
+            return false;
+        }
+    }
+    true
+}
+
 /// Each lie is found at its exchange, for its reason.
 #[test]
-fn lies_are_found(rt: HostRuntime) -> Result<(), Fail> {
-    assert!(rt; verdict_of(Some(&PLAIN), &NOT_TAKEN) == Verdict::NotHonest(1, Reason::NotTaken));
-    assert!(rt;
-        verdict_of(Some(&TWO_THEN_EIGHT), &REPLY_LENGTH)
-            == Verdict::NotHonest(2, Reason::ReplyLength)
-    );
-    assert!(rt; verdict_of(None, &STATUS) == Verdict::NotHonest(1, Reason::StatusWithoutData));
-    assert!(rt;
-        verdict_of(Some(&PROCESS_DATA), &INVALID) == Verdict::NotHonest(3, Reason::InvalidNotZero)
-    );
-    assert!(rt; verdict_of(None, &FLAG) == Verdict::NotHonest(1, Reason::FlagAtConfirm));
-    assert!(rt; verdict_of(None, &CHANGED) == Verdict::NotHonest(2, Reason::PageChanged));
-    assert!(rt; verdict_of(None, &ZERO) == Verdict::NotHonest(2, Reason::PageZero));
-    assert!(rt; verdict_of(None, &CYCLE) == Verdict::NotHonest(3, Reason::CycleTime));
-    assert!(rt; verdict_of(None, &PROCESS) == Verdict::NotHonest(2, Reason::ProcessNotZero));
-    assert!(rt; verdict_of(Some(&PLAIN), &REST) == Verdict::NotHonest(3, Reason::RestNotZero));
-    Ok(())
+fn lies_are_found(rt: HostRuntime) {
+    assert!(rt; are_judged(Odd::Blamed, &LIES));
+}
+
+/// Those whose last reply is odd.
+const ODD: [(Option<&[u8; 10]>, &[Exchange], Reason); 5] = [
+    (Some(&PROCESS_DATA), &INVALID, Reason::InvalidNotZero),
+    (None, &ZERO, Reason::PageZero),
+    (None, &CYCLE, Reason::CycleTime),
+    (None, &PROCESS, Reason::ProcessNotZero),
+    (Some(&PLAIN), &REST, Reason::RestNotZero),
+];
+
+const NOT_ODD: [Case; 2] = [
+    (
+        None,
+        &STATUS,
+        Verdict::NotHonest(1, Reason::StatusWithoutData),
+    ),
+    (None, &CHANGED, Verdict::NotHonest(2, Reason::PageChanged)),
+];
+
+/// Whether the last reply is passed over for this reason, and is the only one.
+fn is_passed_over(page: Option<&[u8; 10]>, exchanges: &[Exchange], reason: Reason) -> bool {
+    let judge = judge_of(Odd::PassedOver, page, exchanges);
+    judge.verdict() == Verdict::Honest && judge.oddity() == Some(reason) && judge.oddities() == 1
 }
 
 /// Where odd replies are passed over they are counted, and each other lie is found.
 #[test]
-fn odd_replies_are_passed_over(rt: HostRuntime) -> Result<(), Fail> {
-    let odd: [(Option<&[u8; 10]>, &[Exchange], Reason); 5] = [
-        (Some(&PROCESS_DATA), &INVALID, Reason::InvalidNotZero),
-        (None, &ZERO, Reason::PageZero),
-        (None, &CYCLE, Reason::CycleTime),
-        (None, &PROCESS, Reason::ProcessNotZero),
-        (Some(&PLAIN), &REST, Reason::RestNotZero),
-    ];
-    for (page, exchanges, reason) in &odd {
-        let judge = judge_of(Odd::PassedOver, *page, *exchanges);
-        assert!(rt; judge.verdict() == Verdict::Honest);
-        assert!(rt; judge.oddity() == Some(*reason));
-        assert!(rt; judge.oddities() == 1);
+fn odd_replies_are_passed_over(rt: HostRuntime) {
+    for (page, exchanges, reason) in &ODD {
+        assert!(rt; is_passed_over(*page, *exchanges, *reason));
     }
-    let status = judge_of(Odd::PassedOver, None, &STATUS);
-    assert!(rt; status.verdict() == Verdict::NotHonest(1, Reason::StatusWithoutData));
-    let changed = judge_of(Odd::PassedOver, None, &CHANGED);
-    assert!(rt; changed.verdict() == Verdict::NotHonest(2, Reason::PageChanged));
-    Ok(())
+    assert!(rt; are_judged(Odd::PassedOver, &NOT_ODD));
+}
+
+/// Whether an odd reply is passed over for its cycle time, as the second one.
+fn is_second_oddity(judge: &Judge) -> bool {
+    judge.oddity() == Some(Reason::CycleTime)
+        && judge.oddities() == 2
+        && judge.verdict() == Verdict::Honest
 }
 
 /// A cycle time that was passed over isn't taken for the device's.
 #[test]
-fn odd_cycle_times_stay_odd(rt: HostRuntime) -> Result<(), Fail> {
+fn odd_cycle_times_stay_odd(rt: HostRuntime) {
     let mut judge = judge_of(Odd::PassedOver, None, &CYCLE);
     judge.exchange(&[0xA1, 0x30], Some(&[0x17, 0x1B]));
-    assert!(rt; judge.oddity() == None);
+    assert!(rt; judge.oddity().is_none());
     judge.exchange(&[0xA1, 0x30], Some(&[0x18, 0x1B]));
-    assert!(rt; judge.oddity() == Some(Reason::CycleTime));
-    assert!(rt; judge.oddities() == 2);
-    assert!(rt; judge.verdict() == Verdict::Honest);
-    Ok(())
+    assert!(rt; is_second_oddity(&judge));
 }
+
+const EVENT_LIES: [Case; 6] = [
+    (None, &GONE, Verdict::NotHonest(2, Reason::FlagGone)),
+    (None, &UNMARKED, Verdict::NotHonest(1, Reason::StatusCode)),
+    (None, &MARKED, Verdict::NotHonest(2, Reason::StatusCode)),
+    (None, &QUALIFIER, Verdict::NotHonest(2, Reason::EventOctet)),
+    (None, &UNFILLED, Verdict::NotHonest(2, Reason::EventOctet)),
+    (None, &FEWER, Verdict::NotHonest(2, Reason::StatusCode)),
+];
 
 /// So are those about events.
 #[test]
-fn lies_about_events_are_found(rt: HostRuntime) -> Result<(), Fail> {
-    assert!(rt; verdict_of(None, &GONE) == Verdict::NotHonest(2, Reason::FlagGone));
-    assert!(rt; verdict_of(None, &UNMARKED) == Verdict::NotHonest(1, Reason::StatusCode));
-    assert!(rt; verdict_of(None, &MARKED) == Verdict::NotHonest(2, Reason::StatusCode));
-    assert!(rt; verdict_of(None, &QUALIFIER) == Verdict::NotHonest(2, Reason::EventOctet));
-    assert!(rt; verdict_of(None, &UNFILLED) == Verdict::NotHonest(2, Reason::EventOctet));
-    assert!(rt; verdict_of(None, &FEWER) == Verdict::NotHonest(2, Reason::StatusCode));
-    Ok(())
+fn lies_about_events_are_found(rt: HostRuntime) {
+    assert!(rt; are_judged(Odd::Blamed, &EVENT_LIES));
 }
+
+/// The octets that were sent, and those that came back, if any did.
+type Told = (&'static [u8], Option<&'static [u8]>);
+
+fn tell(judge: &mut Judge, told: &[Told]) {
+    for (sent, answer) in told {
+        judge.exchange(sent, *answer);
+    }
+}
+
+/// What is said of these, right behind a wake-up request.
+fn verdict_behind(wake: Wake, told: &[Told]) -> Verdict {
+    let mut judge = Judge::new(Odd::Blamed);
+    judge.wake(wake);
+    tell(&mut judge, told);
+    judge.verdict()
+}
+
+/// Other events behind confirms that may have come.
+const CONFIRMED: [Told; 8] = [
+    (&[0xC1, 0x0C], Some(&[0x54, 0x9B])),
+    (&[0x40, 0x35, 0x00], None),
+    (&[0xC1, 0x0C], Some(&[0x55, 0x8A])),
+    (&[0x40, 0x35, 0x00], Some(&[0x2D])),
+    (&[0xC0, 0x1D], Some(&[0x83, 0x9D])),
+    (&[0x40, 0x35, 0x00], None),
+    (&[0xA2, 0x00], Some(&[0x17, 0x1B])),
+    (&[0xC0, 0x1D], Some(&[0x81, 0xBC])),
+];
+
+/// Two where none was shown: one is raised at a time.
+const RAISED: [Told; 2] = [
+    (&[0xA2, 0x00], Some(&[0x17, 0x1B])),
+    (&[0xC0, 0x1D], Some(&[0x83, 0x9D])),
+];
 
 /// Once a confirm may have come, other events may be shown, or none.
 #[test]
-fn confirmed_events_may_change(rt: HostRuntime) -> Result<(), Fail> {
-    let mut judge = Judge::new(Odd::Blamed);
-    judge.wake(Wake::Answered);
-    judge.exchange(&[0xC1, 0x0C], Some(&[0x54, 0x9B]));
-    judge.exchange(&[0x40, 0x35, 0x00], None);
-    judge.exchange(&[0xC1, 0x0C], Some(&[0x55, 0x8A]));
-    judge.exchange(&[0x40, 0x35, 0x00], Some(&[0x2D]));
-    judge.exchange(&[0xC0, 0x1D], Some(&[0x83, 0x9D]));
-    judge.exchange(&[0x40, 0x35, 0x00], None);
-    judge.exchange(&[0xA2, 0x00], Some(&[0x17, 0x1B]));
-    judge.exchange(&[0xC0, 0x1D], Some(&[0x81, 0xBC]));
-    assert!(rt; judge.verdict() == Verdict::Honest);
-    // Where none was shown, one is raised at a time.
-    let mut raised = Judge::new(Odd::Blamed);
-    raised.wake(Wake::Answered);
-    raised.exchange(&[0xA2, 0x00], Some(&[0x17, 0x1B]));
-    raised.exchange(&[0xC0, 0x1D], Some(&[0x83, 0x9D]));
-    assert!(rt; raised.verdict() == Verdict::NotHonest(2, Reason::StatusCode));
-    Ok(())
+fn confirmed_events_may_change(rt: HostRuntime) {
+    assert!(rt; verdict_behind(Wake::Answered, &CONFIRMED) == Verdict::Honest);
+    let raised = verdict_behind(Wake::Answered, &RAISED);
+    assert!(rt; raised == Verdict::NotHonest(2, Reason::StatusCode));
 }
 
 /// A mode was asked for before the page was read.
 const UNREAD: [Exchange; 1] = [(&[0x20, 0x36, 0x9A], &[0x2D])];
 
+/// PLAIN, of a revision that there isn't.
+const REFUSED: [u8; 10] = [0x17, 0x2D, 0x12, 0x00, 0x00, 0x12, 0x34, 0x00, 0x01, 0x07];
+
+const UNKNOWN: [Case; 2] = [
+    (None, &UNREAD, Verdict::CantSay(1, Open::PageUnread)),
+    (
+        Some(&REFUSED),
+        &UNREAD,
+        Verdict::CantSay(1, Open::PageRefused),
+    ),
+];
+
+/// A lie where no wake-up request was answered.
+const UNJUDGED: [Told; 1] = [(&[0xA2, 0x00], Some(&[0x17, 0x43]))];
+
 /// Nothing is said where the layouts aren't known, and nothing before a wake-up request.
 #[test]
-fn what_is_unknown_is_open(rt: HostRuntime) -> Result<(), Fail> {
-    assert!(rt; verdict_of(None, &UNREAD) == Verdict::CantSay(1, Open::PageUnread));
-    let mut refused = PLAIN;
-    refused[2] = 0x12;
-    assert!(rt; verdict_of(Some(&refused), &UNREAD) == Verdict::CantSay(1, Open::PageRefused));
-    let mut judge = Judge::new(Odd::Blamed);
-    judge.wake(Wake::Unanswered);
-    judge.exchange(&[0xA2, 0x00], Some(&[0x17, 0x43]));
-    assert!(rt; judge.verdict() == Verdict::Unjudged);
-    Ok(())
+fn what_is_unknown_is_open(rt: HostRuntime) {
+    assert!(rt; are_judged(Odd::Blamed, &UNKNOWN));
+    assert!(rt; verdict_behind(Wake::Unanswered, &UNJUDGED) == Verdict::Unjudged);
 }
+
+/// A reply that doesn't come, and one with a wrong checksum; then an octet 00 was lost, and six.
+const LOST: [Told; 5] = [
+    (&[0x20, 0x36, 0x9A], None),
+    (&[0x20, 0x36, 0x9A], Some(&[0x2C])),
+    (&[0xF1, 0x64], Some(&[0, 0, 0, 0, 0, 0, 0, 0x2D])),
+    (&[0xF1, 0x64], Some(&[0, 0, 0x2D])),
+    (&[0xF1, 0x64], Some(&[0, 0, 0, 0, 0, 0, 0, 0, 0x2D])),
+];
 
 /// A reply that is none in the layouts of the device is lost, and so is one that doesn't come.
 #[test]
-fn losses_are_honest(rt: HostRuntime) -> Result<(), Fail> {
-    let mut judge = Judge::new(Odd::Blamed);
-    judge.page(&PLAIN);
-    judge.wake(Wake::Answered);
-    judge.exchange(&[0x20, 0x36, 0x9A], None);
-    judge.exchange(&[0x20, 0x36, 0x9A], Some(&[0x2C]));
-    // An octet 00 was lost, then six.
-    judge.exchange(&[0xF1, 0x64], Some(&[0, 0, 0, 0, 0, 0, 0, 0x2D]));
-    judge.exchange(&[0xF1, 0x64], Some(&[0, 0, 0x2D]));
-    judge.exchange(&[0xF1, 0x64], Some(&[0, 0, 0, 0, 0, 0, 0, 0, 0x2D]));
+fn losses_are_honest(rt: HostRuntime) {
+    let mut judge = judge_of(Odd::Blamed, Some(&PLAIN), &[]);
+    tell(&mut judge, &LOST);
     assert!(rt; judge.verdict() == Verdict::Honest);
     // Once it is in PREOPERATE it doesn't take a message of STARTUP.
     judge.exchange(&[0xA2, 0x00], Some(&[0x17, 0x1B]));
     assert!(rt; judge.verdict() == Verdict::NotHonest(6, Reason::NotTaken));
     assert!(rt; judge.verdict() != Verdict::CantSay(6, Open::TooManyStates));
-    Ok(())
 }
 
 /// Before the page is known, only the layout of STARTUP can be: a good reply of another one is
 /// lost.
 #[test]
-fn other_layouts_are_unknown(rt: HostRuntime) -> Result<(), Fail> {
+fn other_layouts_are_unknown(rt: HostRuntime) {
     assert!(rt; verdict_of(None, &NOT_TAKEN) == Verdict::Honest);
-    Ok(())
 }
 
 /// The numbers and names are those of the documents.

@@ -4,7 +4,6 @@ use crate::kinds::left;
 use crate::lies::verdict_of;
 use iol_judge::{Judge, Odd, Reason, Verdict, Wake};
 use iol_peers::{Exchange, PLAIN};
-use std::test::Fail;
 
 /// The first octet of a request to read.
 const START_WRITE: [u8; 3] = [0x70, 0x09, 0x93];
@@ -26,10 +25,9 @@ const ENDED: [Exchange; 4] = [
 
 /// Where nobody knows whether the device has ISDU, only an answer to nothing is found.
 #[test]
-fn answers_to_nothing_are_found(rt: HostRuntime) -> Result<(), Fail> {
+fn answers_to_nothing_are_found(rt: HostRuntime) {
     assert!(rt; verdict_of(None, &NO_ANSWER) == Verdict::NotHonest(2, Reason::NoAnswerDue));
     assert!(rt; verdict_of(None, &ENDED) == Verdict::NotHonest(4, Reason::NoAnswerDue));
-    Ok(())
 }
 
 /// The move to PREOPERATE, where a segment has eight octets.
@@ -108,109 +106,166 @@ const AT_FIRST_READ: [Exchange; 6] = [
     REQUEST,
 ];
 
+/// Whether these kinds are left behind those replies.
+fn leaves(replies: &[Exchange], kinds: [bool; 4]) -> bool {
+    left(&judge_behind(replies)) == kinds
+}
+
+/// An answer at the first read.
+const AT_ONCE: [Exchange; 1] = [(&START, &ANSWER)];
+
 /// Only a device that hands over at the last segment may answer at once.
 #[test]
-fn an_answer_at_once_tells_kinds_apart(rt: HostRuntime) -> Result<(), Fail> {
-    let judge = judge_behind(&[(&START, &ANSWER)]);
-    assert!(rt; judge.verdict() == Verdict::Honest);
-    assert!(rt; left(&judge) == [false, false, true, true]);
+fn an_answer_at_once_tells_kinds_apart(rt: HostRuntime) {
+    assert!(rt; verdict_behind(&AT_ONCE) == Verdict::Honest);
+    assert!(rt; leaves(&AT_ONCE, [false, false, true, true]));
     let mut other = judge_of(&AT_FIRST_READ);
     assert!(rt; left(&other) == [true, true, false, false]);
     other.exchange(&START, Some(&ANSWER));
     assert!(rt; other.verdict() == Verdict::NotHonest(8, Reason::NotBusy));
-    Ok(())
 }
 
 /// An answer of one segment is read again: a device has it still, or has forgotten it.
-#[test]
-fn an_answer_again_tells_kinds_apart(rt: HostRuntime) -> Result<(), Fail> {
-    let again = judge_behind(&[(&START, &BUSY), (&START, &ANSWER), (&START, &ANSWER)]);
-    assert!(rt; left(&again) == [true, false, true, false]);
-    let gone = judge_behind(&[(&START, &BUSY), (&START, &ANSWER), (&START, &ZEROS)]);
-    assert!(rt; left(&gone) == [false, true, false, true]);
+const AGAIN: [Exchange; 3] = [(&START, &BUSY), (&START, &ANSWER), (&START, &ANSWER)];
+
+const GONE: [Exchange; 3] = [(&START, &BUSY), (&START, &ANSWER), (&START, &ZEROS)];
+
+/// The first of two segments is known as long as the second wasn't sent.
+const FIRST_AGAIN: [Exchange; 3] = [(&START, &BUSY), (&START, &FIRST), (&START, &FIRST)];
+
+const SECOND_GONE: [Exchange; 4] = [
+    (&START, &BUSY),
+    (&START, &FIRST),
+    (&COUNT, &SECOND),
+    (&COUNT, &ZEROS),
+];
+
+/// A device that forgot an answer of which the reply was lost.
+fn forgets_a_lost_one() -> bool {
     let mut lost = judge_behind(&[(&START, &BUSY)]);
     lost.exchange(&START, None);
     lost.exchange(&START, Some(&ZEROS));
-    assert!(rt; lost.verdict() == Verdict::Honest);
-    assert!(rt; left(&lost) == [false, true, false, true]);
-    // The first of two segments is known as long as the second wasn't sent.
-    let first = judge_behind(&[(&START, &BUSY), (&START, &FIRST), (&START, &FIRST)]);
-    assert!(rt; left(&first) == [true, true, true, true]);
-    let second = judge_behind(&[
-        (&START, &BUSY),
-        (&START, &FIRST),
-        (&COUNT, &SECOND),
-        (&COUNT, &ZEROS),
-    ]);
-    assert!(rt; left(&second) == [false, true, false, true]);
-    Ok(())
+    lost.verdict() == Verdict::Honest && left(&lost) == [false, true, false, true]
 }
+
+#[test]
+fn an_answer_again_tells_kinds_apart(rt: HostRuntime) {
+    assert!(rt; leaves(&AGAIN, [true, false, true, false]));
+    assert!(rt; leaves(&GONE, [false, true, false, true]));
+    assert!(rt; forgets_a_lost_one());
+    assert!(rt; leaves(&FIRST_AGAIN, [true, true, true, true]));
+    assert!(rt; leaves(&SECOND_GONE, [false, true, false, true]));
+}
+
+/// Replies behind a whole request, and what is said of them.
+type Case = (&'static [Exchange], Verdict);
+
+/// Whether this is said of each.
+fn are_judged(cases: &[Case]) -> bool {
+    for (replies, verdict) in cases {
+        if verdict_behind(*replies) != *verdict {
+            return false;
+        }
+    }
+    true
+}
+
+/// Busy behind the answer; the first segment read again, and the second; a segment behind the last.
+const LIES: [Case; 4] = [
+    (
+        &[(&START, &BUSY), (&START, &ANSWER), (&START, &BUSY)],
+        Verdict::NotHonest(5, Reason::BusyAgain),
+    ),
+    (
+        &[(&START, &BUSY), (&START, &ANSWER), (&START, &OTHER)],
+        Verdict::NotHonest(5, Reason::SegmentChanged),
+    ),
+    (
+        &[
+            (&START, &BUSY),
+            (&START, &FIRST),
+            (&COUNT, &SECOND),
+            (&COUNT, &CHANGED),
+        ],
+        Verdict::NotHonest(6, Reason::SegmentChanged),
+    ),
+    (
+        &[(&START, &BUSY), (&START, &ANSWER), (&COUNT, &SECOND)],
+        Verdict::NotHonest(5, Reason::NoAnswerDue),
+    ),
+];
 
 /// Each lie is found at its exchange, for its reason.
 #[test]
-fn lies_about_transfers_are_found(rt: HostRuntime) -> Result<(), Fail> {
-    // Busy behind the answer.
-    let again: [Exchange; 3] = [(&START, &BUSY), (&START, &ANSWER), (&START, &BUSY)];
-    assert!(rt; verdict_behind(&again) == Verdict::NotHonest(5, Reason::BusyAgain));
-    // The first segment read again, and the second.
-    let first: [Exchange; 3] = [(&START, &BUSY), (&START, &ANSWER), (&START, &OTHER)];
-    assert!(rt; verdict_behind(&first) == Verdict::NotHonest(5, Reason::SegmentChanged));
-    let second: [Exchange; 4] = [
-        (&START, &BUSY),
-        (&START, &FIRST),
-        (&COUNT, &SECOND),
-        (&COUNT, &CHANGED),
-    ];
-    assert!(rt; verdict_behind(&second) == Verdict::NotHonest(6, Reason::SegmentChanged));
-    // A segment behind the last.
-    let behind: [Exchange; 3] = [(&START, &BUSY), (&START, &ANSWER), (&COUNT, &SECOND)];
-    assert!(rt; verdict_behind(&behind) == Verdict::NotHonest(5, Reason::NoAnswerDue));
-    Ok(())
+fn lies_about_transfers_are_found(rt: HostRuntime) {
+    assert!(rt; are_judged(&LIES));
 }
+
+/// Answers that are none to a read, the last two in the second of two segments.
+const NO_ANSWERS: [Case; 7] = [
+    (
+        &[(&START, &BUSY), (&START, &WRITTEN)],
+        Verdict::NotHonest(4, Reason::AnswerKind),
+    ),
+    (
+        &[(&START, &BUSY), (&START, &UNKNOWN)],
+        Verdict::NotHonest(4, Reason::AnswerKind),
+    ),
+    (
+        &[(&START, &BUSY), (&START, &LENGTH)],
+        Verdict::NotHonest(4, Reason::AnswerLength),
+    ),
+    (
+        &[(&START, &BUSY), (&START, &SUM)],
+        Verdict::NotHonest(4, Reason::AnswerSum),
+    ),
+    (
+        &[(&START, &BUSY), (&START, &PADDING)],
+        Verdict::NotHonest(4, Reason::AnswerPadding),
+    ),
+    (
+        &[(&START, &BUSY), (&START, &FIRST), (&COUNT, &CHANGED)],
+        Verdict::NotHonest(5, Reason::AnswerSum),
+    ),
+    (
+        &[(&START, &BUSY), (&START, &FIRST), (&COUNT, &ZEROS)],
+        Verdict::NotHonest(5, Reason::AnswerSum),
+    ),
+];
 
 /// So is an answer that is none to a read.
 #[test]
-fn lies_about_answers_are_found(rt: HostRuntime) -> Result<(), Fail> {
-    let lies: [(&[u8], Reason); 5] = [
-        (&WRITTEN, Reason::AnswerKind),
-        (&UNKNOWN, Reason::AnswerKind),
-        (&LENGTH, Reason::AnswerLength),
-        (&SUM, Reason::AnswerSum),
-        (&PADDING, Reason::AnswerPadding),
-    ];
-    for (lie, reason) in &lies {
-        let replies: [Exchange; 2] = [(&START, &BUSY), (&START, *lie)];
-        assert!(rt; verdict_behind(&replies) == Verdict::NotHonest(4, *reason));
-    }
-    // In the last of two segments.
-    let last: [Exchange; 3] = [(&START, &BUSY), (&START, &FIRST), (&COUNT, &CHANGED)];
-    assert!(rt; verdict_behind(&last) == Verdict::NotHonest(5, Reason::AnswerSum));
-    let none: [Exchange; 3] = [(&START, &BUSY), (&START, &FIRST), (&COUNT, &ZEROS)];
-    assert!(rt; verdict_behind(&none) == Verdict::NotHonest(5, Reason::AnswerSum));
-    Ok(())
+fn lies_about_answers_are_found(rt: HostRuntime) {
+    assert!(rt; are_judged(&NO_ANSWERS));
 }
 
-/// Segments may be read again from any, while they stay.
+/// Segments that are read again from any, while they stay; behind the last one there is none.
+const READ_AGAIN: [Case; 2] = [
+    (
+        &[
+            (&START, &BUSY),
+            (&START, &BUSY),
+            (&START, &FIRST),
+            (&COUNT, &SECOND),
+            (&COUNT, &SECOND),
+            (&START, &FIRST),
+            (&COUNT, &SECOND),
+            (&START, &FIRST),
+        ],
+        Verdict::Honest,
+    ),
+    (
+        &[
+            (&START, &BUSY),
+            (&START, &ANSWER),
+            (&COUNT, &ZEROS),
+            (&START, &ZEROS),
+        ],
+        Verdict::Honest,
+    ),
+];
+
 #[test]
-fn answers_may_be_read_again(rt: HostRuntime) -> Result<(), Fail> {
-    let again: [Exchange; 8] = [
-        (&START, &BUSY),
-        (&START, &BUSY),
-        (&START, &FIRST),
-        (&COUNT, &SECOND),
-        (&COUNT, &SECOND),
-        (&START, &FIRST),
-        (&COUNT, &SECOND),
-        (&START, &FIRST),
-    ];
-    assert!(rt; verdict_behind(&again) == Verdict::Honest);
-    // Behind the last segment there is none.
-    let behind: [Exchange; 4] = [
-        (&START, &BUSY),
-        (&START, &ANSWER),
-        (&COUNT, &ZEROS),
-        (&START, &ZEROS),
-    ];
-    assert!(rt; verdict_behind(&behind) == Verdict::Honest);
-    Ok(())
+fn answers_may_be_read_again(rt: HostRuntime) {
+    assert!(rt; are_judged(&READ_AGAIN));
 }

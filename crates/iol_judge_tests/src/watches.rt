@@ -317,91 +317,123 @@ fn is_blamed(exchanges: &[Exchange], fault: Blame) -> bool {
     fair && watch.verdict() == MasterVerdict::NotByTheRules(number, fault)
 }
 
-/// A start-up that reads the page, and each kind of work in OPERATE; then a restart.
+/// Whether in OPERATE the last of each list is the first fault, and this one.
+fn are_blamed(lists: &[&[Exchange]], fault: Blame) -> bool {
+    for exchanges in lists {
+        if !is_blamed(exchanges, fault) {
+            return false;
+        }
+    }
+    true
+}
+
+/// A start-up that reads the page, and each kind of work in OPERATE.
+fn works(watch: &mut Watch) {
+    watch.wake(Wake::Unanswered);
+    watch.wake(Wake::Answered);
+    tell(watch, &READS);
+    tell(watch, &MODES);
+    tell(watch, &READING);
+    tell(watch, &WRITING);
+    tell(watch, &EVENTS);
+    tell(watch, &ABORTS);
+}
+
+/// Another start-up, behind which the process data out goes on with other octets.
+fn puts_out(watch: &mut Watch) {
+    watch.wake(Wake::Answered);
+    tell(watch, &READS);
+    tell(watch, &MODES);
+    tell(watch, &OUTPUTS);
+}
+
+/// A start-up, all work, and a restart.
 #[test]
-fn work_is_by_the_rules(rt: HostRuntime) -> Result<(), Fail> {
+fn work_is_by_the_rules(rt: HostRuntime) {
     let mut watch = Watch::new();
     watch.exchange(&[0xFF], None);
     assert!(rt; watch.verdict() == MasterVerdict::Unjudged);
     for _ in 0..2 {
-        watch.wake(Wake::Unanswered);
-        watch.wake(Wake::Answered);
-        tell(&mut watch, &READS);
-        tell(&mut watch, &MODES);
-        tell(&mut watch, &READING);
-        tell(&mut watch, &WRITING);
-        tell(&mut watch, &EVENTS);
-        tell(&mut watch, &ABORTS);
-        // The process data out goes on with other octets.
-        watch.wake(Wake::Answered);
-        tell(&mut watch, &READS);
-        tell(&mut watch, &MODES);
-        tell(&mut watch, &OUTPUTS);
+        works(&mut watch);
+        puts_out(&mut watch);
         assert!(rt; watch.verdict() == MasterVerdict::ByTheRules);
     }
-    Ok(())
 }
 
-#[test]
-fn wakes_are_due(rt: HostRuntime) -> Result<(), Fail> {
-    assert!(rt; is_blamed(&LOST, Blame::WakeDue));
+/// Whether a wake-up request is called due that got no answer, and nothing is said of what comes
+/// behind.
+fn is_due_at_once() -> bool {
     let mut watch = Watch::new();
     watch.wake(Wake::Unanswered);
     tell(&mut watch, &READS[..1]);
-    assert!(rt; watch.verdict() == MasterVerdict::NotByTheRules(1, Blame::WakeDue));
-    // Of what comes behind it nothing is said.
+    let due = MasterVerdict::NotByTheRules(1, Blame::WakeDue);
+    let is_due = watch.verdict() == due;
     watch.wake(Wake::Answered);
     tell(&mut watch, &SKIPPED);
-    assert!(rt; watch.verdict() == MasterVerdict::NotByTheRules(1, Blame::WakeDue));
-    Ok(())
+    is_due && watch.verdict() == due
 }
 
 #[test]
-fn messages_are_repeated(rt: HostRuntime) -> Result<(), Fail> {
-    assert!(rt; is_blamed(&ANOTHER, Blame::NotRepeated));
-    Ok(())
+fn wakes_are_due(rt: HostRuntime) {
+    assert!(rt; is_blamed(&LOST, Blame::WakeDue));
+    assert!(rt; is_due_at_once());
 }
+
+#[test]
+fn messages_are_repeated(rt: HostRuntime) {
+    assert!(rt; is_blamed(&ANOTHER, Blame::NotRepeated));
+}
+
+/// Whether a start-up is blamed at this exchange, that makes so many reads and leaves so many of
+/// the modes' messages out.
+fn is_no_start_up(reads: usize, left_out: usize, number: u64) -> bool {
+    let mut watch = Watch::new();
+    watch.wake(Wake::Answered);
+    let (Some(reads), Some(modes)) = (READS.get(..reads), MODES.get(left_out..)) else {
+        return false;
+    };
+    tell(&mut watch, reads);
+    tell(&mut watch, modes);
+    watch.verdict() == MasterVerdict::NotByTheRules(number, Blame::NotStartUp)
+}
+
+const NOT_START_UP: [&[Exchange]; 2] = [&STARTUP_COMMAND, &SHORT_CYCLE];
 
 /// The modes are entered in their order, by what was read of the page.
 #[test]
-fn start_ups_have_an_order(rt: HostRuntime) -> Result<(), Fail> {
-    assert!(rt; is_blamed(&STARTUP_COMMAND, Blame::NotStartUp));
-    assert!(rt; is_blamed(&SHORT_CYCLE, Blame::NotStartUp));
-    for (read, first, fair) in [(10, 1, 0), (4, 0, 1), (10, 3, 0)] {
-        let mut watch = Watch::new();
-        watch.wake(Wake::Answered);
-        tell(&mut watch, &READS[..read]);
-        tell(&mut watch, &MODES[first..]);
-        let number = (read + fair + 1) as u64;
-        assert!(rt; watch.verdict() == MasterVerdict::NotByTheRules(number, Blame::NotStartUp));
-    }
-    Ok(())
+fn start_ups_have_an_order(rt: HostRuntime) {
+    assert!(rt; are_blamed(&NOT_START_UP, Blame::NotStartUp));
+    assert!(rt; is_no_start_up(10, 1, 11));
+    assert!(rt; is_no_start_up(4, 0, 6));
+    assert!(rt; is_no_start_up(10, 3, 11));
+}
+
+const NOT_WELL_FORMED: [&[Exchange]; 2] = [&SHORT, &DAMAGED];
+
+#[test]
+fn messages_are_well_formed(rt: HostRuntime) {
+    assert!(rt; are_blamed(&NOT_WELL_FORMED, Blame::NotWellFormed));
 }
 
 #[test]
-fn messages_are_well_formed(rt: HostRuntime) -> Result<(), Fail> {
-    assert!(rt; is_blamed(&SHORT, Blame::NotWellFormed));
-    assert!(rt; is_blamed(&DAMAGED, Blame::NotWellFormed));
-    Ok(())
-}
-
-#[test]
-fn outputs_change_while_they_are_valid(rt: HostRuntime) -> Result<(), Fail> {
+fn outputs_change_while_they_are_valid(rt: HostRuntime) {
     assert!(rt; is_blamed(&CHANGED, Blame::OutputOctets));
-    Ok(())
 }
 
+const NOT_DUE: [&[Exchange]; 8] = [
+    &NO_START,
+    &SECOND_START,
+    &TOO_EARLY,
+    &NO_ANSWER,
+    &IDLE,
+    &NO_REQUEST,
+    &GOES_ON,
+    &RESERVED,
+];
+
 #[test]
-fn messages_are_due(rt: HostRuntime) -> Result<(), Fail> {
-    assert!(rt; is_blamed(&NO_START, Blame::NotDue));
-    assert!(rt; is_blamed(&SECOND_START, Blame::NotDue));
-    assert!(rt; is_blamed(&TOO_EARLY, Blame::NotDue));
-    assert!(rt; is_blamed(&NO_ANSWER, Blame::NotDue));
-    assert!(rt; is_blamed(&IDLE, Blame::NotDue));
-    assert!(rt; is_blamed(&NO_REQUEST, Blame::NotDue));
-    assert!(rt; is_blamed(&GOES_ON, Blame::NotDue));
-    assert!(rt; is_blamed(&RESERVED, Blame::NotDue));
-    Ok(())
+fn messages_are_due(rt: HostRuntime) {
+    assert!(rt; are_blamed(&NOT_DUE, Blame::NotDue));
 }
 
 /// Whether in OPERATE this is by the rules behind those.
@@ -424,44 +456,53 @@ fn is_not_due(before: &[Exchange], next: &[Exchange]) -> bool {
     )
 }
 
+/// What may come behind zeros that end an answer at a repeated COUNT read.
+const FAIR: [(&[Exchange], &[Exchange]); 4] = [
+    (&UP_TO_ZERO, &[ZERO, BEGINS]),
+    (&UP_TO_ZERO, &[ZERO, IDLES]),
+    (&UP_TO_ZERO, &[ZERO, GIVES_UP]),
+    (&ZERO_INSIDE, &[GIVES_UP]),
+];
+
+const UNFAIR: [(&[Exchange], &[Exchange]); 5] = [
+    (&UP_TO_ZERO, &[ZERO, IDLES, GIVES_UP]),
+    (&UP_TO_ZERO, &[ZERO, GIVES_UP, GIVES_UP]),
+    (&ZERO_AT_ONCE, &[GIVES_UP]),
+    (&ZERO_INSIDE, &[BEGINS]),
+    (&ZERO_INSIDE, &[IDLES]),
+];
+
 /// Zeros that end an answer at a repeated COUNT read end the request, or it is given up.
 /// Any other end of an answer ends it, and zeros inside of one don't.
 #[test]
-fn zeros_at_a_repeat_end_it_either_way(rt: HostRuntime) -> Result<(), Fail> {
-    for next in [BEGINS, IDLES, GIVES_UP] {
-        assert!(rt; is_fair(&UP_TO_ZERO, &[ZERO, next]));
+fn zeros_at_a_repeat_end_it_either_way(rt: HostRuntime) {
+    for (before, next) in &FAIR {
+        assert!(rt; is_fair(before, next));
     }
-    assert!(rt; is_not_due(&UP_TO_ZERO, &[ZERO, IDLES, GIVES_UP]));
-    assert!(rt; is_not_due(&UP_TO_ZERO, &[ZERO, GIVES_UP, GIVES_UP]));
-    assert!(rt; is_not_due(&ZERO_AT_ONCE, &[GIVES_UP]));
-    assert!(rt; is_not_due(&ZERO_INSIDE, &[BEGINS]));
-    assert!(rt; is_not_due(&ZERO_INSIDE, &[IDLES]));
-    assert!(rt; is_fair(&ZERO_INSIDE, &[GIVES_UP]));
-    Ok(())
+    for (before, next) in &UNFAIR {
+        assert!(rt; is_not_due(before, next));
+    }
 }
 
-#[test]
-fn events_are_read_in_order(rt: HostRuntime) -> Result<(), Fail> {
-    assert!(rt; is_blamed(&NO_FLAG, Blame::NotDue));
-    assert!(rt; is_blamed(&WRONG_PLACE, Blame::NotDue));
-    assert!(rt; is_blamed(&CONFIRM, Blame::NotDue));
-    Ok(())
-}
+const UNREAD: [&[Exchange]; 3] = [&NO_FLAG, &WRONG_PLACE, &CONFIRM];
 
 #[test]
-fn requests_are_texts(rt: HostRuntime) -> Result<(), Fail> {
-    assert!(rt; is_blamed(&NO_LENGTH, Blame::RequestText));
-    assert!(rt; is_blamed(&NO_REQUEST_TEXT, Blame::RequestText));
-    assert!(rt; is_blamed(&BEHIND, Blame::RequestText));
-    Ok(())
+fn events_are_read_in_order(rt: HostRuntime) {
+    assert!(rt; are_blamed(&UNREAD, Blame::NotDue));
 }
 
+const NO_TEXTS: [&[Exchange]; 3] = [&NO_LENGTH, &NO_REQUEST_TEXT, &BEHIND];
+
 #[test]
-fn counts_are_in_line(rt: HostRuntime) -> Result<(), Fail> {
-    assert!(rt; is_blamed(&SKIPPED, Blame::NotInLine));
-    assert!(rt; is_blamed(&TWICE, Blame::NotInLine));
-    assert!(rt; is_blamed(&ASKED_LATER, Blame::NotInLine));
-    Ok(())
+fn requests_are_texts(rt: HostRuntime) {
+    assert!(rt; are_blamed(&NO_TEXTS, Blame::RequestText));
+}
+
+const NOT_IN_LINE: [&[Exchange]; 3] = [&SKIPPED, &TWICE, &ASKED_LATER];
+
+#[test]
+fn counts_are_in_line(rt: HostRuntime) {
+    assert!(rt; are_blamed(&NOT_IN_LINE, Blame::NotInLine));
 }
 
 /// The numbers and names are those of the documents.
