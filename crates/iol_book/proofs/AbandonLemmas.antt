@@ -1,8 +1,7 @@
 -- What an abandon leaves: the law `abandons_hold`.
-use Rattle.std.proofs.Common.{◌≡◌, ℕ, ◌+◌, ◌≤◌, Bool, true, false, ◌||◌, ◌&&◌, cond, refl, sym, ap, arith, List, [], ◌∷◌, ◌++◌, Option, Some, None, is_some, nat_eq}
-use Rattle.std.specs.Prelude.{not, Err}
-use Rattle.std.specs.Option.{option_map_or}
-use Rattle.std.specs.Map.{lookup, remove_entry}
+use Rattle.std.proofs.Common.{◌≡◌, ℕ, ◌≤◌, Bool, true, false, ◌||◌, ◌&&◌, cond, refl, ap, arith, List, [], ◌∷◌, ◌++◌, Option, Some, None, is_some, nat_eq}
+use Rattle.std.specs.Prelude.{not}
+use Rattle.std.specs.Map.{lookup}
 use Rattle.std.proofs.lemmas.Bool.{eq-eqb}
 use Rattle.std.proofs.lemmas.Grind.{common_steps}
 use Rattle.iol_isdu.specs.declared.values.Request.{Request}
@@ -10,14 +9,13 @@ use Rattle.iol_book.specs.declared.entries.Ticket.{Ticket}
 use Rattle.iol_book.specs.declared.entries.Outcome.{Outcome}
 use Rattle.iol_book.specs.declared.entries.Entry.{Entry}
 use Rattle.iol_book.specs.declared.entries.Entry.TheVariants.{Taken, Abandoned}
-use Rattle.iol_book.specs.declared.fault.BookFault.TheVariants.{UnknownTicket}
 use Rattle.iol_book.specs.Replay.{Standing, standing_after, same_ticket, is_among, is_taken, without, others_without}
-use Rattle.iol_book.specs.BookModel.{BookState, book_with_entry, waits, is_awaited, has_outcome, abandon_refusal, book_after_abandon, book_after_post}
-use Rattle.iol_book.specs.Drained.{last_taken, in_doubt}
-use Rattle.iol_book.specs.Numbers.{times, times_in, IsNumbered}
+use Rattle.iol_book.specs.BookModel.{BookState, book_with_entry, waits, is_awaited, has_outcome, abandon_refusal, book_after_post}
+use Rattle.iol_book.specs.Drained.{last_taken}
+use Rattle.iol_book.specs.Numbers.{times_in, IsNumbered}
 use Rattle.iol_book.specs.Abandoning.{IsUnknown, IsToldAlike, AbandonLeaves, AbandonsHold}
 use Rattle.iol_book.proofs.LineLemmas.{remove-absent}
-use Rattle.iol_book.proofs.SoundLemmas.{one_if, times_in-removed, lookup-none, taken-alone, waiting-alone, outcome-alone}
+use Rattle.iol_book.proofs.SoundLemmas.{times_in-removed, lookup-none, waiting-alone}
 
 -- one that stands once is gone
 gone : {X : Type 0} (t : Ticket) (ws : List (Ticket × X)) → times_in t.0 ws ≤ 1

@@ -1,6 +1,6 @@
 -- A book is sound once the entries of tickets that are over are gone, and stands as it stood: the
 -- invariant of `Book` after `compact`, and its clause `state`.
-use Rattle.std.proofs.Common.{◌≡◌, ℕ, ◌+◌, ◌≤◌, Bool, true, false, ◌||◌, refl, cond, List, [], ◌∷◌, Option, None, Some, ap, arith, ◌∙◌, sym, subst, length}
+use Rattle.std.proofs.Common.{◌≡◌, ℕ, ◌+◌, ◌≤◌, Bool, true, false, refl, List, Option, None, Some, ap, arith, ◌∙◌, sym, subst, length}
 use Rattle.std.specs.Prelude.{filter}
 use Rattle.std.specs.Option.{option_map_or, option_to_list}
 use Rattle.std.specs.Vec.{vec_capacity}
@@ -10,12 +10,14 @@ use Rattle.std.proofs.lemmas.Grind.{common_steps}
 use Rattle.iol_book.specs.declared.entries.Ticket.{Ticket}
 use Rattle.iol_book.specs.declared.entries.Entry.{Entry}
 use Rattle.iol_book.specs.declared.book.Book.TheInside.{Inside}
-use Rattle.iol_book.specs.Replay.{Standing, nothing, same_ticket, is_among, replay}
+use Rattle.iol_book.specs.Replay.{nothing, same_ticket, is_among, replay}
 use Rattle.iol_book.specs.Lines.{entry_ticket, TicketLines, line_number_after, values_at, entry_request, outcome_in, AllPass, has_request_of, is_of, taken_at, is_still_open_by, lines_after}
 use Rattle.iol_book.specs.Drained.{in_doubt, is_still_open, restated_entries, book_after_drain}
-use Rattle.iol_book.specs.BookModel.{BookState, outstanding_count, entries_owed}
+use Rattle.iol_book.specs.BookModel.{BookState, outstanding_count, entries_owed, octets_owed}
 use Rattle.iol_book.specs.Numbers.{IsNumbered}
 use Rattle.iol_book.specs.BookInside.{IsSoundBook, book_state, standing_of}
+use Rattle.iol_book.specs.JournalModel.{octet_sum}
+use Rattle.iol_book.proofs.JournalLemmas.{filter-fewer, filter-less}
 use Rattle.iol_book.proofs.LineLemmas.{Says, among-values, request-own}
 use Rattle.iol_book.proofs.RestatedLemmas.{kept_pairs, kept_entries, kept_standing, kept_taken, kept_abandoned, kept-all, kept-replay, LeadsTo, leads-where, same-filter}
 use Rattle.iol_book.proofs.SoundLemmas.{none_abandoned}
@@ -61,7 +63,7 @@ same-state a b journal restated last standing unsure limit queue serve = λ i. r
   serve = serve i;
 }
 
--- fewer entries have room where more had it
+-- fewer entries, or octets, have room where more had it
 fewer-fit : (fewer more owed room same : ℕ) → fewer ≤ more → more + owed ≤ room → same ≡ room
     → fewer + owed ≤ same
 fewer-fit fewer more owed room same h fits is = grind (arith)
@@ -142,8 +144,8 @@ module _ {A : Type 0} {old : Inside A} (sound : IsSoundBook old) (doubt : Option
     pub abandoned : new.abandoned ≡ old.abandoned
     pub outcomes : new.outcomes.items ≡ lines_after (λ t. is_kept t.0) old.journal.items
         old.outcomes.items
-    pub fewer : length new.journal.items ≤ length old.journal.items
-    pub entry_room : vec_capacity new.journal ≡ vec_capacity old.journal
+    pub places : new.journal.places ≡ old.journal.places
+    pub octet_places : new.journal.octet_places ≡ old.journal.octet_places
     pub urgent_room : deque_capacity new.urgent ≡ deque_capacity old.urgent
     pub queue_room : deque_capacity new.waiting ≡ deque_capacity old.waiting
     pub outcome_room : vec_capacity new.outcomes ≡ vec_capacity old.outcomes
@@ -216,11 +218,21 @@ module _ {A : Type 0} {old : Inside A} (sound : IsSoundBook old) (doubt : Option
         outcome_room = subst (λ s. outstanding_count s ≤ vec_capacity new.outcomes)
             (sym drained-stands) (rw does.outcome_room sound.room.outcome_room);
         entry_room = subst (λ s. length new.journal.items + entries_owed s
-            ≤ vec_capacity new.journal) (sym drained-stands) (fewer-fit (length new.journal.items)
+            ≤ new.journal.places) (sym drained-stands) (fewer-fit (length new.journal.items)
             (length old.journal.items) (entries_owed (standing_of old))
-            (vec_capacity old.journal) (vec_capacity new.journal) does.fewer
-            sound.room.entry_room does.entry_room);
-        within = rw (does.limit, does.entry_room) sound.room.within;
+            old.journal.places new.journal.places
+            (rw does.journal (filter-fewer _ old.journal.items))
+            sound.room.entry_room does.places);
+        octet_room = subst (λ s. octet_sum new.journal.items + octets_owed s
+            ≤ new.journal.octet_places) (sym drained-stands) (fewer-fit
+            (octet_sum new.journal.items) (octet_sum old.journal.items)
+            (octets_owed (standing_of old)) old.journal.octet_places new.journal.octet_places
+            (rw does.journal (filter-less _ old.journal.items))
+            sound.room.octet_room does.octet_places);
+        within = record {
+          entries_within = rw (does.limit, does.places) sound.room.within.entries_within;
+          octets_within = rw (does.limit, does.octet_places) sound.room.within.octets_within;
+        };
         limit = rw does.limit sound.room.limit;
       };
     }

@@ -1,5 +1,5 @@
 -- Journals that drains handed out are one: the law `drains_join`.
-use Rattle.std.proofs.Common.{◌≡◌, ◌≤◌, Bool, true, false, cond, refl, sym, ◌∙◌, List, [], ◌∷◌, ◌++◌, length, drop, Option, Some, None, is_some, ◌||◌}
+use Rattle.std.proofs.Common.{◌≡◌, ◌≤◌, Bool, true, false, cond, refl, sym, List, [], ◌∷◌, ◌++◌, length, drop, Option, Some, None, is_some, ◌||◌}
 use Rattle.std.specs.Prelude.{is_ok}
 use Rattle.std.proofs.lemmas.List.{append_assoc, append-nil, drop-append-le}
 use Rattle.std.proofs.Math.Seq.{drop-length}

@@ -1,3 +1,4 @@
+pub mod JournalLemmas
 pub mod LineLemmas
 pub mod SoundLemmas
 pub mod RestatedLemmas

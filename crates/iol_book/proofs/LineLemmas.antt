@@ -5,12 +5,11 @@
 -- list of pairs, and the list without it: the clauses of `place_in` and `outcome_at`.
 use Rattle.std.proofs.Common.{◌≡◌, ℕ, Bool, true, false, List, [], ◌∷◌, ◌++◌, length, Option, None, Some, is_some, refl, ap, cond, suc, zero, arith, ◌+◌, ◌≤◌, ◌<◌, sym, nat_lt, add-one, add_comm, get_or, ◌∙◌, Bor}
 use Rattle.std.specs.Prelude.{slice_get, not, IfSome, IfNone, ◌||◌, find, filter, if◌then◌else◌}
-use Rattle.std.specs.Option.{option_copied, option_map, option_to_list}
+use Rattle.std.specs.Option.{option_map, option_to_list}
 use Rattle.std.specs.Map.{lookup, remove_entry}
 use Rattle.std.proofs.lemmas.Bool.{eq-eqb}
 use Rattle.std.proofs.lemmas.Grind.{common_steps}
 use Rattle.std.proofs.lemmas.List.Folds.{find_at}
-use Rattle.iol_isdu.specs.declared.values.Request.{Request}
 use Rattle.iol_book.specs.declared.entries.Ticket.{Ticket}
 use Rattle.iol_book.specs.declared.entries.Entry.{Entry}
 use Rattle.iol_book.specs.declared.entries.Serve.{Serve}
@@ -18,8 +17,9 @@ use Rattle.iol_book.specs.declared.entries.Serve.TheVariants.{All, Only, Nobody}
 use Rattle.iol_book.specs.Replay.{Standing, nothing, standing_after, replay_from, replay, same_ticket, is_among, without, others_without}
 use Rattle.iol_book.specs.BookModel.{is_served}
 use Rattle.iol_book.specs.Drained.{IsInTurn, AreInTurn}
-use Rattle.iol_book.specs.Lines.{entry_ticket, TicketLines, values_at, AllPass, has_request, has_request_of, is_of, entry_request, taken_at}
+use Rattle.iol_book.specs.Lines.{entry_ticket, TicketLines, values_at, AllPass, has_request, has_request_of, is_of, taken_at}
 use Rattle.std.specs.List.{remove, position, position_or_len}
+use Rattle.iol_book.proofs.JournalLemmas.{octets-pushed}
 
 replay_from-push : (s : Standing) (es : List Entry) (e : Entry)
     → replay_from s (es ++ e ∷ []) ≡ standing_after (replay_from s es) e
@@ -40,8 +40,8 @@ in_turn-push s (x ∷ es) e h turn = (h.0, in_turn-push (standing_after s x) es 
 pub longer : (es : List Entry) (e : Entry) {n : ℕ} → n ≤ length es → n ≤ length (es ++ e ∷ [])
 longer es e h = grind (arith, common_steps)
 
--- the usual lemmas and it, for the state that a call leaves
-pub ruleset entry_steps = (arith, common_steps, replay-push)
+-- the usual lemmas, it, and how many octets there are then, for the state that a call leaves
+pub ruleset entry_steps = (arith, common_steps, replay-push, octets-pushed)
 
 -- the line of the entry that is new
 get-new : (es : List Entry) (e : Entry) → slice_get (es ++ e ∷ []) (length es) ≡ Some e
@@ -281,13 +281,6 @@ served-values {X} serve value es (u ∷ us) ws =
         (cond b (Some u) (served_in serve (us ++ ws)))
     by true rest = refl
     by false rest = rest
-
--- what is copied of a line that has a request
-pub copied-request : (r : Option (Bor Request)) (found : Option Entry)
-    → is_some r ≡ has_request found → IfSome r (λ q. q.now ≡ entry_request found)
-    → has_request found ≡ true → option_copied r ≡ Some (entry_request found)
-copied-request None found none value has = absurd (let never : false ≡ true = none ∙ has in cc)
-copied-request (Some q) found some value has = ap (λ x. Some x) value
 
 -- the one that is taken stays in the journal, and is the same
 pub taken-more : (e : Entry) (es : List Entry) (taken : Option (Ticket × ℕ))

@@ -11,6 +11,7 @@ use Rattle.std.proofs.lemmas.Grind.{common_steps}
 use Rattle.std.specs.Map.{lookup, remove_entry}
 use Rattle.indexmap.specs.IndexMap.{insert_entry}
 use Rattle.iol_isdu.specs.declared.values.Request.{Request}
+use Rattle.iol_book.specs.declared.journal.Journal.{Journal}
 use Rattle.iol_book.specs.declared.entries.Ticket.{Ticket}
 use Rattle.iol_book.specs.declared.entries.Outcome.{Outcome}
 use Rattle.iol_book.specs.declared.entries.Outcome.TheVariants.{Done, Unknown, Withdrawn, NoIsdu}
@@ -292,6 +293,7 @@ sound-same_queues sound urgent waiting us ws urgent_room waiting_room = record {
     queue_room = rw waiting_room sound.room.queue_room;
     outcome_room = rw (us, ws) sound.room.outcome_room;
     entry_room = rw (us, ws) sound.room.entry_room;
+    octet_room = rw (us, ws) sound.room.octet_room;
     within = sound.room.within;
     limit = sound.room.limit;
   };
@@ -390,7 +392,7 @@ module _ {A : Type 0} {old : Inside A} (sound : IsSoundBook old) where
     outcomes-new t own o free = rw (insert_entry-none 0 t (outcome_in (Some e)) _ free, n, o)
         (says-new _ e _ t (λ _. refl) own sound.lines.outcomes_within)
 
-  pub sound-submitted : (journal : Vec Entry A) (last : ℕ) (waiting : VecDeque (Ticket × ℕ) A)
+  pub sound-submitted : (journal : Journal A) (last : ℕ) (waiting : VecDeque (Ticket × ℕ) A)
       (t : Ticket) (r : Request) → journal.items ≡ old.journal.items ++ Submitted t r ∷ []
       → last ≡ old.last + 1 → t.0 ≡ old.last + 1
       → waiting.items ≡ old.waiting.items ++ (t, length old.journal.items) ∷ []
@@ -407,7 +409,7 @@ module _ {A : Type 0} {old : Inside A} (sound : IsSoundBook old) where
         outcomes = same.outcomes;
       })
 
-  pub sound-urgent : (journal : Vec Entry A) (last : ℕ) (urgent : VecDeque (Ticket × ℕ) A)
+  pub sound-urgent : (journal : Journal A) (last : ℕ) (urgent : VecDeque (Ticket × ℕ) A)
       (t : Ticket) (r : Request) → journal.items ≡ old.journal.items ++ Urgent t r ∷ []
       → last ≡ old.last + 1 → t.0 ≡ old.last + 1
       → urgent.items ≡ old.urgent.items ++ (t, length old.journal.items) ∷ []
@@ -424,7 +426,7 @@ module _ {A : Type 0} {old : Inside A} (sound : IsSoundBook old) where
         outcomes = same.outcomes;
       })
 
-  pub sound-collected : (journal : Vec Entry A) (outcomes : Vec (Ticket × ℕ) A) (t : Ticket)
+  pub sound-collected : (journal : Journal A) (outcomes : Vec (Ticket × ℕ) A) (t : Ticket)
       → journal.items ≡ old.journal.items ++ Collected t ∷ []
       → outcomes.items ≡ without t old.outcomes.items
       → IsSoundWithRoom (record old { journal = journal; outcomes = outcomes })
@@ -460,7 +462,7 @@ module _ {A : Type 0} {old : Inside A} (sound : IsSoundBook old) where
         outcomes = outcomes;
       })
 
-  pub sound-posted : (journal : Vec Entry A) (taken : Option (Ticket × ℕ)) (abandoned : Bool)
+  pub sound-posted : (journal : Journal A) (taken : Option (Ticket × ℕ)) (abandoned : Bool)
       (outcomes : Vec (Ticket × ℕ) A) (unsure : Bool) (p : Ticket × ℕ) (o : Outcome)
       → old.abandoned ≡ false
       → journal.items ≡ old.journal.items ++ Answered p.0 o ∷ []
@@ -480,7 +482,7 @@ module _ {A : Type 0} {old : Inside A} (sound : IsSoundBook old) where
       unanswered)) room
 
   -- of one that was abandoned
-  pub sound-dropped : (journal : Vec Entry A) (taken : Option (Ticket × ℕ)) (abandoned : Bool)
+  pub sound-dropped : (journal : Journal A) (taken : Option (Ticket × ℕ)) (abandoned : Bool)
       (unsure : Bool) (p : Ticket × ℕ) (o : Outcome)
       → old.abandoned ≡ true
       → journal.items ≡ old.journal.items ++ Answered p.0 o ∷ []
@@ -496,7 +498,7 @@ module _ {A : Type 0} {old : Inside A} (sound : IsSoundBook old) where
       (rw given_up (kept (Answered p.0 o) n).outcomes) room
 
   -- the first that is served leaves its queue
-  pub sound-taken : (journal : Vec Entry A) (urgent waiting : VecDeque (Ticket × ℕ) A)
+  pub sound-taken : (journal : Journal A) (urgent waiting : VecDeque (Ticket × ℕ) A)
       {p : Ticket × ℕ} → served_in old.serve (old.urgent.items ++ old.waiting.items) ≡ Some p
       → old.taken ≡ None → urgent.items ≡ without p.0 old.urgent.items
       → waiting.items ≡ others_without p.0 old.urgent.items old.waiting.items
@@ -571,7 +573,7 @@ module _ {A : Type 0} {old : Inside A} (sound : IsSoundBook old) where
       → is_among t old.outcomes.items ≡ false
   no-outcome t none = sym (among-values outcome_in old.journal.items t old.outcomes.items) ∙ none
 
-  pub abandoned-taken : (journal : Vec Entry A) (abandoned : Bool) (t : Ticket)
+  pub abandoned-taken : (journal : Journal A) (abandoned : Bool) (t : Ticket)
       → is_taken (standing_of old) t ≡ true → abandoned ≡ true
       → journal.items ≡ old.journal.items ++ Abandoned t ∷ []
       → IsSoundWithRoom (record old { journal = journal; abandoned = abandoned })
@@ -582,7 +584,7 @@ module _ {A : Type 0} {old : Inside A} (sound : IsSoundBook old) where
       (rw (is, found) (elim old.abandoned as (λ b. true ≡ (b || true))
       [ true ↦ refl | false ↦ refl ])) refl refl room
 
-  pub abandoned-waiting : (journal : Vec Entry A) (urgent waiting : VecDeque (Ticket × ℕ) A)
+  pub abandoned-waiting : (journal : Journal A) (urgent waiting : VecDeque (Ticket × ℕ) A)
       (t : Ticket) → waits (standing_of old) t ≡ true
       → urgent.items ≡ without t old.urgent.items
       → waiting.items ≡ others_without t old.urgent.items old.waiting.items
@@ -595,7 +597,7 @@ module _ {A : Type 0} {old : Inside A} (sound : IsSoundBook old) where
       (rw free (elim old.abandoned as (λ b. b ≡ (b || false)) [ true ↦ refl | false ↦ refl ]))
       refl refl room
 
-  pub abandoned-outcome : (journal : Vec Entry A) (outcomes : Vec (Ticket × ℕ) A) (t : Ticket)
+  pub abandoned-outcome : (journal : Journal A) (outcomes : Vec (Ticket × ℕ) A) (t : Ticket)
       → is_among t (standing_of old).outcomes ≡ true
       → outcomes.items ≡ without t old.outcomes.items
       → journal.items ≡ old.journal.items ++ Abandoned t ∷ []
@@ -608,7 +610,7 @@ module _ {A : Type 0} {old : Inside A} (sound : IsSoundBook old) where
       refl refl room
 
   -- a request that waited leaves its queue, and has an outcome: it was withdrawn, or denied
-  pub sound-left : (journal : Vec Entry A) (urgent waiting : VecDeque (Ticket × ℕ) A)
+  pub sound-left : (journal : Journal A) (urgent waiting : VecDeque (Ticket × ℕ) A)
       (outcomes : Vec (Ticket × ℕ) A) (e : Entry) (t : Ticket)
       → journal.items ≡ old.journal.items ++ e ∷ []
       → is_of t (Some e) ≡ true → IsInTurn (standing_of old) e

@@ -3,10 +3,11 @@ use Rattle.std.specs.Prelude.{ℕ, ◌+◌, ◌-◌, ◌/◌, ◌≤◌, min, le
 use Rattle.std.specs.Vec.{vec_capacity}
 use Rattle.std.specs.VecDeque.{deque_capacity}
 use Rattle.iol_book.specs.Replay.{Standing, nothing}
+use Rattle.iol_book.specs.JournalModel.{octet_sum, IsWithin}
 use Rattle.iol_book.specs.Lines.{AreLines, standing_at}
-use Rattle.iol_book.specs.BookModel.{BookState, BookMemory, BookValue, IsReplayed, outstanding_count, entries_owed}
+use Rattle.iol_book.specs.BookModel.{BookState, BookMemory, BookValue, IsReplayed, outstanding_count, entries_owed, octets_owed}
 use Rattle.iol_book.specs.Drained.{AreInTurn}
-use Rattle.iol_book.specs.Limits.{request_entries, most_entries}
+use Rattle.iol_book.specs.Limits.{request_entries, most_per_request, most_entries}
 use Rattle.iol_book.specs.Numbers.{IsNumbered}
 use Rattle.iol_book.specs.declared.book.Book.TheInside.{Inside}
 
@@ -32,13 +33,16 @@ module _ {A : Type 0} where
   -- for how many submits the places for outcomes and for entries are there already
   abbrev pub room_of : Inside A → ℕ
   room_of fields = min (vec_capacity fields.outcomes - outstanding_count (standing_of fields))
-      ((vec_capacity fields.journal
+      (min ((fields.journal.places
       - (length fields.journal.items + entries_owed (standing_of fields))) / request_entries)
+      ((fields.journal.octet_places - (octet_sum fields.journal.items
+      + octets_owed (standing_of fields))) / most_per_request))
 
   -- how much its journal and its queues hold without a growth
   abbrev pub memory_of : Inside A → BookMemory
   memory_of fields = record {
-    entries = vec_capacity fields.journal;
+    entries = fields.journal.places;
+    octets = fields.journal.octet_places;
     urgent = deque_capacity fields.urgent;
     others = deque_capacity fields.waiting;
   }
@@ -60,9 +64,12 @@ module _ {A : Type 0} where
     pub outcome_room : outstanding_count (standing_of fields) ≤ vec_capacity fields.outcomes
     -- each outstanding ticket has places for the entries that it will still get
     pub entry_room : length fields.journal.items + entries_owed (standing_of fields)
-        ≤ vec_capacity fields.journal
+        ≤ fields.journal.places
+    -- each that has no outcome yet has places for the octets of its answer
+    pub octet_room : octet_sum fields.journal.items + octets_owed (standing_of fields)
+        ≤ fields.journal.octet_places
     -- and there is memory for no more than the limit
-    pub within : vec_capacity fields.journal ≤ fields.limit
+    pub within : IsWithin fields.limit fields.journal
     -- which is a million entries at most
     pub limit : fields.limit ≤ most_entries
 

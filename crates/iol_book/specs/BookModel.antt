@@ -15,7 +15,7 @@ use Rattle.iol_book.specs.declared.entries.Entry.{Entry}
 use Rattle.iol_book.specs.declared.entries.Entry.TheVariants.{Submitted, Urgent, Taken, Answered, Withdrawn as WithdrawnEntry, Collected, Abandoned}
 use Rattle.iol_book.specs.declared.fault.BookFault.{BookFault}
 use Rattle.iol_book.specs.declared.fault.BookFault.TheVariants.{Full, JournalFull, TicketsSpent, OutOfMemory, UnknownTicket, NotYet, TakenAlready, NotInFlight}
-use Rattle.iol_book.specs.Limits.{request_entries}
+use Rattle.iol_book.specs.Limits.{request_entries, most_data}
 use Rattle.iol_book.specs.Replay.{Standing, nothing, standing_after, replay, same_ticket, is_among, is_taken, without_waiting}
 
 pub record BookState : Type 0 where
@@ -37,9 +37,11 @@ pub record BookState : Type 0 where
   -- which of the requests that wait may be taken
   pub serve : Serve
 
--- the memory that a book has: for so many entries, and so many requests that wait
+-- the memory that a book has: for so many entries, so many octets of theirs, and so many requests
+-- that wait
 pub record BookMemory : Type 0 where
   pub entries : ℕ
+  pub octets : ℕ
   pub urgent : ℕ
   pub others : ℕ
 
@@ -93,6 +95,11 @@ entries_owed standing =
     3 * waiting_count standing
     + (if is_some standing.taken then (if standing.abandoned then 1 else 2) else 0)
     + length standing.outcomes
+
+-- the octets that there may be of the answers that are still to come
+abbrev pub octets_owed : Standing → ℕ
+octets_owed standing =
+    most_data * (waiting_count standing + (if is_some standing.taken then 1 else 0))
 
 -- the first reason why a request can't be submitted, where it can't
 -- BOOK-2, BOOK-3
@@ -283,10 +290,11 @@ book_after_archive book = if may_archive book then record book { journal = []; r
 -- the memory after an archive: that of the journal is handed out with it
 -- BOOK-12
 abbrev pub memory_archived : BookValue → BookMemory
-memory_archived book = if may_archive book.state then record book.memory { entries = 0 }
-    else book.memory
+memory_archived book =
+    if may_archive book.state then record book.memory { entries = 0; octets = 0 } else book.memory
 
 -- the memory after a submit: at most the journal's has grown
 -- BOOK-12
 abbrev pub MemoryGrows : BookMemory → BookMemory → Type 0
-MemoryGrows old new = (old.entries ≤ new.entries) × (new ≡ record old { entries = new.entries })
+MemoryGrows old new = (old.entries ≤ new.entries) × (old.octets ≤ new.octets)
+    × (new ≡ record old { entries = new.entries; octets = new.octets })

@@ -1,5 +1,10 @@
 pub mod Faults
 pub mod Limits
+pub mod Forms
+pub mod JournalModel
+pub mod OctetList
+pub mod JournalInside
+pub mod Entries
 pub mod Replay
 pub mod BookModel
 pub mod Drained

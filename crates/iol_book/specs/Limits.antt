@@ -6,6 +6,14 @@ use Rattle.std.specs.Prelude.{ℕ, ◌≤◌}
 abbrev pub request_entries : ℕ
 request_entries = 4
 
+-- the octets of one parameter, at most
+abbrev pub most_data : ℕ
+most_data = 232
+
+-- the octets of one request and of its answer, at most
+abbrev pub most_per_request : ℕ
+most_per_request = 464
+
 -- the most entries that a journal may ever have
 abbrev pub most_entries : ℕ
 most_entries = 1000000

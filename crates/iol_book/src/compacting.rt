@@ -1,36 +1,39 @@
 //! What a drain takes out of a journal, and the numbers that the lines which stay have then.
 #![tactic(auto, using(std::proofs::lemmas::Grind::common_steps, crate::proofs::LineLemmas::line_steps))]
 
-ghost use Rattle.std.specs.Prelude.{◌≡◌, ◌≤◌, ◌+◌, ◌++◌, length, None, false, filter};
+ghost use Rattle.std.specs.Prelude.{◌≡◌, ◌≤◌, ◌+◌, ◌++◌, [], length, drop, None, false, filter};
 ghost use Rattle.std.specs.Vec.{vec_len, vec_capacity};
 ghost use Rattle.std.specs.VecDeque.{deque_capacity};
 ghost use Rattle.std.specs.Option.{option_map_or, option_to_list};
 ghost use Rattle.iol_book.specs.Replay.{same_ticket};
 ghost use Rattle.iol_book.specs.Lines.{entry_ticket, is_still_open_by, lines_after, with_numbers, moved_number};
 ghost use Rattle.iol_book.specs.Drained.{last_taken};
+ghost use Rattle.iol_book.specs.JournalModel.{octet_sum, HasPlaces};
 
 use crate::lines::{Outcomes, Queue, is_line_of, outcome_at, place_in};
-use crate::{Entry, Ticket};
+use crate::{Entry, Journal, Ticket};
 use std::alloc::Allocator;
 
 // A copy of each entry, at the end of a list that has room for them.
-pub(crate) fn copy_entries<A: Allocator>(journal: &[Entry], list: &mut Vec<Entry, A>)
-    requires { vec_len list.old + length journal.now ≤ vec_capacity list.old }
-    ensures { list.new.items ≡ list.old.items ++ journal.now }
+pub(crate) fn copy_entries<A: Allocator + Copy>(journal: &Journal<A>, list: &mut Journal<A>)
+    requires { HasPlaces list.old (length journal.now.items) (octet_sum journal.now.items) }
+    ensures items { list.new.items ≡ list.old.items ++ journal.now.items }
+    ensures places { list.new.places ≡ list.old.places }
+    ensures octet_places { list.new.octet_places ≡ list.old.octet_places }
 {
-    for entry in journal {
-        list.push_reserved(entry.copied());
+    for place in 0..journal.len() {
+        list.push(&journal.entry_at(place));
     }
 }
 
 // The ticket that was taken last.
-pub(crate) fn last_taken(journal: &[Entry]) -> Option<Ticket>
-    ensures { result ≡ last_taken None journal.now }
+pub(crate) fn last_taken<A: Allocator + Copy>(journal: &Journal<A>) -> Option<Ticket>
+    ensures { result ≡ last_taken None journal.now.items }
 {
     let mut last = None;
-    for entry in journal {
-        if let Entry::Taken(ticket) = entry {
-            last = Some(*ticket);
+    for place in 0..journal.len() {
+        if let Entry::Taken(ticket) = journal.entry_at(place) {
+            last = Some(ticket);
         }
     }
     last
@@ -66,8 +69,8 @@ fn is_in_doubt(doubt: Option<Ticket>, ticket: Ticket) -> bool
 }
 
 // Gives each line the number that it has once the entries of all tickets that aren't open are gone.
-pub(crate) fn renumber<A: Allocator>(
-    journal: &[Entry],
+pub(crate) fn renumber<A: Allocator + Copy>(
+    journal: &Journal<A>,
     doubt: Option<Ticket>,
     urgent: &mut Queue<A>,
     waiting: &mut Queue<A>,
@@ -75,20 +78,22 @@ pub(crate) fn renumber<A: Allocator>(
     outcomes: &mut Outcomes<A>,
 )
     ensures urgent { urgent.new.items ≡ lines_after (is_still_open_by doubt urgent.old.items
-        waiting.old.items taken.old outcomes.old.items) journal.now urgent.old.items }
+        waiting.old.items taken.old outcomes.old.items) journal.now.items urgent.old.items }
     ensures waiting { waiting.new.items ≡ lines_after (is_still_open_by doubt urgent.old.items
-        waiting.old.items taken.old outcomes.old.items) journal.now waiting.old.items }
+        waiting.old.items taken.old outcomes.old.items) journal.now.items waiting.old.items }
     ensures taken { option_to_list taken.new ≡ lines_after (is_still_open_by doubt urgent.old.items
-        waiting.old.items taken.old outcomes.old.items) journal.now (option_to_list taken.old) }
+        waiting.old.items taken.old outcomes.old.items) journal.now.items
+        (option_to_list taken.old) }
     ensures outcomes { outcomes.new.items ≡ lines_after (is_still_open_by doubt urgent.old.items
-        waiting.old.items taken.old outcomes.old.items) journal.now outcomes.old.items }
+        waiting.old.items taken.old outcomes.old.items) journal.now.items outcomes.old.items }
     ensures urgent_room { deque_capacity urgent.new ≡ deque_capacity urgent.old }
     ensures queue_room { deque_capacity waiting.new ≡ deque_capacity waiting.old }
     ensures outcome_room { vec_capacity outcomes.new ≡ vec_capacity outcomes.old }
 {
     let mut kept = 0;
-    for (line, entry) in journal.iter().enumerate() {
-        if is_still_open(entry.ticket(), doubt, urgent, waiting, *taken, outcomes) {
+    for line in 0..journal.len() {
+        let ticket = journal.ticket_at(line);
+        if is_still_open(ticket, doubt, urgent, waiting, *taken, outcomes) {
             move_queue(urgent, line, kept);
             move_queue(waiting, line, kept);
             move_taken(taken, line, kept);
@@ -137,19 +142,30 @@ fn moved_number(number: usize, from: usize, to: usize) -> usize
     if number == from { to } else { number }
 }
 
-// Takes out the entries of all tickets that aren't open.
-pub(crate) fn keep_open<A: Allocator>(
-    journal: &mut Vec<Entry, A>,
+// Puts the entries of all tickets that are open, of those of a list from a place on, into a journal
+// that has none.
+pub(crate) fn keep_open<A: Allocator + Copy>(
+    journal: &mut Journal<A>,
+    list: &Journal<A>,
+    first: usize,
     doubt: Option<Ticket>,
     urgent: &Queue<A>,
     waiting: &Queue<A>,
     taken: Option<(Ticket, usize)>,
     outcomes: &[(Ticket, usize)],
 )
+    requires empty { journal.old.items ≡ [] }
+    requires fits { HasPlaces journal.old (length (drop first list.now.items))
+        (octet_sum (drop first list.now.items)) }
     ensures entries { journal.new.items ≡ filter (λ e. is_still_open_by doubt urgent.now.items
-        waiting.now.items taken outcomes.now (entry_ticket e)) journal.old.items }
-    ensures fewer { vec_len journal.new ≤ vec_len journal.old }
-    ensures capacity { vec_capacity journal.new ≡ vec_capacity journal.old }
+        waiting.now.items taken outcomes.now (entry_ticket e)) (drop first list.now.items) }
+    ensures places { journal.new.places ≡ journal.old.places }
+    ensures octet_places { journal.new.octet_places ≡ journal.old.octet_places }
 {
-    journal.retain(|entry| is_still_open(entry.ticket(), doubt, urgent, waiting, taken, outcomes));
+    for place in first..list.len() {
+        let entry = list.entry_at(place);
+        if is_still_open(entry.ticket(), doubt, urgent, waiting, taken, outcomes) {
+            journal.push(&entry);
+        }
+    }
 }

@@ -21,12 +21,16 @@ mod book;
 mod compacting;
 mod entries;
 mod fault;
+mod forms;
+mod journal;
 mod laws;
 mod limits;
 mod lines;
+mod octets;
 
 pub use book::Book;
 pub use entries::{Entry, Outcome, Serve, Ticket};
 pub use fault::BookFault;
+pub use journal::{Entries, Journal};
 pub use laws::{abandons_hold, drains_join};
 pub use limits::{BusyLimit, JournalLimit, Limits, QueueLimit};

@@ -2,16 +2,15 @@
 //! request, or its outcome.
 #![tactic(auto, using(std::proofs::lemmas::Grind::common_steps, crate::proofs::LineLemmas::line_steps))]
 
-ghost use Rattle.std.specs.Prelude.{◌≡◌, ◌<◌, ◌+◌, ◌++◌, ◌||◌, IsTrue, length, remove, position, find, slice_get, is_some, IfSome, IfNone, false};
+ghost use Rattle.std.specs.Prelude.{◌≡◌, ◌<◌, ◌+◌, ◌++◌, ◌||◌, IsTrue, length, remove, position, find, is_some, IfSome, IfNone, false};
 ghost use Rattle.std.specs.Map.{remove_entry};
 ghost use Rattle.std.specs.Option.{option_map_or};
 ghost use Rattle.std.specs.VecDeque.{deque_capacity};
 ghost use Rattle.iol_book.specs.Replay.{same_ticket, is_among, without, others_without};
-ghost use Rattle.iol_book.specs.Lines.{IsLineAt, has_request, entry_request, outcome_in};
+ghost use Rattle.iol_book.specs.Lines.{IsLineAt};
 ghost use Rattle.iol_book.specs.BookModel.{is_served};
 
-use crate::{Entry, Outcome, Serve, Ticket};
-use iol_isdu::Request;
+use crate::{Serve, Ticket};
 use std::alloc::Allocator;
 use std::collections::VecDeque;
 
@@ -64,37 +63,6 @@ fn first_at<A: Allocator>(queue: &Queue<A>, ticket: Ticket) -> Option<usize>
     ensures { result ≡ position (λ w. same_ticket ticket w.0) queue.now.items }
 {
     queue.iter().position(|w| ticket == w.0)
-}
-
-// The request that this line of the journal has.
-pub(crate) fn request_at(journal: &[Entry], line: usize) -> Option<&Request>
-    ensures found { is_some result ≡ has_request (slice_get journal.now line) }
-    ensures value { IfSome result (λ r. r.now ≡ entry_request (slice_get journal.now line)) }
-{
-    match journal.get(line) {
-        Some(Entry::Submitted(_, request) | Entry::Urgent(_, request)) => Some(request),
-        _ => None,
-    }
-}
-
-// The same, in place of another one.
-pub(crate) fn put_request(journal: &[Entry], line: usize, into: &mut Request)
-    requires { IsTrue (has_request (slice_get journal.now line)) }
-    ensures { into.new ≡ entry_request (slice_get journal.now line) }
-{
-    if let Some(request) = request_at(journal, line) {
-        into.set(request);
-    }
-}
-
-// The outcome that this line of the journal says, in place of another.
-pub(crate) fn put_outcome(journal: &[Entry], line: usize, into: &mut Outcome)
-    ensures { into.new ≡ outcome_in (slice_get journal.now line) }
-{
-    match journal.get(line) {
-        Some(Entry::Answered(_, outcome)) => into.set(outcome),
-        _ => *into = Outcome::Withdrawn,
-    }
 }
 
 // The first of a queue that is served.

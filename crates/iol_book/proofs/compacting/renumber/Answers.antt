@@ -1,7 +1,9 @@
-use Rattle.std.proofs.Common.{◌≡◌, ◌+◌, ap, arith, drop, false, List, [], ◌∷◌, sym, true, ◌∙◌}
+use Rattle.std.proofs.Common.{◌≡◌, ◌+◌, ap, arith, drop, false, ◌∷◌, sym, true, ◌∙◌}
 use Rattle.std.proofs.lemmas.Grind.{common_steps}
 use Rattle.std.proofs.lemmas.List.{drop_all, drop_more}
 use Rattle.std.specs.Option.{option_to_list}
+use Rattle.std.specs.Prelude.{slice_index_or}
+use Rattle.iol_book.specs.declared.entries.Entry.TheVariants.{Collected}
 use Rattle.iol_book.specs.Lines.{entry_ticket}
 use Rattle.iol_book.specs.Lines.{is_still_open_by, moved_number, with_numbers}
 use Rattle.iol_book.proofs.NumberLemmas.{comes-dropped, comes-end, comes-kept, open-numbers}
@@ -10,22 +12,23 @@ use Rattle.iol_book.proofs.compacting.renumber.Goals.{then-is_still_open, else-i
 
 pub loop-line-preserved : goal.loop-line-preserved
 loop-line-preserved g c =
-    let e = c.index-journal-line.result in
+    let es = c.args.journal.now.items in
+    let e = slice_index_or es c.loop-line.line (Collected c.ticket_at-ticket.result) in
     let k = is_still_open_by c.args.doubt c.args.urgent.now.items c.args.waiting.now.items
     c.args.taken.now c.args.outcomes.now.items in
-    let at : drop c.loop-line.line c.args.journal.now
-    ≡ e ∷ drop (c.loop-line.line + 1) c.args.journal.now =
-    drop_more c.args.journal.now c.loop-line.line e (grind (arith, common_steps))
-    ∙ ap (λ x. x ∷ drop (c.loop-line.line + 1) c.args.journal.now)
-    (sym c.index-journal-line.is) in
+    let at : drop c.loop-line.line c.args.journal.now.items
+    ≡ e ∷ drop (c.loop-line.line + 1) c.args.journal.now.items =
+    drop_more c.args.journal.now.items c.loop-line.line (Collected c.ticket_at-ticket.result)
+    (grind (arith, common_steps)) in
     let h = c.loop-line.invariant in
     let same : c.is_still_open.result ≡ is_still_open_by c.args.doubt c.args.urgent.now.items
     c.args.waiting.now.items c.args.taken.now c.args.outcomes.now.items (entry_ticket e) =
     c.is_still_open.ensures
     ∙ (ap (λ os. is_still_open_by c.args.doubt c.loop-line.urgent.items
-    c.loop-line.waiting.items c.loop-line.taken os c.ticket.result) c.deref.ensures.value
+    c.loop-line.waiting.items c.loop-line.taken os c.ticket_at-ticket.result) c.deref.ensures.value
     ∙ (ap (λ t. is_still_open_by c.args.doubt c.loop-line.urgent.items
-    c.loop-line.waiting.items c.loop-line.taken c.loop-line.outcomes.items t) c.ticket.ensures
+    c.loop-line.waiting.items c.loop-line.taken c.loop-line.outcomes.items t)
+    (c.ticket_at-ticket.ensures (Collected c.ticket_at-ticket.result))
     ∙ h.8 (entry_ticket e))) in
     elim c.if-is_still_open.branch [
       | then-is_still_open w ↦
@@ -47,13 +50,13 @@ loop-line-preserved g c =
           let more : c.if-is_still_open.kept ≡ c.loop-line.kept + 1 =
           grind (arith, common_steps) in (
             grind (arith, common_steps),
-            comes-kept k c.args.journal.now e c.loop-line.line c.loop-line.kept at _ _ h.1 _ _
+            comes-kept k es e c.loop-line.line c.loop-line.kept at _ _ h.1 _ _
                 stays us more,
-            comes-kept k c.args.journal.now e c.loop-line.line c.loop-line.kept at _ _ h.2 _ _
+            comes-kept k es e c.loop-line.line c.loop-line.kept at _ _ h.2 _ _
                 stays ws more,
-            comes-kept k c.args.journal.now e c.loop-line.line c.loop-line.kept at _ _ h.3 _ _
+            comes-kept k es e c.loop-line.line c.loop-line.kept at _ _ h.3 _ _
                 stays one more,
-            comes-kept k c.args.journal.now e c.loop-line.line c.loop-line.kept at _ _ h.4 _ _
+            comes-kept k es e c.loop-line.line c.loop-line.kept at _ _ h.4 _ _
                 stays os more,
             grind (arith, common_steps),
             grind (arith, common_steps),
@@ -69,17 +72,13 @@ loop-line-preserved g c =
           c.args.waiting.now.items c.args.taken.now c.args.outcomes.now.items (entry_ticket e)
           ≡ false = sym same ∙ grind (arith, common_steps) in (
             grind (arith, common_steps),
-            comes-dropped k c.args.journal.now e c.loop-line.line c.loop-line.kept at _ _ h.1 _
-                _ goes
+            comes-dropped k es e c.loop-line.line c.loop-line.kept at _ _ h.1 _ _ goes
                 (grind (arith, common_steps)) w.kept-is,
-            comes-dropped k c.args.journal.now e c.loop-line.line c.loop-line.kept at _ _ h.2 _
-                _ goes
+            comes-dropped k es e c.loop-line.line c.loop-line.kept at _ _ h.2 _ _ goes
                 (grind (arith, common_steps)) w.kept-is,
-            comes-dropped k c.args.journal.now e c.loop-line.line c.loop-line.kept at _ _ h.3 _
-                _ goes
+            comes-dropped k es e c.loop-line.line c.loop-line.kept at _ _ h.3 _ _ goes
                 (grind (arith, common_steps)) w.kept-is,
-            comes-dropped k c.args.journal.now e c.loop-line.line c.loop-line.kept at _ _ h.4 _
-                _ goes
+            comes-dropped k es e c.loop-line.line c.loop-line.kept at _ _ h.4 _ _ goes
                 (grind (arith, common_steps)) w.kept-is,
             grind (arith, common_steps),
             grind (arith, common_steps),
@@ -93,7 +92,7 @@ returns-clause-urgent g c = comes-end
     (is_still_open_by c.args.doubt c.args.urgent.now.items c.args.waiting.now.items
     c.args.taken.now c.args.outcomes.now.items) _ c.loop-line.line
     c.loop-line.kept _ _
-    (drop_all c.loop-line.line c.args.journal.now (grind (arith, common_steps)))
+    (drop_all c.loop-line.line c.args.journal.now.items (grind (arith, common_steps)))
     c.loop-line.invariant.1
 
 pub returns-clause-waiting : goal.returns-clause-waiting
@@ -101,7 +100,7 @@ returns-clause-waiting g c = comes-end
     (is_still_open_by c.args.doubt c.args.urgent.now.items c.args.waiting.now.items
     c.args.taken.now c.args.outcomes.now.items) _ c.loop-line.line
     c.loop-line.kept _ _
-    (drop_all c.loop-line.line c.args.journal.now (grind (arith, common_steps)))
+    (drop_all c.loop-line.line c.args.journal.now.items (grind (arith, common_steps)))
     c.loop-line.invariant.2
 
 pub returns-clause-taken : goal.returns-clause-taken
@@ -109,7 +108,7 @@ returns-clause-taken g c = comes-end
     (is_still_open_by c.args.doubt c.args.urgent.now.items c.args.waiting.now.items
     c.args.taken.now c.args.outcomes.now.items) _ c.loop-line.line
     c.loop-line.kept _ _
-    (drop_all c.loop-line.line c.args.journal.now (grind (arith, common_steps)))
+    (drop_all c.loop-line.line c.args.journal.now.items (grind (arith, common_steps)))
     c.loop-line.invariant.3
 
 pub returns-clause-outcomes : goal.returns-clause-outcomes
@@ -117,5 +116,5 @@ returns-clause-outcomes g c = comes-end
     (is_still_open_by c.args.doubt c.args.urgent.now.items c.args.waiting.now.items
     c.args.taken.now c.args.outcomes.now.items) _ c.loop-line.line
     c.loop-line.kept _ _
-    (drop_all c.loop-line.line c.args.journal.now (grind (arith, common_steps)))
+    (drop_all c.loop-line.line c.args.journal.now.items (grind (arith, common_steps)))
     c.loop-line.invariant.4

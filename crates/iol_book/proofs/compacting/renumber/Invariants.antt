@@ -17,11 +17,11 @@ invariant-loop-line g l =
     let is_kept : Ticket → Bool = is_still_open_by l.doubt l.fn.urgent.items l.fn.waiting.items
     l.fn.taken l.fn.outcomes.items in
     (l.kept ≤ l.line)
-    × Comes is_kept l.journal l.line l.kept l.urgent.items l.fn.urgent.items
-    × Comes is_kept l.journal l.line l.kept l.waiting.items l.fn.waiting.items
-    × Comes is_kept l.journal l.line l.kept (option_to_list l.taken)
+    × Comes is_kept l.journal.items l.line l.kept l.urgent.items l.fn.urgent.items
+    × Comes is_kept l.journal.items l.line l.kept l.waiting.items l.fn.waiting.items
+    × Comes is_kept l.journal.items l.line l.kept (option_to_list l.taken)
     (option_to_list l.fn.taken)
-    × Comes is_kept l.journal l.line l.kept l.outcomes.items l.fn.outcomes.items
+    × Comes is_kept l.journal.items l.line l.kept l.outcomes.items l.fn.outcomes.items
     × (deque_capacity l.urgent ≡ deque_capacity l.fn.urgent)
     × (deque_capacity l.waiting ≡ deque_capacity l.fn.waiting)
     × (vec_capacity l.outcomes ≡ vec_capacity l.fn.outcomes)

@@ -1,7 +1,4 @@
-use Rattle.std.proofs.Common.{◌≡◌, true, refl}
-use Rattle.iol_book.specs.BookInside.{standing_of}
-use Rattle.iol_book.specs.Replay.{is_among}
-use Rattle.iol_book.specs.BookModel.{waits}
+use Rattle.std.proofs.Common.{refl}
 use Rattle.iol_book.proofs.LineLemmas.{entry_steps, line_steps}
 use Rattle.iol_book.proofs.SoundLemmas.{abandoned-taken, abandoned-waiting, abandoned-outcome}
 use Rattle.iol_book.proofs.book.Book.abandon.Goals.{then-is_awaited, else-is_awaited+then-waits, else-is_awaited+else-waits+in-Some}
@@ -16,7 +13,15 @@ invariant_of-self g c = elim c.if-is_awaited.branch [
       w.remove_from.ensures.waiting (grind entry_steps) (grind entry_steps))
   | else-is_awaited+else-waits+in-Some w ↦ rw w.self-inside-is (abandoned-outcome c.self.invariant
       _ _ c.args.ticket (grind (entry_steps, line_steps)) (grind entry_steps) (grind entry_steps)
-      (grind entry_steps))
+      (record {
+        urgent_room = grind entry_steps;
+        queue_room = grind entry_steps;
+        outcome_room = grind entry_steps;
+        entry_room = grind entry_steps;
+        octet_room = grind entry_steps;
+        within = grind entry_steps;
+        limit = grind entry_steps;
+      }))
 ]
 
 pub returns-clause-state : goal.returns-clause-state

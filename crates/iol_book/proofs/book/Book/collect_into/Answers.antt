@@ -7,7 +7,7 @@ use Rattle.iol_book.proofs.SoundLemmas.{taken-unanswered, sound-collected}
 use Rattle.iol_book.proofs.book.Book.collect_into.Goals as goal
 
 pub invariant_of-self : goal.invariant_of-self
-invariant_of-self g c = sound-collected c.self.invariant _ _ _ c.push_reserved.ensures.items
+invariant_of-self g c = sound-collected c.self.invariant _ _ _ c.push_bare.ensures.items
     (grind entry_steps) (grind entry_steps)
 
 pub returns-clause-answer : goal.returns-clause-answer

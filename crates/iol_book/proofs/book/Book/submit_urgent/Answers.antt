@@ -4,7 +4,7 @@ use Rattle.iol_book.proofs.book.Book.submit_urgent.Goals as goal
 
 pub invariant_of-self : goal.invariant_of-self
 invariant_of-self g c =
-    sound-urgent c.self.invariant _ _ _ _ _ c.push_reserved.ensures.items (grind entry_steps)
+    sound-urgent c.self.invariant _ _ _ _ _ c.push_urgent.ensures.items (grind entry_steps)
     (grind entry_steps) (grind entry_steps) (grind entry_steps)
 
 pub returns-clause-state : goal.returns-clause-state
