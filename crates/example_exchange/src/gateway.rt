@@ -3,7 +3,7 @@ use crate::cable::Cable;
 use anyhow::Result;
 use example_kept::print_set;
 use iol_app::Asked;
-use iol_book::{Entry, Limits};
+use iol_book::{Journal, Limits};
 use iol_mode::Devices;
 use iol_storage::{Set, StorageMode, StorageStanding, StoredPort};
 use std::alloc::Global;
@@ -19,7 +19,7 @@ pub struct Gateway<'a> {
     /// What was printed last of the port's standing.
     standing: StorageStanding,
     /// For the entries of a drain. It keeps its memory.
-    entries: Vec<Entry>,
+    entries: Journal,
 }
 
 impl<'a> Gateway<'a> {
@@ -31,7 +31,7 @@ impl<'a> Gateway<'a> {
             port,
             cable: Cable { sensor: None },
             standing: StorageStanding::Awaited,
-            entries: Vec::new(alloc),
+            entries: Journal::new(alloc),
         })
     }
 

@@ -4,7 +4,7 @@ use crate::past::{Past, Stand};
 use crate::text::{EntryText, OutcomeText};
 use anyhow::{Result, bail};
 use iol_app::Asked;
-use iol_book::{BookFault, Entry, Limits, Outcome, Ticket};
+use iol_book::{BookFault, Journal, Limits, Outcome, Ticket};
 use iol_link::Rate;
 use iol_port::{AwaitedAnswer, PortCore, PortFault};
 use std::alloc::Global;
@@ -61,7 +61,7 @@ struct Gateway {
     /// The tickets of the clients, which are outstanding.
     tickets: VecDeque<Ticket>,
     /// For the entries of a drain. It keeps its memory.
-    entries: Vec<Entry>,
+    entries: Journal,
 }
 
 impl Gateway {
@@ -70,7 +70,7 @@ impl Gateway {
         self.entries.clear();
         let restated = self.port.drain_into(&mut self.entries)?;
         for entry in self.entries.iter().skip(restated) {
-            println!(rt; "{KEPT}{}", EntryText(entry))?;
+            println!(rt; "{KEPT}{}", EntryText(&entry))?;
         }
         Ok(())
     }
@@ -176,7 +176,7 @@ pub fn serve_gateway<R: Runtime<A = Global>>(rt: &R) -> Result<()> {
     let mut gateway = Gateway {
         port: PortCore::open(rt.alloc(), &limits)?,
         tickets: VecDeque::new(rt.alloc()),
-        entries: Vec::new(rt.alloc()),
+        entries: Journal::new(rt.alloc()),
     };
     for _ in 0..u64::MAX {
         if gateway.turn(rt)? == Line::Closed {

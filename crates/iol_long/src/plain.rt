@@ -3,7 +3,7 @@ use crate::counts::{Counts, Told};
 use crate::did::{Did, did_of, ticket_in};
 use crate::fault::{LongFault, Wrong};
 use crate::row::{Chances, Row, Stand, Urgency, answer_to, chances_after, ticket_of};
-use iol_book::{Entry, Outcome};
+use iol_book::{Entry, Journal, Outcome};
 use iol_isdu::{Answer, Request};
 use std::alloc::Global;
 use std::collections::VecDeque;
@@ -129,12 +129,12 @@ impl PlainList {
     }
 
     /// A journal was drained, whose first entries, so many, are restated.
-    pub(crate) fn drained(&mut self, journal: &[Entry], restated: usize) -> Result<(), LongFault> {
-        if !journal.starts_with(self.head.as_slice()) || restated != self.head.len() {
+    pub(crate) fn drained(&mut self, journal: &Journal, restated: usize) -> Result<(), LongFault> {
+        if !begins_with(journal, self.head.as_slice()) || restated != self.head.len() {
             return Err(Wrong::Restated.of(self.first));
         }
         for entry in journal.iter().skip(restated) {
-            self.read(entry)?;
+            self.read(&entry)?;
         }
         if let Some(did) = self.did.pop_front() {
             return Err(Wrong::NoEntry.of(did.ticket()));
@@ -147,11 +147,11 @@ impl PlainList {
     }
 
     /// Keeps what the next drain has to restate: the entries of tickets that are open.
-    fn keep_open(&mut self, journal: &[Entry]) -> Result<(), LongFault> {
+    fn keep_open(&mut self, journal: &Journal) -> Result<(), LongFault> {
         self.head.clear();
-        for entry in journal {
-            if self.is_open(ticket_in(entry)) {
-                self.head.push(entry.clone()?)?;
+        for entry in journal.iter() {
+            if self.is_open(ticket_in(&entry)) {
+                self.head.push(entry)?;
             }
         }
         Ok(())
@@ -312,4 +312,13 @@ impl PlainList {
         let behind = ticket.checked_sub(self.first)?;
         usize::try_from(behind).ok()
     }
+}
+
+/// Whether these are the first entries of a journal.
+fn begins_with(journal: &Journal, entries: &[Entry]) -> bool {
+    let mut is_same = true;
+    for (place, entry) in entries.iter().enumerate() {
+        is_same &= journal.get(place).is_some_and(|own| own == *entry);
+    }
+    is_same
 }

@@ -6,9 +6,12 @@ use crate::fault::{LongFault, Wrong};
 use crate::line::Line;
 use crate::plain::PlainList;
 use iol_app::Asked;
-use iol_book::{Entry, Limits, Outcome};
+use iol_book::{Journal, Limits, Outcome};
 use iol_port::{AwaitedAnswer, Counters, PortCore};
 use std::alloc::Global;
+
+/// The octets of one request, or of one answer, at most.
+const MOST_DATA: usize = 232;
 
 /// Before one of so many turns the journal is drained, and whenever it is full.
 const DRAINS: u64 = 100;
@@ -44,7 +47,7 @@ pub(crate) struct Station {
     second: Client,
     chance: Chance,
     drains: Drains,
-    drained: Vec<Entry>,
+    drained: Journal,
     outcome: Outcome,
 }
 
@@ -52,6 +55,8 @@ impl Station {
     pub(crate) fn open(alloc: Global, seed: u64) -> Result<Station, LongFault> {
         let limits = Limits::default();
         let entries = limits.journal.entries() as usize;
+        let mut drained = Journal::new(alloc);
+        drained.reserve(entries, entries.saturating_mul(MOST_DATA))?;
         Ok(Station {
             port: PortCore::open(alloc, &limits)?,
             line: Line::new(seed),
@@ -60,7 +65,7 @@ impl Station {
             second: Client::new(alloc)?,
             chance: Chance::new(!seed),
             drains: Drains::WhenFull,
-            drained: Vec::with_capacity(alloc, entries)?,
+            drained,
             outcome: Outcome::Withdrawn,
         })
     }
@@ -136,7 +141,7 @@ impl Station {
         if said != restated {
             return Err(Wrong::Restated.of(said as u64));
         }
-        self.list.drained(self.drained.as_slice(), restated)
+        self.list.drained(&self.drained, restated)
     }
 }
 

@@ -1,6 +1,6 @@
 //! What lies under a port's lock: the port, and its share of the tickets.
 ghost use Rattle.std.specs.Prelude.{◌≡◌, ◌<◌, ◌≤◌, ◌+◌, ℕ, None, Some, IfOk, OnErr, [], length};
-ghost use Rattle.std.specs.Vec.{vec_len, vec_capacity};
+ghost use Rattle.iol_book.specs.JournalModel.{LacksPlaces};
 ghost use Rattle.std.specs.Option.{option_copied};
 ghost use Rattle.iol_book.specs.BookModel.{IsReplayed};
 ghost use Rattle.iol_port.specs.View.{IsRun, OpensWell, KeepsRecordOver, over};
@@ -22,7 +22,7 @@ use crate::fault::MasterFault;
 use crate::ports::{DeskUrgency, MasterPort};
 use crate::tickets::{Tickets, abandon_each, outstanding_of};
 use iol_app::Status;
-use iol_book::{BookFault, Entry, Outcome, Ticket};
+use iol_book::{BookFault, Journal, Outcome, Ticket};
 use iol_cell::Handle;
 use iol_event::Event;
 use iol_image::Image;
@@ -291,7 +291,7 @@ impl<W: Wire, K: Ledger, A: Handle> Held<W, K, A> {
     }
 
     /// As [`PortCore::archive`](iol_port::PortCore::archive).
-    pub fn archive(&mut self) -> Result<Vec<Entry, A>, PortFault>
+    pub fn archive(&mut self) -> Result<Journal<A>, PortFault>
         ensures is { Archives (MakesCall self.old self.new) self.old.parts self.new.parts
             (λ entries. entries.items) result }
         ensures within { IfOk result (λ entries. length entries.items ≤ 1000000) }
@@ -300,7 +300,7 @@ impl<W: Wire, K: Ledger, A: Handle> Held<W, K, A> {
     }
 
     /// As [`PortCore::drain`](iol_port::PortCore::drain).
-    pub fn drain(&mut self) -> Result<Vec<Entry, A>, PortFault>
+    pub fn drain(&mut self) -> Result<Journal<A>, PortFault>
         ensures is { Drains (MakesCall self.old self.new) self.old.parts self.new.parts
             (λ entries. entries.items) result }
         ensures within { IfOk result (λ entries. length entries.items ≤ 1000000) }
@@ -309,11 +309,10 @@ impl<W: Wire, K: Ledger, A: Handle> Held<W, K, A> {
     }
 
     /// As [`PortCore::drain_into`](iol_port::PortCore::drain_into).
-    pub fn drain_into(&mut self, list: &mut Vec<Entry, A>) -> Result<usize, PortFault>
+    pub fn drain_into(&mut self, list: &mut Journal<A>) -> Result<usize, PortFault>
         ensures is { DrainsInto (MakesCall self.old self.new) self.old.parts self.new.parts
             list.old.items list.new.items result }
-        ensures full { OnErr result (vec_capacity list.old
-            < vec_len list.old + length self.old.parts.book.state.journal) }
+        ensures full { OnErr result (LacksPlaces list.old self.old.parts.book.state.journal) }
     {
         self.port.drain_into(list)
     }

@@ -2,7 +2,7 @@
 #![tactic(auto, using(crate::proofs::HonestRuns::called))]
 
 ghost use Rattle.std.specs.Prelude.{◌≡◌, ◌<◌, ◌≤◌, ◌+◌, None, Some, IfOk, IfErr, OnErr, IsTrue, length, is_some};
-ghost use Rattle.std.specs.Vec.{vec_len, vec_capacity};
+ghost use Rattle.iol_book.specs.JournalModel.{LacksPlaces};
 ghost use Rattle.std.specs.Result.{result_map_both};
 ghost use Rattle.iol_far.specs.Octets.{octets_in};
 ghost use Rattle.iol_far.specs.Far.{Far};
@@ -26,7 +26,7 @@ use crate::place::GhostPlace;
 use crate::port_core::PortCore;
 use crate::{Counting, PortFault};
 use iol_app::Asked;
-use iol_book::{Entry, Limits, Outcome, Ticket};
+use iol_book::{Journal, Limits, Outcome, Ticket};
 use iol_event::Event;
 use iol_image::Image;
 use iol_isdu::Request;
@@ -271,7 +271,7 @@ impl<A: Allocator + Copy> HonestPort<A> {
     }
 
     /// As [`PortCore::archive`].
-    pub fn archive(&mut self) -> Result<Vec<Entry, A>, PortFault>
+    pub fn archive(&mut self) -> Result<Journal<A>, PortFault>
         ensures is { Archives (Calls self.old self.new) self.old.parts self.new.parts
             (λ entries. entries.items) result }
         ensures within { IfOk result (λ entries. length entries.items ≤ 1000000) }
@@ -280,7 +280,7 @@ impl<A: Allocator + Copy> HonestPort<A> {
     }
 
     /// As [`PortCore::drain`].
-    pub fn drain(&mut self) -> Result<Vec<Entry, A>, PortFault>
+    pub fn drain(&mut self) -> Result<Journal<A>, PortFault>
         ensures is { Drains (Calls self.old self.new) self.old.parts self.new.parts
             (λ entries. entries.items) result }
         ensures within { IfOk result (λ entries. length entries.items ≤ 1000000) }
@@ -289,11 +289,10 @@ impl<A: Allocator + Copy> HonestPort<A> {
     }
 
     /// As [`PortCore::drain_into`].
-    pub fn drain_into(&mut self, list: &mut Vec<Entry, A>) -> Result<usize, PortFault>
+    pub fn drain_into(&mut self, list: &mut Journal<A>) -> Result<usize, PortFault>
         ensures is { DrainsInto (Calls self.old self.new) self.old.parts self.new.parts
             list.old.items list.new.items result }
-        ensures full { OnErr result (vec_capacity list.old
-            < vec_len list.old + length self.old.parts.book.state.journal) }
+        ensures full { OnErr result (LacksPlaces list.old self.old.parts.book.state.journal) }
     {
         self.core.drain_into(list)
     }

@@ -2,7 +2,8 @@
 #![tactic(auto, using(crate::proofs::WireLemmas::call_kept, crate::proofs::WireLemmas::stays, crate::proofs::WireLemmas::stays_by, crate::proofs::WireLemmas::stays_down,))]
 
 ghost use Rattle.std.specs.Prelude.{◌≡◌, ◌<◌, ◌≤◌, ◌+◌, None, Some, IfOk, IfErr, OnErr, [], length};
-ghost use Rattle.std.specs.Vec.{vec_len, vec_capacity};
+ghost use Rattle.std.specs.Vec.{vec_capacity};
+ghost use Rattle.iol_book.specs.JournalModel.{LacksPlaces};
 ghost use Rattle.std.specs.Option.{option_copied};
 ghost use Rattle.std.specs.Result.{result_map_both};
 ghost use Rattle.iol_book.specs.declared.fault.BookFault.TheVariants.{OutOfMemory};
@@ -30,7 +31,7 @@ use crate::laws::clean_laws;
 use crate::port_core::PortCore;
 use crate::{Answered, Call, Counters, Counting, Drained, PortFault};
 use iol_app::{Asked, Status};
-use iol_book::{BookFault, Entry, Limits, Outcome, Serve, Ticket};
+use iol_book::{BookFault, Journal, Limits, Outcome, Serve, Ticket};
 use iol_cell::{Handle, ImageWriter};
 use iol_event::Event;
 use iol_image::Image;
@@ -298,7 +299,7 @@ impl<W: Wire, A: Handle> Port<W, A> {
     }
 
     /// As [`PortCore::archive`].
-    pub fn archive(&mut self) -> Result<Vec<Entry, A>, PortFault>
+    pub fn archive(&mut self) -> Result<Journal<A>, PortFault>
         ensures is { Archives (MakesCall self.old self.new) self.old.parts self.new.parts
             (λ entries. entries.items) result }
         ensures within { IfOk result (λ entries. length entries.items ≤ 1000000) }
@@ -307,7 +308,7 @@ impl<W: Wire, A: Handle> Port<W, A> {
     }
 
     /// As [`PortCore::drain`].
-    pub fn drain(&mut self) -> Result<Vec<Entry, A>, PortFault>
+    pub fn drain(&mut self) -> Result<Journal<A>, PortFault>
         ensures is { Drains (MakesCall self.old self.new) self.old.parts self.new.parts
             (λ entries. entries.items) result }
         ensures within { IfOk result (λ entries. length entries.items ≤ 1000000) }
@@ -316,11 +317,10 @@ impl<W: Wire, A: Handle> Port<W, A> {
     }
 
     /// As [`PortCore::drain_into`].
-    pub fn drain_into(&mut self, list: &mut Vec<Entry, A>) -> Result<usize, PortFault>
+    pub fn drain_into(&mut self, list: &mut Journal<A>) -> Result<usize, PortFault>
         ensures is { DrainsInto (MakesCall self.old self.new) self.old.parts self.new.parts
             list.old.items list.new.items result }
-        ensures full { OnErr result (vec_capacity list.old
-            < vec_len list.old + length self.old.parts.book.state.journal) }
+        ensures full { OnErr result (LacksPlaces list.old self.old.parts.book.state.journal) }
     {
         self.core.drain_into(list)
     }

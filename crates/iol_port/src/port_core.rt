@@ -1,6 +1,6 @@
 //! A port without the wire: it gives the octets to send, and takes what came.
 ghost use Rattle.std.specs.Prelude.{◌≡◌, ◌<◌, ◌≤◌, ◌+◌, None, true, false, IfOk, IfErr, IfSome, OnErr, IsTrue, length, is_some};
-ghost use Rattle.std.specs.Vec.{vec_len, vec_capacity};
+ghost use Rattle.iol_book.specs.JournalModel.{LacksPlaces};
 ghost use Rattle.std.specs.Option.{option_copied};
 ghost use Rattle.std.specs.Result.{result_map_both};
 ghost use Rattle.iol_isdu.specs.Texts.{IsRequest};
@@ -35,7 +35,7 @@ use crate::loss::loss_after;
 use crate::settle::{KEPT, ROOM, begin_next, by_book, by_output, lacks_isdu, resets, settle};
 use arrayvec::ArrayVec;
 use iol_app::{Asked, Core, EventRoom, Mode, Said, Status, WireResult};
-use iol_book::{Book, Entry, Limits, Outcome, Serve, Ticket};
+use iol_book::{Book, Journal, Limits, Outcome, Serve, Ticket};
 use iol_event::Event;
 use iol_image::Image;
 use iol_isdu::{Cause, Request};
@@ -415,7 +415,7 @@ impl<A: Allocator + Copy> PortCore<A> {
     /// a request was cut off by a lost link or a restart and the device wasn't reset
     /// since, as it may still carry that request out. A wake that succeeds resets it; at
     /// a port for any device it is reset once it has left its mode.
-    pub fn archive(&mut self) -> Result<Vec<Entry, A>, PortFault>
+    pub fn archive(&mut self) -> Result<Journal<A>, PortFault>
         ensures is { Archives (CoreCalled self.old self.new) self.old self.new
             (λ entries. entries.items) result }
         ensures within { IfOk result (λ entries. length entries.items ≤ 1000000) }
@@ -434,7 +434,7 @@ impl<A: Allocator + Copy> PortCore<A> {
     ///
     /// The list that is answered takes memory. Refused, with nothing changed, by 24 where there is
     /// none for it.
-    pub fn drain(&mut self) -> Result<Vec<Entry, A>, PortFault>
+    pub fn drain(&mut self) -> Result<Journal<A>, PortFault>
         ensures is { Drains (CoreCalled self.old self.new) self.old self.new
             (λ entries. entries.items) result }
         ensures within { IfOk result (λ entries. length entries.items ≤ 1000000) }
@@ -447,11 +447,10 @@ impl<A: Allocator + Copy> PortCore<A> {
     ///
     /// The list takes memory if it has too little room for the journal, and nothing else does.
     /// Refused by 24 where there is none for it; port and list are then as they were.
-    pub fn drain_into(&mut self, list: &mut Vec<Entry, A>) -> Result<usize, PortFault>
+    pub fn drain_into(&mut self, list: &mut Journal<A>) -> Result<usize, PortFault>
         ensures is { DrainsInto (CoreCalled self.old self.new) self.old self.new
             list.old.items list.new.items result }
-        ensures full { OnErr result (vec_capacity list.old
-            < vec_len list.old + length self.old.book.state.journal) }
+        ensures full { OnErr result (LacksPlaces list.old self.old.book.state.journal) }
     {
         by_book(self.book.drain_into(list))
     }
@@ -478,7 +477,7 @@ impl<A: Allocator + Copy> PortCore<A> {
         } else {
             self.book.next()
         };
-        self.core.asks(self.event_room(), next)
+        self.core.asks(self.event_room(), next.as_ref())
     }
 
     /// Whether a turn may begin to read events.

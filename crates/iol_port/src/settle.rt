@@ -84,7 +84,7 @@ pub(crate) fn begin_next<A: Allocator + Copy>(core: &mut Core, book: &mut Book<A
     ensures memory { book.new.memory ≡ book.old.memory }
 {
     // Most turns find no request that waits.
-    if book.next().is_none() || !core.ready(room) {
+    if !book.has_next() || !core.ready(room) {
         return;
     }
     if lacks_isdu(core.isdu()) {

@@ -92,7 +92,7 @@ fn a_port_opens_or_hands_its_wire_back(rt: HostRuntime) {
 }
 
 /// How many requests for memory the first submit makes.
-const AT_SUBMIT: u64 = 2;
+const AT_SUBMIT: u64 = 3;
 
 const OUT_OF_MEMORY: PortFault = PortFault::Book(BookFault::OutOfMemory);
 

@@ -1,6 +1,7 @@
 //! Tests of a book: memory refused in turn. What it answers to a thousand lists of calls is in
 //! `tests/books`.
-use iol_book::{Book, BookFault, Entry, Limits, Ticket};
+use crate::journals::is_journal;
+use iol_book::{Book, BookFault, Entry, Journal, Limits, Ticket};
 use iol_cell::Handle;
 use iol_isdu::{Place, Request};
 use refusing_alloc::{Refusal, RefusingAlloc};
@@ -32,12 +33,12 @@ impl Kind {
 }
 
 /// Whether a journal has these submits of one kind and nothing else, from the first ticket on.
-fn are_submits(journal: &[Entry], kind: Kind, count: u64) -> bool {
+fn are_submits<A: Handle>(journal: &Journal<A>, kind: Kind, count: u64) -> bool {
     let mut number = 0u64;
     let mut is_right = true;
-    for entry in journal {
+    for entry in journal.iter() {
         number = number.saturating_add(1);
-        is_right &= *entry == kind.entry(Ticket(number));
+        is_right &= entry == kind.entry(Ticket(number));
     }
     is_right && number == count
 }
@@ -113,10 +114,13 @@ fn each_request_for_memory_is_refused(rt: HostRuntime) {
 fn is_drained<A: Handle>(book: &mut Book<A>, journal: &[Entry]) -> bool {
     let is_new = book.restated() == 0;
     let is_handed_out = match book.drain() {
-        Ok(drained) => drained.as_slice() == journal,
+        Ok(drained) => is_journal(&drained, journal),
         Err(_) => false,
     };
-    is_new && is_handed_out && book.restated() == journal.len() && book.journal() == journal
+    is_new
+        && is_handed_out
+        && book.restated() == journal.len()
+        && is_journal(book.journal(), journal)
 }
 
 /// A drain for which there is no memory is refused, and hands the journal out once there is.

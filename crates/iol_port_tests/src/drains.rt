@@ -1,7 +1,8 @@
 //! Drains of a port: what they hand out and leave, and memory that is refused.
 
+use crate::journals::is_journal;
 use crate::ports::read;
-use iol_book::{BookFault, Entry, Limits, Outcome, Ticket};
+use iol_book::{BookFault, Entry, Journal, Limits, Outcome, Ticket};
 use iol_cell::Handle;
 use iol_link::Rate;
 use iol_mseq::Message;
@@ -28,23 +29,23 @@ const OUT_OF_MEMORY: PortFault = PortFault::Book(BookFault::OutOfMemory);
 /// Whether a drain puts just these entries into the list, so many of them restated.
 fn is_drained<A: Handle>(
     port: &mut PortCore<A>,
-    list: &mut Vec<Entry, A>,
+    list: &mut Journal<A>,
     wanted: &[Entry],
     restated: usize,
 ) -> bool {
     list.clear();
     let is_counted = port.restated() == restated && port.drain_into(list) == Ok(restated);
-    is_counted && list.as_slice() == wanted
+    is_counted && is_journal(list, wanted)
 }
 
 /// Whether a drain is refused, and neither list nor port has changed.
-fn is_refused<A: Handle>(port: &mut PortCore<A>, list: &mut Vec<Entry, A>) -> bool {
+fn is_refused<A: Handle>(port: &mut PortCore<A>, list: &mut Journal<A>) -> bool {
     port.drain_into(list) == Err(OUT_OF_MEMORY) && list.is_empty() && port.restated() == 0
 }
 
 /// A request that is withdrawn while another one waits: its entries leave with the next drain, and
 /// those of the other stay.
-fn leaves_what_waits<A: Handle>(port: &mut PortCore<A>, list: &mut Vec<Entry, A>) -> bool {
+fn leaves_what_waits<A: Handle>(port: &mut PortCore<A>, list: &mut Journal<A>) -> bool {
     let waits = Entry::Submitted(Ticket(1), read());
     let withdrawn = [
         Entry::Submitted(Ticket(1), read()),
@@ -64,7 +65,7 @@ fn drains<A: Handle>(alloc: A, refusing: &RefusingAlloc) -> bool {
     let Ok(mut port) = PortCore::open(alloc, &Limits::default()) else {
         return false;
     };
-    let mut list = Vec::new(alloc);
+    let mut list = Journal::new(alloc);
     let is_submitted = port.submit(read()) == Ok(Ticket(1));
     refusing.order(Refusal::From(0));
     let is_refused = is_refused(&mut port, &mut list) && refusing.has_refused();

@@ -36,6 +36,8 @@ mod drains;
 #[cfg(test)]
 mod honest;
 #[cfg(test)]
+mod journals;
+#[cfg(test)]
 mod links;
 #[cfg(test)]
 mod parameters;

@@ -54,7 +54,7 @@ fn answer_call(
     } else if is(name, b"deny") {
         print_denied(output, book.deny())
     } else if is(name, b"next") {
-        print_next(output, book.next())
+        print_next(output, book.next().as_ref())
     } else if is(name, b"archive") {
         print_archived(output, book.archive().map_err(PortFault::Book))
     } else if is(name, b"drain") {
@@ -147,7 +147,7 @@ fn print_drained(output: &mut String, book: &mut Book) -> Result<(), AllocError>
     match book.drain() {
         Ok(entries) => {
             write!(output, "drained {head} of")?;
-            print_entries(output, entries.as_slice())
+            print_entries(output, &entries)
         }
         Err(fault) => print_refused(output, fault.code(), &fault),
     }

@@ -2,7 +2,7 @@
 
 use crate::printing::{print_answer, print_ok, print_refused, print_request};
 use crate::reading::Line;
-use iol_book::{BusyLimit, Entry, JournalLimit, Limits, Outcome, QueueLimit, Ticket};
+use iol_book::{BusyLimit, Entry, Journal, JournalLimit, Limits, Outcome, QueueLimit, Ticket};
 use iol_port::PortFault;
 use std::alloc::AllocError;
 
@@ -101,24 +101,24 @@ fn print_outcome(output: &mut String, outcome: &Outcome) -> Result<(), AllocErro
 /// The entries that are handed out.
 pub(crate) fn print_archived(
     output: &mut String,
-    archived: Result<Vec<Entry>, PortFault>,
+    archived: Result<Journal, PortFault>,
 ) -> Result<(), AllocError> {
     match archived {
         Ok(entries) => {
             output.push_str("archived")?;
-            print_entries(output, entries.as_slice())
+            print_entries(output, &entries)
         }
         Err(fault) => print_refused(output, fault.code(), &fault),
     }
 }
 
 /// How many entries there are, and each of them behind a semicolon.
-pub(crate) fn print_entries(output: &mut String, entries: &[Entry]) -> Result<(), AllocError> {
-    let count = entries.len();
+pub(crate) fn print_entries(output: &mut String, journal: &Journal) -> Result<(), AllocError> {
+    let count = journal.len();
     write!(output, " {count}")?;
-    for entry in entries {
+    for entry in journal.iter() {
         output.push_str("; ")?;
-        print_entry(output, entry)?;
+        print_entry(output, &entry)?;
     }
     output.push_str("\n")
 }

@@ -4,7 +4,7 @@ use crate::life::image_of;
 use crate::temper::Temper;
 use crate::text::{BlockText, Hex, OutcomeText, RequestText};
 use anyhow::Result;
-use iol_book::{Entry, Ticket};
+use iol_book::{Entry, Journal, Ticket};
 use iol_image::Image;
 use iol_isdu::{Place, Request};
 use iol_storage::{
@@ -366,11 +366,11 @@ impl Program {
 
     /// Takes the journal, and tells what is new in it.
     pub fn drain(&mut self, rt: &HostRuntime, port: &mut StoredPort) -> Result<()> {
-        let mut entries: Vec<Entry> = Vec::new(self.alloc);
+        let mut entries = Journal::new(self.alloc);
         let restated = port.drain_into(&mut entries)?;
         for (at, entry) in entries.iter().enumerate() {
             if at >= restated {
-                tell_entry(rt, entry)?;
+                tell_entry(rt, &entry)?;
             }
         }
         Ok(())

@@ -5,7 +5,7 @@ ghost use Rattle.iolink_port_forms.specs.Shown.{IsEntry, IsNext, HasNoRequest, H
 ghost use Rattle.iolink_port_forms.specs.Journal.{entry_due, KeepsNone};
 
 use crate::outcome::{IolOutcome, show_outcome};
-use iol_book::{Entry, Ticket};
+use iol_book::{Entry, Journal, Ticket};
 use iolink_handle::{IolRequest, show_request};
 use std::alloc::Global;
 
@@ -39,7 +39,7 @@ pub struct IolEntry {
 /// The journal that was handed out last, of which C reads one entry after the other.
 #[derive(Drop)]
 pub struct KeptJournal {
-    pub entries: Vec<Entry, Global>,
+    pub entries: Journal,
     pub read: usize,
 }
 
@@ -49,14 +49,14 @@ impl KeptJournal {
         ensures { KeepsNone result }
     {
         KeptJournal {
-            entries: Vec::new(alloc),
+            entries: Journal::new(alloc),
             read: 0,
         }
     }
 
     /// Keeps a journal in place of the one that was kept before, and answers how many entries it
     /// has.
-    pub fn keep(&mut self, entries: Vec<Entry>) -> u32
+    pub fn keep(&mut self, entries: Journal) -> u32
         requires { length entries.items ≤ most_entries }
         ensures count { result ≡ length entries.items }
         ensures kept { self.new.entries ≡ entries }
@@ -74,17 +74,13 @@ impl KeptJournal {
         ensures more { IsSome result → self.new ≡ record self.old { read = self.old.read + 1 } }
         ensures end { IsNone result → KeepsNone self.new }
     {
-        match self.entries.get(self.read) {
-            Some(entry) => {
-                let entry = entry.clone().unwrap();
-                self.read += 1;
-                Some(entry)
-            }
-            None => {
-                *self = KeptJournal::new(alloc);
-                None
-            }
+        if self.read >= self.entries.len() {
+            *self = KeptJournal::new(alloc);
+            return None;
         }
+        let entry = self.entries.get(self.read);
+        self.read += 1;
+        entry
     }
 }
 

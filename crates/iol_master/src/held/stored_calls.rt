@@ -1,6 +1,6 @@
 //! The calls of a port with Data Storage under a master's lock.
 ghost use Rattle.std.specs.Prelude.{◌≡◌, ◌<◌, ◌≤◌, ◌+◌, [], None, Some, Err, false, length, is_ok, IfOk, OnOk, OnErr, IsTrue};
-ghost use Rattle.std.specs.Vec.{vec_len, vec_capacity};
+ghost use Rattle.iol_book.specs.JournalModel.{LacksPlaces};
 ghost use Rattle.std.specs.Result.{result_err};
 ghost use Rattle.iol_port.specs.Called.{Collects, Withdraws, Cancels, Abandons, Restarts, ClearsOutput};
 ghost use Rattle.iol_port.specs.Called.{Expects, SetsCycle, TakesEvent, Archives, Drains, DrainsInto, CoreCalled};
@@ -12,7 +12,7 @@ ghost use Rattle.iol_master.specs.Wired.{IsWiredTurn};
 
 use crate::held::Held;
 use crate::wired::Wired;
-use iol_book::{Entry, Outcome, Ticket};
+use iol_book::{Journal, Outcome, Ticket};
 use iol_cell::Handle;
 use iol_event::Event;
 use iol_image::Image;
@@ -234,7 +234,7 @@ impl<W: Wire, K: Ledger, A: Handle> Held<W, K, A, Wired<W, StoredPort<A>>> {
     }
 
     /// As [`StoredPort::archive`].
-    pub fn archive(&mut self) -> Result<Vec<Entry, A>, PortFault>
+    pub fn archive(&mut self) -> Result<Journal<A>, PortFault>
         ensures is { Archives (StoredForwards self.old.port self.new.port) self.old.port.port
             self.new.port.port (λ entries. entries.items) result }
         ensures within { IfOk result (λ entries. length entries.items ≤ 1000000) }
@@ -244,7 +244,7 @@ impl<W: Wire, K: Ledger, A: Handle> Held<W, K, A, Wired<W, StoredPort<A>>> {
     }
 
     /// As [`StoredPort::drain`].
-    pub fn drain(&mut self) -> Result<Vec<Entry, A>, PortFault>
+    pub fn drain(&mut self) -> Result<Journal<A>, PortFault>
         ensures is { Drains (StoredForwards self.old.port self.new.port) self.old.port.port
             self.new.port.port (λ entries. entries.items) result }
         ensures within { IfOk result (λ entries. length entries.items ≤ 1000000) }
@@ -254,11 +254,10 @@ impl<W: Wire, K: Ledger, A: Handle> Held<W, K, A, Wired<W, StoredPort<A>>> {
     }
 
     /// As [`StoredPort::drain_into`].
-    pub fn drain_into(&mut self, list: &mut Vec<Entry, A>) -> Result<usize, PortFault>
+    pub fn drain_into(&mut self, list: &mut Journal<A>) -> Result<usize, PortFault>
         ensures is { DrainsInto (StoredForwards self.old.port self.new.port) self.old.port.port
             self.new.port.port list.old.items list.new.items result }
-        ensures full { OnErr result (vec_capacity list.old
-            < vec_len list.old + length self.old.port.port.book.state.journal) }
+        ensures full { OnErr result (LacksPlaces list.old self.old.port.port.book.state.journal) }
         ensures wire { self.new.wire ≡ self.old.wire }
     {
         self.port.port.drain_into(list)

@@ -1,6 +1,6 @@
 //! The calls of a line's port without Data Storage.
 ghost use Rattle.std.specs.Prelude.{◌≡◌, ◌<◌, ◌≤◌, ◌+◌, None, Some, IfOk, IfErr, OnErr, length};
-ghost use Rattle.std.specs.Vec.{vec_len, vec_capacity};
+ghost use Rattle.iol_book.specs.JournalModel.{LacksPlaces};
 ghost use Rattle.std.specs.Result.{result_map_both};
 ghost use Rattle.iol_book.specs.declared.fault.BookFault.TheVariants.{OutOfMemory};
 ghost use Rattle.iol_port.specs.declared.fault.PortFault.TheVariants as fault;
@@ -10,7 +10,7 @@ ghost use Rattle.iol_master.specs.Line.{LineCalled};
 
 use crate::line::{LineCore, LinePort};
 use iol_app::Asked;
-use iol_book::{Entry, Outcome, Ticket};
+use iol_book::{Journal, Outcome, Ticket};
 use iol_event::Event;
 use iol_image::Image;
 use iol_isdu::Request;
@@ -157,7 +157,7 @@ impl<K: Ledger, A: Allocator + Copy> LinePort<K, PortCore<A>> {
     }
 
     /// As [`PortCore::archive`].
-    pub fn archive(&mut self) -> Result<Vec<Entry, A>, PortFault>
+    pub fn archive(&mut self) -> Result<Journal<A>, PortFault>
         ensures is { Archives (LineCalled self.old self.new) self.old.port self.new.port
             (λ entries. entries.items) result }
         ensures within { IfOk result (λ entries. length entries.items ≤ 1000000) }
@@ -166,7 +166,7 @@ impl<K: Ledger, A: Allocator + Copy> LinePort<K, PortCore<A>> {
     }
 
     /// As [`PortCore::drain`].
-    pub fn drain(&mut self) -> Result<Vec<Entry, A>, PortFault>
+    pub fn drain(&mut self) -> Result<Journal<A>, PortFault>
         ensures is { Drains (LineCalled self.old self.new) self.old.port self.new.port
             (λ entries. entries.items) result }
         ensures within { IfOk result (λ entries. length entries.items ≤ 1000000) }
@@ -175,11 +175,10 @@ impl<K: Ledger, A: Allocator + Copy> LinePort<K, PortCore<A>> {
     }
 
     /// As [`PortCore::drain_into`].
-    pub fn drain_into(&mut self, list: &mut Vec<Entry, A>) -> Result<usize, PortFault>
+    pub fn drain_into(&mut self, list: &mut Journal<A>) -> Result<usize, PortFault>
         ensures is { DrainsInto (LineCalled self.old self.new) self.old.port self.new.port
             list.old.items list.new.items result }
-        ensures full { OnErr result (vec_capacity list.old
-            < vec_len list.old + length self.old.port.book.state.journal) }
+        ensures full { OnErr result (LacksPlaces list.old self.old.port.book.state.journal) }
     {
         self.port.drain_into(list)
     }

@@ -1,6 +1,6 @@
 //! The calls of a line's port with Data Storage.
 ghost use Rattle.std.specs.Prelude.{◌≡◌, ◌<◌, ◌≤◌, ◌+◌, [], None, Some, Err, false, length, is_ok, IfNone, IfSome, IfOk, IfErr, OnOk, OnErr, IsTrue};
-ghost use Rattle.std.specs.Vec.{vec_len, vec_capacity};
+ghost use Rattle.iol_book.specs.JournalModel.{LacksPlaces};
 ghost use Rattle.std.specs.Result.{result_err, result_map_both};
 ghost use Rattle.iol_port.specs.Called.{Submits, SubmitsUrgent, Collects, Withdraws, Cancels, Abandons, ClearsOutput};
 ghost use Rattle.iol_port.specs.Called.{Expects, SetsCycle, TakesEvent, Archives, Drains, DrainsInto, CoreCalled};
@@ -11,7 +11,7 @@ ghost use Rattle.iol_storage.specs.StoredPort.{tickets_behind_submit, tickets_wi
 
 use crate::line::{LineCore, LinePort};
 use iol_app::Asked;
-use iol_book::{Entry, Outcome, Ticket};
+use iol_book::{Journal, Outcome, Ticket};
 use iol_event::Event;
 use iol_image::Image;
 use iol_isdu::Request;
@@ -287,7 +287,7 @@ impl<K: Ledger, A: Allocator + Copy> LinePort<K, StoredPort<A>> {
     }
 
     /// As [`StoredPort::archive`].
-    pub fn archive(&mut self) -> Result<Vec<Entry, A>, PortFault>
+    pub fn archive(&mut self) -> Result<Journal<A>, PortFault>
         ensures is { Archives (StoredForwards self.old.port self.new.port) self.old.port.port
             self.new.port.port (λ entries. entries.items) result }
         ensures within { IfOk result (λ entries. length entries.items ≤ 1000000) }
@@ -297,7 +297,7 @@ impl<K: Ledger, A: Allocator + Copy> LinePort<K, StoredPort<A>> {
     }
 
     /// As [`StoredPort::drain`].
-    pub fn drain(&mut self) -> Result<Vec<Entry, A>, PortFault>
+    pub fn drain(&mut self) -> Result<Journal<A>, PortFault>
         ensures is { Drains (StoredForwards self.old.port self.new.port) self.old.port.port
             self.new.port.port (λ entries. entries.items) result }
         ensures within { IfOk result (λ entries. length entries.items ≤ 1000000) }
@@ -307,11 +307,10 @@ impl<K: Ledger, A: Allocator + Copy> LinePort<K, StoredPort<A>> {
     }
 
     /// As [`StoredPort::drain_into`].
-    pub fn drain_into(&mut self, list: &mut Vec<Entry, A>) -> Result<usize, PortFault>
+    pub fn drain_into(&mut self, list: &mut Journal<A>) -> Result<usize, PortFault>
         ensures is { DrainsInto (StoredForwards self.old.port self.new.port) self.old.port.port
             self.new.port.port list.old.items list.new.items result }
-        ensures full { OnErr result (vec_capacity list.old
-            < vec_len list.old + length self.old.port.port.book.state.journal) }
+        ensures full { OnErr result (LacksPlaces list.old self.old.port.port.book.state.journal) }
         ensures only_port { self.new ≡ record self.old { port = self.new.port } }
     {
         self.port.drain_into(list)

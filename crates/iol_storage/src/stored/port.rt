@@ -1,6 +1,6 @@
 //! A port with Data Storage and blocks.
 ghost use Rattle.std.specs.Prelude.{◌≡◌, ◌<◌, ◌≤◌, ◌+◌, ◌&&◌, not, false, [], length, Some, None, is_some, is_ok, IfSome, IfNone, Ok, Err, IfOk, IfErr, OnOk, OnErr, IsTrue};
-ghost use Rattle.std.specs.Vec.{vec_len, vec_capacity};
+ghost use Rattle.iol_book.specs.JournalModel.{LacksPlaces};
 ghost use Rattle.std.specs.Option.{option_copied, option_map};
 ghost use Rattle.std.specs.Result.{result_err, result_map_both};
 ghost use Rattle.iol_far.specs.Octets.{octets_in};
@@ -21,7 +21,7 @@ use crate::stored::fault::StoredFault;
 use crate::stored::standing::StorageStanding;
 use crate::stored::storage::{BlockTicket, SetNumber, Storage, is_no_set};
 use iol_app::{Asked, Mode};
-use iol_book::{BookFault, Entry, Limits, Outcome, Ticket};
+use iol_book::{BookFault, Journal, Limits, Outcome, Ticket};
 use iol_event::Event;
 use iol_image::Image;
 use iol_isdu::Request;
@@ -627,7 +627,7 @@ impl<A: Allocator + Copy> StoredPort<A> {
     /// entries, too.
     ///
     /// Rule JOB-5.
-    pub fn archive(&mut self) -> Result<Vec<Entry, A>, PortFault>
+    pub fn archive(&mut self) -> Result<Journal<A>, PortFault>
         ensures is { Archives (StoredForwards self.old self.new) self.old.port self.new.port
             (λ entries. entries.items) result }
         ensures within { IfOk result (λ entries. length entries.items ≤ 1000000) }
@@ -636,7 +636,7 @@ impl<A: Allocator + Copy> StoredPort<A> {
     }
 
     /// As [`PortCore::drain`](iol_port::PortCore::drain).
-    pub fn drain(&mut self) -> Result<Vec<Entry, A>, PortFault>
+    pub fn drain(&mut self) -> Result<Journal<A>, PortFault>
         ensures is { Drains (StoredForwards self.old self.new) self.old.port self.new.port
             (λ entries. entries.items) result }
         ensures within { IfOk result (λ entries. length entries.items ≤ 1000000) }
@@ -645,11 +645,10 @@ impl<A: Allocator + Copy> StoredPort<A> {
     }
 
     /// As [`PortCore::drain_into`](iol_port::PortCore::drain_into).
-    pub fn drain_into(&mut self, list: &mut Vec<Entry, A>) -> Result<usize, PortFault>
+    pub fn drain_into(&mut self, list: &mut Journal<A>) -> Result<usize, PortFault>
         ensures is { DrainsInto (StoredForwards self.old self.new) self.old.port self.new.port
             list.old.items list.new.items result }
-        ensures full { OnErr result (vec_capacity list.old
-            < vec_len list.old + length self.old.port.book.state.journal) }
+        ensures full { OnErr result (LacksPlaces list.old self.old.port.book.state.journal) }
     {
         self.port.drain_into(list)
     }
