@@ -4,12 +4,13 @@ ghost use Rattle.iol_port.specs.declared.call.Call.TheVariants as call;
 ghost use Rattle.iol_port.specs.CorePort.{CoreDoes};
 ghost use Rattle.iol_port.specs.Replies.{outcome_reply};
 
-use iol_book::{BookFault, Outcome, Ticket};
+use iol_book::{BookFault, Entry, Journal, Outcome, Ticket};
 use iol_cell::Handle;
-use iol_isdu::{Answer, Octets, Place, Request};
+use iol_isdu::{Answer, Cause, Octets, Place, Request};
 use iol_link::Wire;
 use iol_master::{Gate, Held, Master, MasterFault};
 use iol_port::PortFault;
+use std::alloc::Allocator;
 use std::process::Abort;
 use std::sync::ledger::Ledger;
 use std::sync::{MutexGuard, Wait};
@@ -29,6 +30,82 @@ pub fn read() -> Request {
 /// The outcome of a read that was answered with these octets.
 pub fn answer(octets: &[u8]) -> Result<Outcome, Fail> {
     Ok(Outcome::Done(Answer::Read(Octets::try_from(octets)?)))
+}
+
+/// What is told of a ticket.
+#[derive(Clone, Copy)]
+pub enum Told {
+    /// Its request was a read, and was answered with these octets.
+    Reads(&'static [u8]),
+    /// The device refused it.
+    Refused(u8, u8),
+    Withdrawn,
+    /// It was cut off.
+    CutOff(Cause),
+    NotYet,
+    /// No client may see the ticket, or may see it any more.
+    Unknown,
+}
+
+/// Whether this is what is told of a ticket.
+pub fn is_told(came: &Result<Outcome, PortFault>, told: Told) -> bool {
+    match (came, told) {
+        (Err(PortFault::Book(BookFault::NotYet)), Told::NotYet) => true,
+        (Err(PortFault::Book(BookFault::UnknownTicket)), Told::Unknown) => true,
+        (Ok(outcome), _) => is_outcome(outcome, told),
+        _ => false,
+    }
+}
+
+fn is_outcome(outcome: &Outcome, told: Told) -> bool {
+    match (outcome, told) {
+        (Outcome::Done(Answer::Read(octets)), Told::Reads(wanted)) => octets.as_slice() == wanted,
+        (Outcome::Done(Answer::Refused(error, code)), Told::Refused(first, second)) => {
+            *error == first && *code == second
+        }
+        (Outcome::Withdrawn, Told::Withdrawn) => true,
+        (Outcome::Unknown(cause), Told::CutOff(wanted)) => *cause == wanted,
+        _ => false,
+    }
+}
+
+/// An entry of a journal. The ticket is named by its number.
+#[derive(Clone, Copy)]
+pub enum Noted {
+    /// A read of this place.
+    Submitted(u64, Place),
+    Urgent(u64, Place),
+    Taken(u64),
+    Answered(u64, Told),
+    Collected(u64),
+}
+
+/// Whether a journal has these entries, and nothing else.
+pub fn are_noted<A: Allocator + Copy>(journal: &Journal<A>, wanted: &[Noted]) -> bool {
+    let mut is_same = journal.len() == wanted.len();
+    for (place, noted) in wanted.iter().enumerate() {
+        is_same &= journal
+            .get(place)
+            .is_some_and(|entry| is_noted(&entry, *noted));
+    }
+    is_same
+}
+
+fn is_noted(entry: &Entry, noted: Noted) -> bool {
+    match (entry, noted) {
+        (Entry::Submitted(ticket, request), Noted::Submitted(number, place)) => {
+            *ticket == Ticket(number) && *request == Request::read(place)
+        }
+        (Entry::Urgent(ticket, request), Noted::Urgent(number, place)) => {
+            *ticket == Ticket(number) && *request == Request::read(place)
+        }
+        (Entry::Taken(ticket), Noted::Taken(number)) => *ticket == Ticket(number),
+        (Entry::Answered(ticket, outcome), Noted::Answered(number, told)) => {
+            *ticket == Ticket(number) && is_outcome(outcome, told)
+        }
+        (Entry::Collected(ticket), Noted::Collected(number)) => *ticket == Ticket(number),
+        _ => false,
+    }
 }
 
 /// How a master hands on what a book refused.
@@ -59,24 +136,6 @@ fn through<W: Wire, K: Ledger, A: Handle>(
         (call.Collect ticket) (outcome_reply result) (mutex_guard_value guard.new).parts }
 {
     guard.collect(ticket)
-}
-
-/// Whether this is what it answers to cut off the request of a ticket.
-pub fn cancels_as<W: Wire, L: Ledger, K: Ledger, R: Wait>(
-    rt: &R,
-    master: &Master<W, L, K>,
-    number: u32,
-    ticket: Ticket,
-    wanted: Result<(), PortFault>,
-) -> bool {
-    match master.lock(rt, number) {
-        Ok(mut held) => cancel(&mut *held, ticket) == wanted,
-        Err(_) => false,
-    }
-}
-
-fn cancel<W: Wire, K: Ledger>(held: &mut Held<W, K>, ticket: Ticket) -> Result<(), PortFault> {
-    held.cancel(ticket)
 }
 
 /// Makes so many turns of a port, under one lock. Answers whether there is that port.

@@ -4,8 +4,10 @@ ghost use Rattle.std.specs.Prelude.{IfOk};
 ghost use Rattle.iol_master.specs.Tickets.{HasGiven};
 ghost use Rattle.iol_master.specs.Ledgers.{IsBlankFor};
 
-use crate::calls::{cancels_as, check, gives, of_book, read, serves, turns};
+use crate::calls::{check, gives, of_book, read, serves, turns};
 use crate::opening::{alone, open_one};
+use crate::scripts::{Call, VALUE_PLACE};
+use crate::visits::{Step, Who, passes_all};
 use iol_book::{BookFault, JournalLimit, Limits, Ticket};
 use iol_cell::Handle;
 use iol_link::{Rate, Wire};
@@ -91,46 +93,32 @@ fn take_most<W: Wire, L: Ledger, K: Ledger, R: Wait>(
 }
 
 /// Where all desks are open a further one is refused, and opened once another is settled.
-fn has_no_more<W: Wire, L: Ledger, K: Ledger, R: Wait>(
-    rt: &R,
-    master: &Master<W, L, K>,
-) -> Result<bool, MasterFault> {
-    take_most(rt, master)?;
-    let last = master.desk(rt, 1)?;
-    let is_full = master.desk(rt, 1).err() == Some(MasterFault::DesksFull);
-    let is_settled = master.settle(rt, last) == Settled::Part(0);
-    Ok(is_full && is_settled && is_opened(rt, master))
-}
+const NO_MORE: [Step; 5] = [
+    Step::Open(Who::One, 1),
+    Step::NoDesk(1, MasterFault::DesksFull),
+    Step::Settle(Who::One, Settled::Part(0)),
+    Step::Open(Who::One, 1),
+    Step::Counts(Who::One, 1, 0),
+];
 
-/// Whether a desk is opened, without submits.
-fn is_opened<W: Wire, L: Ledger, K: Ledger, R: Wait>(rt: &R, master: &Master<W, L, K>) -> bool {
-    match master.desk(rt, 1) {
-        Ok(desk) => desk.port() == 1 && desk.accepted() == 0,
-        Err(_) => false,
-    }
-}
-
-/// Whether a port refuses to cut off a request that waits, and one that it doesn't know.
-fn cancels_none<W: Wire, L: Ledger, K: Ledger, R: Wait>(rt: &R, master: &Master<W, L, K>) -> bool {
-    let waits = Err(PortFault::Book(BookFault::NotInFlight));
-    let unknown = Err(PortFault::Book(BookFault::UnknownTicket));
-    cancels_as(rt, master, 1, Ticket(9), waits) && cancels_as(rt, master, 1, Ticket(7), unknown)
-}
-
-/// Two desks at one port, of which one submits an urgent request.
-fn counts_both<W: Wire, L: Ledger, K: Ledger, R: Wait>(
-    rt: &R,
-    master: &Master<W, L, K>,
-) -> Result<bool, MasterFault> {
-    let mut one = master.desk(rt, 1)?;
-    let mut two = master.desk(rt, 1)?;
-    let is_given = takes(rt, master, &mut one, Kind::Ordinary, 8);
-    let is_second = takes(rt, master, &mut two, Kind::Urgent, 9);
-    let is_kept = cancels_none(rt, master);
-    let told = (master.settle(rt, one), master.settle(rt, two));
-    let is_told = told == (Settled::Part(1), Settled::Last(1, 2));
-    Ok(is_given && is_second && is_kept && is_told)
-}
+/// Two desks at one port, of which one submits an urgent request. The port refuses to cut off a
+/// request that waits, and one that it doesn't know.
+const BOTH: [Step; 8] = [
+    Step::Open(Who::One, 1),
+    Step::Open(Who::Other, 1),
+    Step::Submit(Who::One, VALUE_PLACE, 8),
+    Step::Urgent(Who::Other, VALUE_PLACE, 9),
+    Step::Call(
+        1,
+        Call::CancelFails(9, PortFault::Book(BookFault::NotInFlight)),
+    ),
+    Step::Call(
+        1,
+        Call::CancelFails(7, PortFault::Book(BookFault::UnknownTicket)),
+    ),
+    Step::Settle(Who::One, Settled::Part(1)),
+    Step::Settle(Who::Other, Settled::Last(1, 2)),
+];
 
 /// The desks of one master are counted, and then run out.
 fn run_out<L: Ledger, K: Ledger + Sync, R: Threads + Wait + Abort + Sync>(
@@ -143,8 +131,9 @@ fn run_out<L: Ledger, K: Ledger + Sync, R: Threads + Wait + Abort + Sync>(
     requires tickets { IsBlankFor tickets K.name K.parts 1 }
 {
     let master = opened::<L, K, Global, R>(rt, alloc, &limits(), clients, tickets)?;
-    check(rt, counts_both(rt, &master) == Ok(true));
-    check(rt, has_no_more(rt, &master) == Ok(true));
+    check(rt, passes_all(rt, &master, &BOTH));
+    check(rt, take_most(rt, &master) == Ok(()));
+    check(rt, passes_all(rt, &master, &NO_MORE));
     check(rt, serves(rt, &master, &Open, 1));
     Ok(())
 }

@@ -3,10 +3,12 @@ ghost use Rattle.std.specs.Prelude.{◌≤◌, All, vec_len};
 ghost use Rattle.iol_master.specs.Tickets.{HasGiven};
 ghost use Rattle.iol_master.specs.Ledgers.{IsBlankFor};
 
-use crate::calls::{answer, cancels_as, check, gives, read, serves, turns};
+use crate::calls::{Told, check, read, serves};
 use crate::opening::{numbered, open_master};
+use crate::scripts::{Call, VALUE_PLACE};
 use crate::slow::is_set;
-use iol_book::{BookFault, Outcome, Ticket};
+use crate::visits::{Step, Who, passes_all};
+use iol_book::{BookFault, Ticket};
 use iol_isdu::Cause;
 use iol_link::Wire;
 use iol_master::{Desk, Gate, Master, MasterFault, Settled, Tally};
@@ -146,33 +148,28 @@ fn met<W: Wire, L: Ledger, K: Ledger, R: Wait>(
     rt: &R,
     master: &Master<W, L, K>,
     visits: Two<Two<Done<L>>>,
-    answers: &Two<Result<Outcome, PortFault>>,
 ) -> bool {
     let (((one, a), (two, b)), ((three, c), (four, d))) = visits;
     let are_given = are_firsts(a, d) && are_firsts(b, c);
-    let are_answered = is_answered(rt, master, 1, &answers.0)
-        && is_answered(rt, master, 2, &answers.1);
+    let are_answered = passes_all(rt, master, &ANSWERED);
     let are_settled = are_settled(rt, master, (one, four), (two, three));
     are_given && are_answered && are_settled
 }
 
-/// A port gave this for both of its tickets, and knows no third.
-fn is_answered<W: Wire, L: Ledger, K: Ledger, R: Wait>(
-    rt: &R,
-    master: &Master<W, L, K>,
-    number: u32,
-    wanted: &Result<Outcome, PortFault>,
-) -> bool {
-    let unknown = Err(PortFault::Book(BookFault::UnknownTicket));
-    gives(rt, master, number, Ticket(1), wanted)
-        && gives(rt, master, number, Ticket(2), wanted)
-        && gives(rt, master, number, Ticket(3), &unknown)
-}
+/// Each port gave its value for both of its tickets, and knows no third.
+const ANSWERED: [Step; 6] = [
+    Step::Call(1, Call::Collect(1, Told::Reads(&[0x42, 0]))),
+    Step::Call(1, Call::Collect(2, Told::Reads(&[0x42, 0]))),
+    Step::Call(1, Call::Collect(3, Told::Unknown)),
+    Step::Call(2, Call::Collect(1, Told::Reads(&[0x42, 1]))),
+    Step::Call(2, Call::Collect(2, Told::Reads(&[0x42, 1]))),
+    Step::Call(2, Call::Collect(3, Told::Unknown)),
+];
 
-fn has_two_ports<W: Wire, L: Ledger, K: Ledger, R: Wait>(rt: &R, master: &Master<W, L, K>) -> bool {
-    master.desk(rt, 0).err() == Some(MasterFault::NoSuchPort)
-        && master.desk(rt, 3).err() == Some(MasterFault::NoSuchPort)
-}
+const TWO_PORTS: [Step; 2] = [
+    Step::NoDesk(0, MasterFault::NoSuchPort),
+    Step::NoDesk(3, MasterFault::NoSuchPort),
+];
 
 /// The tally of four requests at desks that were settled.
 const FOUR: Tally = Tally {
@@ -185,14 +182,13 @@ const FOUR: Tally = Tally {
 fn serves_both<W: Wire + Send, L: Ledger + Sync, K: Ledger + Sync, R: Threads + Wait + Sync>(
     rt: &R,
     master: &Master<W, L, K>,
-    answers: &Two<Result<Outcome, PortFault>>,
 ) -> Result<bool, MasterFault> {
     let gate = Meet::new();
     let ((one, two), is_served) = beside_workers(rt, master, &gate);
     let have_met = is_served && gate.have_met();
     let visits = (one?, two?);
     let goes_on = serves(rt, master, &gate, 100);
-    Ok(have_met && goes_on && met(rt, master, visits, answers))
+    Ok(have_met && goes_on && met(rt, master, visits))
 }
 
 /// Two ports are served, with two clients at each.
@@ -200,7 +196,6 @@ fn serves_two<W: Wire + Send + Drop, L: Ledger + Sync, K: Ledger + Sync, R>(
     rt: &R,
     alloc: Global,
     ports: Vec<Port<W>>,
-    answers: &Two<Result<Outcome, PortFault>>,
     clients: Blank,
     tickets: Blank,
 )
@@ -212,66 +207,47 @@ where
     requires fresh { All (λ p. HasGiven p 0) ports.items }
 {
     let master = open_master::<W, L, K, Global, R>(rt, alloc, ports, clients, tickets);
-    check(rt, has_two_ports(rt, &master));
-    check(rt, serves_both(rt, &master, answers) == Ok(true));
+    check(rt, passes_all(rt, &master, &TWO_PORTS));
+    check(rt, serves_both(rt, &master) == Ok(true));
     check(rt, master.close() == FOUR);
 }
 
 #[test]
 fn two_ports_are_served(rt: HostRuntime) -> Result<(), Fail> {
-    let answers = (Ok(answer(&[0x42, 0])?), Ok(answer(&[0x42, 1])?));
     let ports = numbered(rt.alloc(), 2)?;
     let (clients, tickets) = (Blank::new(1025), Blank::new(2));
-    serves_two::<_, Brand, Brand, HostRuntime>(&rt, rt.alloc(), ports, &answers, clients, tickets);
+    serves_two::<_, Brand, Brand, HostRuntime>(&rt, rt.alloc(), ports, clients, tickets);
     Ok(())
 }
+
+/// Why a request that waits isn't cut off.
+const NOT_IN_FLIGHT: PortFault = PortFault::Book(BookFault::NotInFlight);
 
 /// The port at which a request is cancelled.
 const SECOND: u32 = 2;
 
-/// One desk's urgent request goes before the other's, and is cancelled under the
-/// port's lock while it is under way.
-fn cancels<W: Wire, L: Ledger, K: Ledger, R: Wait>(
-    rt: &R,
-    master: &Master<W, L, K>,
-    wanted: &Result<Outcome, PortFault>,
-) -> bool {
-    let waits = Err(PortFault::Book(BookFault::NotInFlight));
-    let cut_off = Ok(Outcome::Unknown(Cause::Cancelled));
-    turns(rt, master, SECOND, 16)
-        && cancels_as(rt, master, SECOND, Ticket(1), waits)
-        && cancels_as(rt, master, SECOND, Ticket(2), Ok(()))
-        && turns(rt, master, SECOND, 1)
-        && gives(rt, master, SECOND, Ticket(2), &cut_off)
-        && turns(rt, master, SECOND, 3)
-        && gives(rt, master, SECOND, Ticket(1), wanted)
-}
-
-/// Two desks submit at a port, and the second one's request is cancelled.
-fn cancels_one<W: Wire, L: Ledger, K: Ledger, R: Wait>(
-    rt: &R,
-    master: &Master<W, L, K>,
-    wanted: &Result<Outcome, PortFault>,
-) -> Result<bool, MasterFault> {
-    let mut one = master.desk(rt, SECOND)?;
-    let mut two = master.desk(rt, SECOND)?;
-    let first = master.submit(rt, &mut one, read());
-    let second = master.submit_urgent(rt, &mut two, read());
-    let is_cancelled = cancels(rt, master, wanted);
-    let told = settled(rt, master, (one, two));
-    Ok(
-        first == Ok(Ticket(1))
-            && second == Ok(Ticket(2))
-            && is_cancelled
-            && told == (Settled::Part(1), Settled::Last(1, 2)),
-    )
-}
+/// Two desks submit at a port. The second one's urgent request goes before the other's, and is
+/// cancelled under the port's lock while it is under way.
+const CANCELS: [Step; 13] = [
+    Step::Open(Who::One, SECOND),
+    Step::Open(Who::Other, SECOND),
+    Step::Submit(Who::One, VALUE_PLACE, 1),
+    Step::Urgent(Who::Other, VALUE_PLACE, 2),
+    Step::Call(SECOND, Call::Turns(16)),
+    Step::Call(SECOND, Call::CancelFails(1, NOT_IN_FLIGHT)),
+    Step::Call(SECOND, Call::Cancel(2)),
+    Step::Call(SECOND, Call::Turns(1)),
+    Step::Call(SECOND, Call::Collect(2, Told::CutOff(Cause::Cancelled))),
+    Step::Call(SECOND, Call::Turns(3)),
+    Step::Call(SECOND, Call::Collect(1, Told::Reads(&[0x42, 1]))),
+    Step::Settle(Who::One, Settled::Part(1)),
+    Step::Settle(Who::Other, Settled::Last(1, 2)),
+];
 
 fn cancels_at_two<W: Wire + Drop, L: Ledger, K: Ledger, R: Wait + Abort>(
     rt: &R,
     alloc: Global,
     ports: Vec<Port<W>>,
-    wanted: &Result<Outcome, PortFault>,
     clients: Blank,
     tickets: Blank,
 )
@@ -281,21 +257,13 @@ fn cancels_at_two<W: Wire + Drop, L: Ledger, K: Ledger, R: Wait + Abort>(
     requires fresh { All (λ p. HasGiven p 0) ports.items }
 {
     let master = open_master::<W, L, K, Global, R>(rt, alloc, ports, clients, tickets);
-    check(rt, cancels_one(rt, &master, wanted) == Ok(true));
+    check(rt, passes_all(rt, &master, &CANCELS));
 }
 
 #[test]
 fn an_urgent_request_is_cancelled(rt: HostRuntime) -> Result<(), Fail> {
-    let wanted = Ok(answer(&[0x42, 1])?);
     let ports = numbered(rt.alloc(), 2)?;
     let (clients, tickets) = (Blank::new(1025), Blank::new(2));
-    cancels_at_two::<_, Brand, Brand, HostRuntime>(
-        &rt,
-        rt.alloc(),
-        ports,
-        &wanted,
-        clients,
-        tickets,
-    );
+    cancels_at_two::<_, Brand, Brand, HostRuntime>(&rt, rt.alloc(), ports, clients, tickets);
     Ok(())
 }

@@ -3,23 +3,25 @@
 //! and the journal is looked at afterwards.
 ghost use Rattle.iol_master.specs.Ledgers.{IsBlankFor};
 
-use crate::calls::{answer, check, read, serves};
+use crate::calls::{Noted, Told, check, serves};
 use crate::desks::Open;
-use crate::lines::serve;
 use crate::opening::{open_one, open_port, wired};
+use crate::scripts::{Call, Script, Stage, VALUE_PLACE, run};
 use crate::seats::{is_empty, is_image, shown_port, shows};
 use crate::slow::{ALARM, INPUT, START_UP, VALUE};
+use crate::visits;
+use crate::visits::{Step, Who, answers_locked};
 use iol_app::Mode;
-use iol_book::{Entry, Limits, Outcome, Ticket};
+use iol_book::Limits;
 use iol_cell::ImageSeat;
 use iol_image::Image;
-use iol_isdu::{Answer, Cause, Place, Request};
+use iol_isdu::{Cause, Place};
 use iol_link::{Rate, Wire};
-use iol_master::{Desk, Held, Line, LinePort, LineWorker, Master, MasterFault};
+use iol_master::Master;
 use iol_mseq::Message;
 use iol_peers::{AnyWire, PROCESS_DATA, Peer};
 use iol_port::{Port, PortCore, PortFault};
-use iol_sim::{Fate, Params, Sim, Step};
+use iol_sim::{Fate, Params, Sim};
 use std::alloc::{AllocError, Global};
 use std::marker::Brand;
 use std::process::Abort;
@@ -33,7 +35,7 @@ use std::thread::Threads;
 const LATER: [u8; 2] = [0x56, 0x78];
 
 /// What the master wants as its output.
-const OUTPUT: [u8; 1] = [0x99];
+const OUTPUT: u8 = 0x99;
 
 /// The first octet of a message that reads the StatusCode.
 const READ_STATUS: u8 = 0xC0;
@@ -123,27 +125,27 @@ fn output_of(wire: &Sim<Params>) -> u8 {
 }
 
 /// So many calls of the wire with this fate.
-fn add(steps: &mut Vec<Step>, fate: Fate, count: u64) -> Result<(), AllocError> {
+fn add(steps: &mut Vec<iol_sim::Step>, fate: Fate, count: u64) -> Result<(), AllocError> {
     for _ in 0..count {
-        steps.push(Step::Fate(fate))?;
+        steps.push(iol_sim::Step::Fate(fate))?;
     }
     Ok(())
 }
 
 /// The line starts up, and goes on for four exchanges; three replies are lost, and with them the
 /// link, and two wakes. Then the device reports an event, and later has another input.
-fn add_all(steps: &mut Vec<Step>, input: Image, later: Image) -> Result<(), AllocError> {
-    steps.push(Step::Input(input))?;
+fn add_all(steps: &mut Vec<iol_sim::Step>, input: Image, later: Image) -> Result<(), AllocError> {
+    steps.push(iol_sim::Step::Input(input))?;
     add(steps, Fate::Clean, START_UP + BEFORE)?;
     add(steps, Fate::BackLost, LOST)?;
     add(steps, Fate::NoWake, 2)?;
-    steps.push(Step::Raise(ALARM))?;
+    steps.push(iol_sim::Step::Raise(ALARM))?;
     add(steps, Fate::Clean, 50)?;
-    steps.push(Step::Input(later))?;
+    steps.push(iol_sim::Step::Input(later))?;
     Ok(())
 }
 
-fn script(alloc: Global) -> Result<Vec<Step>, Fail> {
+fn script(alloc: Global) -> Result<Vec<iol_sim::Step>, Fail> {
     let (input, later) = (Image::new(&INPUT)?, Image::new(&LATER)?);
     let mut steps = Vec::new(alloc);
     add_all(&mut steps, input, later)?;
@@ -171,160 +173,130 @@ fn watched_line(alloc: Global, form: Form) -> Result<WatchedLine, Fail> {
 }
 
 /// A parameter that the device hasn't got.
-fn absent() -> Request {
-    Request::read(Place { index: 17, sub: 0 })
+const ABSENT: Place = Place { index: 17, sub: 0 };
+
+/// What three requests come to: the link was lost while the urgent one was under way.
+const COLLECTED: [Call; 3] = [
+    Call::Collect(1, Told::Reads(&VALUE)),
+    Call::Collect(2, Told::Refused(0x80, 0x11)),
+    Call::Collect(3, Told::CutOff(Cause::LinkLost)),
+];
+
+/// Their journal.
+const NOTED: [Noted; 12] = [
+    Noted::Submitted(1, VALUE_PLACE),
+    Noted::Submitted(2, ABSENT),
+    Noted::Urgent(3, VALUE_PLACE),
+    Noted::Taken(3),
+    Noted::Answered(3, Told::CutOff(Cause::LinkLost)),
+    Noted::Taken(1),
+    Noted::Answered(1, Told::Reads(&VALUE)),
+    Noted::Taken(2),
+    Noted::Answered(2, Told::Refused(0x80, 0x11)),
+    Noted::Collected(1),
+    Noted::Collected(2),
+    Noted::Collected(3),
+];
+
+/// Three requests are submitted, of which the urgent one comes first.
+const SUBMITTED: [Step; 4] = [
+    Step::Open(Who::One, 1),
+    Step::Submit(Who::One, VALUE_PLACE, 1),
+    Step::Submit(Who::One, ABSENT, 2),
+    Step::Urgent(Who::One, VALUE_PLACE, 3),
+];
+
+/// What is done at a master, and with a seat of its port's images.
+#[derive(Clone, Copy)]
+enum Act {
+    /// So many turns, which the workers make.
+    Serve(u64),
+    Shows(&'static [u8]),
+    ShowsNone,
+    Steps(&'static [Step]),
 }
 
-/// What three requests come to.
-#[derive(Drop)]
-struct Wanted {
-    /// The output that the device is to have.
-    output: Image,
-    /// How they ended: the link was lost while the urgent one was under way.
-    outcomes: [Result<Outcome, PortFault>; 3],
-    /// Their journal.
-    entries: [Entry; 12],
-}
-
-impl Wanted {
-    fn new() -> Result<Wanted, Fail> {
-        let output = Image::new(&OUTPUT)?;
-        let outcomes = outcomes(answer(&VALUE)?);
-        let entries = entries(answer(&VALUE)?);
-        Ok(Wanted {
-            output,
-            outcomes,
-            entries,
-        })
-    }
-
-    fn are_outcomes(&self, came: &[Result<Outcome, PortFault>]) -> bool {
-        came == self.outcomes.as_slice()
-    }
-
-    /// Whether this is the journal, and nothing else.
-    fn are_entries(&self, archived: &[Entry]) -> bool {
-        archived == self.entries.as_slice()
-    }
-}
-
-fn outcomes(done: Outcome) -> [Result<Outcome, PortFault>; 3] {
-    [
-        Ok(done),
-        Ok(Outcome::Done(Answer::Refused(0x80, 0x11))),
-        Ok(Outcome::Unknown(Cause::LinkLost)),
-    ]
-}
-
-fn entries(done: Outcome) -> [Entry; 12] {
-    [
-        Entry::Submitted(Ticket(1), read()),
-        Entry::Submitted(Ticket(2), absent()),
-        Entry::Urgent(Ticket(3), read()),
-        Entry::Taken(Ticket(3)),
-        Entry::Answered(Ticket(3), Outcome::Unknown(Cause::LinkLost)),
-        Entry::Taken(Ticket(1)),
-        Entry::Answered(Ticket(1), done),
-        Entry::Taken(Ticket(2)),
-        Entry::Answered(Ticket(2), Outcome::Done(Answer::Refused(0x80, 0x11))),
-        Entry::Collected(Ticket(1)),
-        Entry::Collected(Ticket(2)),
-        Entry::Collected(Ticket(3)),
-    ]
-}
-
-/// The port is up, and wants an output.
-fn wants_output<W: Wire, K: Ledger>(held: &mut Held<W, K>, output: &Image) -> bool {
-    held.status().mode == Mode::Operate && held.set_output(output) == Ok(())
-}
-
-/// Submits three requests, of which the urgent one comes first.
-fn submits_three<W: Wire, L: Ledger, K: Ledger, R: Wait>(
+fn passes<W: Wire + Send, L: Ledger, K: Ledger + Sync, R: Threads + Wait + Sync>(
     rt: &R,
     master: &Master<W, L, K>,
-    desk: &mut Desk<L>,
+    seat: &mut ImageSeat,
+    act: Act,
 ) -> bool {
-    master.submit(rt, desk, read()) == Ok(Ticket(1))
-        && master.submit(rt, desk, absent()) == Ok(Ticket(2))
-        && master.submit_urgent(rt, desk, read()) == Ok(Ticket(3))
+    match act {
+        Act::Serve(turns) => serves(rt, master, &Open, turns),
+        Act::Shows(octets) => shows(rt, seat, octets),
+        Act::ShowsNone => is_empty(rt, seat),
+        Act::Steps(steps) => visits::passes_all(rt, master, steps),
+    }
 }
 
-/// The port is to have an output, and three requests are submitted.
-fn wants_all<W: Wire, L: Ledger, K: Ledger, R: Wait>(
+fn passes_all<W: Wire + Send, L: Ledger, K: Ledger + Sync, R: Threads + Wait + Sync>(
     rt: &R,
     master: &Master<W, L, K>,
-    output: &Image,
-) -> Result<bool, MasterFault> {
-    let is_wanted = wants_output(&mut *master.lock(rt, 1)?, output);
-    let mut desk = master.desk(rt, 1)?;
-    Ok(is_wanted && submits_three(rt, master, &mut desk))
+    seat: &mut ImageSeat,
+    acts: &[Act],
+) -> bool {
+    for act in acts {
+        if !passes(rt, master, seat, *act) {
+            return false;
+        }
+    }
+    true
 }
+
+/// The port is served up to OPERATE, is to have an output, and is served through the silence.
+const SILENT: [Act; 7] = [
+    Act::Serve(START_UP),
+    Act::Shows(&INPUT),
+    Act::Steps(&[Step::Calls(1, &[Call::Mode(Mode::Operate), Call::SetOutput(OUTPUT)])]),
+    Act::Steps(&SUBMITTED),
+    Act::Serve(SILENCE),
+    Act::ShowsNone,
+    Act::Serve(TURNS),
+];
 
 /// The link is up again, and the event came where the StatusCode is known.
-fn is_up_again<W: Wire, K: Ledger>(held: &mut Held<W, K>, form: Form) -> bool {
-    let is_odd = matches!(form, Form::Odd);
-    held.status().mode == Mode::Operate
-        && held.status().event_form == is_odd
-        && (is_odd || held.take_event() == Ok(ALARM))
-        && held.take_event() == Err(PortFault::NoEvent)
-}
+const UP_AGAIN: [Call; 4] = [
+    Call::Mode(Mode::Operate),
+    Call::EventForm(false),
+    Call::Event(Ok(ALARM)),
+    Call::Event(Err(PortFault::NoEvent)),
+];
 
-/// All that was submitted has its outcome.
-fn is_done<W: Wire, K: Ledger>(held: &mut Held<W, K>, wanted: &Wanted) -> bool {
-    let came = [
-        held.collect(Ticket(1)),
-        held.collect(Ticket(2)),
-        held.collect(Ticket(3)),
-    ];
-    wanted.are_outcomes(came.as_slice())
-}
+const UP_WITHOUT: [Call; 3] = [
+    Call::Mode(Mode::Operate),
+    Call::EventForm(true),
+    Call::Event(Err(PortFault::NoEvent)),
+];
 
-/// The link is up again, and all is done.
-fn has_all<W: Wire, L: Ledger, K: Ledger, R: Wait>(
+/// All that was submitted has its outcome, and the journal has it all.
+const DONE: [Act; 4] = [
+    Act::Steps(&[Step::Calls(1, &COLLECTED)]),
+    Act::Serve(1),
+    Act::Steps(&[Step::Call(1, Call::Journal(&NOTED))]),
+    Act::Shows(&LATER),
+];
+
+fn is_up_again<W: Wire, L: Ledger, K: Ledger, R: Wait>(
     rt: &R,
     master: &Master<W, L, K>,
     form: Form,
-    wanted: &Wanted,
 ) -> bool {
-    match master.lock(rt, 1) {
-        Ok(mut held) => is_up_again(&mut *held, form) && is_done(&mut *held, wanted),
-        Err(_) => false,
+    match form {
+        Form::Known => answers_locked(rt, master, 1, &UP_AGAIN),
+        Form::Odd => answers_locked(rt, master, 1, &UP_WITHOUT),
     }
 }
 
-/// The journal has it all, and nothing else.
-fn keeps_all<W: Wire, L: Ledger, K: Ledger, R: Wait>(
-    rt: &R,
-    master: &Master<W, L, K>,
-    wanted: &Wanted,
-) -> bool {
-    match master.lock(rt, 1) {
-        Ok(mut held) => archives(&mut *held, wanted),
-        Err(_) => false,
-    }
-}
-
-fn archives<W: Wire, K: Ledger>(held: &mut Held<W, K>, wanted: &Wanted) -> bool {
-    match held.archive() {
-        Ok(archived) => wanted.are_entries(archived.as_slice()),
-        Err(_) => false,
-    }
-}
-
-/// The port is served up to OPERATE, through the silence, and on.
 fn through<W: Wire + Send, L: Ledger, K: Ledger + Sync, R: Threads + Wait + Sync>(
     rt: &R,
     master: &Master<W, L, K>,
     seat: &mut ImageSeat,
     form: Form,
-    wanted: &Wanted,
-) -> Result<bool, MasterFault> {
-    let is_up = serves(rt, master, &Open, START_UP) && shows(rt, seat, &INPUT);
-    let is_wanted = wants_all(rt, master, &wanted.output)?;
-    let is_silent = serves(rt, master, &Open, SILENCE) && is_empty(rt, seat);
-    let is_done = serves(rt, master, &Open, TURNS) && has_all(rt, master, form, wanted);
-    let is_kept = serves(rt, master, &Open, 1) && keeps_all(rt, master, wanted);
-    Ok(is_up && is_wanted && is_silent && is_done && is_kept && shows(rt, seat, &LATER))
+) -> bool {
+    passes_all(rt, master, seat, &SILENT)
+        && is_up_again(rt, master, form)
+        && passes_all(rt, master, seat, &DONE)
 }
 
 /// A master with a port that shows its images is served through the silence.
@@ -333,7 +305,6 @@ fn is_served<W: Wire + Send + Drop, L: Ledger, K: Ledger + Sync, R>(
     alloc: Global,
     wire: W,
     form: Form,
-    wanted: &Wanted,
     clients: Blank,
     tickets: Blank,
 ) -> Result<(), Fail>
@@ -344,10 +315,7 @@ where
 {
     let (port, mut seat) = shown_port(rt, alloc, wire)?;
     let master = open_one::<W, L, K, Global, R>(rt, alloc, port, clients, tickets)?;
-    check(
-        rt,
-        through(rt, &master, &mut seat, form, wanted) == Ok(true),
-    );
+    check(rt, through(rt, &master, &mut seat, form));
     Ok(())
 }
 
@@ -355,7 +323,6 @@ where
 /// archives the journal, clears the output, publishes no more, or calls the wire twice in a turn.
 #[test]
 fn a_port_is_served_through_silence(rt: HostRuntime) -> Result<(), Fail> {
-    let wanted = Wanted::new()?;
     for &form in &[Form::Known, Form::Odd] {
         let (wire, watch) = watched_line(rt.alloc(), form)?;
         is_served::<_, Brand, Brand, HostRuntime>(
@@ -363,84 +330,40 @@ fn a_port_is_served_through_silence(rt: HostRuntime) -> Result<(), Fail> {
             rt.alloc(),
             wire,
             form,
-            &wanted,
             Blank::new(1025),
             Blank::new(1),
         )?;
-        check(&rt, watch.saw(ALL_TURNS, OUTPUT[0]));
+        check(&rt, watch.saw(ALL_TURNS, OUTPUT));
     }
     Ok(())
 }
 
-/// An output, and three requests, of which the urgent one comes first.
-fn wants_three<K: Ledger>(port: &mut LinePort<K>, output: &Image) -> bool {
-    port.set_output(output) == Ok(())
-        && port.submit(read()) == Ok(Ticket(1))
-        && port.submit(absent()) == Ok(Ticket(2))
-        && port.submit_urgent(read()) == Ok(Ticket(3))
-}
-
-/// The event came, and the three outcomes; the journal has them, and nothing else.
-fn has_three<K: Ledger>(port: &mut LinePort<K>, wanted: &Wanted) -> bool {
-    let is_alarm = port.take_event() == Ok(ALARM);
-    let came = [
-        port.collect(Ticket(1)),
-        port.collect(Ticket(2)),
-        port.collect(Ticket(3)),
-    ];
-    is_alarm && wanted.are_outcomes(came.as_slice()) && keeps_three(port, wanted)
-}
-
-fn keeps_three<K: Ledger>(port: &mut LinePort<K>, wanted: &Wanted) -> bool {
-    match port.archive() {
-        Ok(archived) => wanted.are_entries(archived.as_slice()),
-        Err(_) => false,
-    }
-}
-
 /// A line is served through the silence, and has all that was asked of it.
-fn line_through<W: Wire, K: Ledger, R: Wait>(
-    rt: &R,
-    line: &Line<K>,
-    worker: &mut LineWorker<W, K>,
-    wanted: &Wanted,
-) -> bool {
-    serve(rt, line, worker, START_UP);
-    let is_wanted = wants_three(&mut *line.lock(rt), &wanted.output);
-    serve(rt, line, worker, TURNS);
-    let has_three = has_three(&mut *line.lock(rt), wanted);
-    is_wanted && has_three
-}
-
-/// A line is served through the silence, and gives its wire back.
-fn line_is_served<W: Wire + Drop, K: Ledger, R: Wait + Abort>(
-    rt: &R,
-    alloc: Global,
-    wire: W,
-    hands: Blank,
-    wanted: &Wanted,
-) -> Result<W, PortFault>
-    requires { IsBlankFor hands K.name K.parts 1 }
-{
-    let core = PortCore::open(alloc, &Limits::default())?;
-    let (line, mut worker) = Line::<K>::open(core, wire, hands);
-    check(rt, line_through(rt, &line, &mut worker, wanted));
-    Ok(worker.into_wire())
-}
+const LINE_THROUGH: Script = Script {
+    stages: &[
+        Stage::Turns(START_UP),
+        Stage::Calls(&[
+            Call::SetOutput(OUTPUT),
+            Call::Submit(VALUE_PLACE, 1),
+            Call::Submit(ABSENT, 2),
+            Call::Urgent(VALUE_PLACE, 3),
+        ]),
+        Stage::Turns(TURNS),
+        Stage::Calls(&[Call::Event(Ok(ALARM))]),
+        Stage::Calls(&COLLECTED),
+        Stage::Calls(&[Call::Journal(&NOTED)]),
+    ],
+    last: &[],
+};
 
 /// Refuses a worker of a line that ends where the link is lost.
 #[test]
 fn a_line_is_served_through_silence(rt: HostRuntime) -> Result<(), Fail> {
-    let wanted = Wanted::new()?;
+    let output = Image::new(&[OUTPUT])?;
     let wire = scripted(rt.alloc())?;
-    let wire = line_is_served::<_, Brand, HostRuntime>(
-        &rt,
-        rt.alloc(),
-        wire,
-        Blank::new(1),
-        &wanted,
-    )?;
-    check(&rt, wire.device().output() == Some(&wanted.output));
+    let core = PortCore::open(rt.alloc(), &Limits::default())?;
+    let wire = run(&rt, core, wire, LINE_THROUGH);
+    check(&rt, wire.device().output() == Some(&output));
     Ok(())
 }
 

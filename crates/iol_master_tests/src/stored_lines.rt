@@ -2,444 +2,378 @@
 //! turns.
 ghost use Rattle.iol_master.specs.Ledgers.{IsBlankFor};
 
-use crate::calls::{answer, check, read};
-use crate::lines::{COMMAND, ENOUGH, serve, start_up, turn};
-use crate::slow::{Flags, is_set, slow_wire};
+use crate::calls::{Told, check, is_told};
+use crate::scripts::{
+    Call, ENOUGH, Script, Stage, Tested, UNDER_WAY, Waits, lets_in_at_wire, passes_all, run,
+    start_up,
+};
 use crate::units::{
     CHANGED, LIMIT, MANY, MEMBERS, OTHER, SET, Unit, WRITTEN, port_with, read_limit,
 };
 use iol_app::Mode;
-use iol_book::{BookFault, Entry, Outcome, Ticket};
+use iol_book::{Journal, Outcome, Ticket};
 use iol_image::Image;
-use iol_isdu::Cause;
+use iol_isdu::{Cause, Request};
 use iol_link::Wire;
-use iol_master::{Line, LinePort, LineWorker};
+use iol_master::{Line, LinePort};
 use iol_param_device::UPLOAD_REQUEST;
 use iol_params::Table;
 use iol_peers::AnyWire;
 use iol_port::{Counting, PortFault};
 use iol_storage::{
-    BlockTicket, DownloadResult, Keep, Objects, Served, Set, SetImage, StorageStanding,
+    BlockTicket, DownloadResult, Keep, Objects, Served, Set, SetImage, SetNumber, StorageStanding,
     StoredFault, StoredPort,
 };
 use std::alloc::Global;
 use std::marker::Brand;
 use std::process::Abort;
 use std::sync::Wait;
-use std::sync::atomic::Ordering;
 use std::sync::ledger::{Blank, Ledger};
 use std::test::Fail;
-use std::thread;
-use std::thread::Threads;
 
 type Stored<K> = LinePort<K, StoredPort>;
 
-type Waited = Result<Outcome, PortFault>;
+impl Tested for StoredPort {
+    fn answers<K: Ledger>(port: &mut Stored<K>, call: Call) -> bool {
+        match call {
+            Call::Submit(place, number) => {
+                port.submit(Request::read(place)) == Ok(Ticket(number))
+            }
+            Call::Urgent(place, number) => {
+                port.submit_urgent(Request::read(place)) == Ok(Ticket(number))
+            }
+            Call::Withdraw(number) => port.withdraw(Ticket(number)) == Ok(()),
+            Call::Abandon(number) => port.abandon(Ticket(number)) == Ok(()),
+            Call::Cancel(number) => port.cancel(Ticket(number)) == Ok(()),
+            _ => hands_out(port, call),
+        }
+    }
+}
+
+/// The calls that hand something out.
+fn hands_out<K: Ledger>(port: &mut Stored<K>, call: Call) -> bool {
+    match call {
+        Call::Collect(number, told) => is_told(&port.collect(Ticket(number)), told),
+        Call::CollectInto(number, told) => collects_into(port, number, told),
+        Call::Event(event) => port.take_event() == event,
+        Call::ArchiveAny => port.archive().is_ok(),
+        Call::DrainAny => port.drain().is_ok(),
+        _ => is_set(port, call),
+    }
+}
+
+fn collects_into<K: Ledger>(port: &mut Stored<K>, number: u64, told: Told) -> bool {
+    let mut outcome = Outcome::Withdrawn;
+    match port.collect_into(Ticket(number), &mut outcome) {
+        Ok(()) => is_told(&Ok(outcome), told),
+        Err(_) => false,
+    }
+}
+
+/// The calls that set something.
+fn is_set<K: Ledger>(port: &mut Stored<K>, call: Call) -> bool {
+    match call {
+        Call::SetOutput(octet) => sets_output(port, octet),
+        Call::ClearOutput => {
+            port.clear_output();
+            true
+        }
+        Call::Restart => {
+            port.restart();
+            true
+        }
+        Call::Expect => port.expect(OTHER) == Counting::Later,
+        Call::ExpectAny => port.expect_any() == Counting::Later,
+        Call::SetCycle => port.set_cycle(None) == Counting::Later,
+        _ => is_kept(port, call),
+    }
+}
+
+fn sets_output<K: Ledger>(port: &mut Stored<K>, octet: u8) -> bool {
+    match Image::new(&[octet]) {
+        Ok(image) => port.set_output(&image) == Ok(()),
+        Err(_) => false,
+    }
+}
+
+/// The calls on the set that is kept, and on blocks.
+fn is_kept<K: Ledger>(port: &mut Stored<K>, call: Call) -> bool {
+    match call {
+        Call::Saved(number, saved) => port.saved(SetNumber(number)) == saved,
+        Call::Block(number) => submits_block(port, BlockTicket(number)),
+        Call::CollectBlock(number, result) => port.collect_block(BlockTicket(number)) == result,
+        Call::Forget => port.forget() == Ok(()),
+        Call::Load => loads(port),
+        Call::Release => {
+            port.release();
+            true
+        }
+        _ => is_seen(port, call),
+    }
+}
+
+/// A block is submitted that writes the limit.
+fn submits_block<K: Ledger>(port: &mut Stored<K>, block: BlockTicket) -> bool {
+    let mut writes = Objects::new();
+    writes.push(LIMIT, &[WRITTEN]).is_ok() && port.submit_block(&mut writes, Keep::No) == Ok(block)
+}
+
+fn loads<K: Ledger>(port: &mut Stored<K>) -> bool {
+    match Set::read(&SET) {
+        Ok(set) => port.load(set) == Ok(()),
+        Err(_) => false,
+    }
+}
+
+/// Those that only look.
+fn is_seen<K: Ledger>(port: &Stored<K>, call: Call) -> bool {
+    match call {
+        Call::RestartWaits(waits) => port.is_restart_waiting() == waits,
+        Call::Mode(mode) => port.port().status().mode == mode,
+        Call::HasImage(is_there) => port.image().is_some() == is_there,
+        Call::Restated(count) => port.port().restated() == count,
+        Call::Standing(standing) => port.standing() == standing,
+        _ => shows_set(port, call),
+    }
+}
+
+fn shows_set<K: Ledger>(port: &Stored<K>, call: Call) -> bool {
+    match call {
+        Call::Unsaved(number) => match port.unsaved() {
+            Some((unsaved, _)) => unsaved == SetNumber(number),
+            None => false,
+        },
+        Call::HasSet(is_kept) => port.kept().is_some() == is_kept,
+        Call::Keeps(octets) => match port.kept() {
+            Some(set) => is_image(set, octets),
+            None => false,
+        },
+        _ => false,
+    }
+}
+
+/// Whether a set has these octets.
+fn is_image(set: &Set, octets: &[u8]) -> bool {
+    let mut image = SetImage::new();
+    set.write_into(&mut image);
+    image.as_slice() == octets
+}
+
+/// The set that is fetched of a unit whose limit a user has changed.
+const FETCHED: [u8; 16] = [
+    0x34, 0x46, 0xA8, 0x84, 0x12, 0x34, 0x00, 0x01, 0x07, 0, 0, // checksum, device
+    0, 65, 0, 1, CHANGED,
+];
 
 /// A fetched set waits to be saved: the request of ticket 1 waits, and no image is handed out.
-fn awaits_saving<K: Ledger>(port: &mut Stored<K>) -> bool {
-    port.unsaved().is_some()
-        && port.standing() == StorageStanding::Awaited
-        && port.image().is_none()
-        && port.collect(Ticket(1)) == Err(PortFault::Book(BookFault::NotYet))
-}
+const AWAITS_SAVING: [Call; 4] = [
+    Call::Unsaved(1),
+    Call::Standing(StorageStanding::Awaited),
+    Call::HasImage(false),
+    Call::Collect(1, Told::NotYet),
+];
 
 /// The set is saved, once.
-fn saves<K: Ledger>(port: &mut Stored<K>) -> bool {
-    let number = match port.unsaved() {
-        Some((number, _)) => number,
-        None => return false,
-    };
-    port.saved(number) == Ok(()) && port.saved(number) == Err(StoredFault::OtherSet)
-}
-
-/// The device is served, and the request is answered so.
-fn is_served<K: Ledger>(port: &mut Stored<K>, how: Served, wanted: &Waited) -> bool {
-    port.standing() == StorageStanding::Served(how)
-        && port.image().is_some()
-        && port.collect(Ticket(1)) == *wanted
-}
+const SAVED: [Call; 3] = [
+    Call::Unsaved(1),
+    Call::Saved(1, Ok(())),
+    Call::Saved(1, Err(StoredFault::OtherSet)),
+];
 
 /// A set is fetched while a request waits, and is saved under the lock.
-fn fetches<W: Wire, K: Ledger, R: Wait>(
-    rt: &R,
-    line: &Line<K, StoredPort>,
-    worker: &mut LineWorker<W, K>,
-    wanted: &Waited,
-) -> bool {
-    let is_let = line.lock(rt).submit(read_limit()) == Ok(Ticket(1));
-    serve(rt, line, worker, MANY);
-    let is_waiting = awaits_saving(&mut *line.lock(rt));
-    let is_saved = saves(&mut *line.lock(rt));
-    serve(rt, line, worker, MANY);
-    let is_served = is_served(&mut *line.lock(rt), Served::Fetched, wanted);
-    is_let && is_waiting && is_saved && is_served
-}
+const FETCHES: Script = Script {
+    stages: &[
+        Stage::Calls(&[Call::Submit(LIMIT, 1)]),
+        Stage::Turns(MANY),
+        Stage::Calls(&AWAITS_SAVING),
+        Stage::Calls(&SAVED),
+        Stage::Turns(MANY),
+        Stage::Calls(&[
+            Call::Standing(StorageStanding::Served(Served::Fetched)),
+            Call::HasImage(true),
+            Call::Collect(1, Told::Reads(&[CHANGED])),
+        ]),
+    ],
+    last: &[Call::Keeps(&FETCHED)],
+};
 
 /// Another unit has the values by the time the request is carried out.
-fn restores<W: Wire, K: Ledger, R: Wait>(
-    rt: &R,
-    line: &Line<K, StoredPort>,
-    worker: &mut LineWorker<W, K>,
-    wanted: &Waited,
-) -> bool {
-    let is_let = line.lock(rt).submit(read_limit()) == Ok(Ticket(1));
-    serve(rt, line, worker, MANY);
-    is_let && is_served(&mut *line.lock(rt), Served::Restored, wanted)
-}
+const RESTORES: Script = Script {
+    stages: &[
+        Stage::Calls(&[Call::Submit(LIMIT, 1)]),
+        Stage::Turns(MANY),
+        Stage::Calls(&[
+            Call::Standing(StorageStanding::Served(Served::Restored)),
+            Call::HasImage(true),
+            Call::Collect(1, Told::Reads(&[CHANGED])),
+        ]),
+    ],
+    last: &[],
+};
 
-/// The octets of the set that is kept; none where none is.
-fn kept_image<K: Ledger>(port: &Stored<K>) -> SetImage {
-    let mut image = SetImage::new();
-    if let Some(set) = port.kept() {
-        set.write_into(&mut image);
-    }
-    image
-}
-
-/// The set that a port fetches of this wire, whose unit a user has changed.
-fn fetched<W: Wire + Drop, K: Ledger, R: Wait + Abort>(
-    rt: &R,
-    alloc: Global,
-    wire: W,
-    hands: Blank,
-    wanted: &Waited,
-) -> Result<SetImage, StoredFault>
-    requires { IsBlankFor hands K.name K.parts 1 }
-{
-    let port = port_with(alloc, None)?;
-    let (line, mut worker) = Line::<K, StoredPort>::open(port, wire, hands);
-    check(rt, fetches(rt, &line, &mut worker, wanted));
-    Ok(kept_image(&line.into_inner()))
-}
-
-/// A line whose port has a set, over the wire of a new unit.
-fn restored<W: Wire + Drop, K: Ledger, R: Wait + Abort>(
-    rt: &R,
-    alloc: Global,
-    wire: W,
-    hands: Blank,
-    kept: Set,
-    wanted: &Waited,
-) -> Result<(), StoredFault>
-    requires { IsBlankFor hands K.name K.parts 1 }
-{
-    let port = port_with(alloc, Some(kept))?;
-    let (line, mut worker) = Line::<K, StoredPort>::open(port, wire, hands);
-    check(rt, restores(rt, &line, &mut worker, wanted));
-    Ok(())
+/// A unit whose limit a user has changed.
+fn changed_unit<'t>(alloc: Global, table: &'t Table<'t>) -> Result<Unit<'t>, Fail> {
+    let mut unit = Unit::new(alloc, table)?;
+    unit.device.set(LIMIT, &[CHANGED])?;
+    Ok(unit)
 }
 
 #[test]
 fn a_set_is_fetched_and_restored_while_requests_wait(rt: HostRuntime) -> Result<(), Fail> {
-    let wanted = Ok(answer(&[CHANGED])?);
     let table = Table::new(&MEMBERS, &[])?;
-    let mut first = Unit::new(rt.alloc(), &table)?;
-    first.device.set(LIMIT, &[CHANGED])?;
-    let wire = AnyWire(first);
-    let hands = Blank::new(1);
-    let image = fetched::<_, Brand, HostRuntime>(&rt, rt.alloc(), wire, hands, &wanted)?;
-    let kept = Set::read(image.as_slice())?;
+    let wire = AnyWire(changed_unit(rt.alloc(), &table)?);
+    let _ = run(&rt, port_with(rt.alloc(), None)?, wire, FETCHES);
+    let port = port_with(rt.alloc(), Some(Set::read(&FETCHED)?))?;
     let wire = AnyWire(Unit::new(rt.alloc(), &table)?);
-    let hands = Blank::new(1);
-    restored::<_, Brand, HostRuntime>(&rt, rt.alloc(), wire, hands, kept, &wanted)?;
+    let _ = run(&rt, port, wire, RESTORES);
     Ok(())
 }
 
-/// A block is written, and its outcome isn't there yet.
-fn submits_block<K: Ledger>(port: &mut Stored<K>, writes: &mut Objects) -> Option<BlockTicket> {
-    let block = port.submit_block(writes, Keep::No).ok()?;
-    if port.collect_block(block) == Err(StoredFault::BlockNotOver) {
-        Some(block)
-    } else {
-        None
-    }
-}
-
-/// It was applied, and its outcome is handed out once.
-fn collects_block<K: Ledger>(port: &mut Stored<K>, block: BlockTicket) -> bool {
-    port.collect_block(block) == Ok(DownloadResult::Applied)
-        && port.collect_block(block) == Err(StoredFault::UnknownBlock)
-}
-
-fn applies<W: Wire, K: Ledger, R: Wait>(
-    rt: &R,
-    line: &Line<K, StoredPort>,
-    worker: &mut LineWorker<W, K>,
-    writes: &mut Objects,
-) -> bool {
-    serve(rt, line, worker, MANY);
-    let is_saved = saves(&mut *line.lock(rt));
-    serve(rt, line, worker, MANY);
-    let submitted = submits_block(&mut *line.lock(rt), writes);
-    let Some(block) = submitted else {
-        return false;
-    };
-    serve(rt, line, worker, MANY);
-    is_saved && collects_block(&mut *line.lock(rt), block)
-}
-
-/// A block is applied at the unit of this wire, which is given back.
-fn applied<W: Wire + Drop, K: Ledger, R: Wait + Abort>(
-    rt: &R,
-    alloc: Global,
-    wire: W,
-    hands: Blank,
-    writes: &mut Objects,
-) -> Result<W, StoredFault>
-    requires { IsBlankFor hands K.name K.parts 1 }
-{
-    let port = port_with(alloc, None)?;
-    let (line, mut worker) = Line::<K, StoredPort>::open(port, wire, hands);
-    check(rt, applies(rt, &line, &mut worker, writes));
-    Ok(worker.into_wire())
-}
+/// A block is written, and its outcome isn't there yet. It is applied, and its outcome is handed
+/// out once.
+const APPLIES: Script = Script {
+    stages: &[
+        Stage::Turns(MANY),
+        Stage::Calls(&SAVED),
+        Stage::Turns(MANY),
+        Stage::Calls(&[
+            Call::Block(1),
+            Call::CollectBlock(1, Err(StoredFault::BlockNotOver)),
+        ]),
+        Stage::Turns(MANY),
+        Stage::Calls(&[
+            Call::CollectBlock(1, Ok(DownloadResult::Applied)),
+            Call::CollectBlock(1, Err(StoredFault::UnknownBlock)),
+        ]),
+    ],
+    last: &[],
+};
 
 #[test]
 fn a_block_is_applied_between_turns(rt: HostRuntime) -> Result<(), Fail> {
     let table = Table::new(&MEMBERS, &[])?;
     let wire = AnyWire(Unit::new(rt.alloc(), &table)?);
-    let mut writes = Objects::new();
-    writes.push(LIMIT, &[WRITTEN])?;
-    let hands = Blank::new(1);
-    let wire = applied::<_, Brand, HostRuntime>(&rt, rt.alloc(), wire, hands, &mut writes)?;
+    let wire = run(&rt, port_with(rt.alloc(), None)?, wire, APPLIES);
     check(&rt, wire.0.has_limit(WRITTEN));
     Ok(())
 }
 
-/// A restart waits where a message was out when the line was opened. The worker makes it, and then
-/// starts up again.
-fn restarts<W: Wire, K: Ledger, R: Wait>(
-    rt: &R,
-    line: &Line<K, StoredPort>,
-    worker: &mut LineWorker<W, K>,
-) -> bool {
-    line.lock(rt).restart();
-    let is_waiting = waits_for_restart(&*line.lock(rt), Mode::Operate);
-    worker.turn(rt, line);
-    let was_restarted = is_down(&*line.lock(rt));
-    serve(rt, line, worker, MANY);
-    is_waiting && was_restarted && awaits_saving(&mut *line.lock(rt))
-}
-
-fn waits_for_restart<K: Ledger>(port: &Stored<K>, mode: Mode) -> bool {
-    port.is_restart_waiting() && port.port().status().mode == mode
-}
-
-fn is_down<K: Ledger>(port: &Stored<K>) -> bool {
-    !port.is_restart_waiting() && port.port().status().mode == Mode::Down
-}
-
-fn restarted<W: Wire + Drop, K: Ledger, R: Wait + Abort>(
-    rt: &R,
-    alloc: Global,
-    wire: W,
-    hands: Blank,
-) -> Result<(), StoredFault>
-    requires { IsBlankFor hands K.name K.parts 1 }
-{
-    let mut wire = wire;
+/// A port with a request that waits, whose message in OPERATE is out.
+fn sent_port<W: Wire>(alloc: Global, wire: &mut W) -> Result<StoredPort, StoredFault> {
     let mut port = port_with(alloc, None)?;
     port.submit(read_limit())?;
-    start_up(&mut port, &mut wire);
+    start_up(&mut port, wire);
     let _ = port.send();
-    let (line, mut worker) = Line::<K, StoredPort>::open(port, wire, hands);
-    check(rt, restarts(rt, &line, &mut worker));
-    Ok(())
+    Ok(port)
 }
+
+/// A restart waits where a message was out when the line was opened. The worker makes it, and then
+/// starts up again.
+const RESTARTS: Script = Script {
+    stages: &[
+        Stage::Calls(&[Call::Restart]),
+        Stage::Calls(&[Call::RestartWaits(true), Call::Mode(Mode::Operate)]),
+        Stage::Turn,
+        Stage::Calls(&[Call::RestartWaits(false), Call::Mode(Mode::Down)]),
+        Stage::Turns(MANY),
+        Stage::Calls(&AWAITS_SAVING),
+    ],
+    last: &[],
+};
 
 #[test]
 fn a_restart_waits_at_a_stored_line(rt: HostRuntime) -> Result<(), Fail> {
     let table = Table::new(&MEMBERS, &[])?;
-    let mut unit = Unit::new(rt.alloc(), &table)?;
-    unit.device.set(LIMIT, &[CHANGED])?;
-    let hands = Blank::new(1);
-    restarted::<_, Brand, HostRuntime>(&rt, rt.alloc(), AnyWire(unit), hands)?;
+    let mut wire = AnyWire(changed_unit(rt.alloc(), &table)?);
+    let port = sent_port(rt.alloc(), &mut wire)?;
+    let _ = run(&rt, port, wire, RESTARTS);
     Ok(())
 }
 
-/// A request is withdrawn while it waits.
-fn withdraws<K: Ledger>(port: &mut Stored<K>) -> bool {
-    let Ok(ticket) = port.submit(read_limit()) else {
-        return false;
-    };
-    port.withdraw(ticket) == Ok(()) && port.collect(ticket) == Ok(Outcome::Withdrawn)
-}
-
-/// An urgent one is abandoned, and is unknown then.
-fn abandons<K: Ledger>(port: &mut Stored<K>) -> bool {
-    let Ok(ticket) = port.submit_urgent(read_limit()) else {
-        return false;
-    };
-    port.abandon(ticket) == Ok(())
-        && port.collect(ticket) == Err(PortFault::Book(BookFault::UnknownTicket))
-}
-
-/// What start-ups are to ask counts from the next one on.
-fn expects<K: Ledger>(port: &mut Stored<K>) -> bool {
-    port.expect(OTHER) == Counting::Later
-        && port.expect_any() == Counting::Later
-        && port.set_cycle(None) == Counting::Later
-}
-
-/// The journal is handed out, at the end of a list and as one; what no ticket needs is gone then.
-fn hands_out<K: Ledger>(port: &mut Stored<K>, list: &mut Vec<Entry>) -> bool {
-    let is_drained = port.drain_into(list).is_ok() && port.drain().is_ok();
-    is_drained && port.archive().is_ok() && port.port().restated() == 0
-}
-
-/// The set is forgotten, and kept again.
-fn loads<K: Ledger>(port: &mut Stored<K>, set: Set) -> bool {
-    let was_kept = port.kept().is_some();
-    let is_forgotten = port.forget() == Ok(()) && port.kept().is_none();
-    let is_loaded = port.load(set) == Ok(()) && port.kept().is_some();
-    port.release();
-    was_kept && is_forgotten && is_loaded
-}
-
-/// It asked for a fetch by an event, and wants an output.
-fn is_up<K: Ledger>(port: &mut Stored<K>, output: &Image) -> bool {
-    port.take_event() == Ok(UPLOAD_REQUEST)
-        && port.take_event() == Err(PortFault::NoEvent)
-        && port.set_output(output) == Ok(())
-}
-
-/// A request is under way from then on, as far as the turn behind the next one.
-fn is_let<K: Ledger>(port: &mut Stored<K>) -> Option<Ticket> {
-    port.clear_output();
-    port.submit(read_limit()).ok()
-}
-
-fn is_cancelled<K: Ledger>(port: &mut Stored<K>, ticket: Ticket) -> bool {
-    let mut outcome = Outcome::Withdrawn;
-    port.collect_into(ticket, &mut outcome) == Ok(())
-        && outcome == Outcome::Unknown(Cause::Cancelled)
-}
-
-/// A request under way is cancelled.
-fn cancels<W: Wire, K: Ledger, R: Wait>(
-    rt: &R,
-    line: &Line<K, StoredPort>,
-    worker: &mut LineWorker<W, K>,
-) -> bool {
-    let given = is_let(&mut *line.lock(rt));
-    let Some(ticket) = given else {
-        return false;
-    };
-    serve(rt, line, worker, COMMAND + 1);
-    let is_let = line.lock(rt).cancel(ticket) == Ok(());
-    serve(rt, line, worker, ENOUGH);
-    is_let && is_cancelled(&mut *line.lock(rt), ticket)
-}
-
-/// The calls that need no turn.
-fn calls<K: Ledger>(port: &mut Stored<K>, list: &mut Vec<Entry>, set: Set) -> bool {
-    withdraws(port) && abandons(port) && expects(port) && hands_out(port, list) && loads(port, set)
-}
-
 /// Every call of a stored port that no other test makes.
-fn makes_each<W: Wire, K: Ledger, R: Wait>(
-    rt: &R,
-    line: &Line<K, StoredPort>,
-    worker: &mut LineWorker<W, K>,
-    output: &Image,
-) -> bool {
-    serve(rt, line, worker, MANY);
-    let is_saved = saves(&mut *line.lock(rt));
-    serve(rt, line, worker, MANY);
-    let is_up = is_up(&mut *line.lock(rt), output);
-    serve(rt, line, worker, MANY);
-    is_saved && is_up
+const FIRST_CALLS: [Stage; 6] = [
+    Stage::Turns(MANY),
+    Stage::Calls(&SAVED),
+    Stage::Turns(MANY),
+    // It asked for a fetch by an event, and wants an output.
+    Stage::Calls(&[
+        Call::Event(Ok(UPLOAD_REQUEST)),
+        Call::Event(Err(PortFault::NoEvent)),
+        Call::SetOutput(0x99),
+    ]),
+    Stage::Turns(MANY),
+    // One request is withdrawn while it waits, and an urgent one is abandoned. The tickets up to 12
+    // were the port's own.
+    Stage::Calls(&[
+        Call::Submit(LIMIT, 13),
+        Call::Withdraw(13),
+        Call::Collect(13, Told::Withdrawn),
+        Call::Urgent(LIMIT, 14),
+        Call::Abandon(14),
+        Call::Collect(14, Told::Unknown),
+        Call::Expect,
+        Call::ExpectAny,
+        Call::SetCycle,
+    ]),
+];
+
+/// Those behind the journal at the end of a list.
+const LAST_CALLS: [Stage; 6] = [
+    // What no ticket needs is gone then. The set is forgotten, and kept again.
+    Stage::Calls(&[
+        Call::DrainAny,
+        Call::ArchiveAny,
+        Call::Restated(0),
+        Call::HasSet(true),
+        Call::Forget,
+        Call::HasSet(false),
+        Call::Load,
+        Call::HasSet(true),
+        Call::Release,
+    ]),
+    // A request is under way from then on, as far as the turn behind the next one.
+    Stage::Calls(&[Call::ClearOutput, Call::Submit(LIMIT, 15)]),
+    Stage::Turns(UNDER_WAY),
+    Stage::Calls(&[Call::Cancel(15)]),
+    Stage::Turns(ENOUGH),
+    Stage::Calls(&[Call::CollectInto(15, Told::CutOff(Cause::Cancelled))]),
+];
+
+/// The journal is handed out at the end of a list.
+fn drains_into<K: Ledger>(port: &mut Stored<K>, alloc: Global) -> bool {
+    let mut list = Journal::new(alloc);
+    port.drain_into(&mut list).is_ok()
 }
 
+/// Makes each of these calls, and gives the wire back.
 fn makes_each_call<W: Wire + Drop, K: Ledger, R: Wait + Abort>(
     rt: &R,
     alloc: Global,
     wire: W,
     hands: Blank,
-    output: &Image,
-    set: Set,
 ) -> Result<W, StoredFault>
     requires { IsBlankFor hands K.name K.parts 1 }
 {
     let port = port_with(alloc, None)?;
     let (line, mut worker) = Line::<K, StoredPort>::open(port, wire, hands);
-    check(rt, makes_each(rt, &line, &mut worker, output));
-    let mut list = Vec::new(alloc);
-    check(rt, calls(&mut *line.lock(rt), &mut list, set));
-    check(rt, cancels(rt, &line, &mut worker));
+    check(rt, passes_all(rt, &line, &mut worker, &FIRST_CALLS));
+    check(rt, drains_into(&mut *line.lock(rt), alloc));
+    check(rt, passes_all(rt, &line, &mut worker, &LAST_CALLS));
     Ok(worker.into_wire())
 }
 
 #[test]
 fn a_stored_line_makes_each_call(rt: HostRuntime) -> Result<(), Fail> {
-    let output = Image::new(&[0x99])?;
     let table = Table::new(&MEMBERS, &[])?;
-    let mut unit = Unit::new(rt.alloc(), &table)?;
-    unit.device.set(LIMIT, &[CHANGED])?;
+    let wire = AnyWire(changed_unit(rt.alloc(), &table)?);
     let hands = Blank::new(1);
-    let wire = makes_each_call::<_, Brand, HostRuntime>(
-        &rt,
-        rt.alloc(),
-        AnyWire(unit),
-        hands,
-        &output,
-        Set::read(&SET)?,
-    )?;
+    let wire = makes_each_call::<_, Brand, HostRuntime>(&rt, rt.alloc(), wire, hands)?;
     check(&rt, wire.0.device.device().output().is_none());
-    Ok(())
-}
-
-/// Submits while a wake is under way, and wants a restart; then lets the wake go.
-fn visit<K: Ledger, R: Wait>(rt: &R, line: &Line<K, StoredPort>, flags: &Flags) -> bool {
-    if !is_set(&flags.waiting) {
-        return false;
-    }
-    let given = line.lock(rt).submit(read());
-    line.lock(rt).restart();
-    let is_waiting = waits_for_restart(&*line.lock(rt), Mode::Down);
-    flags.let_go.store(true, Ordering::SeqCst);
-    given == Ok(Ticket(1)) && is_waiting
-}
-
-/// A turn, and a client's calls meanwhile.
-fn beside<W: Wire + Send + Drop, K: Ledger + Sync, R: Threads + Wait + Sync>(
-    rt: &R,
-    line: &Line<K, StoredPort>,
-    worker: LineWorker<W, K>,
-    flags: &Flags,
-) -> bool {
-    let (_, is_let) = thread::join(
-        rt,
-        move || turn(rt, line, worker),
-        move || visit(rt, line, flags),
-    );
-    is_let
-}
-
-/// A client is let in while the first wake is under way.
-fn lets_in<W: Wire + Send + Drop, K: Ledger + Sync, R: Threads + Wait + Abort + Sync>(
-    rt: &R,
-    alloc: Global,
-    wire: W,
-    hands: Blank,
-    flags: &Flags,
-) -> Result<(), StoredFault>
-    requires { IsBlankFor hands K.name K.parts 1 }
-{
-    let port = port_with(alloc, None)?;
-    let (line, worker) = Line::<K, StoredPort>::open(port, wire, hands);
-    flags.armed.store(true, Ordering::SeqCst);
-    check(rt, beside(rt, &line, worker, flags));
-    check(rt, flags.was_let_go.load(Ordering::SeqCst));
-    check(rt, is_down(&*line.lock(rt)));
     Ok(())
 }
 
 #[test]
 fn a_client_is_let_in_at_a_stored_line(rt: HostRuntime) -> Result<(), Fail> {
-    let (wire, flags) = slow_wire(rt.alloc())?;
-    let hands = Blank::new(1);
-    lets_in::<_, Brand, HostRuntime>(&rt, rt.alloc(), wire, hands, &flags)?;
-    Ok(())
+    let port = port_with(rt.alloc(), None)?;
+    lets_in_at_wire(&rt, rt.alloc(), port, Waits::Wake)
 }

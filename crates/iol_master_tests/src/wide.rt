@@ -4,9 +4,9 @@ ghost use Rattle.std.specs.Prelude.{◌≤◌, All, vec_len};
 ghost use Rattle.iol_master.specs.Tickets.{HasGiven};
 ghost use Rattle.iol_master.specs.Ledgers.{IsBlankFor};
 
-use crate::calls::{answer, check, gives, read, serves};
+use crate::calls::{Told, answer, check, gives, is_told, read, serves};
 use crate::opening::{numbered, numbered_port, open_master, open_one};
-use iol_book::{BookFault, Entry, Outcome, Ticket};
+use iol_book::{BookFault, Entry, Journal, Ticket};
 use iol_isdu::{Place, Request};
 use iol_link::Wire;
 use iol_master::{Desk, Gate, Held, Master, MasterFault, Settled, Tally};
@@ -187,23 +187,40 @@ fn takes_back<W: Wire, L: Ledger, K: Ledger, R: Wait>(
     }
 }
 
+/// Whether these are the first entries of a journal, so many of them.
+fn begins_with(journal: &Journal, entries: &[Entry], count: usize) -> bool {
+    let mut is_same = journal.len() == count;
+    for (place, entry) in entries.iter().take(count).enumerate() {
+        is_same &= journal.get(place).is_some_and(|own| own == *entry);
+    }
+    is_same
+}
+
+/// Two entries are drained while the ticket is outstanding, and stand in the next journal.
+fn is_drained<W: Wire, K: Ledger>(held: &mut Held<W, K>, wanted: &[Entry]) -> bool {
+    match held.drain() {
+        Ok(drained) => held.restated() == 2 && begins_with(&drained, wanted, 2),
+        Err(_) => false,
+    }
+}
+
+fn is_archived<W: Wire, K: Ledger>(held: &mut Held<W, K>, wanted: &[Entry]) -> bool {
+    match held.archive() {
+        Ok(archived) => begins_with(&archived, wanted, wanted.len()),
+        Err(_) => false,
+    }
+}
+
 fn is_taken_back<W: Wire, K: Ledger>(
     held: &mut Held<W, K>,
     ticket: Ticket,
     wanted: &[Entry],
 ) -> bool {
-    let is_withdrawn = held.withdraw(ticket) == Ok(());
-    // Two entries are drained while the ticket is outstanding, and stand in the next journal.
-    let is_drained = match held.drain() {
-        Ok(drained) => held.restated() == 2 && wanted.starts_with(drained.as_slice()),
-        Err(_) => false,
-    };
-    let is_told = held.collect(ticket) == Ok(Outcome::Withdrawn)
-        && held.abandon(ticket) == Err(PortFault::Book(BookFault::UnknownTicket));
-    match held.archive() {
-        Ok(archived) => is_withdrawn && is_drained && is_told && archived.as_slice() == wanted,
-        Err(_) => false,
-    }
+    held.withdraw(ticket) == Ok(())
+        && is_drained(held, wanted)
+        && is_told(&held.collect(ticket), Told::Withdrawn)
+        && held.abandon(ticket) == Err(PortFault::Book(BookFault::UnknownTicket))
+        && is_archived(held, wanted)
 }
 
 /// Submits so many writes at a desk, each of which is taken back.

@@ -1,10 +1,19 @@
-use Rattle.std.proofs.Common.{[]}
-use Rattle.iol_master.specs.Tickets.{HasGiven}
+use Rattle.std.proofs.Common.{[], sym, ◌∙◌}
 use Rattle.std.proofs.lemmas.List.Elements.{All-cons, All-nil, All-same}
+use Rattle.iol_port.specs.View.{PortValue}
+use Rattle.iol_master.specs.Tickets.{HasGiven}
 use Rattle.iol_master_tests.proofs.desks.opens_as.Goals as goal
 
+abbrev IsFresh : {W : Type 0} → PortValue W → Type 0
+IsFresh p = HasGiven p 0
+
+pub open-opened-requires-clause-tickets : goal.open-opened-requires-clause-tickets
+open-opened-requires-clause-tickets g c = (
+  c.requires.tickets.0,
+  c.requires.tickets.1,
+  c.requires.tickets.2 ∙ sym c.in_ok-ports.ensures.0,
+)
+
 pub open-opened-requires-clause-fresh : goal.open-opened-requires-clause-fresh
-open-opened-requires-clause-fresh g c =
-    All-same (λ p. HasGiven p 0) _ _ c.in_ok-ports.ensures.1
-    (All-cons (λ p. HasGiven p 0) _ [] c.requires.fresh
-    (All-nil (λ p. HasGiven p 0)))
+open-opened-requires-clause-fresh g c = All-same IsFresh _ _ c.in_ok-ports.ensures.1
+    (All-cons IsFresh _ [] c.requires.fresh (All-nil IsFresh))

@@ -4,7 +4,7 @@ use Rattle.iol_sim.proofs.Crosses.{sim_send}
 use Rattle.iol_peers.proofs.wires.AnyWire.TheSendSync as any
 use Rattle.iol_master_tests.specs.contracts.slow.Slow as Slow
 use Rattle.iol_master_tests.proofs.slow.Flags.TheSendSync as flags
-use Rattle.iol_master_tests.proofs.lines.a_client_is_let_in_while_an_exchange_is_under_way.Goals as goal
+use Rattle.iol_master_tests.proofs.scripts.lets_in_at_wire.Goals as goal
 
 slow_send : IsSend Slow.the_row
 slow_send =
@@ -12,5 +12,5 @@ slow_send =
 
 -- the worker's thread owns a slow device, which shares the flags
 pub lets_in-requires-send-W : goal.lets_in-requires-send-W
-lets_in-requires-send-W c κs within =
+lets_in-requires-send-W g c κs within =
     search (any.the_send, slow_send, crosses, sendable) depth 60 fits 20000

@@ -1,4 +1,4 @@
-use Rattle.iol_master_tests.proofs.lines.a_client_is_let_in_while_a_wake_is_under_way.Given as goal
+use Rattle.iol_master_tests.proofs.scripts.lets_in_at_wire.Given as goal
 
 -- the blank names the ledger of this line
 abbrev pub ghosts-lets_in : goal.ghosts-lets_in

@@ -1,5 +1,0 @@
-use Rattle.iol_master_tests.proofs.lines.a_client_is_let_in_while_an_exchange_is_under_way.Given as goal
-
--- the blank names the ledger of this line
-abbrev pub ghosts-lets_in : goal.ghosts-lets_in
-ghosts-lets_in g a = record { name = a.hands.name; parts = a.hands.parts }

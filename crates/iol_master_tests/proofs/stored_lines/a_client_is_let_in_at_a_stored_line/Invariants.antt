@@ -1,5 +1,0 @@
-use Rattle.iol_master_tests.proofs.stored_lines.a_client_is_let_in_at_a_stored_line.Given as goal
-
--- the blank names the ledger of this line
-abbrev pub ghosts-lets_in : goal.ghosts-lets_in
-ghosts-lets_in g a = record { name = a.hands.name; parts = a.hands.parts }
