@@ -1,11 +1,13 @@
 -- A book is sound once the entries of tickets that are over are gone, and stands as it stood: the
 -- invariant of `Book` after `compact`, and its clause `state`.
-use Rattle.std.proofs.Common.{◌≡◌, ℕ, ◌+◌, ◌≤◌, Bool, true, false, refl, List, Option, None, Some, ap, arith, ◌∙◌, sym, subst, length}
+use Rattle.std.proofs.Common.{◌≡◌, ℕ, ◌+◌, ◌≤◌, Bool, true, false, refl, List, Option, None, Some, ap, arith, ◌∙◌, sym, subst, length, IsTrue, IsFalse}
 use Rattle.std.specs.Prelude.{filter}
 use Rattle.std.specs.Option.{option_map_or, option_to_list}
 use Rattle.std.specs.Vec.{vec_capacity}
 use Rattle.std.specs.VecDeque.{deque_capacity}
 use Rattle.std.proofs.lemmas.Bool.{eq-eqb}
+use Rattle.std.proofs.lemmas.List.{append-nil}
+use Rattle.std.proofs.Math.Seq.{drop-length}
 use Rattle.std.proofs.lemmas.Grind.{common_steps}
 use Rattle.iol_book.specs.declared.entries.Ticket.{Ticket}
 use Rattle.iol_book.specs.declared.entries.Entry.{Entry}
@@ -15,12 +17,13 @@ use Rattle.iol_book.specs.Lines.{entry_ticket, TicketLines, line_number_after, v
 use Rattle.iol_book.specs.Drained.{in_doubt, is_still_open, restated_entries, book_after_drain}
 use Rattle.iol_book.specs.BookModel.{BookState, outstanding_count, entries_owed, octets_owed}
 use Rattle.iol_book.specs.Numbers.{IsNumbered}
-use Rattle.iol_book.specs.BookInside.{IsSoundBook, book_state, standing_of}
+use Rattle.iol_book.specs.BookInside.{IsSoundBook, IsForgotten, all_entries, parts_of, book_state, whole_state, standing_of}
+use Rattle.iol_book.specs.Limits.{has_journal}
 use Rattle.iol_book.specs.JournalModel.{octet_sum}
 use Rattle.iol_book.proofs.JournalLemmas.{filter-fewer, filter-less}
 use Rattle.iol_book.proofs.LineLemmas.{Says, among-values, request-own}
 use Rattle.iol_book.proofs.RestatedLemmas.{kept_pairs, kept_entries, kept_standing, kept_taken, kept_abandoned, kept-all, kept-replay, LeadsTo, leads-where, same-filter}
-use Rattle.iol_book.proofs.SoundLemmas.{none_abandoned}
+use Rattle.iol_book.proofs.SoundLemmas.{none_abandoned, whole-kept}
 use Rattle.iol_book.proofs.NumberLemmas.{says-after, taken-after, open-numbers}
 
 -- the line of the one that is taken is its ticket's
@@ -62,6 +65,10 @@ same-state a b journal restated last standing unsure limit queue serve = λ i. r
   queue = queue i;
   serve = serve i;
 }
+
+-- a journal is kept or not
+kept-unkept : (limit : ℕ) → IsTrue (has_journal limit) → IsFalse (has_journal limit) → ⊥
+kept-unkept limit kept unkept = absurd (cc)
 
 -- fewer entries, or octets, have room where more had it
 fewer-fit : (fewer more owed room same : ℕ) → fewer ≤ more → more + owed ≤ room → same ≡ room
@@ -131,10 +138,52 @@ module _ {A : Type 0} {old : Inside A} (sound : IsSoundBook old) (doubt : Option
       (line_number_after (λ t. is_kept t.0) 0 0 old.journal.items) doubt old.urgent.items
       old.waiting.items old.outcomes.items us ws os old.taken taken u w t o) old.journal.items
 
+  -- of a journal that is kept nothing is forgotten
+  pub forgotten-none : (new : Inside A) → IsTrue (has_journal old.limit)
+      → parts_of new ≡ record (parts_of old) {
+        restated = new.restated;
+        in_memory = new.journal.items;
+      } → IsForgotten (parts_of new)
+  forgotten-none new kept parts = let none = sound.forgotten.kept kept in
+      subst (λ p. IsForgotten p) (sym parts) (record {
+        overlap = rw none.1 (grind (arith));
+        stands = rw (none.0, none.1) refl;
+        kept = λ _. none;
+        unkept = λ un. absurd (kept-unkept old.limit kept un);
+      })
+
+  -- of another one what isn't kept is
+  pub record Forgets (new : Inside A) : Type 0 where
+    pub unkept : IsFalse (has_journal old.limit)
+    pub entries : new.forgotten.entries ≡ all_entries (parts_of old)
+    pub overlap : new.overlap ≡ length new.journal.items
+    pub restated : new.restated ≡ old.restated
+    pub limit : new.limit ≡ old.limit
+
+  pub all-forgotten : {new : Inside A} → Forgets new
+      → all_entries (parts_of new) ≡ all_entries (parts_of old)
+  all-forgotten {new} forgets = rw (
+    forgets.entries,
+    forgets.overlap,
+    drop-length new.journal.items,
+    append-nil (all_entries (parts_of old)),
+  ) refl
+
+  pub forgotten-more : {new : Inside A} → new.journal.items ≡ kept_entries is_kept old.journal.items
+      → Forgets new → IsForgotten (parts_of new)
+  forgotten-more {new} left forgets = record {
+    overlap = rw forgets.overlap (grind (arith));
+    stands = ap (λ es. replay es) (all-forgotten forgets) ∙ (sound.forgotten.stands
+        ∙ (sym sound.replayed ∙ rw left (sym leads.stands)));
+    kept = λ kept. absurd (kept-unkept old.limit (rw forgets.limit at kept) forgets.unkept);
+    unkept = λ un. forgets.restated ∙ sound.forgotten.unkept forgets.unkept;
+  }
+
   -- what a drain does to the fields
   pub record Drains (new : Inside A) : Type 0 where
     pub journal : new.journal.items ≡ kept_entries is_kept old.journal.items
-    pub head : new.restated ≡ length new.journal.items
+    pub head : new.restated ≤ length new.journal.items
+    pub forgotten : IsForgotten (parts_of new)
     pub urgent : new.urgent.items ≡ lines_after (λ t. is_kept t.0) old.journal.items
         old.urgent.items
     pub waiting : new.waiting.items ≡ lines_after (λ t. is_kept t.0) old.journal.items
@@ -209,7 +258,8 @@ module _ {A : Type 0} {old : Inside A} (sound : IsSoundBook old) (doubt : Option
       });
       replayed = drained-stands ∙ rw does.journal (sym leads.stands);
       in_turn = rw does.journal leads.turn;
-      head = rw does.head (grind (arith));
+      head = does.head;
+      forgotten = does.forgotten;
       numbered = subst (λ s. IsNumbered new.last s) (sym drained-stands)
           (rw does.last sound.numbered);
       room = record {
@@ -254,16 +304,28 @@ module _ {A : Type 0} {old : Inside A} (sound : IsSoundBook old) (doubt : Option
         old.journal.items
 
     drains-state : doubt ≡ in_doubt old.unsure old.journal.items
+        → new.restated ≡ length new.journal.items
         → book_state new ≡ book_after_drain (book_state old)
-    drains-state is =
+    drains-state is head =
         let entries : new.journal.items ≡ restated_entries old.unsure old.journal.items =
         does.journal ∙ entries-same is in
         same-state (book_state new) (book_after_drain (book_state old)) entries
-        (does.head ∙ ap (λ es. length es) entries) does.last drained-stands does.unsure does.limit
+        (head ∙ ap (λ es. length es) entries) does.last drained-stands does.unsure does.limit
         does.queue does.serve
 
-  -- and so it is of a book that is sound then
+  -- so it is of a journal that is kept
   pub drained-state : {new : Inside A} → IsSoundBook new → Drains new
       → doubt ≡ in_doubt old.unsure old.journal.items
-      → book_state new ≡ book_after_drain (book_state old)
-  drained-state next does is = drains-state does is
+      → new.restated ≡ length new.journal.items → IsTrue (has_journal old.limit)
+      → whole_state new ≡ book_after_drain (whole_state old)
+  drained-state next does is head kept = rw (
+    whole-kept sound kept,
+    whole-kept next (rw does.limit kept),
+  ) (drains-state does is head)
+
+  -- and of another one nothing is seen
+  pub forgotten-state : {new : Inside A} → IsSoundBook new → Drains new → Forgets new
+      → whole_state new ≡ whole_state old
+  forgotten-state {new} next does forgets = same-state (whole_state new) (whole_state old)
+      (all-forgotten forgets) forgets.restated does.last (drained-stands does) does.unsure
+      does.limit does.queue does.serve

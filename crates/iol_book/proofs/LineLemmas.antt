@@ -3,7 +3,8 @@
 -- say, after one more entry and after edits of its lists: the part `lines`, and the clauses that
 -- look a ticket up (`answer` of `collect_into` and of `withdraw`). Last the place of a key in a
 -- list of pairs, and the list without it: the clauses of `place_in` and `outcome_at`.
-use Rattle.std.proofs.Common.{◌≡◌, ℕ, Bool, true, false, List, [], ◌∷◌, ◌++◌, length, Option, None, Some, is_some, refl, ap, cond, suc, zero, arith, ◌+◌, ◌≤◌, ◌<◌, sym, nat_lt, add-one, add_comm, get_or, ◌∙◌, Bor}
+use Rattle.std.proofs.Common.{◌≡◌, ℕ, Bool, true, false, List, [], ◌∷◌, ◌++◌, length, Option, None, Some, is_some, refl, ap, cond, suc, zero, arith, ◌+◌, ◌≤◌, ◌<◌, sym, nat_lt, add-one, add_comm, get_or, ◌∙◌, Bor, drop}
+use Rattle.std.proofs.lemmas.List.{append_assoc, drop-append-le}
 use Rattle.std.specs.Prelude.{slice_get, not, IfSome, IfNone, ◌||◌, find, filter, if◌then◌else◌}
 use Rattle.std.specs.Option.{option_map, option_to_list}
 use Rattle.std.specs.Map.{lookup, remove_entry}
@@ -39,6 +40,12 @@ in_turn-push s (x ∷ es) e h turn = (h.0, in_turn-push (standing_after s x) es 
 -- a longer list is as long as one before
 pub longer : (es : List Entry) (e : Entry) {n : ℕ} → n ≤ length es → n ≤ length (es ++ e ∷ [])
 longer es e h = grind (arith, common_steps)
+
+-- one more entry, behind others of which some are counted elsewhere
+pub entered : (earlier : List Entry) (n : ℕ) (es : List Entry) (e : Entry) → n ≤ length es
+    → earlier ++ drop n (es ++ e ∷ []) ≡ (earlier ++ drop n es) ++ e ∷ []
+entered earlier n es e within = rw (drop-append-le n es (e ∷ []) within)
+    (sym (append_assoc earlier (drop n es) (e ∷ [])))
 
 -- the usual lemmas, it, and how many octets there are then, for the state that a call leaves
 pub ruleset entry_steps = (arith, common_steps, replay-push, octets-pushed)

@@ -3,7 +3,7 @@
 -- request (`numbered` of `IsSoundBook`), and which have no outcome (the clause `answer` of
 -- `collect_into`). Then that the step of an entry is what its call does to the standing (the clause
 -- `state` of each call), and last a lemma of each call, from what the call did to the fields.
-use Rattle.std.proofs.Common.{◌≡◌, ℕ, ◌+◌, ◌≤◌, Bool, true, false, ◌||◌, refl, cond, List, [], ◌∷◌, ◌++◌, Option, Some, None, ap, arith, is_some, nat_eq, length, sym, ◌∙◌}
+use Rattle.std.proofs.Common.{◌≡◌, ℕ, ◌+◌, ◌≤◌, Bool, true, false, ◌||◌, refl, cond, List, [], ◌∷◌, ◌++◌, Option, Some, None, ap, arith, is_some, nat_eq, length, drop, sym, subst, ◌∙◌, IsTrue}
 use Rattle.std.specs.Prelude.{slice_get}
 use Rattle.std.specs.Option.{option_map, option_map_or, option_to_list}
 use Rattle.std.proofs.lemmas.Bool.{eq-eqb}
@@ -17,7 +17,10 @@ use Rattle.iol_book.specs.declared.entries.Outcome.{Outcome}
 use Rattle.iol_book.specs.declared.entries.Outcome.TheVariants.{Done, Unknown, Withdrawn, NoIsdu}
 use Rattle.iol_book.specs.declared.entries.Entry.TheVariants.{Submitted, Urgent, Taken, Answered, Withdrawn as WithdrawnEntry, Collected, Abandoned}
 use Rattle.iol_book.specs.Replay.{Standing, nothing, standing_after, replay_from, same_ticket, waiting_after, is_among, is_taken, without, others_without, request_waiting, without_waiting}
-use Rattle.iol_book.specs.BookModel.{waits, is_served, next_taken}
+use Rattle.iol_book.specs.JournalModel.{octet_sum}
+use Rattle.std.specs.Vec.{vec_capacity}
+use Rattle.iol_book.specs.BookModel.{waits, is_served, next_taken, IsReplayed, outstanding_count, entries_owed, octets_owed}
+use Rattle.iol_book.specs.Limits.{has_journal}
 use Rattle.iol_book.specs.Drained.{IsInTurn}
 use Rattle.iol_book.specs.Numbers.{times, times_in, IsNumbered}
 use Rattle.std.specs.VecDeque.{deque_capacity}
@@ -25,9 +28,9 @@ use Rattle.std.specs.declared.collections.VecDeque.{VecDeque}
 use Rattle.std.specs.declared.vec.Vec.{Vec}
 use Rattle.iol_book.specs.declared.entries.Entry.{Entry}
 use Rattle.iol_book.specs.declared.book.Book.TheInside.{Inside}
-use Rattle.iol_book.specs.BookInside.{IsSoundBook, HasRoom, book_state, standing_of}
+use Rattle.iol_book.specs.BookInside.{IsSoundBook, HasRoom, JournalParts, IsForgotten, all_entries, parts_of, book_state, whole_state, standing_of}
 use Rattle.iol_book.specs.Lines.{TicketLines, AllPass, has_request_of, is_of, entry_request, outcome_in, taken_at}
-use Rattle.iol_book.proofs.LineLemmas.{remove-absent, replay-push, Says, says-more, says-new, says-without, says-others, among-values, WaitsIn, find-first, served_in, found-waits, found-passes, served-values, taken-more, request-own, own-entry, in_turn-push, longer}
+use Rattle.iol_book.proofs.LineLemmas.{remove-absent, replay-push, Says, says-more, says-new, says-without, says-others, among-values, WaitsIn, find-first, served_in, found-waits, found-passes, served-values, taken-more, request-own, own-entry, in_turn-push, longer, entered}
 
 abbrev pub one_if : Bool → ℕ
 one_if b = cond b 1 0
@@ -288,6 +291,7 @@ sound-same_queues sound urgent waiting us ws urgent_room waiting_room = record {
   in_turn = sound.in_turn;
   head = sound.head;
   numbered = rw (us, ws) sound.numbered;
+  forgotten = sound.forgotten;
   room = record {
     urgent_room = rw urgent_room sound.room.urgent_room;
     queue_room = rw waiting_room sound.room.queue_room;
@@ -327,6 +331,45 @@ next-waits fields {p} found = found-waits fields.serve (standing_of fields).urge
     (standing_of fields).waiting (request_by fields p)
     (values-by fields ∙ ap (option_map (request_by fields)) found)
 
+-- for nothing there is room
+none-fit : (n room : ℕ) → n ≡ 0 → n ≤ room
+none-fit n room none = grind (arith)
+
+-- one more entry, of which nothing is forgotten
+forgotten-push : (parts : JournalParts) (e : Entry) → IsForgotten parts
+    → IsForgotten (record parts { in_memory = parts.in_memory ++ e ∷ [] })
+forgotten-push parts e h = record {
+  overlap = longer parts.in_memory e h.overlap;
+  stands = rw (
+    entered parts.forgotten parts.overlap parts.in_memory e h.overlap,
+    replay-push (all_entries parts) e,
+    replay-push parts.in_memory e,
+  ) (ap (λ s. standing_after s e) h.stands);
+  kept = h.kept;
+  unkept = h.unkept;
+}
+
+-- but for the entries in memory the parts of the journal are what they were
+abbrev HasPartsOf : {A : Type 0} → Inside A → Inside A → Type 0
+HasPartsOf old new = parts_of new ≡ record (parts_of old) { in_memory = new.journal.items }
+
+module _ {A : Type 0} {fields : Inside A} (sound : IsSoundBook fields) where
+  -- all entries say where each ticket stands
+  pub whole-replayed : IsReplayed (whole_state fields)
+  whole-replayed = sound.replayed ∙ sym sound.forgotten.stands
+
+  -- one more is one more of all
+  pub whole-push : (e : Entry)
+      → fields.forgotten.entries ++ drop fields.overlap (fields.journal.items ++ e ∷ [])
+      ≡ (fields.forgotten.entries ++ drop fields.overlap fields.journal.items) ++ e ∷ []
+  whole-push e = entered fields.forgotten.entries fields.overlap fields.journal.items e
+      sound.forgotten.overlap
+
+  -- and where the journal is kept, all are in memory
+  pub whole-kept : IsTrue (has_journal fields.limit)
+      → all_entries (parts_of fields) ≡ fields.journal.items
+  whole-kept h = let none = sound.forgotten.kept h in rw (none.0, none.1) refl
+
 -- it is sound where it has room, which each call shows by itself
 abbrev IsSoundWithRoom : {A : Type 0} → Inside A → Type 0
 IsSoundWithRoom fields = HasRoom fields → IsSoundBook fields
@@ -345,10 +388,10 @@ module _ {A : Type 0} {old : Inside A} (sound : IsSoundBook old) where
   module _ {entries : List Entry} (e : Entry) (n : entries ≡ old.journal.items ++ e ∷ []) where
     -- a book whose lines say what one more entry leaves is sound
     sound-entered : (new : Inside A) (next : Standing) → new.journal.items ≡ entries
-        → new.restated ≡ old.restated → IsInTurn (standing_of old) e
+        → HasPartsOf old new → IsInTurn (standing_of old) e
         → next ≡ standing_after (standing_of old) e → IsNumbered new.last next → HasRoom new
         → Tells new.journal.items new next → IsSoundBook new
-    sound-entered new next same head turn steps numbered room tells = record {
+    sound-entered new next same parts turn steps numbered room tells = record {
       lines = record {
         urgent_requests = tells.urgent.pass;
         waiting_requests = tells.waiting.pass;
@@ -359,8 +402,12 @@ module _ {A : Type 0} {old : Inside A} (sound : IsSoundBook old) where
           (ap (λ s. standing_after s e) sound.replayed);
       in_turn = rw (same, n) (in_turn-push nothing old.journal.items e sound.in_turn
           (rw (← sound.replayed) turn));
-      head = rw (head, same, n) (longer old.journal.items e sound.head);
+      head = rw (ap (λ (p : JournalParts). p.restated) parts, same, n)
+          (longer old.journal.items e sound.head);
       numbered = rw stands numbered;
+      forgotten = subst (λ p. IsForgotten p) (sym (parts
+          ∙ ap (λ es. record (parts_of old) { in_memory = es }) (same ∙ n)))
+          (forgotten-push (parts_of old) e sound.forgotten);
       room = room;
     }
       where
@@ -444,14 +491,14 @@ module _ {A : Type 0} {old : Inside A} (sound : IsSoundBook old) where
   posted-tells : (new : Inside A) (p : Ticket × ℕ) (o : Outcome)
       → new.journal.items ≡ old.journal.items ++ Answered p.0 o ∷ [] → old.taken ≡ Some p
       → new.taken ≡ None → new.abandoned ≡ false → new.urgent ≡ old.urgent
-      → new.waiting ≡ old.waiting → new.restated ≡ old.restated → new.last ≡ old.last
+      → new.waiting ≡ old.waiting → HasPartsOf old new → new.last ≡ old.last
       → Says is_of outcome_in new.journal.items new.outcomes.items
       (cond old.abandoned (standing_of old).outcomes
       (insert_entry same_ticket (standing_of old).outcomes p.0 o)) → IsSoundWithRoom new
-  posted-tells new p o n held none free us ws head last outcomes room =
+  posted-tells new p o n held none free us ws parts last outcomes room =
       let same = kept (Answered p.0 o) n in
       let was = ap (λ found. taken_at old.journal.items found) held in
-      sound-entered (Answered p.0 o) n new _ refl head (posted-turn (standing_of old) o p.0 _ was)
+      sound-entered (Answered p.0 o) n new _ refl parts (posted-turn (standing_of old) o p.0 _ was)
       (posted-step (standing_of old) _ o was sound.numbered)
       (rw last (numbered-fewer (λ i. times-posted i (standing_of old) _ o was) sound.numbered))
       room (record {
@@ -539,9 +586,9 @@ module _ {A : Type 0} {old : Inside A} (sound : IsSoundBook old) where
       → new.waiting.items ≡ others_without t old.urgent.items old.waiting.items
       → new.outcomes.items ≡ without t old.outcomes.items → new.taken ≡ old.taken
       → new.abandoned ≡ (old.abandoned || is_taken (standing_of old) t)
-      → new.restated ≡ old.restated → new.last ≡ old.last → IsSoundWithRoom new
-  sound-abandoned new t n u w o taken abandoned head last room = let same = kept (Abandoned t) n in
-      sound-entered (Abandoned t) n new _ refl head tt refl
+      → HasPartsOf old new → new.last ≡ old.last → IsSoundWithRoom new
+  sound-abandoned new t n u w o taken abandoned parts last room = let same = kept (Abandoned t) n in
+      sound-entered (Abandoned t) n new _ refl parts tt refl
       (rw last (numbered-fewer (λ i. times-abandoned i (standing_of old) t) sound.numbered)) room
       (record {
         urgent = rw (n, u) (says-without t (rw n at same.urgent));
@@ -640,3 +687,51 @@ module _ {A : Type 0} {old : Inside A} (sound : IsSoundBook old) where
         abandoned = same.abandoned;
         outcomes = outcomes-new e n t own o (waiting-unanswered sound.numbered t waited);
       })
+
+  -- where nothing is outstanding a blank journal says as much
+  pub sound-archived : (journal : Journal A) → journal ≡ record {
+    items = [];
+    places = 0;
+    octet_places = 0;
+  } → old.urgent.items ≡ [] → old.waiting.items ≡ [] → old.taken ≡ None
+      → old.outcomes.items ≡ [] → IsTrue (has_journal old.limit)
+      → IsSoundBook (record old { journal = journal; restated = 0 })
+  sound-archived journal blank us ws free os there =
+      let awaited = none_abandoned sound (rw free refl) in
+      let forgotten = sound.forgotten.kept there in
+      let next = standing_of (record old { journal = journal; restated = 0 }) in record {
+        lines = rw (blank, us, ws, free, os) (record {
+          urgent_requests = tt;
+          waiting_requests = tt;
+          taken_within = tt;
+          outcomes_within = tt;
+        });
+        replayed = rw (blank, us, ws, free, os, awaited) refl;
+        in_turn = rw blank tt;
+        head = grind (arith);
+        numbered = rw (blank, us, ws, free, os) (record {
+          once = λ n. grind (arith, common_steps);
+          given = λ n above. refl;
+        });
+        forgotten = record {
+          overlap = rw forgotten.1 (grind (arith));
+          stands = rw (forgotten.0, forgotten.1) refl;
+          kept = sound.forgotten.kept;
+          unkept = λ unkept. refl;
+        };
+        room = record {
+          urgent_room = sound.room.urgent_room;
+          queue_room = sound.room.queue_room;
+          outcome_room = none-fit (outstanding_count next) (vec_capacity old.outcomes)
+              (simp (blank, us, ws, free, os) refl);
+          entry_room = none-fit (length journal.items + entries_owed next) journal.places
+              (simp (blank, us, ws, free, os) refl);
+          octet_room = none-fit (octet_sum journal.items + octets_owed next) journal.octet_places
+              (simp (blank, us, ws, free) refl);
+          within = rw blank (record {
+            entries_within = grind (arith);
+            octets_within = grind (arith);
+          });
+          limit = sound.room.limit;
+        };
+      }

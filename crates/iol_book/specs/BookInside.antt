@@ -1,15 +1,43 @@
 -- What callers see of a book's fields, and what holds of them.
-use Rattle.std.specs.Prelude.{ℕ, ◌+◌, ◌-◌, ◌/◌, ◌≤◌, min, length}
+use Rattle.std.specs.Prelude.{◌≡◌, ℕ, ◌+◌, ◌-◌, ◌/◌, ◌≤◌, ◌++◌, List, [], min, length, drop, IsTrue, IsFalse}
 use Rattle.std.specs.Vec.{vec_capacity}
 use Rattle.std.specs.VecDeque.{deque_capacity}
-use Rattle.iol_book.specs.Replay.{Standing, nothing}
+use Rattle.iol_book.specs.declared.entries.Entry.{Entry}
+use Rattle.iol_book.specs.Replay.{Standing, nothing, replay}
 use Rattle.iol_book.specs.JournalModel.{octet_sum, IsWithin}
 use Rattle.iol_book.specs.Lines.{AreLines, standing_at}
 use Rattle.iol_book.specs.BookModel.{BookState, BookMemory, BookValue, IsReplayed, outstanding_count, entries_owed, octets_owed}
 use Rattle.iol_book.specs.Drained.{AreInTurn}
-use Rattle.iol_book.specs.Limits.{request_entries, most_per_request, most_entries}
+use Rattle.iol_book.specs.Limits.{request_entries, most_per_request, most_entries, has_journal, entries_in_memory}
 use Rattle.iol_book.specs.Numbers.{IsNumbered}
 use Rattle.iol_book.specs.declared.book.Book.TheInside.{Inside}
+
+-- where the entries of a journal are
+pub record JournalParts : Type 0 where
+  -- those that are in no memory any more
+  pub forgotten : List Entry
+  -- those in memory, of which so many at their beginning are among the forgotten, too
+  pub in_memory : List Entry
+  pub overlap : ℕ
+  -- how many were handed out
+  pub restated : ℕ
+  -- the most that there may be, where the journal is kept
+  pub limit : ℕ
+
+-- all entries: those that are forgotten, and those in memory that aren't among them
+abbrev pub all_entries : JournalParts → List Entry
+all_entries parts = parts.forgotten ++ drop parts.overlap parts.in_memory
+
+-- what is forgotten of a journal
+pub record IsForgotten (parts : JournalParts) : Type 0 where
+  -- what is in memory of it too is there
+  pub overlap : parts.overlap ≤ length parts.in_memory
+  -- the entries in memory say what all of them say
+  pub stands : replay (all_entries parts) ≡ replay parts.in_memory
+  -- of a journal that is kept nothing is
+  pub kept : IsTrue (has_journal parts.limit) → (parts.forgotten ≡ []) × (parts.overlap ≡ 0)
+  -- and of another one nothing was ever handed out
+  pub unkept : IsFalse (has_journal parts.limit) → parts.restated ≡ 0
 
 module _ {A : Type 0} where
   -- what the queues, the request that is taken and the list of outcomes hold
@@ -17,7 +45,7 @@ module _ {A : Type 0} where
   standing_of fields = standing_at fields.journal.items fields.urgent.items fields.waiting.items
       fields.taken fields.abandoned fields.outcomes.items
 
-  -- the book without its memory
+  -- the book by the entries in memory, without that memory
   abbrev pub book_state : Inside A → BookState
   book_state fields = record {
     journal = fields.journal.items;
@@ -29,6 +57,20 @@ module _ {A : Type 0} where
     queue = fields.queue;
     serve = fields.serve;
   }
+
+  -- where its entries are
+  abbrev pub parts_of : Inside A → JournalParts
+  parts_of fields = record {
+    forgotten = fields.forgotten.entries;
+    in_memory = fields.journal.items;
+    overlap = fields.overlap;
+    restated = fields.restated;
+    limit = fields.limit;
+  }
+
+  -- the book by all of them
+  abbrev pub whole_state : Inside A → BookState
+  whole_state fields = record (book_state fields) { journal = all_entries (parts_of fields) }
 
   -- for how many submits the places for outcomes and for entries are there already
   abbrev pub room_of : Inside A → ℕ
@@ -50,7 +92,7 @@ module _ {A : Type 0} where
   -- a book as callers see it
   abbrev pub book_view : Inside A → BookValue
   book_view fields = record {
-    state = book_state fields;
+    state = whole_state fields;
     room = room_of fields;
     memory = memory_of fields;
   }
@@ -69,7 +111,7 @@ module _ {A : Type 0} where
     pub octet_room : octet_sum fields.journal.items + octets_owed (standing_of fields)
         ≤ fields.journal.octet_places
     -- and there is memory for no more than the limit
-    pub within : IsWithin fields.limit fields.journal
+    pub within : IsWithin (entries_in_memory fields.limit) fields.journal
     -- which is a million entries at most
     pub limit : fields.limit ≤ most_entries
 
@@ -86,4 +128,6 @@ module _ {A : Type 0} where
     pub head : fields.restated ≤ length fields.journal.items
     -- each ticket names one request
     pub numbered : IsNumbered fields.last (standing_of fields)
+    -- what is forgotten is known by what is in memory
+    pub forgotten : IsForgotten (parts_of fields)
     pub room : HasRoom fields

@@ -14,8 +14,8 @@ use Rattle.iol_book.specs.declared.entries.Outcome.TheVariants.{Done, Unknown, W
 use Rattle.iol_book.specs.declared.entries.Entry.{Entry}
 use Rattle.iol_book.specs.declared.entries.Entry.TheVariants.{Submitted, Urgent, Taken, Answered, Withdrawn as WithdrawnEntry, Collected, Abandoned}
 use Rattle.iol_book.specs.declared.fault.BookFault.{BookFault}
-use Rattle.iol_book.specs.declared.fault.BookFault.TheVariants.{Full, JournalFull, TicketsSpent, OutOfMemory, UnknownTicket, NotYet, TakenAlready, NotInFlight}
-use Rattle.iol_book.specs.Limits.{request_entries, most_data}
+use Rattle.iol_book.specs.declared.fault.BookFault.TheVariants.{Full, JournalFull, TicketsSpent, OutOfMemory, UnknownTicket, NotYet, TakenAlready, Outstanding, NotInFlight, NoJournal}
+use Rattle.iol_book.specs.Limits.{request_entries, most_data, has_journal}
 use Rattle.iol_book.specs.Replay.{Standing, nothing, standing_after, replay, same_ticket, is_among, is_taken, without_waiting}
 
 pub record BookState : Type 0 where
@@ -30,7 +30,8 @@ pub record BookState : Type 0 where
   pub standing : Standing
   -- whether a request that was cut off may still be carried out
   pub unsure : Bool
-  -- the most entries that the journal may have
+  -- the most entries that the journal may have; 0 where it is as long as it gets, and isn't kept:
+  -- then it is in no memory, and nobody is handed it
   pub limit : ℕ
   -- the most tickets that may be outstanding
   pub queue : ℕ
@@ -101,13 +102,18 @@ abbrev pub octets_owed : Standing → ℕ
 octets_owed standing =
     most_data * (waiting_count standing + (if is_some standing.taken then 1 else 0))
 
+-- whether a journal that is kept has no room for the entries of one more request
+-- BOOK-3
+abbrev pub is_full : BookState → Bool
+is_full book = has_journal book.limit
+    && nat_lt book.limit (length book.journal + entries_owed book.standing + request_entries)
+
 -- the first reason why a request can't be submitted, where it can't
 -- BOOK-2, BOOK-3
 abbrev pub submit_refusal : BookState → Option BookFault
 submit_refusal book =
     if nat_le book.queue (outstanding_count book.standing) then Some Full
-    else if nat_lt book.limit (length book.journal + entries_owed book.standing + request_entries)
-    then Some JournalFull
+    else if is_full book then Some JournalFull
     else if nat_eq (book.last + 1) (2 ^ 64) then Some TicketsSpent
     else None
 
@@ -277,10 +283,22 @@ book_after_abandon book ticket = if is_some (abandon_refusal book.standing ticke
 abbrev pub book_after_wake : BookState → BookState
 book_after_wake book = record book { unsure = false }
 
--- whether nothing is outstanding, and no request that was cut off may still be carried out
+-- whether the journal is kept, nothing is outstanding, and no request that was cut off may still be
+-- carried out
 -- BOOK-8
 abbrev pub may_archive : BookState → Bool
-may_archive book = nat_eq (outstanding_count book.standing) 0 && not book.unsure
+may_archive book = has_journal book.limit
+    && (nat_eq (outstanding_count book.standing) 0 && not book.unsure)
+
+-- why an archive is refused, where it is
+-- BOOK-8
+abbrev pub archive_refusal : BookState → BookFault
+archive_refusal book = if has_journal book.limit then Outstanding else NoJournal
+
+-- and a drain
+-- BOOK-13
+abbrev pub drain_refusal : BookState → BookFault
+drain_refusal book = if has_journal book.limit then OutOfMemory else NoJournal
 
 -- the book after an archive
 abbrev pub book_after_archive : BookState → BookState

@@ -1,5 +1,5 @@
 -- In which ranges a book is opened.
-use Rattle.std.specs.Prelude.{ℕ, ◌≤◌}
+use Rattle.std.specs.Prelude.{ℕ, Bool, ◌≤◌, nat_lt, IsTrue, if◌then◌else◌}
 
 -- the most entries of one request: submitted, taken, answered and collected
 -- BOOK-3
@@ -18,10 +18,19 @@ most_per_request = 464
 abbrev pub most_entries : ℕ
 most_entries = 1000000
 
--- the most entries of a book's journal: room for one request at least
+-- whether a journal with this limit is kept; with the limit 0 none is
+abbrev pub has_journal : ℕ → Bool
+has_journal limit = nat_lt 0 limit
+
+-- the most entries of a book's journal: room for one request at least, where one is kept
 -- BOOK-11
 abbrev pub IsJournalLimit : ℕ → Type 0
-IsJournalLimit entries = (request_entries ≤ entries) × (entries ≤ most_entries)
+IsJournalLimit entries = (IsTrue (has_journal entries) → request_entries ≤ entries)
+    × (entries ≤ most_entries)
+
+-- for how many entries there may be memory
+abbrev pub entries_in_memory : ℕ → ℕ
+entries_in_memory limit = if has_journal limit then limit else most_entries
 
 -- the busy reply at which a request is cut off: never the first
 -- BOOK-11

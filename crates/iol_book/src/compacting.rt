@@ -7,7 +7,7 @@ ghost use Rattle.std.specs.VecDeque.{deque_capacity};
 ghost use Rattle.std.specs.Option.{option_map_or, option_to_list};
 ghost use Rattle.iol_book.specs.Replay.{same_ticket};
 ghost use Rattle.iol_book.specs.Lines.{entry_ticket, is_still_open_by, lines_after, with_numbers, moved_number};
-ghost use Rattle.iol_book.specs.Drained.{last_taken};
+ghost use Rattle.iol_book.specs.Drained.{last_taken, in_doubt};
 ghost use Rattle.iol_book.specs.JournalModel.{octet_sum, HasPlaces};
 
 use crate::lines::{Outcomes, Queue, is_line_of, outcome_at, place_in};
@@ -26,8 +26,18 @@ pub(crate) fn copy_entries<A: Allocator + Copy>(journal: &Journal<A>, list: &mut
     }
 }
 
+// The ticket in doubt.
+pub(crate) fn in_doubt<A: Allocator + Copy>(unsure: bool, journal: &Journal<A>) -> Option<Ticket>
+    ensures { result ≡ in_doubt unsure journal.now.items }
+{
+    if !unsure {
+        return None;
+    }
+    last_taken(journal)
+}
+
 // The ticket that was taken last.
-pub(crate) fn last_taken<A: Allocator + Copy>(journal: &Journal<A>) -> Option<Ticket>
+fn last_taken<A: Allocator + Copy>(journal: &Journal<A>) -> Option<Ticket>
     ensures { result ≡ last_taken None journal.now.items }
 {
     let mut last = None;

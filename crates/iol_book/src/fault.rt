@@ -35,6 +35,9 @@ pub enum BookFault {
     /// 36: the request is not the one that is taken: it waits, or has an outcome.
     #[error("NotInFlight")]
     NotInFlight,
+    /// 63: the book was opened without a journal, so it has none to hand out.
+    #[error("NoJournal")]
+    NoJournal,
 }
 
 impl BookFault {
@@ -54,6 +57,7 @@ impl BookFault {
             BookFault::TakenAlready => 27,
             BookFault::Outstanding => 28,
             BookFault::NotInFlight => 36,
+            BookFault::NoJournal => 63,
         }
     }
 }

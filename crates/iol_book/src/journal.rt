@@ -1,7 +1,7 @@
 //! The journal of a book, in memory.
 #![tactic(auto, using(crate::proofs::JournalLemmas::journal_steps))]
 
-ghost use Rattle.std.specs.Prelude.{◌≡◌, ◌<◌, ◌≤◌, ◌+◌, ◌*◌, ◌++◌, ◌∷◌, ◌==◌, [], IsTrue, length, slice_get, slice_index_or, OnOk, OnErr};
+ghost use Rattle.std.specs.Prelude.{◌≡◌, ◌<◌, ◌≤◌, ◌+◌, ◌*◌, ◌++◌, ◌∷◌, ◌==◌, [], IsTrue, true, false, length, slice_get, slice_index_or, OnOk, OnErr};
 ghost use Rattle.std.specs.Vec.{vec_len, vec_capacity};
 ghost use Rattle.iol_book.specs.Lines.{entry_ticket, has_request, entry_request, outcome_in};
 ghost use Rattle.iol_book.specs.Forms.{octets_of_request, octets_of_outcome, octets_of_entry, entry_from, most_octets};
@@ -233,6 +233,14 @@ impl<A: Allocator + Copy> Journal<A> {
     {
         self.lines.clear();
         self.octets.clear();
+    }
+
+    // Whether there is room for so many more entries with so many octets together.
+    pub(crate) fn has_places(&self, entries: usize, octets: usize) -> bool
+        ensures yes { result ≡ true → HasPlaces self.now entries octets }
+        ensures no { result ≡ false → HasPlaces self.now entries octets → ⊥ }
+    {
+        entries <= self.lines.capacity() - self.lines.len() && self.octets.has_room(octets)
     }
 
     /// Gets room for so many more entries with so many octets together. Refused where there is no

@@ -21,6 +21,7 @@ mod book;
 mod compacting;
 mod entries;
 mod fault;
+mod forgotten;
 mod forms;
 mod journal;
 mod laws;

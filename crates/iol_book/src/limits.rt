@@ -7,7 +7,7 @@ use std::marker::Model;
 /// What a port is opened with.
 #[derive(Clone, Copy, Debug, PartialEq, Eq)]
 pub struct Limits {
-    /// The most entries that the journal may have.
+    /// The most entries that the journal may have, or that none is kept.
     pub journal: JournalLimit,
     /// How many busy replies a request may have before it is cut off. The book makes no use of it.
     pub busy: BusyLimit,
@@ -32,10 +32,11 @@ impl Default for Limits {
     }
 }
 
-/// The most entries that a journal may have: 4 to 1,000,000.
+/// The most entries that a journal may have: 4 to 1,000,000; or 0, so that none is kept.
 ///
 /// Contracts see the number. An urgent request needs as many entries as another: 4 where it is
-/// taken, 3 where it is withdrawn or denied.
+/// taken, 3 where it is withdrawn or denied. Without a journal no submit is refused by 22; neither
+/// `archive` nor `drain` hands one out, and an entry is in memory only while its ticket needs it.
 #[derive(Clone, Copy, Debug, PartialEq, Eq)]
 pub struct JournalLimit {
     entries: u32,
@@ -55,18 +56,21 @@ impl Model for JournalLimit {
 }
 
 impl JournalLimit {
-    /// The limit of so many entries, or None where they aren't 4 to 1,000,000.
+    /// No journal is kept.
+    pub const NONE: JournalLimit = JournalLimit { entries: 0 };
+
+    /// The limit of so many entries, or None where they are neither 0 nor 4 to 1,000,000.
     pub fn new(entries: u32) -> Option<JournalLimit>
         ensures some { IsSome result ↔ IsJournalLimit entries }
         ensures value { IfSome result (λ limit. limit ≡ entries) }
     {
         match entries {
-            4..=1_000_000 => Some(JournalLimit { entries }),
+            0 | 4..=1_000_000 => Some(JournalLimit { entries }),
             _ => None,
         }
     }
 
-    /// The most entries that the journal may have: 4 to 1,000,000.
+    /// The most entries that the journal may have: 4 to 1,000,000, or 0 where none is kept.
     pub fn entries(self) -> u32
         ensures value { result ≡ self }
         ensures range { IsJournalLimit result }

@@ -1,7 +1,7 @@
 //! The octets of a journal's entries.
 #![tactic(auto, using(std::proofs::lemmas::Grind::common_steps))]
 
-ghost use Rattle.std.specs.Prelude.{◌≡◌, ◌<◌, ◌≤◌, ◌+◌, ◌++◌, [], length, OnOk, OnErr};
+ghost use Rattle.std.specs.Prelude.{◌≡◌, ◌<◌, ◌≤◌, ◌+◌, ◌++◌, [], true, false, length, OnOk, OnErr};
 
 use std::alloc::{AllocError, Allocator};
 use std::marker::Model;
@@ -68,6 +68,14 @@ impl<A: Allocator + Copy> OctetList<A> {
         self.used = end;
     }
 
+    // Whether there is room for so many more.
+    pub(crate) fn has_room(&self, more: usize) -> bool
+        ensures yes { result ≡ true → length self.now.items + more ≤ self.now.places }
+        ensures no { result ≡ false → self.now.places < length self.now.items + more }
+    {
+        more <= self.room.len() - self.used
+    }
+
     // Room for so many more.
     pub(crate) fn reserve(&mut self, more: usize) -> Result<(), AllocError>
         ensures items { self.new.items ≡ self.old.items }
@@ -91,7 +99,7 @@ impl<A: Allocator + Copy> OctetList<A> {
         ensures within { self.new.places ≤ most }
         ensures full { OnErr result (self.old.places < length self.old.items + more) }
     {
-        if more <= self.room.len() - self.used {
+        if self.has_room(more) {
             return Ok(());
         }
         let places = self.used + more.max(self.used / GROWTH).min(most - self.used);

@@ -1,6 +1,6 @@
 use Rattle.std.proofs.Common.{refl}
 use Rattle.iol_book.proofs.LineLemmas.{entry_steps, line_steps}
-use Rattle.iol_book.proofs.SoundLemmas.{abandoned-taken, abandoned-waiting, abandoned-outcome}
+use Rattle.iol_book.proofs.SoundLemmas.{abandoned-taken, abandoned-waiting, abandoned-outcome, whole-replayed, whole-push}
 use Rattle.iol_book.proofs.book.Book.abandon.Goals.{then-is_awaited, else-is_awaited+then-waits, else-is_awaited+else-waits+in-Some}
 use Rattle.iol_book.proofs.book.Book.abandon.Goals as goal
 
@@ -26,12 +26,12 @@ invariant_of-self g c = elim c.if-is_awaited.branch [
 
 pub returns-clause-state : goal.returns-clause-state
 returns-clause-state g c = elim c.if-is_awaited.branch [
-  | then-is_awaited w ↦ grind (entry_steps, line_steps, (invariant_of-self g c).replayed)
+  | then-is_awaited w ↦ grind (entry_steps, line_steps, (invariant_of-self g c).replayed, whole-push c.self.invariant)
   | else-is_awaited+then-waits w ↦
-      grind (entry_steps, line_steps, (invariant_of-self g c).replayed)
+      grind (entry_steps, line_steps, (invariant_of-self g c).replayed, whole-push c.self.invariant)
   | else-is_awaited+else-waits+in-Some w ↦
-      grind (entry_steps, line_steps, (invariant_of-self g c).replayed)
+      grind (entry_steps, line_steps, (invariant_of-self g c).replayed, whole-push c.self.invariant)
 ]
 
 pub returns-clause-replayed : goal.returns-clause-replayed
-returns-clause-replayed g c = (invariant_of-self g c).replayed
+returns-clause-replayed g c = whole-replayed (invariant_of-self g c)

@@ -1,5 +1,5 @@
 use Rattle.iol_book.proofs.LineLemmas.{entry_steps}
-use Rattle.iol_book.proofs.SoundLemmas.{sound-urgent}
+use Rattle.iol_book.proofs.SoundLemmas.{sound-urgent, whole-replayed, whole-push}
 use Rattle.iol_book.proofs.book.Book.submit_urgent.Goals as goal
 
 pub invariant_of-self : goal.invariant_of-self
@@ -8,7 +8,7 @@ invariant_of-self g c =
     (grind entry_steps) (grind entry_steps) (grind entry_steps)
 
 pub returns-clause-state : goal.returns-clause-state
-returns-clause-state g c = grind (entry_steps, (invariant_of-self g c).replayed)
+returns-clause-state g c = grind (entry_steps, (invariant_of-self g c).replayed, whole-push c.self.invariant)
 
 pub returns-clause-replayed : goal.returns-clause-replayed
-returns-clause-replayed g c = (invariant_of-self g c).replayed
+returns-clause-replayed g c = whole-replayed (invariant_of-self g c)
