@@ -1,11 +1,13 @@
 -- What a drain leaves of a journal: the entries of the tickets that are outstanding or in doubt.
-use Rattle.std.specs.Prelude.{◌≡◌, Bool, true, false, ◌||◌, List, [], ◌∷◌, Option, None, Some, filter, length, if◌then◌else◌, ⊤}
+use Rattle.std.specs.Prelude.{◌≡◌, Bool, true, false, ◌||◌, List, [], ◌∷◌, Option, None, Some, filter, length, if◌then◌else◌, ⊤, IsTrue}
 use Rattle.std.specs.Option.{option_map_or}
 use Rattle.iol_book.specs.declared.entries.Ticket.{Ticket}
 use Rattle.iol_book.specs.declared.entries.Entry.{Entry}
 use Rattle.iol_book.specs.declared.entries.Entry.TheVariants.{Taken, Answered}
 use Rattle.iol_book.specs.Lines.{entry_ticket}
 use Rattle.iol_book.specs.Replay.{Standing, same_ticket, is_taken, standing_after, replay}
+use Rattle.iol_book.specs.JournalModel.{JournalValue, LacksPlaces}
+use Rattle.iol_book.specs.Limits.{has_journal}
 use Rattle.iol_book.specs.BookModel.{BookState, waits, has_outcome}
 
 -- the ticket that was taken last, of these entries or else before them
@@ -37,6 +39,10 @@ book_after_drain book = record book {
   journal = restated_entries book.unsure book.journal;
   restated = length (restated_entries book.unsure book.journal);
 }
+
+-- a journal that is kept doesn't fit into the list that should take it
+abbrev pub LacksRoomFor : BookState → JournalValue → Type 0
+LacksRoomFor book list = IsTrue (has_journal book.limit) → LacksPlaces list book.journal
 
 -- One is taken while none is. An outcome is that of the one that is taken, or comes while none is
 abbrev pub IsInTurn : Standing → Entry → Type 0

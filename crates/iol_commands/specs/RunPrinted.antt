@@ -20,7 +20,7 @@ use Rattle.iol_book.specs.declared.entries.Outcome.{Outcome}
 use Rattle.iol_book.specs.declared.entries.Outcome.TheVariants.{Done, Unknown, Withdrawn, NoIsdu}
 use Rattle.iol_book.specs.declared.entries.Ticket.{Ticket}
 use Rattle.iol_book.specs.declared.fault.BookFault.{BookFault}
-use Rattle.iol_book.specs.declared.fault.BookFault.TheVariants.{Full, JournalFull, TicketsSpent, OutOfMemory, UnknownTicket, NotYet, TakenAlready, Outstanding, NotInFlight}
+use Rattle.iol_book.specs.declared.fault.BookFault.TheVariants.{Full, JournalFull, TicketsSpent, OutOfMemory, UnknownTicket, NotYet, TakenAlready, Outstanding, NotInFlight, NoJournal}
 use Rattle.iol_port.specs.Faults.{port_fault_number}
 use Rattle.iol_port.specs.declared.call.Call.{Call}
 use Rattle.iol_port.specs.declared.call.Call.TheVariants as call
@@ -152,6 +152,7 @@ book_fault_name NotYet = codes "NotYet"
 book_fault_name TakenAlready = codes "TakenAlready"
 book_fault_name Outstanding = codes "Outstanding"
 book_fault_name NotInFlight = codes "NotInFlight"
+book_fault_name NoJournal = codes "NoJournal"
 
 abbrev pub output_fault_name : OutputFault → List ℕ
 output_fault_name WrongImageLength = codes "WrongImageLength"

@@ -270,6 +270,7 @@ fn book_fault_name(fault: BookFault) -> &'static str
         BookFault::TakenAlready => "TakenAlready",
         BookFault::Outstanding => "Outstanding",
         BookFault::NotInFlight => "NotInFlight",
+        BookFault::NoJournal => "NoJournal",
     }
 }
 

@@ -52,6 +52,7 @@ const TABLE: &str = "\
 27 TakenAlready
 28 Outstanding
 36 NotInFlight
+63 NoJournal
 14 WrongAnswerKind
 16 MemoryFull
 24 OutOfMemory
@@ -163,6 +164,7 @@ fn add_requests(table: &mut Table) {
         BookFault::TakenAlready,
         BookFault::Outstanding,
         BookFault::NotInFlight,
+        BookFault::NoJournal,
     ] {
         table.add(fault.code(), fault);
     }

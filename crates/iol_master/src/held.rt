@@ -1,6 +1,6 @@
 //! What lies under a port's lock: the port, and its share of the tickets.
 ghost use Rattle.std.specs.Prelude.{◌≡◌, ◌<◌, ◌≤◌, ◌+◌, ℕ, None, Some, IfOk, OnErr, [], length};
-ghost use Rattle.iol_book.specs.JournalModel.{LacksPlaces};
+ghost use Rattle.iol_book.specs.Drained.{LacksRoomFor};
 ghost use Rattle.std.specs.Option.{option_copied};
 ghost use Rattle.iol_book.specs.BookModel.{IsReplayed};
 ghost use Rattle.iol_port.specs.View.{IsRun, OpensWell, KeepsRecordOver, over};
@@ -312,7 +312,7 @@ impl<W: Wire, K: Ledger, A: Handle> Held<W, K, A> {
     pub fn drain_into(&mut self, list: &mut Journal<A>) -> Result<usize, PortFault>
         ensures is { DrainsInto (MakesCall self.old self.new) self.old.parts self.new.parts
             list.old.items list.new.items result }
-        ensures full { OnErr result (LacksPlaces list.old self.old.parts.book.state.journal) }
+        ensures full { OnErr result (LacksRoomFor self.old.parts.book.state list.old) }
     {
         self.port.drain_into(list)
     }

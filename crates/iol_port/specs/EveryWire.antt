@@ -14,10 +14,10 @@ use Rattle.iol_book.specs.declared.entries.Entry.{Entry}
 use Rattle.iol_book.specs.declared.entries.Outcome.{Outcome}
 use Rattle.iol_book.specs.declared.entries.Ticket.{Ticket}
 use Rattle.iol_book.specs.declared.entries.Serve.{Serve}
-use Rattle.iol_book.specs.declared.fault.BookFault.TheVariants.{Outstanding, OutOfMemory}
 use Rattle.iol_book.specs.declared.entries.Outcome.TheVariants.{NoIsdu}
 use Rattle.iol_book.specs.Replay.{same_ticket}
-use Rattle.iol_book.specs.BookModel.{BookState, BookValue, MemoryGrows, memory_archived, RefusesFor, submit_refusal, book_after_submit, book_after_urgent, next_ticket, next_taken, book_after_take, book_after_denial, waits, collect_answer, book_after_collect, withdraw_refusal, abandon_refusal, book_after_abandon, book_after_serve, book_after_withdrawal, flight_refusal, may_archive, book_after_archive}
+use Rattle.iol_book.specs.Limits.{has_journal}
+use Rattle.iol_book.specs.BookModel.{BookState, BookValue, MemoryGrows, archive_refusal, drain_refusal, memory_archived, RefusesFor, submit_refusal, book_after_submit, book_after_urgent, next_ticket, next_taken, book_after_take, book_after_denial, waits, collect_answer, book_after_collect, withdraw_refusal, abandon_refusal, book_after_abandon, book_after_serve, book_after_withdrawal, flight_refusal, may_archive, book_after_archive}
 use Rattle.iol_book.specs.Drained.{book_after_drain}
 use Rattle.iol_mode.specs.States.{is_reset}
 use Rattle.iol_mode.specs.declared.why.Why.{Why}
@@ -137,16 +137,17 @@ pub record ArchiveGives (old : PortParts) (result : Result (List Entry) PortFaul
     (new : PortParts) : Type 0 where
   pub allowed : is_ok result ≡ may_archive old.book.state
   pub journal : IfOk result (λ entries. entries ≡ old.book.state.journal)
-  pub refused : IfErr result (λ why. why ≡ fault.Book Outstanding)
+  pub refused : IfErr result (λ why. why ≡ fault.Book (archive_refusal old.book.state))
   pub book : new.book.state ≡ book_after_archive old.book.state
   pub memory : new.book.memory ≡ memory_archived old.book
   pub rest : IsBookCall old new
 
--- What a drain leaves: a journal of what is restated; refused for want of memory alone, and then as
--- it was
+-- What a drain leaves: a journal of what is restated; refused where none is kept, or for want of
+-- memory, and then as it was
 pub record DrainLeaves {X : Type 0} (old : PortParts) (result : Result X PortFault)
     (new : PortParts) : Type 0 where
-  pub refused : IfErr result (λ why. why ≡ fault.Book OutOfMemory)
+  pub there : OnOk result (IsTrue (has_journal old.book.state.limit))
+  pub refused : IfErr result (λ why. why ≡ fault.Book (drain_refusal old.book.state))
   pub book : OnOk result (new.book.state ≡ book_after_drain old.book.state)
   pub unchanged : OnErr result (new.book.state ≡ old.book.state)
   pub memory : KeepsMemory old new

@@ -2,7 +2,7 @@
 #![tactic(auto, using(crate::proofs::HonestRuns::called))]
 
 ghost use Rattle.std.specs.Prelude.{◌≡◌, ◌<◌, ◌≤◌, ◌+◌, None, Some, IfOk, IfErr, OnErr, IsTrue, length, is_some};
-ghost use Rattle.iol_book.specs.JournalModel.{LacksPlaces};
+ghost use Rattle.iol_book.specs.Drained.{LacksRoomFor};
 ghost use Rattle.std.specs.Result.{result_map_both};
 ghost use Rattle.iol_far.specs.Octets.{octets_in};
 ghost use Rattle.iol_far.specs.Far.{Far};
@@ -292,7 +292,7 @@ impl<A: Allocator + Copy> HonestPort<A> {
     pub fn drain_into(&mut self, list: &mut Journal<A>) -> Result<usize, PortFault>
         ensures is { DrainsInto (Calls self.old self.new) self.old.parts self.new.parts
             list.old.items list.new.items result }
-        ensures full { OnErr result (LacksPlaces list.old self.old.parts.book.state.journal) }
+        ensures full { OnErr result (LacksRoomFor self.old.parts.book.state list.old) }
     {
         self.core.drain_into(list)
     }

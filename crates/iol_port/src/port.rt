@@ -3,7 +3,7 @@
 
 ghost use Rattle.std.specs.Prelude.{◌≡◌, ◌<◌, ◌≤◌, ◌+◌, None, Some, IfOk, IfErr, OnErr, [], length};
 ghost use Rattle.std.specs.Vec.{vec_capacity};
-ghost use Rattle.iol_book.specs.JournalModel.{LacksPlaces};
+ghost use Rattle.iol_book.specs.Drained.{LacksRoomFor};
 ghost use Rattle.std.specs.Option.{option_copied};
 ghost use Rattle.std.specs.Result.{result_map_both};
 ghost use Rattle.iol_book.specs.declared.fault.BookFault.TheVariants.{OutOfMemory};
@@ -320,7 +320,7 @@ impl<W: Wire, A: Handle> Port<W, A> {
     pub fn drain_into(&mut self, list: &mut Journal<A>) -> Result<usize, PortFault>
         ensures is { DrainsInto (MakesCall self.old self.new) self.old.parts self.new.parts
             list.old.items list.new.items result }
-        ensures full { OnErr result (LacksPlaces list.old self.old.parts.book.state.journal) }
+        ensures full { OnErr result (LacksRoomFor self.old.parts.book.state list.old) }
     {
         self.core.drain_into(list)
     }

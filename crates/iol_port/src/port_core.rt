@@ -1,6 +1,6 @@
 //! A port without the wire: it gives the octets to send, and takes what came.
 ghost use Rattle.std.specs.Prelude.{◌≡◌, ◌<◌, ◌≤◌, ◌+◌, None, true, false, IfOk, IfErr, IfSome, OnErr, IsTrue, length, is_some};
-ghost use Rattle.iol_book.specs.JournalModel.{LacksPlaces};
+ghost use Rattle.iol_book.specs.Drained.{LacksRoomFor};
 ghost use Rattle.std.specs.Option.{option_copied};
 ghost use Rattle.std.specs.Result.{result_map_both};
 ghost use Rattle.iol_isdu.specs.Texts.{IsRequest};
@@ -414,7 +414,8 @@ impl<A: Allocator + Copy> PortCore<A> {
     /// Refused, with nothing changed, by 28 where a ticket is outstanding, or where
     /// a request was cut off by a lost link or a restart and the device wasn't reset
     /// since, as it may still carry that request out. A wake that succeeds resets it; at
-    /// a port for any device it is reset once it has left its mode.
+    /// a port for any device it is reset once it has left its mode. Refused by 63 where the port
+    /// keeps no journal.
     pub fn archive(&mut self) -> Result<Journal<A>, PortFault>
         ensures is { Archives (CoreCalled self.old self.new) self.old self.new
             (λ entries. entries.items) result }
@@ -433,7 +434,7 @@ impl<A: Allocator + Copy> PortCore<A> {
     /// the device is reset.
     ///
     /// The list that is answered takes memory. Refused, with nothing changed, by 24 where there is
-    /// none for it.
+    /// none for it, and by 63 where the port keeps no journal.
     pub fn drain(&mut self) -> Result<Journal<A>, PortFault>
         ensures is { Drains (CoreCalled self.old self.new) self.old self.new
             (λ entries. entries.items) result }
@@ -446,11 +447,12 @@ impl<A: Allocator + Copy> PortCore<A> {
     /// entries that were handed out are restated ones.
     ///
     /// The list takes memory if it has too little room for the journal, and nothing else does.
-    /// Refused by 24 where there is none for it; port and list are then as they were.
+    /// Refused by 24 where there is none for it, and by 63 where the port keeps no journal; port and
+    /// list are then as they were.
     pub fn drain_into(&mut self, list: &mut Journal<A>) -> Result<usize, PortFault>
         ensures is { DrainsInto (CoreCalled self.old self.new) self.old self.new
             list.old.items list.new.items result }
-        ensures full { OnErr result (LacksPlaces list.old self.old.book.state.journal) }
+        ensures full { OnErr result (LacksRoomFor self.old.book.state list.old) }
     {
         by_book(self.book.drain_into(list))
     }

@@ -2,7 +2,7 @@
 ghost use Rattle.std.specs.Prelude.{◌≡◌, IfSome, IsOk, option_map};
 ghost use Rattle.iol_page.specs.Page.{layouts_of};
 ghost use Rattle.iol_script.specs.Numerals.{number_in};
-ghost use Rattle.iol_script.specs.RunLines.{access_of, devices_form, devices_named, at_most_form, hands_over_of, kept_form, kind_form, limits_form, order_form, page_octets, param_form, pulses_form, queue_form, range_form, recalls_of};
+ghost use Rattle.iol_script.specs.RunLines.{access_of, devices_form, devices_named, at_most_form, hands_over_of, kept_form, kind_form, limits_form, order_form, page_octets, param_form, pulses_form, journal_form, queue_form, range_form, recalls_of};
 ghost use Rattle.iol_script.specs.declared.setting.Setting.{Setting};
 ghost use Rattle.iol_script.specs.Text.{words_left};
 
@@ -159,7 +159,7 @@ pub(crate) fn limits_of(mut words: Words) -> Option<Limits>
     ensures given { IfSome result (λ limits. limits.given ≡ 0) }
 {
     let busy = BusyLimit::new(decimal_number(words.next()?, 2, 65_535)? as u16)?;
-    let journal = JournalLimit::new(decimal_number(words.next()?, 4, 1_000_000)? as u32)?;
+    let journal = journal_of(words.next()?)?;
     let queue = queue_of(words)?;
     Some(Limits {
         journal,
@@ -167,6 +167,16 @@ pub(crate) fn limits_of(mut words: Words) -> Option<Limits>
         queue,
         given: 0,
     })
+}
+
+/// The word of the journal: 4 to 1,000,000 entries, or 0 where none is kept.
+fn journal_of(word: &[u8]) -> Option<JournalLimit>
+    ensures { result ≡ journal_form word.now }
+{
+    if is(word, b"0") {
+        return Some(JournalLimit::NONE);
+    }
+    JournalLimit::new(decimal_number(word, 4, 1_000_000)? as u32)
 }
 
 /// The word of outstanding tickets, 1 to 64, or none for 64.

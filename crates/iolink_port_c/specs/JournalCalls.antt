@@ -1,6 +1,8 @@
 -- What the calls of C on the journal answer and leave, where the handle is open.
 use Rattle.std.specs.Prelude.{◌≡◌, ℕ, length, Result, IfOk, OnOk, OnErr}
-use Rattle.iol_book.specs.declared.fault.BookFault.TheVariants.{Outstanding}
+use Rattle.iol_book.specs.declared.fault.BookFault.{BookFault}
+use Rattle.iol_book.specs.Faults.{book_fault_number}
+use Rattle.iol_book.specs.BookModel.{archive_refusal}
 use Rattle.iol_port.specs.declared.call.Call.TheVariants as call
 use Rattle.iol_port.specs.declared.call.Answered.TheVariants as answered
 use Rattle.iol_port.specs.declared.fault.PortFault.TheVariants as fault
@@ -20,15 +22,19 @@ pub record HandleArchives (old : IolPort) (number count : ℕ) (new : IolPort) :
   pub passed : call_taken new ≡ call_taken old
   pub does : CallDoes old call.Archive (answered.Archived count) new
 
+-- why it doesn't
+abbrev pub refusal_of : IolPort → BookFault
+refusal_of old = archive_refusal (held_parts old).book.state
+
 -- it doesn't: the book, and the journal that the handle keeps, stay as they are
 pub record RefusesArchive (old : IolPort) (number count : ℕ) (new : IolPort) : Type 0 where
-  pub number_is : number ≡ 28
+  pub number_is : number ≡ book_fault_number (refusal_of old)
   pub count_is : count ≡ 0
   pub book : (held_parts new).book.state ≡ (held_parts old).book.state
   pub rest : Stays old new
-  pub does : CallDoes old call.Archive (answered.Refused (fault.Book Outstanding)) new
+  pub does : CallDoes old call.Archive (answered.Refused (fault.Book (refusal_of old))) new
 
--- the port is drained, or there is no memory for it
+-- the port is drained, or it has no journal, or there is no memory for it
 abbrev pub PortDrains : PortParts → PortParts → Result (ℕ × ℕ) PortFault → Type 0
 PortDrains old new answer =
     Drains (CoreCalled old new) old new (λ counts. old.book.state.journal) answer

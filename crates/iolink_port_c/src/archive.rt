@@ -10,15 +10,16 @@ ghost use Rattle.iolink_port_forms.specs.Journal.{entry_due, KeepsNone};
 use crate::held::{IolPort, PortWithJournal};
 use iol_port::PortFault;
 use iolink_handle::CLOSED;
-use iolink_port_forms::{IolEntry, show_next};
+use iolink_port_forms::IolEntry;
 use std::alloc::Global;
 
 /// Begins a new journal and keeps the old one for `iol_port_entry`, in place of the
 /// one that was kept before.
 ///
 /// 0 and how many entries it has, or the first of 252 where the handle is closed, which leaves
-/// `count` as it is, and 28 where a ticket is outstanding or a request that was cut off may
-/// still be carried out: `count` is 0 then, and the journal that was kept before stays.
+/// `count` as it is, 28 where a ticket is outstanding or a request that was cut off may
+/// still be carried out, and 63 where the port keeps no journal: `count` is 0 then, and the
+/// journal that was kept before stays.
 #[unsafe(no_mangle)]
 pub extern "C" fn iol_port_archive(alloc: Global, handle: &mut IolPort, count: &mut u32) -> u8
     ensures closed { LeavesClosed result handle.old handle.new count.old count.new }
@@ -55,8 +56,8 @@ pub extern "C" fn iol_port_archive(alloc: Global, handle: &mut IolPort, count: &
 ///
 /// 0, how many entries it has, and how many of these, the first ones, the drain before kept
 /// already; or the first of 252 where the handle is closed, which leaves `count` and `restated` as
-/// they are, and 24 where there is no memory for the list that is kept: both are 0 then, and the
-/// journal and the one that was kept before stay.
+/// they are, 24 where there is no memory for the list that is kept, and 63 where the port keeps no
+/// journal: both are 0 then, and the journal and the one that was kept before stay.
 #[unsafe(no_mangle)]
 pub extern "C" fn iol_port_drain(
     alloc: Global,
@@ -116,9 +117,12 @@ pub extern "C" fn iol_port_entry(alloc: Global, handle: &mut IolPort, out: &mut 
     ensures end { IsTrue handle.old.is_open → IsNone (entry_due handle.old.held.value.journal) →
         KeepsNone handle.new.held.value.journal }
 {
-    match handle.with(alloc, |master| master.journal.next(alloc)) {
-        Some(entry) => show_next(&entry, out),
-        None => return CLOSED,
+    if !handle.is_open {
+        return CLOSED;
     }
+    // An entry is large: it doesn't go through the handle.
+    let mut master = handle.take_box(alloc);
+    master.journal.show_next(alloc, out);
+    *handle = IolPort::of(master);
     0
 }

@@ -99,6 +99,15 @@ impl IolPort {
         (closed, loose.into_box(alloc))
     }
 
+    /// The box of an open handle, which is closed behind this.
+    pub(crate) fn take_box(&mut self, alloc: Global) -> Box<PortWithJournal>
+        requires { self.old.is_open ≡ true }
+        ensures shut { self.new.is_open ≡ false }
+        ensures value { result.value ≡ self.old.held.value }
+    {
+        replace_with(self, alloc, |handle, alloc| handle.take(alloc))
+    }
+
     /// What `f` makes of the port behind the handle, none where the handle is closed.
     pub(crate) fn with<R, F: FnOnce(&mut PortWithJournal) -> R>(
         &mut self,

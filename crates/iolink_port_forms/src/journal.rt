@@ -68,8 +68,21 @@ impl KeptJournal {
         count
     }
 
-    /// The next entry, the oldest first. At the end none, and the memory is given back.
-    pub fn next(&mut self, alloc: Global) -> Option<Entry>
+    /// Shows C the next entry, the oldest first. At the end kind 0, and the memory is given back.
+    pub fn show_next(&mut self, alloc: Global, out: &mut IolEntry)
+        ensures shown { IsNext (entry_due self.old) out.new }
+        ensures more { IsSome (entry_due self.old) →
+            self.new ≡ record self.old { read = self.old.read + 1 } }
+        ensures end { IsNone (entry_due self.old) → KeepsNone self.new }
+    {
+        match self.next(alloc) {
+            Some(entry) => show_entry(&entry, out),
+            None => show_end(out),
+        }
+    }
+
+    // The next entry. At the end none, and the memory is given back.
+    fn next(&mut self, alloc: Global) -> Option<Entry>
         ensures entry { result ≡ entry_due self.old }
         ensures more { IsSome result → self.new ≡ record self.old { read = self.old.read + 1 } }
         ensures end { IsNone result → KeepsNone self.new }
@@ -81,16 +94,6 @@ impl KeptJournal {
         let entry = self.entries.get(self.read);
         self.read += 1;
         entry
-    }
-}
-
-/// Shows C an entry; kind 0 where there is none.
-pub fn show_next(entry: &Option<Entry>, out: &mut IolEntry)
-    ensures { IsNext entry.now out.new }
-{
-    match entry {
-        Some(entry) => show_entry(entry, out),
-        None => show_end(out),
     }
 }
 

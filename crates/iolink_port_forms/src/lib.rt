@@ -16,7 +16,7 @@ mod state;
 
 pub use counters::{IolCounters, counters_of};
 pub use device::{IolPage, cycle_of, identity_of, show_counting, show_page};
-pub use journal::{IolEntry, KeptJournal, show_next};
+pub use journal::{IolEntry, KeptJournal};
 pub use loss::{IolLoss, loss_of};
 pub use message::{IolMessage, show_message};
 pub use opening::{devices_of, limits_of};

@@ -8,7 +8,7 @@ ghost use Rattle.iolink_storage_c.specs.JournalCalls.{StoreDrains, DrainsStored}
 use crate::held::{HeldStore, IolStore};
 use iol_port::PortFault;
 use iolink_handle::CLOSED;
-use iolink_port_forms::{IolEntry, show_next};
+use iolink_port_forms::IolEntry;
 use std::alloc::Global;
 
 /// Keeps the journal for `iol_store_entry` at any time, in place of the one that was kept before,
@@ -17,8 +17,8 @@ use std::alloc::Global;
 ///
 /// 0, how many entries it has, and how many of these, the first ones, the drain before kept
 /// already; or the first of 252 where the handle is closed, which leaves `count` and `restated` as
-/// they are, and 24 where there is no memory for the list that is kept: both are 0 then, and the
-/// journal and the one that was kept before stay.
+/// they are, 24 where there is no memory for the list that is kept, and 63 where the port keeps no
+/// journal: both are 0 then, and the journal and the one that was kept before stay.
 #[unsafe(no_mangle)]
 pub extern "C" fn iol_store_drain(
     alloc: Global,
@@ -87,8 +87,7 @@ pub extern "C" fn iol_store_entry(alloc: Global, handle: &mut IolStore, out: &mu
         return CLOSED;
     }
     let mut store = handle.take_box(alloc);
-    let entry = store.journal.next(alloc);
+    store.journal.show_next(alloc, out);
     *handle = IolStore::of(store);
-    show_next(&entry, out);
     0
 }

@@ -1,6 +1,6 @@
 //! The calls of a port with Data Storage under a master's lock.
 ghost use Rattle.std.specs.Prelude.{◌≡◌, ◌<◌, ◌≤◌, ◌+◌, [], None, Some, Err, false, length, is_ok, IfOk, OnOk, OnErr, IsTrue};
-ghost use Rattle.iol_book.specs.JournalModel.{LacksPlaces};
+ghost use Rattle.iol_book.specs.Drained.{LacksRoomFor};
 ghost use Rattle.std.specs.Result.{result_err};
 ghost use Rattle.iol_port.specs.Called.{Collects, Withdraws, Cancels, Abandons, Restarts, ClearsOutput};
 ghost use Rattle.iol_port.specs.Called.{Expects, SetsCycle, TakesEvent, Archives, Drains, DrainsInto, CoreCalled};
@@ -257,7 +257,7 @@ impl<W: Wire, K: Ledger, A: Handle> Held<W, K, A, Wired<W, StoredPort<A>>> {
     pub fn drain_into(&mut self, list: &mut Journal<A>) -> Result<usize, PortFault>
         ensures is { DrainsInto (StoredForwards self.old.port self.new.port) self.old.port.port
             self.new.port.port list.old.items list.new.items result }
-        ensures full { OnErr result (LacksPlaces list.old self.old.port.port.book.state.journal) }
+        ensures full { OnErr result (LacksRoomFor self.old.port.port.book.state list.old) }
         ensures wire { self.new.wire ≡ self.old.wire }
     {
         self.port.port.drain_into(list)

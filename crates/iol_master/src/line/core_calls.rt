@@ -1,6 +1,6 @@
 //! The calls of a line's port without Data Storage.
 ghost use Rattle.std.specs.Prelude.{◌≡◌, ◌<◌, ◌≤◌, ◌+◌, None, Some, IfOk, IfErr, OnErr, length};
-ghost use Rattle.iol_book.specs.JournalModel.{LacksPlaces};
+ghost use Rattle.iol_book.specs.Drained.{LacksRoomFor};
 ghost use Rattle.std.specs.Result.{result_map_both};
 ghost use Rattle.iol_book.specs.declared.fault.BookFault.TheVariants.{OutOfMemory};
 ghost use Rattle.iol_port.specs.declared.fault.PortFault.TheVariants as fault;
@@ -178,7 +178,7 @@ impl<K: Ledger, A: Allocator + Copy> LinePort<K, PortCore<A>> {
     pub fn drain_into(&mut self, list: &mut Journal<A>) -> Result<usize, PortFault>
         ensures is { DrainsInto (LineCalled self.old self.new) self.old.port self.new.port
             list.old.items list.new.items result }
-        ensures full { OnErr result (LacksPlaces list.old self.old.port.book.state.journal) }
+        ensures full { OnErr result (LacksRoomFor self.old.port.book.state list.old) }
     {
         self.port.drain_into(list)
     }

@@ -1,6 +1,6 @@
 //! The calls of a line's port with Data Storage.
 ghost use Rattle.std.specs.Prelude.{◌≡◌, ◌<◌, ◌≤◌, ◌+◌, [], None, Some, Err, false, length, is_ok, IfNone, IfSome, IfOk, IfErr, OnOk, OnErr, IsTrue};
-ghost use Rattle.iol_book.specs.JournalModel.{LacksPlaces};
+ghost use Rattle.iol_book.specs.Drained.{LacksRoomFor};
 ghost use Rattle.std.specs.Result.{result_err, result_map_both};
 ghost use Rattle.iol_port.specs.Called.{Submits, SubmitsUrgent, Collects, Withdraws, Cancels, Abandons, ClearsOutput};
 ghost use Rattle.iol_port.specs.Called.{Expects, SetsCycle, TakesEvent, Archives, Drains, DrainsInto, CoreCalled};
@@ -310,7 +310,7 @@ impl<K: Ledger, A: Allocator + Copy> LinePort<K, StoredPort<A>> {
     pub fn drain_into(&mut self, list: &mut Journal<A>) -> Result<usize, PortFault>
         ensures is { DrainsInto (StoredForwards self.old.port self.new.port) self.old.port.port
             self.new.port.port list.old.items list.new.items result }
-        ensures full { OnErr result (LacksPlaces list.old self.old.port.port.book.state.journal) }
+        ensures full { OnErr result (LacksRoomFor self.old.port.port.book.state list.old) }
         ensures only_port { self.new ≡ record self.old { port = self.new.port } }
     {
         self.port.drain_into(list)

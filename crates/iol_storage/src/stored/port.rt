@@ -1,6 +1,6 @@
 //! A port with Data Storage and blocks.
 ghost use Rattle.std.specs.Prelude.{◌≡◌, ◌<◌, ◌≤◌, ◌+◌, ◌&&◌, not, false, [], length, Some, None, is_some, is_ok, IfSome, IfNone, Ok, Err, IfOk, IfErr, OnOk, OnErr, IsTrue};
-ghost use Rattle.iol_book.specs.JournalModel.{LacksPlaces};
+ghost use Rattle.iol_book.specs.Drained.{LacksRoomFor};
 ghost use Rattle.std.specs.Option.{option_copied, option_map};
 ghost use Rattle.std.specs.Result.{result_err, result_map_both};
 ghost use Rattle.iol_far.specs.Octets.{octets_in};
@@ -648,7 +648,7 @@ impl<A: Allocator + Copy> StoredPort<A> {
     pub fn drain_into(&mut self, list: &mut Journal<A>) -> Result<usize, PortFault>
         ensures is { DrainsInto (StoredForwards self.old self.new) self.old.port self.new.port
             list.old.items list.new.items result }
-        ensures full { OnErr result (LacksPlaces list.old self.old.port.book.state.journal) }
+        ensures full { OnErr result (LacksRoomFor self.old.port.book.state list.old) }
     {
         self.port.drain_into(list)
     }
