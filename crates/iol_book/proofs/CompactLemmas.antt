@@ -17,7 +17,7 @@ use Rattle.iol_book.specs.Lines.{entry_ticket, TicketLines, line_number_after, v
 use Rattle.iol_book.specs.Drained.{in_doubt, is_still_open, restated_entries, book_after_drain}
 use Rattle.iol_book.specs.BookModel.{BookState, outstanding_count, entries_owed, octets_owed}
 use Rattle.iol_book.specs.Numbers.{IsNumbered}
-use Rattle.iol_book.specs.BookInside.{IsSoundBook, IsForgotten, all_entries, parts_of, book_state, whole_state, standing_of}
+use Rattle.iol_book.specs.BookInside.{IsSoundBook, IsForgotten, all_entries, journal_parts, book_state, whole_state, standing_of}
 use Rattle.iol_book.specs.Limits.{has_journal}
 use Rattle.iol_book.specs.JournalModel.{octet_sum}
 use Rattle.iol_book.proofs.JournalLemmas.{filter-fewer, filter-less}
@@ -140,10 +140,10 @@ module _ {A : Type 0} {old : Inside A} (sound : IsSoundBook old) (doubt : Option
 
   -- of a journal that is kept nothing is forgotten
   pub forgotten-none : (new : Inside A) → IsTrue (has_journal old.limit)
-      → parts_of new ≡ record (parts_of old) {
+      → journal_parts new ≡ record (journal_parts old) {
         restated = new.restated;
         in_memory = new.journal.items;
-      } → IsForgotten (parts_of new)
+      } → IsForgotten (journal_parts new)
   forgotten-none new kept parts = let none = sound.forgotten.kept kept in
       subst (λ p. IsForgotten p) (sym parts) (record {
         overlap = rw none.1 (grind (arith));
@@ -155,22 +155,22 @@ module _ {A : Type 0} {old : Inside A} (sound : IsSoundBook old) (doubt : Option
   -- of another one what isn't kept is
   pub record Forgets (new : Inside A) : Type 0 where
     pub unkept : IsFalse (has_journal old.limit)
-    pub entries : new.forgotten.entries ≡ all_entries (parts_of old)
+    pub entries : new.forgotten.entries ≡ all_entries (journal_parts old)
     pub overlap : new.overlap ≡ length new.journal.items
     pub restated : new.restated ≡ old.restated
     pub limit : new.limit ≡ old.limit
 
   pub all-forgotten : {new : Inside A} → Forgets new
-      → all_entries (parts_of new) ≡ all_entries (parts_of old)
+      → all_entries (journal_parts new) ≡ all_entries (journal_parts old)
   all-forgotten {new} forgets = rw (
     forgets.entries,
     forgets.overlap,
     drop-length new.journal.items,
-    append-nil (all_entries (parts_of old)),
+    append-nil (all_entries (journal_parts old)),
   ) refl
 
   pub forgotten-more : {new : Inside A} → new.journal.items ≡ kept_entries is_kept old.journal.items
-      → Forgets new → IsForgotten (parts_of new)
+      → Forgets new → IsForgotten (journal_parts new)
   forgotten-more {new} left forgets = record {
     overlap = rw forgets.overlap (grind (arith));
     stands = ap (λ es. replay es) (all-forgotten forgets) ∙ (sound.forgotten.stands
@@ -183,7 +183,7 @@ module _ {A : Type 0} {old : Inside A} (sound : IsSoundBook old) (doubt : Option
   pub record Drains (new : Inside A) : Type 0 where
     pub journal : new.journal.items ≡ kept_entries is_kept old.journal.items
     pub head : new.restated ≤ length new.journal.items
-    pub forgotten : IsForgotten (parts_of new)
+    pub forgotten : IsForgotten (journal_parts new)
     pub urgent : new.urgent.items ≡ lines_after (λ t. is_kept t.0) old.journal.items
         old.urgent.items
     pub waiting : new.waiting.items ≡ lines_after (λ t. is_kept t.0) old.journal.items

@@ -28,7 +28,7 @@ use Rattle.std.specs.declared.collections.VecDeque.{VecDeque}
 use Rattle.std.specs.declared.vec.Vec.{Vec}
 use Rattle.iol_book.specs.declared.entries.Entry.{Entry}
 use Rattle.iol_book.specs.declared.book.Book.TheInside.{Inside}
-use Rattle.iol_book.specs.BookInside.{IsSoundBook, HasRoom, JournalParts, IsForgotten, all_entries, parts_of, book_state, whole_state, standing_of}
+use Rattle.iol_book.specs.BookInside.{IsSoundBook, HasRoom, JournalParts, IsForgotten, all_entries, journal_parts, book_state, whole_state, standing_of}
 use Rattle.iol_book.specs.Lines.{TicketLines, AllPass, has_request_of, is_of, entry_request, outcome_in, taken_at}
 use Rattle.iol_book.proofs.LineLemmas.{remove-absent, replay-push, Says, says-more, says-new, says-without, says-others, among-values, WaitsIn, find-first, served_in, found-waits, found-passes, served-values, taken-more, request-own, own-entry, in_turn-push, longer, entered}
 
@@ -351,7 +351,8 @@ forgotten-push parts e h = record {
 
 -- but for the entries in memory the parts of the journal are what they were
 abbrev HasPartsOf : {A : Type 0} → Inside A → Inside A → Type 0
-HasPartsOf old new = parts_of new ≡ record (parts_of old) { in_memory = new.journal.items }
+HasPartsOf old new =
+    journal_parts new ≡ record (journal_parts old) { in_memory = new.journal.items }
 
 module _ {A : Type 0} {fields : Inside A} (sound : IsSoundBook fields) where
   -- all entries say where each ticket stands
@@ -367,7 +368,7 @@ module _ {A : Type 0} {fields : Inside A} (sound : IsSoundBook fields) where
 
   -- and where the journal is kept, all are in memory
   pub whole-kept : IsTrue (has_journal fields.limit)
-      → all_entries (parts_of fields) ≡ fields.journal.items
+      → all_entries (journal_parts fields) ≡ fields.journal.items
   whole-kept h = let none = sound.forgotten.kept h in rw (none.0, none.1) refl
 
 -- it is sound where it has room, which each call shows by itself
@@ -406,8 +407,8 @@ module _ {A : Type 0} {old : Inside A} (sound : IsSoundBook old) where
           (longer old.journal.items e sound.head);
       numbered = rw stands numbered;
       forgotten = subst (λ p. IsForgotten p) (sym (parts
-          ∙ ap (λ es. record (parts_of old) { in_memory = es }) (same ∙ n)))
-          (forgotten-push (parts_of old) e sound.forgotten);
+          ∙ ap (λ es. record (journal_parts old) { in_memory = es }) (same ∙ n)))
+          (forgotten-push (journal_parts old) e sound.forgotten);
       room = room;
     }
       where

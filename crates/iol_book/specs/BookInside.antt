@@ -29,6 +29,7 @@ abbrev pub all_entries : JournalParts → List Entry
 all_entries parts = parts.forgotten ++ drop parts.overlap parts.in_memory
 
 -- what is forgotten of a journal
+-- BOOK-16
 pub record IsForgotten (parts : JournalParts) : Type 0 where
   -- what is in memory of it too is there
   pub overlap : parts.overlap ≤ length parts.in_memory
@@ -59,8 +60,8 @@ module _ {A : Type 0} where
   }
 
   -- where its entries are
-  abbrev pub parts_of : Inside A → JournalParts
-  parts_of fields = record {
+  abbrev pub journal_parts : Inside A → JournalParts
+  journal_parts fields = record {
     forgotten = fields.forgotten.entries;
     in_memory = fields.journal.items;
     overlap = fields.overlap;
@@ -70,7 +71,7 @@ module _ {A : Type 0} where
 
   -- the book by all of them
   abbrev pub whole_state : Inside A → BookState
-  whole_state fields = record (book_state fields) { journal = all_entries (parts_of fields) }
+  whole_state fields = record (book_state fields) { journal = all_entries (journal_parts fields) }
 
   -- for how many submits the places for outcomes and for entries are there already
   abbrev pub room_of : Inside A → ℕ
@@ -129,5 +130,5 @@ module _ {A : Type 0} where
     -- each ticket names one request
     pub numbered : IsNumbered fields.last (standing_of fields)
     -- what is forgotten is known by what is in memory
-    pub forgotten : IsForgotten (parts_of fields)
+    pub forgotten : IsForgotten (journal_parts fields)
     pub room : HasRoom fields

@@ -103,9 +103,8 @@ octets_owed standing =
     most_data * (waiting_count standing + (if is_some standing.taken then 1 else 0))
 
 -- whether a journal that is kept has no room for the entries of one more request
--- BOOK-3
-abbrev pub is_full : BookState → Bool
-is_full book = has_journal book.limit
+abbrev pub is_journal_full : BookState → Bool
+is_journal_full book = has_journal book.limit
     && nat_lt book.limit (length book.journal + entries_owed book.standing + request_entries)
 
 -- the first reason why a request can't be submitted, where it can't
@@ -113,7 +112,7 @@ is_full book = has_journal book.limit
 abbrev pub submit_refusal : BookState → Option BookFault
 submit_refusal book =
     if nat_le book.queue (outstanding_count book.standing) then Some Full
-    else if is_full book then Some JournalFull
+    else if is_journal_full book then Some JournalFull
     else if nat_eq (book.last + 1) (2 ^ 64) then Some TicketsSpent
     else None
 
@@ -291,12 +290,10 @@ may_archive book = has_journal book.limit
     && (nat_eq (outstanding_count book.standing) 0 && not book.unsure)
 
 -- why an archive is refused, where it is
--- BOOK-8
 abbrev pub archive_refusal : BookState → BookFault
 archive_refusal book = if has_journal book.limit then Outstanding else NoJournal
 
 -- and a drain
--- BOOK-13
 abbrev pub drain_refusal : BookState → BookFault
 drain_refusal book = if has_journal book.limit then OutOfMemory else NoJournal
 

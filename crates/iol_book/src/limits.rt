@@ -57,6 +57,8 @@ impl Model for JournalLimit {
 
 impl JournalLimit {
     /// No journal is kept.
+    ///
+    /// Rule BOOK-16.
     pub const NONE: JournalLimit = JournalLimit { entries: 0 };
 
     /// The limit of so many entries, or None where they are neither 0 nor 4 to 1,000,000.

@@ -447,8 +447,8 @@ impl<A: Allocator + Copy> PortCore<A> {
     /// entries that were handed out are restated ones.
     ///
     /// The list takes memory if it has too little room for the journal, and nothing else does.
-    /// Refused by 24 where there is none for it, and by 63 where the port keeps no journal; port and
-    /// list are then as they were.
+    /// Refused by 24 where there is none for it, and by 63 where the port keeps no journal; port
+    /// and list are then as they were.
     pub fn drain_into(&mut self, list: &mut Journal<A>) -> Result<usize, PortFault>
         ensures is { DrainsInto (CoreCalled self.old self.new) self.old self.new
             list.old.items list.new.items result }

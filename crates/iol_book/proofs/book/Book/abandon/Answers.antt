@@ -26,7 +26,8 @@ invariant_of-self g c = elim c.if-is_awaited.branch [
 
 pub returns-clause-state : goal.returns-clause-state
 returns-clause-state g c = elim c.if-is_awaited.branch [
-  | then-is_awaited w ↦ grind (entry_steps, line_steps, (invariant_of-self g c).replayed, whole-push c.self.invariant)
+  | then-is_awaited w ↦
+      grind (entry_steps, line_steps, (invariant_of-self g c).replayed, whole-push c.self.invariant)
   | else-is_awaited+then-waits w ↦
       grind (entry_steps, line_steps, (invariant_of-self g c).replayed, whole-push c.self.invariant)
   | else-is_awaited+else-waits+in-Some w ↦

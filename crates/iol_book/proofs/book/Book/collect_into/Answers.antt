@@ -23,7 +23,12 @@ returns-clause-answer g c =
     rw (← c.self.view_is, said) (ap (λ (o : Outcome). Ok o) c.put_outcome.ensures)
 
 pub returns-clause-state : goal.returns-clause-state
-returns-clause-state g c = grind (entry_steps, lookup-values, (invariant_of-self g c).replayed, whole-push c.self.invariant)
+returns-clause-state g c = grind (
+  entry_steps,
+  lookup-values,
+  (invariant_of-self g c).replayed,
+  whole-push c.self.invariant,
+)
 
 pub returns-clause-replayed : goal.returns-clause-replayed
 returns-clause-replayed g c = whole-replayed (invariant_of-self g c)

@@ -8,7 +8,11 @@ invariant_of-self g c =
     (grind entry_steps) (grind entry_steps) (grind entry_steps)
 
 pub returns-clause-state : goal.returns-clause-state
-returns-clause-state g c = grind (entry_steps, (invariant_of-self g c).replayed, whole-push c.self.invariant)
+returns-clause-state g c = grind (
+  entry_steps,
+  (invariant_of-self g c).replayed,
+  whole-push c.self.invariant,
+)
 
 pub returns-clause-replayed : goal.returns-clause-replayed
 returns-clause-replayed g c = whole-replayed (invariant_of-self g c)
