@@ -116,9 +116,10 @@ typedef struct { void *at; bool is_open; const void *opened_at; } iol_port;
 
 /* Opens a port for any device by the standard, whoever made it, whose link is down. A start-up writes DeviceStartup
  * before it reads the page, and a START write of a whole request isn't repeated, but asked for. Its journal has at
- * most `journal` entries, 4 to 1,000,000; a request is cut off after `busy` busy replies, 2 to 65,535; `queue` tickets
- * may be outstanding at a time, 1 to 64; the first ticket is `given` + 1. 253 it is open already, 254 `journal`,
- * `busy` or `queue` is out of its range, 24 no memory. */
+ * most `journal` entries, 4 to 1,000,000, or none is kept where that is 0: then it is never full, and never handed out. A
+ * request is cut off after `busy` busy replies, 2 to 65,535; `queue` tickets may be outstanding at a time, 1 to 64; the
+ * first ticket is `given` + 1. 253 it is open already, 254 `journal`, `busy` or `queue` is out of its range, 24 no
+ * memory. */
 uint8_t iol_port_open(iol_port *port, uint32_t journal, uint16_t busy, uint8_t queue, uint64_t given);
 
 /* The same, for `devices` by name: IOL_DEVICES_OWN for devices of our own kind alone, which need neither, or
@@ -345,14 +346,15 @@ uint8_t iol_port_counters(iol_port *port, iol_counters *out);
 typedef struct { uint64_t ticket; uint8_t kind; iol_request request; iol_outcome outcome; } iol_entry;
 
 /* Begins a new journal, and keeps the old one, of `count` entries, for iol_port_entry; one that was kept before is given
- * up. 252, 28 a ticket is outstanding, or a request that was cut off may still be carried out: the one that was kept
- * before stays then. */
+ * up. 252, 28 a ticket is outstanding, or a request that was cut off may still be carried out, 63 the port keeps no
+ * journal: the one that was kept before stays then. */
 uint8_t iol_port_archive(iol_port *port, uint32_t *count);
 
 /* Keeps the journal, of `count` entries, for iol_port_entry at any time, in place of the one that was kept before, and
  * begins a new one with what is restated: the entries of the tickets that are outstanding or in doubt (a request that was
  * cut off and may still be carried out). The first `restated` of those that are kept now were so at the last drain. 252,
- * 24 there is no memory for the list that is kept: both counts are 0 then, and all stays as it was. */
+ * 24 there is no memory for the list that is kept, 63 the port keeps no journal: both counts are 0 then, and all stays
+ * as it was. */
 uint8_t iol_port_drain(iol_port *port, uint32_t *count, uint32_t *restated);
 
 /* The next entry of the journal that was archived or drained last, the oldest first. At the end `kind` is 0, and the memory of that

@@ -61,7 +61,7 @@ static void opening(uint32_t journal, uint16_t busy, uint64_t given)
 
 static void openings(void)
 {
-    static const uint32_t journals[] = {4, 64, 65536, 1000000};
+    static const uint32_t journals[] = {0, 4, 64, 65536, 1000000};
     static const uint16_t busies[] = {2, 255, 256, 65535};
     static const uint64_t givens[] = {0, UINT32_MAX, UINT64_C(1) << 32, UINT64_C(1) << 63, UINT64_MAX - 1, UINT64_MAX};
     size_t i, j, k;
@@ -191,6 +191,39 @@ static void drained(void)
     printf("%u entries drained\n", (unsigned)all);
 }
 
+/* Without a journal none is ever full, and none is handed out. One ticket stays outstanding all the time, and ends as it
+ * has to. */
+static void no_journal(void)
+{
+    iol_port port = {0};
+    iol_outcome outcome;
+    uint64_t number, first = 0, ticket = 0;
+    uint32_t count = 5, restated = 5;
+    IS(iol_port_open_for(&port, IOL_DEVICES_OWN, 0, 100, 64, 0), 0);
+    IS(iol_port_write(&port, 16, 0, (const uint8_t *)"A", 1, &first), 0);
+    for (number = 1; number <= WITHDRAWN; number++) {
+        IS(iol_port_read(&port, 16, 0, &ticket), 0);
+        IS(ticket, first + number);
+        IS(iol_port_withdraw(&port, ticket), 0);
+        IS(iol_port_collect(&port, ticket, &outcome), 0);
+        IS(outcome.kind, 12);
+        IS(iol_port_collect(&port, ticket, &outcome), 25);
+        IS(iol_port_collect(&port, first, &outcome), 26);
+    }
+    IS(iol_port_drain(&port, &count, &restated), 63);
+    IS(count, 0);
+    IS(restated, 0);
+    is_entry(&port, 0, 0);
+    IS(iol_port_withdraw(&port, first), 0);
+    IS(iol_port_collect(&port, first, &outcome), 0);
+    IS(outcome.kind, 12);
+    count = 5;
+    IS(iol_port_archive(&port, &count), 63);
+    IS(count, 0);
+    IS(iol_port_close(&port), 0);
+    printf("no journal\n");
+}
+
 /* Of so many tickets one more is refused, urgent or not, until one of them is collected. */
 static void full_queue(uint8_t queue)
 {
@@ -228,6 +261,7 @@ int main(void)
     withdrawn();
     full_journal();
     drained();
+    no_journal();
     full_queue(1);
     full_queue(2);
     full_queue(64);

@@ -121,10 +121,10 @@ fn goes_through<A: Handle>(book: &mut Book<A>, asked: Asked) -> bool {
     book.collect(ticket).is_ok()
 }
 
-/// Whether they all do.
-fn all_go_through<A: Handle>(alloc: A, asked: Asked) -> Option<Book<A>> {
+/// Whether they all do, in a new book with such a journal.
+fn all_go_through<A: Handle>(alloc: A, journal: JournalLimit, asked: Asked) -> Option<Book<A>> {
     let limits = Limits {
-        journal: JournalLimit::new(10_000).unwrap(),
+        journal,
         queue: QueueLimit::new(1).unwrap(),
         ..Limits::default()
     };
@@ -141,7 +141,8 @@ fn all_go_through<A: Handle>(alloc: A, asked: Asked) -> Option<Book<A>> {
 fn a_journal_takes_little_more_than_its_octets(rt: HostRuntime) -> Result<(), Fail> {
     for asked in [Asked::ReadOfTwo, Asked::LongestWrite] {
         let heap = LocalHeap::new(rt.alloc(), LARGE_HEAP)?;
-        let book = all_go_through(&heap, asked);
+        let journal = JournalLimit::new(10_000).unwrap();
+        let book = all_go_through(&heap, journal, asked);
         let held = asked
             .octets()
             .saturating_add(ENTRIES)
@@ -149,6 +150,30 @@ fn a_journal_takes_little_more_than_its_octets(rt: HostRuntime) -> Result<(), Fa
         let used = heap.used();
         assert!(rt; book.is_some_and(|book| book.journal().len() == 4 * REQUESTS));
         assert!(rt; used >= held && used.saturating_mul(10) <= held.saturating_mul(TENTHS));
+    }
+    Ok(())
+}
+
+/// How many octets a book takes at most that keeps no journal, for one ticket at a time: some
+/// 40 entries, and the octets of ten requests.
+const WITHOUT_JOURNAL: usize = 16 * 1_024;
+
+#[test]
+fn a_book_without_a_journal_takes_a_constant_memory(rt: HostRuntime) -> Result<(), Fail> {
+    for asked in [Asked::ReadOfTwo, Asked::LongestWrite] {
+        let heap = LocalHeap::new(rt.alloc(), LARGE_HEAP)?;
+        let book = all_go_through(&heap, JournalLimit::NONE, asked);
+        let used = heap.used();
+        assert!(rt; used <= WITHOUT_JOURNAL);
+        let Some(mut book) = book else {
+            return Err(Fail::new("a request didn't go through"));
+        };
+        for _ in 0..REQUESTS {
+            assert!(rt; goes_through(&mut book, asked));
+        }
+        assert!(rt; heap.used() == used);
+        assert!(rt; book.archive().err() == Some(BookFault::NoJournal));
+        assert!(rt; book.drain().err() == Some(BookFault::NoJournal));
     }
     Ok(())
 }
