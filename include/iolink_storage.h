@@ -4,7 +4,7 @@
  * What you owe, and what is checked, is what iolink_port.h says, of the handle iol_store too. Beside that:
  *
  *   - a set is saved whole or not at all, wherever the power fails: as by a new file that gets the name of the old one
- *   - the journal is drained: a full one takes no request, of Data Storage neither
+ *   - the journal is drained, where one is kept: a full one takes no request, of Data Storage neither
  *
  * The numbers of refusals are those of iolink_port.h, and of Data Storage
  *   41  the Index of Data Storage, 3, is the port's; nor has a set or a block a SystemCommand, 2
@@ -13,7 +13,7 @@
  *   45  a check of Data Storage, or a block, is under way
  *   46  no such block is outstanding
  *   47  the block isn't over
- *   48  fewer than three tickets may be outstanding, or the journal has fewer than 12 entries
+ *   48  fewer than three tickets may be outstanding, or a journal that is kept has fewer than 12 entries
  *   60  there is no session, or Data Storage hasn't come to its end in it
  *   61  the outcome of the block before was not collected
  *   62  no set of this number waits to be saved

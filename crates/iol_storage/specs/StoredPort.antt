@@ -1,8 +1,9 @@
 -- A port with Data Storage and blocks: what its calls are at the port within.
-use Rattle.std.specs.Prelude.{◌≡◌, ℕ, ◌+◌, ◌-◌, ◌^◌, ◌/◌, min, Bool, true, false, IfSome, IsTrue, is_some, nat_le, nat_lt, if◌then◌else◌, List, [], ◌∷◌, Option, Some, None, Result, Ok, Err}
+use Rattle.std.specs.Prelude.{◌≡◌, ℕ, ◌+◌, ◌-◌, ◌^◌, ◌/◌, min, Bool, true, false, IfSome, IsTrue, is_some, nat_le, nat_lt, if◌then◌else◌, List, [], ◌∷◌, Option, Some, None, Result, Ok, Err, ◌&&◌}
 use Rattle.iol_isdu.specs.declared.values.Request.{Request}
 use Rattle.iol_isdu.specs.declared.values.Request.TheVariants.{Write, Read}
 use Rattle.iol_isdu.specs.Texts.{IsRequest}
+use Rattle.iol_book.specs.Limits.{has_journal}
 use Rattle.iol_book.specs.declared.entries.Ticket.{Ticket}
 use Rattle.iol_book.specs.declared.fault.BookFault.TheVariants.{Full, UnknownTicket, OutOfMemory}
 use Rattle.iol_book.specs.declared.limits.Limits.{Limits}
@@ -223,9 +224,10 @@ SetsStoredOutput image (Err why) old new =
 abbrev pub image_shown : StoredParts → Option ImageOctets
 image_shown p = if is_unserved p.storage then None else p.port.core.session.image
 
--- how many tickets may be outstanding so that the journal has room for four entries of each
+-- how many tickets may be outstanding so that the journal, where one is kept, has room for four
+-- entries of each
 abbrev pub places_with_room : Limits → ℕ
-places_with_room limits = if nat_lt (limits.journal / 4) limits.queue
+places_with_room limits = if has_journal limits.journal && nat_lt (limits.journal / 4) limits.queue
     then limits.journal / 4 else limits.queue
 
 -- at an opening, too few tickets, a set that is none, or no memory

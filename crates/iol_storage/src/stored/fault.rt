@@ -24,7 +24,8 @@ pub enum StoredFault {
     /// 47: the block isn't over.
     #[error("BlockNotOver")]
     BlockNotOver,
-    /// 48: fewer than three tickets may be outstanding, or the journal has fewer than 12 entries.
+    /// 48: fewer than three tickets may be outstanding, or a journal that is kept has fewer than 12
+    /// entries.
     #[error("SmallQueue")]
     SmallQueue,
     /// 60: there is no session, or Data Storage hasn't come to its end in it.

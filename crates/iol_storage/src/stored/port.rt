@@ -78,13 +78,18 @@ impl<A: Allocator + Copy> Model for StoredPort<A> {
     } };
 }
 
-/// How many tickets may be outstanding so that the journal has room for the entries of each.
+/// How many tickets may be outstanding so that the journal, where one is kept, has room for the
+/// entries of each.
 fn places_with_room(limits: &Limits) -> usize
     ensures { result ≡ places_with_room limits.now }
 {
     let queue = usize::from(limits.queue.places());
-    let journal = limits.journal.entries() as usize / ENTRIES;
-    if journal < queue { journal } else { queue }
+    let entries = limits.journal.entries() as usize;
+    if entries != 0 && entries / ENTRIES < queue {
+        entries / ENTRIES
+    } else {
+        queue
+    }
 }
 
 impl<A: Allocator + Copy> StoredPort<A> {
@@ -94,8 +99,8 @@ impl<A: Allocator + Copy> StoredPort<A> {
     /// Of the tickets that may be outstanding, and for which the journal has room, two are not for
     /// clients: so a job finds room in a journal that was drained.
     ///
-    /// Refused by the first of 48 where fewer than three tickets may be outstanding, or the journal
-    /// has fewer than 12 entries, 41 where the set has a value at the Index of Data Storage, or a
+    /// Refused by the first of 48 where fewer than three tickets may be outstanding, or a journal
+    /// that is kept has fewer than 12 entries, 41 where the set has a value at the Index of Data Storage, or a
     /// SystemCommand, and 24 where there is no memory for the book.
     ///
     /// Rule JOB-6.
