@@ -12,7 +12,7 @@ pub(crate) struct Counts {
     /// that nobody knows.
     pub(crate) carried: u64,
     late: u64,
-    /// Tickets whose end a drained journal says.
+    /// Tickets whose end a drained journal says; without a journal, those whose outcome was told.
     ended: u64,
     drains: u64,
     /// Entries that were drained, without restated ones.
@@ -38,8 +38,8 @@ impl Counts {
         }
     }
 
-    pub(crate) fn ended(&mut self) {
-        self.ended = self.ended.saturating_add(1);
+    pub(crate) fn ended(&mut self, tickets: u64) {
+        self.ended = self.ended.saturating_add(tickets);
     }
 
     pub(crate) fn drained(&mut self, entries: usize, restated: usize, left: usize) {

@@ -6,6 +6,8 @@
 //! request is told its row is dropped, so the list is short however long it lasts. What isn't as it
 //! has to be ends the program; else it prints how much came of what, and ends with its input, so
 //! that its memory can be looked at. Without words it does nothing.
+//!
+//! `iol_long COUNT SEED unkept` does the same at a port that keeps no journal.
 #![tactic(auto)]
 
 mod chance;
@@ -19,7 +21,7 @@ mod row;
 mod station;
 
 use crate::fault::LongFault;
-use crate::station::Station;
+use crate::station::{Keeps, Station};
 use std::alloc::Global;
 use std::rt::Runtime;
 use std::{env, io};
@@ -33,7 +35,11 @@ fn work<R: Runtime<A = Global>>(rt: &R) -> Result<(), LongFault> {
     };
     let count = number_of(Some(count))?;
     let seed = number_of(words.next())?;
-    let mut station = Station::open(rt.alloc(), seed)?;
+    let keeps = match words.next() {
+        Some(word) if word.as_str() == "unkept" => Keeps::Nothing,
+        _ => Keeps::Journal,
+    };
+    let mut station = Station::open(rt.alloc(), seed, keeps)?;
     station.serve(count)?;
     println!(rt; "{}", station.told())?;
     let _ = rt.read_line(&mut String::new(rt.alloc()))?;

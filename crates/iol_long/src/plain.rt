@@ -123,9 +123,28 @@ impl PlainList {
         self.doubt = Chances::Left;
     }
 
-    /// The device was reset.
+    /// The device was reset: it carries out no request more that has ended.
     pub(crate) fn reset(&mut self) {
         self.doubt = Chances::Over;
+        for row in self.rows.iter_mut() {
+            if row.told.is_some() {
+                row.chances = Chances::Over;
+            }
+        }
+    }
+
+    /// No journal says more of the requests whose outcome was told.
+    pub(crate) fn close_told(&mut self) {
+        self.did.clear();
+        let mut ended = 0;
+        for row in self.rows.iter_mut() {
+            if row.told.is_some() && row.stand != Stand::Collected {
+                row.stand = Stand::Collected;
+                ended += 1;
+            }
+        }
+        self.counts.ended(ended);
+        self.drop_done();
     }
 
     /// A journal was drained, whose first entries, so many, are restated.
@@ -276,7 +295,7 @@ impl PlainList {
             return Err(Wrong::OtherAnswer.of(ticket));
         }
         row.stand = Stand::Collected;
-        self.counts.ended();
+        self.counts.ended(1);
         Ok(())
     }
 

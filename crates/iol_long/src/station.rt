@@ -6,8 +6,8 @@ use crate::fault::{LongFault, Wrong};
 use crate::line::Line;
 use crate::plain::PlainList;
 use iol_app::Asked;
-use iol_book::{Journal, Limits, Outcome};
-use iol_port::{AwaitedAnswer, Counters, PortCore};
+use iol_book::{BookFault, Journal, JournalLimit, Limits, Outcome};
+use iol_port::{AwaitedAnswer, Counters, PortCore, PortFault};
 use std::alloc::Global;
 
 /// The octets of one request, or of one answer, at most.
@@ -30,6 +30,13 @@ const LAST_TURNS: u64 = 100_000;
 /// The most entries that a ticket has while it is outstanding or in doubt.
 const ENTRIES: usize = 4;
 
+/// Whether the port keeps a journal.
+#[derive(Clone, Copy, PartialEq, Eq)]
+pub(crate) enum Keeps {
+    Journal,
+    Nothing,
+}
+
 /// When the journal is drained next.
 #[derive(Clone, Copy, PartialEq, Eq)]
 enum Drains {
@@ -46,15 +53,21 @@ pub(crate) struct Station {
     first: Client,
     second: Client,
     chance: Chance,
+    keeps: Keeps,
     drains: Drains,
     drained: Journal,
     outcome: Outcome,
 }
 
 impl Station {
-    pub(crate) fn open(alloc: Global, seed: u64) -> Result<Station, LongFault> {
-        let limits = Limits::default();
+    pub(crate) fn open(alloc: Global, seed: u64, keeps: Keeps) -> Result<Station, LongFault> {
+        let mut limits = Limits::default();
         let entries = limits.journal.entries() as usize;
+        let mut drains = Drains::WhenFull;
+        if keeps == Keeps::Nothing {
+            limits.journal = JournalLimit::NONE;
+            drains = Drains::NowAndThen;
+        }
         let mut drained = Journal::new(alloc);
         drained.reserve(entries, entries.saturating_mul(MOST_DATA))?;
         Ok(Station {
@@ -64,7 +77,8 @@ impl Station {
             first: Client::new(alloc)?,
             second: Client::new(alloc)?,
             chance: Chance::new(!seed),
-            drains: Drains::WhenFull,
+            keeps,
+            drains,
             drained,
             outcome: Outcome::Withdrawn,
         })
@@ -105,10 +119,13 @@ impl Station {
                 .ask(&mut self.port, &mut self.list, &mut self.chance)?
         };
         let is_full = first == Room::Full || second == Room::Full;
+        if is_full && self.keeps == Keeps::Nothing {
+            return Err(PortFault::Book(BookFault::JournalFull).into());
+        }
         let is_time = self.drains == Drains::NowAndThen && self.chance.once_in(DRAINS);
         if is_full || is_time {
             self.drain()?;
-            self.drains = if self.chance.once_in(PATIENCE) {
+            self.drains = if self.keeps == Keeps::Journal && self.chance.once_in(PATIENCE) {
                 Drains::WhenFull
             } else {
                 Drains::NowAndThen
@@ -135,6 +152,9 @@ impl Station {
 
     /// Drains the journal, and reads it beside the plain list.
     fn drain(&mut self) -> Result<(), LongFault> {
+        if self.keeps == Keeps::Nothing {
+            return self.forget();
+        }
         self.drained.clear();
         let restated = self.port.restated();
         let said = self.port.drain_into(&mut self.drained)?;
@@ -142,6 +162,18 @@ impl Station {
             return Err(Wrong::Restated.of(said as u64));
         }
         self.list.drained(&self.drained, restated)
+    }
+
+    /// Nothing is drained where no journal is kept.
+    fn forget(&mut self) -> Result<(), LongFault> {
+        match self.port.drain_into(&mut self.drained) {
+            Err(PortFault::Book(BookFault::NoJournal)) => {
+                self.list.close_told();
+                Ok(())
+            }
+            Err(fault) => Err(fault.into()),
+            Ok(restated) => Err(Wrong::Restated.of(restated as u64)),
+        }
     }
 }
 
