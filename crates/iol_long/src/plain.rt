@@ -136,11 +136,11 @@ impl PlainList {
     /// No journal says more of the requests whose outcome was told.
     pub(crate) fn close_told(&mut self) {
         self.did.clear();
-        let mut ended = 0;
+        let mut ended: u64 = 0;
         for row in self.rows.iter_mut() {
             if row.told.is_some() && row.stand != Stand::Collected {
                 row.stand = Stand::Collected;
-                ended += 1;
+                ended = ended.saturating_add(1);
             }
         }
         self.counts.ended(ended);

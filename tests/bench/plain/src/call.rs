@@ -94,10 +94,10 @@ impl Call {
                 Ok(entries) => return writeln!(output, "archived {}", entries.len()),
                 Err(refusal) => Err(refusal),
             },
-            Call::Drain => {
-                let (entries, restated) = port.drain();
-                return writeln!(output, "drained {entries} restated {restated}");
-            }
+            Call::Drain => match port.drain() {
+                Ok((entries, restated)) => return writeln!(output, "drained {entries} restated {restated}"),
+                Err(refusal) => Err(refusal),
+            },
             Call::Look => return print_image(output, port.image()),
             Call::Page => return print_page(output, port.page()),
             Call::Counters => return writeln!(output, "counters {}", port.counters()),
