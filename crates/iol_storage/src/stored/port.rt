@@ -100,8 +100,8 @@ impl<A: Allocator + Copy> StoredPort<A> {
     /// clients: so a job finds room in a journal that was drained.
     ///
     /// Refused by the first of 48 where fewer than three tickets may be outstanding, or a journal
-    /// that is kept has fewer than 12 entries, 41 where the set has a value at the Index of Data Storage, or a
-    /// SystemCommand, and 24 where there is no memory for the book.
+    /// that is kept has fewer than 12 entries, 41 where the set has a value at the Index of Data
+    /// Storage, or a SystemCommand, and 24 where there is no memory for the book.
     ///
     /// Rule JOB-6.
     pub fn open(
