@@ -8,7 +8,7 @@ use thiserror::Error;
 /// Why a port refuses a call.
 #[derive(Clone, Copy, Debug, PartialEq, Eq, Error)]
 pub enum PortFault {
-    /// 21 to 28, and 36: the book of the port's requests refuses it.
+    /// 21 to 28, 36 and 63: the book of the port's requests refuses it.
     #[error(transparent)]
     Book(BookFault),
     /// 34 and 29: an output is refused.
