@@ -8,7 +8,7 @@ use thiserror::Error;
 /// Why a call of a stored port is refused, which then changed nothing.
 #[derive(Clone, Copy, Debug, PartialEq, Eq, Error)]
 pub enum StoredFault {
-    /// 21 to 28, 30, 34 and 36: the port within refuses it.
+    /// 21 to 28, 30, 34, 36 and 63: the port within refuses it.
     #[error(transparent)]
     Port(PortFault),
     /// 41: no client may write at the Index of Data Storage, nor has a block or a set a value
