@@ -1,3 +1,4 @@
+-- The files of lemmas that the proofs of iol_app cite.
 pub mod Accepted
 pub mod Verdicts
 pub mod FirstOctet

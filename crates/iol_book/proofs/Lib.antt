@@ -1,3 +1,4 @@
+-- The files of lemmas that the proofs of iol_book cite.
 pub mod JournalLemmas
 pub mod LineLemmas
 pub mod SoundLemmas

@@ -1,3 +1,4 @@
+-- The files of iol_book's definitions.
 pub mod Faults
 pub mod Limits
 pub mod Forms

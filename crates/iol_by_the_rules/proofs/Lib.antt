@@ -1,3 +1,4 @@
+-- The files of lemmas that the proofs of iol_by_the_rules cite.
 pub mod Telling
 pub mod Segments
 pub mod Requests

@@ -1,3 +1,4 @@
+-- The files of lemmas that the proofs of iol_capture cite.
 mod FairItems
 pub mod Digits
 pub mod Splits

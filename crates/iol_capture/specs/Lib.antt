@@ -1,3 +1,4 @@
+-- The files of iol_capture's definitions.
 pub mod SplitNumbers
 pub mod Times
 pub mod Linking

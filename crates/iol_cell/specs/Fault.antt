@@ -1,3 +1,4 @@
+-- The numbers of the refusals of a cell.
 use Rattle.std.specs.Prelude.{ℕ}
 use Rattle.iol_cell.specs.declared.fault.CellFault.{CellFault}
 use Rattle.iol_cell.specs.declared.fault.CellFault.TheVariants.{OutOfMemory}

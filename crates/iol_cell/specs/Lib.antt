@@ -1,3 +1,4 @@
+-- The files of iol_cell's definitions.
 pub mod Fault
 pub mod Handle
 pub mod Packing

@@ -1,3 +1,4 @@
+-- The files of iol_clients's definitions.
 pub mod Counts
 pub mod Faults
 pub mod Served

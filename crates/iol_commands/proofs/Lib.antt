@@ -1,3 +1,4 @@
+-- The files of lemmas that the proofs of iol_commands cite.
 pub mod CheckedLemmas
 pub mod PlayLemmas
 pub mod PrintedLemmas

@@ -1,3 +1,4 @@
+-- The files of iol_commands's definitions.
 pub mod Faults
 pub mod Input
 pub mod Printed

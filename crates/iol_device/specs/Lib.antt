@@ -1,3 +1,4 @@
+-- The files of iol_device's definitions.
 pub mod App
 pub mod Record
 pub mod Faults

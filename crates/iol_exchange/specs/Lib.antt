@@ -1,1 +1,2 @@
+-- The files of iol_exchange's definitions.
 pub mod Exchange

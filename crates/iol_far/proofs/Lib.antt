@@ -1,3 +1,4 @@
+-- The files of lemmas that the proofs of iol_far cite.
 mod Hearings
 mod Standing
 mod Levels

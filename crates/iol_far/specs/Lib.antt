@@ -1,3 +1,4 @@
+-- The files of iol_far's definitions.
 pub mod Codec
 pub mod Isdu
 pub mod Record

@@ -1,3 +1,4 @@
+-- The number of the refusal of an image.
 use Rattle.std.specs.Prelude.{ℕ}
 use Rattle.iol_image.specs.declared.fault.ImageFault.{ImageFault}
 use Rattle.iol_image.specs.declared.fault.ImageFault.TheVariants.{WrongImageLength}

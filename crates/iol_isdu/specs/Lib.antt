@@ -1,3 +1,4 @@
+-- The files of iol_isdu's definitions.
 pub mod Fault
 pub mod Frame
 pub mod Requests

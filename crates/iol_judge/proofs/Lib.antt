@@ -1,3 +1,4 @@
+-- The files of lemmas that the proofs of iol_judge cite.
 mod Known
 mod Sending
 mod Transferring

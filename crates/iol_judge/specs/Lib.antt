@@ -1,3 +1,4 @@
+-- The files of iol_judge's definitions.
 pub mod Numbers
 pub mod Octets
 pub mod Events

@@ -1,3 +1,4 @@
+-- The files of iol_link's definitions.
 pub mod Honest
 pub mod WireFacts
 pub mod Attempts

@@ -1,3 +1,4 @@
+-- The files of iol_mseq's definitions.
 pub mod Shape
 pub mod Master
 pub mod Replies

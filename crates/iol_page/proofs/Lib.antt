@@ -1,1 +1,2 @@
+-- The files of lemmas that the proofs of iol_page cite.
 mod Asked

@@ -1,3 +1,4 @@
+-- The files of iol_page's definitions.
 pub mod Commands
 pub mod Cycle
 pub mod Fault

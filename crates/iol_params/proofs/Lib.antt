@@ -1,3 +1,4 @@
+-- The files of lemmas that the proofs of iol_params cite.
 pub mod CellLemmas
 pub mod Consistency
 pub mod CutOffs

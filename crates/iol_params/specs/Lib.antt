@@ -1,3 +1,4 @@
+-- The files of iol_params's definitions.
 pub mod Errors
 pub mod Members
 pub mod Values

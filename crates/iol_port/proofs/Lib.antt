@@ -1,3 +1,4 @@
+-- The files of lemmas that the proofs of iol_port cite.
 pub mod Replaying
 pub mod Joining
 pub mod PieceLemmas

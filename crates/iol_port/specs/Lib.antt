@@ -1,3 +1,4 @@
+-- The files of iol_port's definitions.
 pub mod Faults
 pub mod Steps
 pub mod Counters

@@ -1,3 +1,4 @@
+-- The files of iol_print's definitions.
 pub mod Sink
 pub mod Printed
 pub mod Said

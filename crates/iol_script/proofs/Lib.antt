@@ -1,3 +1,4 @@
+-- The files of lemmas that the proofs of iol_script cite.
 pub mod Cutting
 pub mod Cycles
 pub mod Decimals

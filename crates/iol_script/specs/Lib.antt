@@ -1,3 +1,4 @@
+-- The files of iol_script's definitions.
 pub mod Text
 pub mod Printing
 pub mod Numerals

@@ -1,3 +1,4 @@
+-- The files of iol_segment's definitions.
 pub mod Fault
 pub mod Cut
 pub mod Lending

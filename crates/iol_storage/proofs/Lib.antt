@@ -1,3 +1,4 @@
+-- The files of lemmas that the proofs of iol_storage cite.
 pub mod Spans
 pub mod Downloads
 pub mod Uploads

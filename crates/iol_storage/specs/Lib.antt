@@ -1,3 +1,4 @@
+-- The files of iol_storage's definitions.
 pub mod Faults
 pub mod Objects
 pub mod Downloads

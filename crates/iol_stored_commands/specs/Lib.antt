@@ -1,3 +1,4 @@
+-- The files of iol_stored_commands's definitions.
 pub mod Wired
 pub mod StoredPrinted
 pub mod StoredPlayed

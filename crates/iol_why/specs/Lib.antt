@@ -1,1 +1,2 @@
+-- The files of iol_why's definitions.
 pub mod Explained

@@ -1,3 +1,4 @@
+-- The files of iolink's definitions.
 pub mod Ending
 pub mod Performed
 pub mod Command

@@ -1,3 +1,4 @@
+-- The files of iolink_params_c's definitions.
 pub mod Line
 pub mod Work
 pub mod Process

@@ -1,3 +1,4 @@
+-- The files of iolink_port_c's definitions.
 pub mod Calls
 pub mod LineCalls
 pub mod RequestCalls

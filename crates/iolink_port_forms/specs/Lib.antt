@@ -1,3 +1,4 @@
+-- The files of iolink_port_forms's definitions.
 pub mod Shown
 pub mod Given
 pub mod Answers

@@ -1,3 +1,4 @@
+-- The files of iolink_storage_c's definitions.
 pub mod Calls
 pub mod Opening
 pub mod LineCalls

@@ -1,1 +1,2 @@
+-- The files of refusing_alloc's definitions.
 pub mod Refused

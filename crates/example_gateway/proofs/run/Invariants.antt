@@ -1,3 +1,4 @@
+-- The ghost values that `run` hands to what it calls.
 use Rattle.example_gateway.proofs.run.Given as goal
 
 -- the blanks name the ledgers of this master

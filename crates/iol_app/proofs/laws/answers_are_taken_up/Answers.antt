@@ -1,3 +1,4 @@
+-- The clauses of `laws::answers_are_taken_up` that the search can't prove.
 use Rattle.std.proofs.Common.{lit≤}
 use Rattle.iol_app.proofs.TakingUp.{answers_are_taken_up}
 use Rattle.iol_app.proofs.laws.answers_are_taken_up.Goals as goal

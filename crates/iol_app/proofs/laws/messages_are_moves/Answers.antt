@@ -1,3 +1,4 @@
+-- The clauses of `laws::messages_are_moves` that the search can't prove.
 use Rattle.std.proofs.Common.{lit≤}
 use Rattle.iol_app.proofs.Moving.{messages_are_moves}
 use Rattle.iol_app.proofs.laws.messages_are_moves.Goals as goal

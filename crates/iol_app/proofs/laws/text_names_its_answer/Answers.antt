@@ -1,3 +1,4 @@
+-- The clauses of `laws::text_names_its_answer` that the search can't prove.
 use Rattle.iol_app.proofs.AnswerTexts.{text_names}
 use Rattle.iol_app.proofs.laws.text_names_its_answer.Goals as goal
 

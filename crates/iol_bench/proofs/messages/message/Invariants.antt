@@ -1,3 +1,4 @@
+-- What each round of a loop of `messages::message` keeps.
 use Rattle.std.proofs.Common.{true}
 use Rattle.iol_mseq.specs.Master.{HasMasterParts}
 use Rattle.iol_mseq.specs.Replies.{HasReplyParts}

@@ -1,3 +1,4 @@
+-- What the search can't prove of the body of `served::opened_ports`.
 use Rattle.std.proofs.Common.{◌≡◌, ℕ, ◌+◌, arith}
 use Rattle.iol_master.specs.Tickets.{HasGiven}
 use Rattle.std.proofs.lemmas.List.Elements.{All-push}

@@ -1,3 +1,4 @@
+-- What each round of a loop of `served::opened_ports` keeps.
 use Rattle.std.proofs.Common.{◌≡◌, All, vec_len}
 use Rattle.iol_master.specs.Tickets.{HasGiven}
 use Rattle.iol_bench.proofs.served.opened_ports.Given as goal

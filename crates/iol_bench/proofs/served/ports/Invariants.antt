@@ -1,3 +1,4 @@
+-- The ghost values that `served::ports` hands to what it calls.
 use Rattle.iol_bench.proofs.served.ports.Given as goal
 
 -- the blanks name the ledgers of this master

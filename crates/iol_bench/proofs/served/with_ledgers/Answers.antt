@@ -1,3 +1,4 @@
+-- What the search can't prove of the body of `served::with_ledgers`.
 use denote.Param.Send.{sendable}
 use Rattle.std.proofs.Crossing.{crosses}
 use Rattle.iol_port.proofs.Crosses.{heap_port_send}

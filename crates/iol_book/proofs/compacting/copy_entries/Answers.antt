@@ -1,3 +1,4 @@
+-- What the search can't prove of the body of `compacting::copy_entries`.
 use Rattle.std.proofs.Common.{◌∙◌, arith, refl, sym}
 use Rattle.std.proofs.lemmas.Grind.{common_steps}
 use Rattle.std.proofs.lemmas.List.{append_assoc, append-nil}

@@ -1,3 +1,4 @@
+-- What each round of a loop of `compacting::copy_entries` keeps.
 use Rattle.std.proofs.Common.{◌≡◌, ◌+◌, ◌++◌, ◌≤◌, drop, length, take}
 use Rattle.iol_book.specs.JournalModel.{octet_sum}
 use Rattle.iol_book.proofs.compacting.copy_entries.Given as goal

@@ -1,3 +1,4 @@
+-- What the search can't prove of the body of `compacting::keep_open`.
 use Rattle.std.proofs.Common.{◌≡◌, ◌∙◌, Bool, arith, false, true}
 use Rattle.std.proofs.lemmas.Grind.{common_steps}
 use Rattle.iol_book.specs.declared.entries.Entry.{Entry}

@@ -1,3 +1,4 @@
+-- What each round of a loop of `compacting::keep_open` keeps.
 use Rattle.std.proofs.Common.{◌≡◌, ◌+◌, ◌++◌, ◌≤◌, Bool, drop, length}
 use Rattle.std.specs.Prelude.{filter}
 use Rattle.iol_book.specs.declared.entries.Entry.{Entry}

@@ -1,3 +1,4 @@
+-- What the search can't prove of the body of `compacting::last_taken`.
 use Rattle.std.proofs.Common.{◌≡◌, ◌+◌, ◌∷◌, ◌∙◌, List, Option, ap, arith, drop, refl, sym}
 use Rattle.std.proofs.lemmas.Grind.{common_steps}
 use Rattle.iol_book.specs.declared.entries.Ticket.{Ticket}

@@ -1,3 +1,4 @@
+-- What each round of a loop of `compacting::last_taken` keeps.
 use Rattle.std.proofs.Common.{◌≡◌, None, drop}
 use Rattle.iol_book.specs.Drained.{last_taken}
 use Rattle.iol_book.proofs.compacting.last_taken.Given as goal

@@ -1,3 +1,4 @@
+-- The clauses of `compacting::move_outcomes` that the search can't prove.
 use Rattle.std.proofs.Common.{rules}
 use Rattle.iol_book.proofs.NumberLemmas.{map-retained}
 use Rattle.iol_book.proofs.compacting.move_outcomes.Goals as goal

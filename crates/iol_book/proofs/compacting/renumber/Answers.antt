@@ -1,3 +1,4 @@
+-- What the search can't prove of the body of `compacting::renumber`.
 use Rattle.std.proofs.Common.{◌≡◌, ◌+◌, ap, arith, drop, false, ◌∷◌, sym, true, ◌∙◌}
 use Rattle.std.proofs.lemmas.Grind.{common_steps}
 use Rattle.std.proofs.lemmas.List.{drop_all, drop_more}

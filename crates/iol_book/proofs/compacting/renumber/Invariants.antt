@@ -1,3 +1,4 @@
+-- What each round of a loop of `compacting::renumber` keeps.
 use Rattle.std.proofs.Common.{◌≡◌, ℕ, Bool, ◌≤◌, List, drop, vec_capacity}
 use Rattle.std.specs.Option.{option_to_list}
 use Rattle.std.specs.VecDeque.{deque_capacity}

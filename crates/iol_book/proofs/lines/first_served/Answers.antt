@@ -1,3 +1,4 @@
+-- The clauses of `lines::first_served` that the search can't prove.
 use Rattle.std.proofs.Common.{◌≡◌, ◌<◌, ℕ, Some, length, refl, sym, ◌∙◌, arith}
 use Rattle.std.specs.Prelude.{find, slice_get}
 use Rattle.std.proofs.lemmas.Option.{slice_get_read}

@@ -1,3 +1,4 @@
+-- The clauses of `lines::place_in` that the search can't prove.
 use Rattle.iol_book.specs.Replay.{same_ticket}
 use Rattle.iol_book.proofs.LineLemmas.{is_some-position, none-position, remove-position}
 use Rattle.iol_book.proofs.lines.place_in.Goals as goal

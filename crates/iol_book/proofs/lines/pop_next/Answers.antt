@@ -1,3 +1,4 @@
+-- What the search can't prove of the body of `lines::pop_next`.
 use Rattle.std.proofs.Common.{◌≡◌, ◌++◌, Some, arith}
 use Rattle.std.proofs.lemmas.Grind.{common_steps}
 use Rattle.iol_book.proofs.LineLemmas.{served_in, found-waits}

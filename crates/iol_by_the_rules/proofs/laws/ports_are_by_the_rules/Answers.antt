@@ -1,3 +1,4 @@
+-- The clauses of `laws::ports_are_by_the_rules` that the search can't prove.
 use Rattle.iol_by_the_rules.proofs.Lines.{ports_are_fair}
 use Rattle.iol_by_the_rules.proofs.laws.ports_are_by_the_rules.Goals as goal
 

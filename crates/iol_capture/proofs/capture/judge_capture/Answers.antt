@@ -1,3 +1,4 @@
+-- What the search can't prove of the body of `capture::judge_capture`.
 use Rattle.std.proofs.Common.{take}
 use Rattle.iol_capture.proofs.ReadLemmas.{read_more}
 use Rattle.iol_capture.proofs.capture.judge_capture.Goals as goal

@@ -1,3 +1,4 @@
+-- What each round of a loop of `capture::judge_capture` keeps.
 use Rattle.iol_capture.proofs.ReadLemmas.{IsReadOf}
 use Rattle.iol_capture.proofs.capture.judge_capture.Given as goal
 

@@ -1,3 +1,4 @@
+-- The clauses of `cells::first_cell` that the search can't prove.
 use Rattle.std.proofs.Common.{◌==◌, sym}
 use Rattle.std.proofs.lemmas.List.{take_rest}
 use Rattle.iol_capture.proofs.Cutting.{cell_at, last_cell}

@@ -1,3 +1,4 @@
+-- What each round of a loop of `octet_line::digits_behind` keeps.
 use Rattle.std.proofs.Common.{◌≡◌, drop}
 use Rattle.std.specs.Prelude.{Some}
 use Rattle.iol_capture.specs.OctetLines.{digits_behind}

@@ -1,3 +1,4 @@
+-- The clauses of `opened::cut_line` that the search can't prove.
 use Rattle.std.proofs.lemmas.List.{take_rest}
 use Rattle.iol_capture.proofs.ReadLemmas.{cut_at, uncut}
 use Rattle.iol_capture.proofs.opened.cut_line.Goals as goal

@@ -1,3 +1,4 @@
+-- What each round of a loop of `printing::print_odd` keeps.
 use Rattle.std.proofs.Common.{◌≡◌, ◌++◌, drop}
 use Rattle.std.specs.String.{string_bytes}
 use Rattle.iol_capture.specs.Findings.{odd_texts}

@@ -1,3 +1,4 @@
+-- The clauses of `printing::print_unsure` that the search can't prove.
 use Rattle.std.proofs.Common.{◌≡◌, ℕ, Result, Ok, Err, OnOk, List, ◌++◌, ap, ◌∙◌, append_assoc}
 use Rattle.std.specs.Prelude.{codes}
 use Rattle.iol_capture.specs.Findings.{from_text}

@@ -1,3 +1,4 @@
+-- The clauses of `split_laws::octets_are_never_blamed` that the search can't prove.
 use Rattle.iol_judge.specs.Judged.{new_judge}
 use Rattle.iol_capture.proofs.FairItems.{items_unblamed}
 use Rattle.iol_capture.proofs.split_laws.octets_are_never_blamed.Goals as goal

@@ -1,3 +1,4 @@
+-- The clauses of `trace_event::parse_begun` that the search can't prove.
 use Rattle.std.proofs.Common.{◌∙◌, ap, Some}
 use Rattle.std.proofs.lemmas.List.{take_rest}
 use Rattle.std.specs.Prelude.{option_map, length}

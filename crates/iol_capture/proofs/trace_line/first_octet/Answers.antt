@@ -1,3 +1,4 @@
+-- The clauses of `trace_line::first_octet` that the search can't prove.
 use Rattle.iol_capture.proofs.WordLemmas.{octets_are, octets_bad, octets_few, octets_odd}
 use Rattle.iol_capture.proofs.trace_line.first_octet.Goals as goal
 

@@ -1,3 +1,4 @@
+-- The clauses of `trace_line::first_word` that the search can't prove.
 use Rattle.std.proofs.Common.{sym}
 use Rattle.std.proofs.lemmas.List.{take_rest}
 use Rattle.iol_capture.proofs.WordLemmas.{word_at_colon, word_at_space, word_alone}

@@ -1,3 +1,4 @@
+-- The clauses of `trace_line::read_octets` that the search can't prove.
 use Rattle.std.proofs.Common.{sym, ap, ◌∙◌}
 use Rattle.std.specs.Prelude.{option_copied}
 use Rattle.iol_script.specs.Numerals.{octets_of_words}

@@ -1,3 +1,4 @@
+-- What the search can't prove of the body of `cell::new_writer`.
 use Rattle.iol_cell.proofs.Room.{has_room}
 use Rattle.iol_cell.proofs.cell.new_writer.Goals as goal
 

@@ -1,3 +1,4 @@
+-- What the search can't prove of the body of `cell::seats_of`.
 use Rattle.std.proofs.Common.{rules}
 use Rattle.iol_cell.proofs.Room.{has_room}
 use Rattle.iol_cell.proofs.Rule.{splits}

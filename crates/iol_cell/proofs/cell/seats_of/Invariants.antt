@@ -1,3 +1,4 @@
+-- What each round of a loop of `cell::seats_of` keeps.
 use Rattle.std.proofs.Common.{◌≡◌, All, vec_len}
 use Rattle.std.specs.Arc.{arc_value}
 use Rattle.crossbeam_utils.specs.Seq.{cell_view}

@@ -1,3 +1,4 @@
+-- The clauses of `packing::image_in` that the search can't prove.
 use Rattle.std.proofs.Common.{◌≡◌, rules, slice_index, take, min}
 use Rattle.iol_cell.specs.Packing.{packed_octets}
 use Rattle.iol_cell.proofs.Pieces.{image_of_first, length-octets_of}

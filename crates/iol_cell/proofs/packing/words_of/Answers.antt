@@ -1,3 +1,4 @@
+-- The clauses of `packing::words_of` that the search can't prove.
 use Rattle.iol_cell.proofs.Pieces.{image_of-packed}
 use Rattle.iol_cell.proofs.packing.words_of.Goals as goal
 

@@ -1,3 +1,4 @@
+-- What the search can't prove of the body of `collect::count_port`.
 use Rattle.std.proofs.Common.{arith}
 use Rattle.iol_clients.proofs.Folds.{whole, summed, mapped}
 use Rattle.iol_clients.specs.Counts.{accepted_at, client_state, NotesClientTickets}

@@ -1,3 +1,4 @@
+-- What each round of a loop of `collect::count_port` keeps.
 use Rattle.std.proofs.Common.{◌≡◌, ◌*◌, ◌≤◌, take, map}
 use Rattle.std.specs.List.{FoldsTo, sum_by}
 use Rattle.iol_clients.specs.Counts.{AddsUp, accepted_at, client_state, NotesClientTickets, no_tickets}

@@ -1,3 +1,4 @@
+-- What the search can't prove of the body of `collect::count_ports`.
 use Rattle.std.proofs.Common.{◌≡◌, ◌+◌, length, length-append, arith}
 use Rattle.std.proofs.lemmas.List.Elements.{All-push}
 use Rattle.iol_clients.specs.Counts.{AddsUp}

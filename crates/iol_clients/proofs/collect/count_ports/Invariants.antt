@@ -1,3 +1,4 @@
+-- What each round of a loop of `collect::count_ports` keeps.
 use Rattle.std.proofs.Common.{◌≡◌, All, map, length, vec_len}
 use Rattle.iol_clients.specs.Counts.{AddsUp, client_state, AreCounted}
 use Rattle.iol_clients.proofs.collect.count_ports.Given as goal

@@ -1,3 +1,4 @@
+-- What the search can't prove of the body of `collect::settle_all`.
 use Rattle.std.proofs.Common.{append_assoc, refl}
 use Rattle.std.proofs.lemmas.Fn.{FoldsTo-push}
 use Rattle.std.proofs.lemmas.List.{map-append}

@@ -1,3 +1,4 @@
+-- What each round of a loop of `ports::open_ports` keeps.
 use Rattle.std.proofs.Common.{◌≡◌, All, vec_len}
 use Rattle.iol_master.specs.Tickets.{HasGiven}
 use Rattle.iol_clients.proofs.ports.open_ports.Given as goal

@@ -1,3 +1,4 @@
+-- What the search can't prove of the body of `run::join_all`.
 use Rattle.std.proofs.Common.{append_assoc}
 use Rattle.std.proofs.lemmas.Slice.Zip.{all_zipped_more}
 use Rattle.iol_clients.proofs.run.join_all.Goals as goal

@@ -1,3 +1,4 @@
+-- What the search can't prove of the body of `run::make_turns`.
 use denote.Param.Send.{sendable}
 use Rattle.iol_port.proofs.Crosses.{heap_port_send}
 use Rattle.iol_clients.proofs.run.make_turns.Goals as goal

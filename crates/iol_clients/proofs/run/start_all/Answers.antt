@@ -1,3 +1,4 @@
+-- What the search can't prove of the body of `run::start_all`.
 use Rattle.std.proofs.Common.{◌≡◌}
 use Rattle.std.proofs.lemmas.List.Elements.{All-push}
 use Rattle.iol_clients.proofs.PlansClients.{port_more}

@@ -1,3 +1,4 @@
+-- What each round of a loop of `run::start_all` keeps.
 use Rattle.std.proofs.Common.{◌≡◌, ◌+◌, ◌++◌, All, map, replicate}
 use Rattle.iol_clients.specs.Submitted.{client_ports}
 use Rattle.iol_clients.proofs.run.start_all.Given as goal

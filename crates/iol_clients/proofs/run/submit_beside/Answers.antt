@@ -1,3 +1,4 @@
+-- The clauses of `run::submit_beside` that the search can't prove.
 use Rattle.std.proofs.Common.{◌∙◌}
 use Rattle.iol_master.specs.Ports.{port_facts}
 use Rattle.iol_clients.specs.Counts.{client_state}

@@ -1,3 +1,4 @@
+-- The ghost values that `serve::serve_clients` hands to what it calls.
 use Rattle.iol_clients.proofs.serve.serve_clients.Given as goal
 
 -- the blanks name the ledgers of this master

@@ -1,3 +1,4 @@
+-- What the search can't prove of the body of `serve::with_ledgers`.
 use denote.Param.Send.{sendable}
 use Rattle.std.proofs.Common.{◌≡◌, ◌∙◌, map}
 use Rattle.std.proofs.Crossing.{crosses}

@@ -1,3 +1,4 @@
+-- The clauses of `check_command::answer` that the search can't prove.
 use Rattle.iol_commands.proofs.check_command.answer.Goals as goal
 
 pub returns-in-Master-clause-printed : goal.returns-in-Master-clause-printed

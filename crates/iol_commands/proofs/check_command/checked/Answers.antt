@@ -1,3 +1,4 @@
+-- What the search can't prove of the body of `check_command::checked`.
 use Rattle.std.proofs.Common.{◌≡◌, Some, [], refl, sym, ◌∙◌, append-nil}
 use Rattle.std.specs.String.{string_bytes}
 use Rattle.iol_script.specs.Text.{numbered_lines}

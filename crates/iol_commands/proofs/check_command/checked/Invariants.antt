@@ -1,3 +1,4 @@
+-- What each round of a loop of `check_command::checked` keeps.
 use Rattle.std.proofs.Common.{◌≡◌}
 use Rattle.std.specs.String.{string_bytes}
 use Rattle.iol_script.specs.Text.{numbered_lines, lines_left}

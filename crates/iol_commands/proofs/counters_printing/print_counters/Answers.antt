@@ -1,3 +1,4 @@
+-- What the search can't prove of the body of `counters_printing::print_counters`.
 use Rattle.std.proofs.Common.{arith, codes, rules}
 use Rattle.std.proofs.lemmas.Result.{on_ok_weaker}
 use Rattle.iol_commands.specs.CountersPrinted.{counter_text, named_counters}

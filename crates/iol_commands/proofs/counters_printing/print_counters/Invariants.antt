@@ -1,3 +1,4 @@
+-- What each round of a loop of `counters_printing::print_counters` keeps.
 use Rattle.std.proofs.Common.{◌≡◌, ◌++◌, take, codes}
 use Rattle.std.specs.List.{flat_map}
 use Rattle.std.specs.String.{string_bytes}

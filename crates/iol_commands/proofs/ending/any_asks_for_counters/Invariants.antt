@@ -1,3 +1,4 @@
+-- What each round of a loop of `ending::any_asks_for_counters` keeps.
 use Rattle.std.proofs.Common.{◌≡◌}
 use Rattle.std.specs.List.{list_any}
 use Rattle.iol_script.specs.Script.{calls_in}

@@ -1,3 +1,4 @@
+-- The clauses of `ending::print_ending` that the search can't prove.
 use Rattle.std.proofs.lemmas.Result.{on_ok_weaker}
 use Rattle.std.specs.String.{string_bytes}
 use Rattle.iol_script.specs.Script.{calls_in}

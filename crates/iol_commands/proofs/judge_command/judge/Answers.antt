@@ -1,3 +1,4 @@
+-- The clauses of `judge_command::judge` that the search can't prove.
 use Rattle.std.proofs.Common.{sym, ◌∙◌}
 use Rattle.std.proofs.lemmas.Option.{IfSome_then}
 use Rattle.iol_commands.proofs.OctetsLemmas.{no_error}

@@ -1,3 +1,4 @@
+-- The clauses of `judge_command::judge_traced` that the search can't prove.
 use Rattle.std.proofs.Common.{◌≡◌, ◌++◌, Err, ap, refl}
 use Rattle.std.proofs.lemmas.Option.{IfSome_then}
 use Rattle.iol_capture.specs.Findings.{finding_text}

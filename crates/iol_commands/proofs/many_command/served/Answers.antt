@@ -1,3 +1,4 @@
+-- The clauses of `many_command::served` that the search can't prove.
 use Rattle.std.proofs.Common.{◌≡◌, [], rules}
 use Rattle.std.specs.String.{string_bytes}
 use Rattle.iol_script.specs.Plan.{numbers_of}

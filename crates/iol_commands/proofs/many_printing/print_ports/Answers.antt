@@ -1,3 +1,4 @@
+-- What the search can't prove of the body of `many_printing::print_ports`.
 use Rattle.iol_commands.proofs.ManyLemmas.{port_printed}
 use Rattle.iol_commands.proofs.many_printing.print_ports.Goals as goal
 

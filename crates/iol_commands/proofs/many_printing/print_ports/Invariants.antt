@@ -1,3 +1,4 @@
+-- What each round of a loop of `many_printing::print_ports` keeps.
 use Rattle.std.proofs.Common.{◌≡◌, ◌++◌, take}
 use Rattle.std.specs.String.{string_bytes}
 use Rattle.iol_commands.specs.ManyPrinted.{ports_text}

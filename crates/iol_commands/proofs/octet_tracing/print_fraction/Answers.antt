@@ -1,3 +1,4 @@
+-- The clauses of `octet_tracing::print_fraction` that the search can't prove.
 use Rattle.std.proofs.Common.{◌-◌, ◌^◌, refl}
 use Rattle.std.specs.Fmt.{decimal, format_spec}
 use Rattle.std.proofs.Padding.{padded_integral_zeros}

@@ -1,3 +1,4 @@
+-- The clauses of `octet_tracing::print_item` that the search can't prove.
 use Rattle.iol_commands.proofs.octet_tracing.print_item.Goals as goal
 
 pub returns-in-Exchange : goal.returns-in-Exchange

@@ -1,3 +1,4 @@
+-- The clauses of `octet_tracing::show` that the search can't prove.
 use Rattle.std.proofs.Common.{sym, ◌∙◌}
 use Rattle.iol_commands.proofs.TraceLemmas.{flows_after}
 use Rattle.iol_commands.proofs.OctetsLemmas.{flows_one, no_error}

@@ -1,3 +1,4 @@
+-- The clauses of `octet_tracing::trace_end` that the search can't prove.
 use Rattle.std.specs.String.{string_bytes}
 use Rattle.iol_commands.proofs.OctetsLemmas.{bad_ends, end_shown, is_fault}
 use Rattle.iol_commands.proofs.octet_tracing.trace_end.Goals as goal

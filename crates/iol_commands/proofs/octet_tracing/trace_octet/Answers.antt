@@ -1,3 +1,4 @@
+-- The clauses of `octet_tracing::trace_octet` that the search can't prove.
 use Rattle.iol_commands.proofs.OctetsLemmas.{bad_ends, is_fault, octet_shown}
 use Rattle.iol_commands.proofs.octet_tracing.trace_octet.Goals as goal
 

@@ -1,3 +1,4 @@
+-- What the search can't prove of the body of `octet_tracing::trace_octets`.
 use Rattle.std.proofs.Common.{◌≡◌, Err, [], ap, refl, rules, ◌∙◌}
 use Rattle.std.proofs.KnownBytes.{Consumes-nil}
 use Rattle.iol_capture.specs.declared.fault.CaptureFault.TheVariants.{Line}

@@ -1,3 +1,4 @@
+-- What each round of a loop of `octet_tracing::trace_octets` keeps.
 use Rattle.std.specs.String.{string_bytes}
 use Rattle.iol_capture.specs.Capture.{new_opened}
 use Rattle.iol_capture.specs.declared.telling.CaptureForm.TheVariants.{Octets}

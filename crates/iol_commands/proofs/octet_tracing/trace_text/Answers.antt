@@ -1,3 +1,4 @@
+-- What the search can't prove of the body of `octet_tracing::trace_text`.
 use Rattle.std.proofs.Common.{rules}
 use Rattle.std.specs.String.{string_bytes}
 use Rattle.iol_commands.specs.OctetsTraced.{octets_place}

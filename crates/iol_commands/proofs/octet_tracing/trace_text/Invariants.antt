@@ -1,3 +1,4 @@
+-- What each round of a loop of `octet_tracing::trace_text` keeps.
 use Rattle.std.proofs.Common.{take}
 use Rattle.std.specs.String.{string_bytes}
 use Rattle.iol_commands.specs.OctetsTraced.{TracesText, octets_place}

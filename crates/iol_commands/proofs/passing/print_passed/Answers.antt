@@ -1,3 +1,4 @@
+-- The clauses of `passing::print_passed` that the search can't prove.
 use Rattle.iol_commands.proofs.passing.print_passed.Goals as goal
 
 pub returns-in-Exchange : goal.returns-in-Exchange

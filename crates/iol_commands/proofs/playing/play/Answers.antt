@@ -1,3 +1,4 @@
+-- The clauses of `playing::play` that the search can't prove.
 use Rattle.std.proofs.Common.{refl, sym}
 use Rattle.std.proofs.lemmas.Result.{on_ok_weaker}
 use Rattle.iol_commands.specs.RunPrinted.{answers_text}

@@ -1,3 +1,4 @@
+-- What the search can't prove of the body of `playing::play_lines`.
 use Rattle.std.proofs.Common.{◌≡◌, [], ◌++◌, refl, sym, append-nil, append_assoc, rules}
 use Rattle.iol_port.specs.View.{over}
 use Rattle.iol_script.specs.Script.{line_calls}

@@ -1,3 +1,4 @@
+-- What each round of a loop of `playing::play_lines` keeps.
 use Rattle.std.proofs.Common.{◌≡◌, ◌++◌, ℕ, List}
 use Rattle.std.specs.String.{string_bytes}
 use Rattle.iol_port.specs.View.{over}

@@ -1,3 +1,4 @@
+-- What the search can't prove of the body of `playing::play_turns`.
 use Rattle.std.proofs.Common.{[], ◌++◌, sym, append-nil, arith}
 use Rattle.std.proofs.lemmas.List.{take-replicate, replicate-append-replicate}
 use Rattle.iol_port.specs.View.{over}

@@ -1,3 +1,4 @@
+-- The clauses of `playing::print_answers` that the search can't prove.
 use Rattle.std.specs.String.{string_bytes}
 use Rattle.iol_commands.specs.RunPrinted.{answers_text}
 use Rattle.iol_commands.proofs.PlayLemmas.{answers_printed}

@@ -1,3 +1,4 @@
+-- What each round of a loop of `playing::turns_of` keeps.
 use Rattle.std.proofs.Common.{◌≡◌, replicate}
 use Rattle.iol_port.specs.declared.call.Call.TheVariants.{Turn}
 use Rattle.iol_commands.proofs.playing.turns_of.Given as goal

@@ -1,3 +1,4 @@
+-- The clauses of `printing::print_type` that the search can't prove.
 use Rattle.std.proofs.Common.{ap, ◌∙◌}
 use Rattle.std.proofs.lemmas.Result.{on_ok_weaker}
 use Rattle.iol_octets.specs.CheckOctets.{type_bits}

@@ -1,3 +1,4 @@
+-- The clauses of `run_command::played_by_table` that the search can't prove.
 use Rattle.std.proofs.Common.{rules}
 use Rattle.iol_commands.proofs.run_command.played_by_table.Goals as goal
 

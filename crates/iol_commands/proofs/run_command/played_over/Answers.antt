@@ -1,3 +1,4 @@
+-- The clauses of `run_command::played_over` that the search can't prove.
 use Rattle.std.proofs.Common.{◌≡◌, [], refl, rules}
 use Rattle.std.specs.String.{string_bytes}
 use Rattle.iol_port.specs.View.{over}

@@ -1,3 +1,4 @@
+-- What each round of a loop of `run_printing::print_entries` keeps.
 use Rattle.std.proofs.Common.{◌≡◌, ◌++◌, take}
 use Rattle.std.specs.String.{string_bytes}
 use Rattle.iol_commands.specs.RunPrinted.{entries_text}

@@ -1,3 +1,4 @@
+-- The clauses of `run_printing::print_event` that the search can't prove.
 use Rattle.std.proofs.Common.{codes, rules}
 use Rattle.std.specs.String.{string_bytes}
 use Rattle.iol_print.specs.Printed.{hexadecimal}

@@ -1,3 +1,4 @@
+-- The clauses of `run_printing::print_found` that the search can't prove.
 use Rattle.std.proofs.Common.{codes, rules}
 use Rattle.std.specs.String.{string_bytes}
 use Rattle.iol_commands.specs.RunPrinted.{code_text, device_id_text}

@@ -1,3 +1,4 @@
+-- The clauses of `streams::read_input` that the search can't prove.
 use Rattle.std.proofs.Common.{rules, arith}
 use Rattle.std.proofs.lemmas.List.{length-take}
 use Rattle.iol_commands.proofs.Taken.{taken, too_long, whole}

@@ -1,3 +1,4 @@
+-- What each round of a loop of `streams::read_input` keeps.
 use Rattle.std.proofs.Common.{◌≤◌, vec_len}
 use Rattle.std.specs.Io.KnownBytes.{Consumes}
 use Rattle.iol_commands.specs.declared.streams.TheConstants.{LIMIT}

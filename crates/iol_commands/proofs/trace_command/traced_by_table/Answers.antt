@@ -1,3 +1,4 @@
+-- The clauses of `trace_command::traced_by_table` that the search can't prove.
 use Rattle.std.proofs.Common.{rules, ◌≡◌, Result, Ok, Err, OnOk, subst}
 use Rattle.iol_param_sim.specs.Parameters.{parameters_facts}
 use Rattle.iol_script.specs.Script.{calls_in, value_of}

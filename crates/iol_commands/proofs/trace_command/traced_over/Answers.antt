@@ -1,3 +1,4 @@
+-- The clauses of `trace_command::traced_over` that the search can't prove.
 use Rattle.std.proofs.Common.{◌≡◌, ◌++◌, refl, ◌∙◌}
 use Rattle.std.proofs.lemmas.Result.{on_ok_weaker}
 use Rattle.iol_port.specs.View.{over}

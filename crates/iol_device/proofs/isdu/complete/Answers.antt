@@ -1,3 +1,4 @@
+-- The clauses of `isdu::complete` that the search can't prove.
 use Rattle.std.proofs.Common.{arith}
 use Rattle.std.proofs.lemmas.Grind.{common_steps}
 use Rattle.iol_isdu.specs.Parse.{request_of}

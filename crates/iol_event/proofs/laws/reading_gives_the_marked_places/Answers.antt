@@ -1,3 +1,4 @@
+-- The clauses of `laws::reading_gives_the_marked_places` that the search can't prove.
 use Rattle.std.proofs.Common.{add-one, arith}
 use Rattle.iol_event.specs.Reading.{places_size}
 use Rattle.iol_event.proofs.Steps.{answers-had}

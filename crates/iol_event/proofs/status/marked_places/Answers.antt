@@ -1,3 +1,4 @@
+-- What the search can't prove of the body of `status::marked_places`.
 use Rattle.std.proofs.Common.{arith}
 use Rattle.std.proofs.lemmas.Grind.{common_steps}
 use Rattle.std.proofs.lemmas.List.Elements.{filter_more}

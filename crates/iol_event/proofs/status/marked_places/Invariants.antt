@@ -1,3 +1,4 @@
+-- What each round of a loop of `status::marked_places` keeps.
 use Rattle.std.proofs.Common.{◌≡◌, ◌≤◌, length, take}
 use Rattle.std.specs.Prelude.{filter}
 use Rattle.iol_event.specs.Reading.{marks}

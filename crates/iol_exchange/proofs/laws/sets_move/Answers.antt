@@ -1,3 +1,4 @@
+-- The clauses of `laws::sets_move` that the search can't prove.
 use Rattle.iol_exchange.proofs.Fetches.{sets-moved}
 use Rattle.iol_exchange.proofs.laws.sets_move.Goals as goal
 

@@ -1,3 +1,4 @@
+-- The clauses of `laws::ends_stay_level` that the search can't prove.
 use Rattle.iol_far.proofs.Levels.{level_laws}
 use Rattle.iol_far.proofs.laws.ends_stay_level.Goals as goal
 

@@ -1,3 +1,4 @@
+-- The clauses of `laws::requests_are_received` that the search can't prove.
 use Rattle.iol_far.proofs.Standing.{segment_laws}
 use Rattle.iol_far.proofs.laws.requests_are_received.Goals as goal
 

@@ -1,3 +1,4 @@
+-- The clauses of `answers::answer_into` that the search can't prove.
 use Rattle.std.proofs.lemmas.Result.{on_ok_weaker}
 use Rattle.iol_isdu.specs.Answers.{BeginsWithAnswer}
 use Rattle.iol_isdu.proofs.FrameTexts.{only, text_at-rest}

@@ -1,3 +1,4 @@
+-- The clauses of `answers::encode_answer` that the search can't prove.
 use Rattle.iol_isdu.proofs.Texts.{answer_text-spells}
 use Rattle.iol_isdu.proofs.answers.encode_answer.Goals as goal
 

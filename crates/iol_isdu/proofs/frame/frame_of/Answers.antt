@@ -1,3 +1,4 @@
+-- The clauses of `frame::frame_of` that the search can't prove.
 use Rattle.std.proofs.Common.{arith, sym, ◌∙◌}
 use Rattle.std.proofs.lemmas.Bool.Decides.{nat_tests}
 use Rattle.iol_isdu.proofs.Frames.{Frames-at}

@@ -1,3 +1,4 @@
+-- The clauses of `laws::one_text_each` that the search can't prove.
 use Rattle.std.proofs.Common.{subst, sym}
 use Rattle.iol_isdu.specs.Texts.{request_text, answer_text}
 use Rattle.iol_isdu.specs.Requests.{IsShortText}

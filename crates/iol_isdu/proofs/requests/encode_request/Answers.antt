@@ -1,3 +1,4 @@
+-- The clauses of `requests::encode_request` that the search can't prove.
 use Rattle.iol_isdu.proofs.Texts.{request_text-spells}
 use Rattle.iol_isdu.proofs.requests.encode_request.Goals as goal
 

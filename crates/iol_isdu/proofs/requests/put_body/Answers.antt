@@ -1,3 +1,4 @@
+-- The clauses of `requests::put_body` that the search can't prove.
 use Rattle.std.proofs.Common.{rules}
 use Rattle.iol_isdu.proofs.RequestTexts.{wide_write}
 use Rattle.iol_isdu.proofs.requests.put_body.Goals as goal

@@ -1,3 +1,4 @@
+-- The clauses of `requests::read_request` that the search can't prove.
 use Rattle.std.proofs.Common.{rules, ap, Ok}
 use Rattle.iol_isdu.proofs.Parse.{request_of-refused}
 use Rattle.iol_isdu.proofs.requests.read_request.Goals as goal

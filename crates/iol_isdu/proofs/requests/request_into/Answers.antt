@@ -1,3 +1,4 @@
+-- The clauses of `requests::request_into` that the search can't prove.
 use Rattle.std.proofs.Common.{◌∙◌, ap}
 use Rattle.std.proofs.lemmas.Result.{on_ok_weaker}
 use Rattle.iol_isdu.specs.Parse.{request_of}

@@ -1,3 +1,4 @@
+-- The clauses of `answer::has_answer` that the search can't prove.
 use Rattle.std.proofs.Common.{◌≡◌, ◌+◌, ◌-◌, arith, refl}
 use Rattle.iol_judge.specs.Answers.{has_answer}
 use Rattle.iol_judge.proofs.answer.has_answer.Goals as goal

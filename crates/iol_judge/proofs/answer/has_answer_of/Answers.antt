@@ -1,3 +1,4 @@
+-- What the search can't prove of the body of `answer::has_answer_of`.
 use Rattle.std.proofs.Common.{arith, sym}
 use Rattle.iol_judge.specs.Answers.{is_some_answer}
 use Rattle.iol_judge.proofs.Known.{any_here, any_later, any_none}

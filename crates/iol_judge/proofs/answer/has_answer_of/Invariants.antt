@@ -1,3 +1,4 @@
+-- What each round of a loop of `answer::has_answer_of` keeps.
 use Rattle.std.proofs.Common.{◌≡◌, ◌-◌}
 use Rattle.std.specs.List.{list_any, range_with_len}
 use Rattle.iol_judge.specs.Answers.{is_some_answer}

@@ -1,3 +1,4 @@
+-- What makes the functions of `events` that call one another (`are_known_in`) end.
 use Rattle.std.proofs.Common.{length}
 use Rattle.iol_judge.proofs.events.+are_known_in.Given as goal
 

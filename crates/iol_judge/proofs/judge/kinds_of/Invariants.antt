@@ -1,3 +1,4 @@
+-- What each round of a loop of `judge::kinds_of` keeps.
 use Rattle.std.proofs.Common.{◌≡◌, drop}
 use Rattle.iol_judge.specs.Family.{no_kinds}
 use Rattle.iol_judge.specs.Judged.{kinds_with}

@@ -1,3 +1,4 @@
+-- The clauses of `laws::honest_lines_are_never_blamed` that the search can't prove.
 use Rattle.iol_judge.proofs.Fairness.{never_blamed}
 use Rattle.iol_judge.proofs.Sending.{texts_of}
 use Rattle.iol_judge.proofs.laws.honest_lines_are_never_blamed.Goals as goal

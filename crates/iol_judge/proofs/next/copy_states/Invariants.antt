@@ -1,3 +1,4 @@
+-- What each round of a loop of `next::copy_states` keeps.
 use Rattle.std.proofs.Common.{◌≡◌, take}
 use Rattle.iol_judge.proofs.next.copy_states.Given as goal
 

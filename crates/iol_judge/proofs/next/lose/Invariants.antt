@@ -1,3 +1,4 @@
+-- What each round of a loop of `next::lose` keeps.
 use Rattle.std.proofs.Common.{◌≡◌, drop}
 use Rattle.iol_judge.specs.Judged.{each_in_turn, lost_into}
 use Rattle.iol_judge.proofs.next.lose.Given as goal

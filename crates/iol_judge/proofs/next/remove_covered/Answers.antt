@@ -1,3 +1,4 @@
+-- The clauses of `next::remove_covered` that the search can't prove.
 use Rattle.std.proofs.Common.{rules}
 use Rattle.arrayvec.proofs.ArrayVecLemmas.{filter-from_retain}
 use Rattle.iol_judge.proofs.next.remove_covered.Goals as goal

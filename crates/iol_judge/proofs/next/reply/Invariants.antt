@@ -1,3 +1,4 @@
+-- What each round of a loop of `next::reply` keeps.
 use Rattle.std.proofs.Common.{◌≡◌, drop}
 use Rattle.iol_judge.specs.Judged.{each_in_turn, replied_into}
 use Rattle.iol_judge.proofs.next.reply.Given as goal

@@ -1,3 +1,4 @@
+-- What each round of a loop of `next::reply_apart` keeps.
 use Rattle.std.proofs.Common.{◌≡◌, drop}
 use Rattle.iol_judge.specs.Judged.{each_in_turn, replied_part}
 use Rattle.iol_judge.specs.State.{all_parts}

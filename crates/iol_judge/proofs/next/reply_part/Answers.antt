@@ -1,3 +1,4 @@
+-- The clauses of `next::reply_part` that the search can't prove.
 use Rattle.iol_judge.proofs.Concluding.{refused_part}
 use Rattle.iol_judge.proofs.next.reply_part.Goals as goal
 

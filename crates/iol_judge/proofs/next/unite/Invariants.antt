@@ -1,3 +1,4 @@
+-- What each round of a loop of `next::unite` keeps.
 use Rattle.std.proofs.Common.{◌≡◌, drop}
 use Rattle.iol_judge.specs.Judged.{united_state}
 use Rattle.iol_judge.proofs.next.unite.Given as goal

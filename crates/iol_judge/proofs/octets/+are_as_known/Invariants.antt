@@ -1,3 +1,4 @@
+-- What makes the functions of `octets` that call one another (`are_as_known`) end.
 use Rattle.std.proofs.Common.{length}
 use Rattle.iol_judge.proofs.octets.+are_as_known.Given as goal
 

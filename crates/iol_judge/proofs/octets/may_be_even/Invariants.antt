@@ -1,3 +1,4 @@
+-- What each round of a loop of `octets::may_be_even` keeps.
 use Rattle.std.proofs.Common.{◌≡◌, drop}
 use Rattle.iol_judge.specs.Octets.{may_be_even}
 use Rattle.iol_judge.proofs.octets.may_be_even.Given as goal

@@ -1,3 +1,4 @@
+-- What the search can't prove of the body of `octets::note_octets`.
 use Rattle.std.proofs.Common.{◌+◌, drop, arith}
 use Rattle.iol_judge.proofs.Known.{next_noted, with_past}
 use Rattle.iol_judge.proofs.octets.note_octets.Goals as goal

@@ -1,3 +1,4 @@
+-- What each round of a loop of `octets::note_octets` keeps.
 use Rattle.std.proofs.Common.{◌≡◌, drop}
 use Rattle.iol_judge.specs.Octets.{with_octets}
 use Rattle.iol_judge.proofs.octets.note_octets.Given as goal

@@ -1,3 +1,4 @@
+-- The clauses of `laws::damaged_replies_are_unread` that the search can't prove.
 use Rattle.iol_link.proofs.Damaged.{bad_octets_are_unread, lost_octets_are_unread}
 use Rattle.iol_link.proofs.laws.damaged_replies_are_unread.Goals as goal
 

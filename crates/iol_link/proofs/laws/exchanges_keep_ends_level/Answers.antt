@@ -1,3 +1,4 @@
+-- The clauses of `laws::exchanges_keep_ends_level` that the search can't prove.
 use Rattle.iol_link.proofs.Meetings.{device_stays}
 use Rattle.iol_link.proofs.laws.exchanges_keep_ends_level.Goals as goal
 

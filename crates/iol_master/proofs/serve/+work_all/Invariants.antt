@@ -1,3 +1,4 @@
+-- What makes the functions of `serve` that call one another (`work_all`) end.
 use Rattle.std.proofs.Common.{length}
 use Rattle.iol_master.proofs.serve.+work_all.Given as goal
 

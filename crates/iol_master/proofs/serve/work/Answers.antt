@@ -1,3 +1,4 @@
+-- What the search can't prove of the body of `serve::work`.
 use Rattle.std.proofs.Common.{◌∷◌, arith}
 use Rattle.iol_master.proofs.Lets.{one_more}
 use Rattle.iol_master.proofs.serve.work.Goals as goal

@@ -1,3 +1,4 @@
+-- What each round of a loop of `serve::work` keeps.
 use Rattle.std.proofs.Common.{◌≡◌, ◌+◌, ◌<◌, ℕ, true, List, length}
 use Rattle.iol_master.specs.Served.{PortTurn}
 use Rattle.iol_master.proofs.serve.work.Given as goal

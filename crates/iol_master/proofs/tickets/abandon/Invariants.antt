@@ -1,3 +1,4 @@
+-- What each round of a loop of `tickets::abandon` keeps.
 use Rattle.std.proofs.Common.{◌≡◌, ℕ, List, All, false}
 use Rattle.std.specs.List.{FoldsTo}
 use Rattle.iol_book.specs.declared.entries.Ticket.{Ticket}

@@ -1,3 +1,4 @@
+-- What the search can't prove of the body of `tickets::abandon_each`.
 use Rattle.iol_master.proofs.Leaving.{none_left, next_left}
 use Rattle.iol_master.proofs.tickets.abandon_each.Goals as goal
 

@@ -1,3 +1,4 @@
+-- What each round of a loop of `tickets::abandon_each` keeps.
 use Rattle.std.proofs.Common.{take}
 use Rattle.iol_master.specs.Left.{LeavesNone}
 use Rattle.iol_master.proofs.tickets.abandon_each.Given as goal

@@ -1,3 +1,4 @@
+-- The clauses of `wired::submit_as` that the search can't prove.
 use Rattle.iol_master.proofs.Refusing.{stored-refuses}
 use Rattle.iol_master.proofs.wired.submit_as.Goals as goal
 

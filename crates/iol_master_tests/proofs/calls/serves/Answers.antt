@@ -1,3 +1,4 @@
+-- What the search can't prove of the body of `calls::serves`.
 use denote.Param.Send.{sendable}
 use Rattle.iol_port.proofs.Crosses.{heap_port_send}
 use Rattle.iol_master_tests.proofs.calls.serves.Goals as goal

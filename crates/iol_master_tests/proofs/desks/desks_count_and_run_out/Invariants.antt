@@ -1,3 +1,4 @@
+-- The ghost values that `desks::desks_count_and_run_out` hands to what it calls.
 use Rattle.iol_master_tests.proofs.desks.desks_count_and_run_out.Given as goal
 
 -- the blanks name the ledgers of this master

@@ -1,3 +1,4 @@
+-- What the search can't prove of the body of `desks::opens_as`.
 use Rattle.std.proofs.Common.{[], sym, ◌∙◌}
 use Rattle.std.proofs.lemmas.List.Elements.{All-cons, All-nil, All-same}
 use Rattle.iol_port.specs.View.{PortValue}

@@ -1,3 +1,4 @@
+-- The ghost values that `desks::refused_memory_changes_nothing` hands to what it calls.
 use Rattle.iol_master_tests.proofs.desks.refused_memory_changes_nothing.Given as goal
 
 -- the blanks name the ledgers of each master

@@ -1,3 +1,4 @@
+-- The ghost values that `desks::submits_are_refused_in_order` hands to what it calls.
 use Rattle.iol_master_tests.proofs.desks.submits_are_refused_in_order.Given as goal
 
 -- the blanks name the ledgers of each master

@@ -1,3 +1,4 @@
+-- The ghost values that `left::tickets_at_another_port_stay` hands to what it calls.
 use Rattle.iol_master_tests.proofs.left.tickets_at_another_port_stay.Given as goal
 
 -- the blanks name the ledgers of this master

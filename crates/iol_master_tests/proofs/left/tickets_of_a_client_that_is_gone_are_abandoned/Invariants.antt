@@ -1,3 +1,5 @@
+-- The ghost values that `left::tickets_of_a_client_that_is_gone_are_abandoned` hands to what it
+-- calls.
 use Rattle.iol_master_tests.proofs.left.tickets_of_a_client_that_is_gone_are_abandoned.Given as goal
 
 -- the blanks name the ledgers of each master

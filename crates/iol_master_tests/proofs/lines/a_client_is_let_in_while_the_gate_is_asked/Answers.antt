@@ -1,3 +1,5 @@
+-- What the search doesn't prove by itself of the body of
+-- `lines::a_client_is_let_in_while_the_gate_is_asked`.
 use denote.Param.Send.{sendable}
 use Rattle.std.proofs.Crossing.{crosses}
 use Rattle.iol_sim.proofs.Crosses.{sim_send}

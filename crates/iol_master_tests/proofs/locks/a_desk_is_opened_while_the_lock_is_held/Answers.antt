@@ -1,3 +1,5 @@
+-- What the search doesn't prove by itself of the body of
+-- `locks::a_desk_is_opened_while_the_lock_is_held`.
 use denote.Param.Send.{IsSend, sendable}
 use Rattle.std.proofs.Crossing.{crosses}
 use Rattle.iol_sim.proofs.Crosses.{sim_send}

@@ -1,3 +1,4 @@
+-- The ghost values that `locks::a_desk_is_opened_while_the_lock_is_held` hands to what it calls.
 use Rattle.iol_master_tests.proofs.locks.a_desk_is_opened_while_the_lock_is_held.Given as goal
 
 -- the blanks name the ledgers of this master

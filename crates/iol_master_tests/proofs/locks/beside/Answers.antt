@@ -1,3 +1,4 @@
+-- What the search can't prove of the body of `locks::beside`.
 use denote.Param.Send.{sendable}
 use Rattle.std.proofs.Crossing.{crosses}
 use Rattle.iol_master.proofs.Crosses.{master_sync}

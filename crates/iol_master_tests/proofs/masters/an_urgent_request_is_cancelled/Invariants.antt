@@ -1,3 +1,4 @@
+-- The ghost values that `masters::an_urgent_request_is_cancelled` hands to what it calls.
 use Rattle.iol_master_tests.proofs.masters.an_urgent_request_is_cancelled.Given as goal
 
 -- the blanks name the ledgers of this master

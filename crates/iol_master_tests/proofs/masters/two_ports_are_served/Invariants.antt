@@ -1,3 +1,4 @@
+-- The ghost values that `masters::two_ports_are_served` hands to what it calls.
 use Rattle.iol_master_tests.proofs.masters.two_ports_are_served.Given as goal
 
 -- the blanks name the ledgers of this master

@@ -1,3 +1,4 @@
+-- What each round of a loop of `opening::numbered` keeps.
 use Rattle.std.proofs.Common.{◌≡◌, All, vec_len}
 use Rattle.iol_master.specs.Tickets.{HasGiven}
 use Rattle.iol_master_tests.proofs.opening.numbered.Given as goal

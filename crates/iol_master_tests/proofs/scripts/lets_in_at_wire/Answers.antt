@@ -1,3 +1,4 @@
+-- What the search can't prove of the body of `scripts::lets_in_at_wire`.
 use denote.Param.Send.{IsSend, sendable}
 use Rattle.std.proofs.Crossing.{crosses}
 use Rattle.iol_sim.proofs.Crosses.{sim_send}

@@ -1,3 +1,4 @@
+-- The ghost values that `scripts::lets_in_at_wire` hands to what it calls.
 use Rattle.iol_master_tests.proofs.scripts.lets_in_at_wire.Given as goal
 
 -- the blank names the ledger of this line

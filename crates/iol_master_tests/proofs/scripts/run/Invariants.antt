@@ -1,3 +1,4 @@
+-- The ghost values that `scripts::run` hands to what it calls.
 use Rattle.iol_master_tests.proofs.scripts.run.Given as goal
 
 -- the blank names the ledger of this line

@@ -1,3 +1,4 @@
+-- The ghost values that `seats::a_seat_is_read_while_the_lock_is_held` hands to what it calls.
 use Rattle.iol_master_tests.proofs.seats.a_seat_is_read_while_the_lock_is_held.Given as goal
 
 -- the blanks name the ledgers of this master

@@ -1,3 +1,5 @@
+-- What the search doesn't prove by itself of the body of
+-- `served::a_port_is_served_through_silence`.
 use denote.Param.Send.{IsSend, sendable}
 use Rattle.std.proofs.Crossing.{crosses}
 use Rattle.iol_sim.proofs.Crosses.{sim_send}

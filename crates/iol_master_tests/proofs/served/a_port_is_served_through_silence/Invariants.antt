@@ -1,3 +1,4 @@
+-- The ghost values that `served::a_port_is_served_through_silence` hands to what it calls.
 use Rattle.iol_master_tests.proofs.served.a_port_is_served_through_silence.Given as goal
 
 -- the blanks name the ledgers of this master

@@ -1,3 +1,4 @@
+-- The ghost values that `stored_lines::a_stored_line_makes_each_call` hands to what it calls.
 use Rattle.iol_master_tests.proofs.stored_lines.a_stored_line_makes_each_call.Given as goal
 
 -- the blank names the ledger of this line

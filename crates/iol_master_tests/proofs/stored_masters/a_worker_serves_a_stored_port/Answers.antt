@@ -1,3 +1,5 @@
+-- What the search doesn't prove by itself of the body of
+-- `stored_masters::a_worker_serves_a_stored_port`.
 use denote.Param.Send.{sendable}
 use Rattle.std.proofs.Crossing.{crosses}
 use Rattle.iol_sim.proofs.Crosses.{sim_send}

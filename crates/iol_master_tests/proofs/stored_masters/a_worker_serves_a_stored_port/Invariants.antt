@@ -1,3 +1,4 @@
+-- The ghost values that `stored_masters::a_worker_serves_a_stored_port` hands to what it calls.
 use Rattle.iol_master_tests.proofs.stored_masters.a_worker_serves_a_stored_port.Given as goal
 
 -- the blanks name the ledgers of this master

@@ -1,3 +1,4 @@
+-- What the search can't prove of the body of `stored_masters::open_one`.
 use Rattle.std.proofs.Common.{◌≡◌, []}
 use Rattle.std.proofs.lemmas.List.Elements.{All-cons, All-nil, All-same}
 use Rattle.iol_port.specs.CorePort.{awaited_answer}

@@ -1,3 +1,4 @@
+-- The ghost values that `stored_masters::tally_of` hands to what it calls.
 use Rattle.iol_master_tests.proofs.stored_masters.tally_of.Given as goal
 
 -- the blanks name the ledgers of this master

@@ -1,3 +1,4 @@
+-- The ghost values that `wide::a_desk_counts_far` hands to what it calls.
 use Rattle.iol_master_tests.proofs.wide.a_desk_counts_far.Given as goal
 
 -- the blanks name the ledgers of this master

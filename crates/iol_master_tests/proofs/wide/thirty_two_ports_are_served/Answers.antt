@@ -1,3 +1,4 @@
+-- What the search can't prove of the body of `wide::thirty_two_ports_are_served`.
 use denote.Param.Send.{sendable}
 use Rattle.std.proofs.Crossing.{crosses}
 use Rattle.iol_sim.proofs.Crosses.{sim_send}

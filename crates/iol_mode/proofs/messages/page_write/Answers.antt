@@ -1,3 +1,4 @@
+-- The clauses of `messages::page_write` that the search can't prove.
 use Rattle.iol_mode.proofs.Controls.{write_parts}
 use Rattle.iol_mode.proofs.messages.page_write.Goals as goal
 

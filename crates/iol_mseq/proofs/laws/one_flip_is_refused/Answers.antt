@@ -1,3 +1,4 @@
+-- The clauses of `laws::one_flip_is_refused` that the search can't prove.
 use Rattle.std.proofs.Common.{◌-◌, length, arith}
 use Rattle.std.proofs.lemmas.List.{length-set}
 use Rattle.std.proofs.lemmas.Bool.{and_parts, leb-true}

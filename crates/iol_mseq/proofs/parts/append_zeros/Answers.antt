@@ -1,3 +1,4 @@
+-- The clauses of `parts::append_zeros` that the search can't prove.
 use Rattle.std.proofs.Common.{ℕ, arith}
 use Rattle.std.proofs.lemmas.List.{take-replicate}
 use Rattle.iol_mseq.proofs.parts.append_zeros.Goals as goal

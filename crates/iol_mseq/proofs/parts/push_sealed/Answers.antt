@@ -1,3 +1,4 @@
+-- The clauses of `parts::push_sealed` that the search can't prove.
 use Rattle.std.proofs.Common.{refl}
 use Rattle.iol_mseq.proofs.Messages.{put_last}
 use Rattle.iol_mseq.proofs.parts.push_sealed.Goals as goal

@@ -1,3 +1,4 @@
+-- The clauses of `parts::write_octet` that the search can't prove.
 use Rattle.arrayvec.proofs.ArrayVecLemmas.{items-with_items}
 use Rattle.std.proofs.lemmas.List.{length-set}
 use Rattle.iol_mseq.proofs.parts.write_octet.Goals as goal

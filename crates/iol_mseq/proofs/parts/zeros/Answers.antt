@@ -1,3 +1,4 @@
+-- The clauses of `parts::zeros` that the search can't prove.
 use Rattle.std.proofs.Common.{◌∙◌, arith}
 use Rattle.std.proofs.lemmas.List.{take-replicate}
 use Rattle.iol_mseq.proofs.parts.zeros.Goals as goal

@@ -1,3 +1,4 @@
+-- The clauses of `reply::spelled_by` that the search can't prove.
 use Rattle.std.proofs.Common.{arith, eqb-true}
 use Rattle.std.proofs.lemmas.Grind.{common_steps}
 use Rattle.iol_mseq.proofs.reply.spelled_by.Goals as goal

@@ -1,3 +1,4 @@
+-- The clauses of `reply::view_reply` that the search can't prove.
 use Rattle.std.proofs.Common.{ap, ◌∙◌, Ok}
 use Rattle.iol_mseq.proofs.Messages.{reply_back}
 use Rattle.iol_mseq.proofs.reply.view_reply.Goals as goal

@@ -1,3 +1,4 @@
+-- The clauses of `checksum::has_checksum6` that the search can't prove.
 use Rattle.std.proofs.Common.{arith}
 use Rattle.iol_octets.proofs.Flips.{has_checksum-is}
 use Rattle.iol_octets.proofs.checksum.has_checksum6.Goals as goal

@@ -1,3 +1,4 @@
+-- The clauses of `laws::cut_changes_are_whole` that the search can't prove.
 use Rattle.iol_param_device.proofs.Saving.{cut-whole}
 use Rattle.iol_param_device.proofs.laws.cut_changes_are_whole.Goals as goal
 

@@ -1,3 +1,4 @@
+-- What each round of a loop of `cells::all_fit` keeps.
 use Rattle.std.proofs.Common.{◌≡◌, ◌≤◌, length, drop}
 use Rattle.iol_params.specs.Values.{all_fit, room_for, values_in}
 use Rattle.iol_params.proofs.cells.all_fit.Given as goal

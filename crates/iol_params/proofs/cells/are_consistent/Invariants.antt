@@ -1,3 +1,4 @@
+-- What each round of a loop of `cells::are_consistent` keeps.
 use Rattle.std.proofs.Common.{◌≡◌, drop}
 use Rattle.iol_params.specs.Values.{values_in}
 use Rattle.iol_params.specs.Carry.{rules_hold}

@@ -1,3 +1,4 @@
+-- What each round of a loop of `cells::fit` keeps.
 use Rattle.std.proofs.Common.{◌≡◌, drop}
 use Rattle.iol_params.specs.Values.{fits_place}
 use Rattle.iol_params.proofs.cells.fit.Given as goal

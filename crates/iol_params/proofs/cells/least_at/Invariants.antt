@@ -1,3 +1,4 @@
+-- What each round of a loop of `cells::least_at` keeps.
 use Rattle.std.proofs.Common.{◌≡◌, ◌+◌, ◌*◌, ◌≤◌, drop}
 use Rattle.iol_params.specs.Values.{least_at}
 use Rattle.iol_params.proofs.cells.least_at.Given as goal

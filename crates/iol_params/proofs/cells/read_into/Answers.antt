@@ -1,3 +1,4 @@
+-- What the search can't prove of the body of `cells::read_into`.
 use Rattle.std.proofs.Common.{◌≤◌, ◌+◌, ◌∙◌, ◌++◌, ℕ, List, ap, sym, arith, get_or, length, drop}
 use Rattle.iol_params.specs.Values.{most_of, values_in, value_at, cell_value}
 use Rattle.iol_params.proofs.CellLemmas.{no_member, within-whole, read-here}

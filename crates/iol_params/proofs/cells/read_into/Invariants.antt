@@ -1,3 +1,4 @@
+-- What each round of a loop of `cells::read_into` keeps.
 use Rattle.std.proofs.Common.{◌≡◌, ◌≤◌, ◌++◌, length, drop}
 use Rattle.iol_params.specs.Values.{value_at, room_for, values_in}
 use Rattle.iol_params.proofs.cells.read_into.Given as goal

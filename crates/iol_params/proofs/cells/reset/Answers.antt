@@ -1,3 +1,4 @@
+-- What the search can't prove of the body of `cells::reset`.
 use Rattle.std.proofs.Common.{◌∙◌, sym}
 use Rattle.iol_params.proofs.CellLemmas.{no_member, room-more, front-more, length-put, defaults-fit, reset-put, reset-keep}
 use Rattle.iol_params.proofs.cells.reset.Goals as goal

@@ -1,3 +1,4 @@
+-- What each round of a loop of `cells::reset` keeps.
 use Rattle.std.proofs.Common.{◌≡◌, ◌+◌, ◌++◌, true, length, take, drop}
 use Rattle.iol_params.specs.Values.{all_fit, reset_values, room_for, values_in}
 use Rattle.iol_params.specs.Values.{defaults}

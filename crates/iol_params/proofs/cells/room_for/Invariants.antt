@@ -1,3 +1,4 @@
+-- What each round of a loop of `cells::room_for` keeps.
 use Rattle.std.proofs.Common.{◌≡◌, ◌+◌, ◌*◌, ◌≤◌, drop}
 use Rattle.iol_params.specs.Values.{room_for}
 use Rattle.iol_params.proofs.cells.room_for.Given as goal

@@ -1,3 +1,4 @@
+-- What the search can't prove of the body of `cells::set_defaults`.
 use Rattle.std.proofs.Common.{◌∙◌, sym}
 use Rattle.iol_params.proofs.CellLemmas.{no_member, room-more, front-more, length-put, defaults-fit, defaults-more}
 use Rattle.iol_params.proofs.cells.set_defaults.Goals as goal

@@ -1,3 +1,4 @@
+-- What each round of a loop of `cells::set_defaults` keeps.
 use Rattle.std.proofs.Common.{◌≡◌, ◌+◌, ◌++◌, true, length, take, drop}
 use Rattle.iol_params.specs.Values.{all_fit, room_for, values_in, defaults}
 use Rattle.iol_params.proofs.cells.set_defaults.Given as goal

@@ -1,3 +1,4 @@
+-- What the search can't prove of the body of `cells::write`.
 use Rattle.std.proofs.Common.{◌≡◌, ◌∙◌, ℕ, List, ap, sym, get_or, length, take, drop, min}
 use Rattle.std.proofs.lemmas.List.{take_min, drop_min}
 use Rattle.iol_params.specs.Values.{most_of}

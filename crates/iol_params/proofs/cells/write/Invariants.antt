@@ -1,3 +1,4 @@
+-- What each round of a loop of `cells::write` keeps.
 use Rattle.std.proofs.Common.{◌≡◌, ◌+◌, ◌++◌, length, take, drop}
 use Rattle.iol_params.specs.Values.{overlay, room_for, values_in}
 use Rattle.iol_params.proofs.cells.write.Given as goal

@@ -1,3 +1,4 @@
+-- What each round of a loop of `storage::checksum` keeps.
 use Rattle.std.proofs.Common.{◌≡◌, drop}
 use Rattle.std.specs.Prelude.{fold}
 use Rattle.iol_params.specs.Values.{values_in}

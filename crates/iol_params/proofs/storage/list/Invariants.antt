@@ -1,3 +1,4 @@
+-- What each round of a loop of `storage::list` keeps.
 use Rattle.std.proofs.Common.{◌≡◌, ◌++◌, drop}
 use Rattle.iol_params.specs.Table.{index_list}
 use Rattle.iol_params.proofs.storage.list.Given as goal

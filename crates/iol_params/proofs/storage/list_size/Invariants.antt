@@ -1,3 +1,4 @@
+-- What each round of a loop of `storage::list_size` keeps.
 use Rattle.std.proofs.Common.{◌≡◌, ◌+◌, ◌*◌, ◌≤◌, drop, length}
 use Rattle.iol_params.specs.Table.{index_list}
 use Rattle.iol_params.proofs.storage.list_size.Given as goal

@@ -1,3 +1,4 @@
+-- What each round of a loop of `storage::size` keeps.
 use Rattle.std.proofs.Common.{◌≡◌, ◌+◌, ◌*◌, ◌≤◌, drop}
 use Rattle.iol_params.specs.Table.{set_size}
 use Rattle.iol_params.proofs.storage.size.Given as goal

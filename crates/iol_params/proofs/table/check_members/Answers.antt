@@ -1,3 +1,4 @@
+-- The clauses of `table::check_members` that the search can't prove.
 use Rattle.std.proofs.Common.{◌≡◌, ◌∙◌, List, ap, sym, [], take}
 use Rattle.std.specs.Prelude.{None}
 use Rattle.std.proofs.lemmas.List.{drop_all}

@@ -1,3 +1,4 @@
+-- What each round of a loop of `table::check_members` keeps.
 use Rattle.std.proofs.Common.{◌≡◌, [], take, drop}
 use Rattle.iol_params.specs.Table.{members_fault}
 use Rattle.iol_params.proofs.table.check_members.Given as goal

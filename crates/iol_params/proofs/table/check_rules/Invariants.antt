@@ -1,3 +1,4 @@
+-- What each round of a loop of `table::check_rules` keeps.
 use Rattle.std.proofs.Common.{◌≡◌, drop}
 use Rattle.iol_params.specs.Table.{rules_fault}
 use Rattle.iol_params.proofs.table.check_rules.Given as goal

@@ -1,3 +1,4 @@
+-- What the search can't prove of the body of `table::default_at`.
 use Rattle.std.proofs.Common.{◌≤◌, ◌+◌, ◌∙◌, ◌++◌, ℕ, List, ap, sym, arith, get_or, length, drop}
 use Rattle.iol_params.specs.Values.{value_at, defaults}
 use Rattle.iol_params.proofs.CellLemmas.{no_member, within-whole, defaults-here}

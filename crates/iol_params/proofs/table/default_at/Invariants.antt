@@ -1,3 +1,4 @@
+-- What each round of a loop of `table::default_at` keeps.
 use Rattle.std.proofs.Common.{◌≡◌, ◌++◌, drop}
 use Rattle.iol_params.specs.Values.{value_at, defaults}
 use Rattle.iol_params.proofs.table.default_at.Given as goal

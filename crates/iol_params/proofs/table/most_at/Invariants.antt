@@ -1,3 +1,4 @@
+-- What each round of a loop of `table::most_at` keeps.
 use Rattle.std.proofs.Common.{◌≡◌, ◌+◌, ◌*◌, ◌≤◌, drop}
 use Rattle.iol_params.specs.Values.{most_at}
 use Rattle.iol_params.proofs.table.most_at.Given as goal

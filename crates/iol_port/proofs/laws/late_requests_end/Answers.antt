@@ -1,3 +1,4 @@
+-- The clauses of `laws::late_requests_end` that the search can't prove.
 use Rattle.iol_port.proofs.OwnerRuns.{late_ends, cut_for_good_stays_out}
 use Rattle.iol_port.proofs.laws.late_requests_end.Goals as goal
 

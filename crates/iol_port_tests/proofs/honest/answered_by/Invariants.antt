@@ -1,3 +1,4 @@
+-- The ghost values that `honest::answered_by` hands to what it calls.
 use Rattle.iol_far.specs.Octets.{octets_in}
 use Rattle.iol_link.specs.Honest.{silence_after}
 use Rattle.iol_port_tests.proofs.honest.answered_by.Given as goal

@@ -1,3 +1,4 @@
+-- The clauses of `honest::lose` that the search can't prove.
 use Rattle.iol_port_tests.proofs.MeetLemmas.{lost_is_honest}
 use Rattle.iol_port_tests.proofs.honest.lose.Goals as goal
 

@@ -1,3 +1,4 @@
+-- The clauses of `honest::lose_reply` that the search can't prove.
 use Rattle.iol_port_tests.proofs.MeetLemmas.{reply_lost_is_honest}
 use Rattle.iol_port_tests.proofs.honest.lose_reply.Goals as goal
 

@@ -1,3 +1,4 @@
+-- The clauses of `honest::pass` that the search can't prove.
 use Rattle.iol_port_tests.proofs.MeetLemmas.{passed_is_honest}
 use Rattle.iol_port_tests.proofs.honest.pass.Goals as goal
 

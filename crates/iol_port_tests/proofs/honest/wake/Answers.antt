@@ -1,3 +1,4 @@
+-- The clauses of `honest::wake` that the search can't prove.
 use Rattle.std.proofs.Common.{ap}
 use Rattle.iol_port_tests.proofs.MeetLemmas.{woken_is_honest}
 use Rattle.iol_port_tests.proofs.honest.wake.Goals as goal

@@ -1,3 +1,4 @@
+-- The ghost values that `honest::woken_by` hands to what it calls.
 use Rattle.iol_port_tests.proofs.honest.woken_by.Given as goal
 
 abbrev pub ghost-receive_wake : goal.ghost-receive_wake

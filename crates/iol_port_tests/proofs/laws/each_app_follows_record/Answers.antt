@@ -1,3 +1,4 @@
+-- The clauses of `laws::each_app_follows_record` that the search can't prove.
 use Rattle.iol_port_tests.proofs.FirstApp.{those_now}
 use Rattle.iol_port_tests.proofs.laws.each_app_follows_record.Goals as goal
 

@@ -1,3 +1,4 @@
+-- The clauses of `passing::print_came` that the search can't prove.
 use Rattle.std.proofs.Common.{◌++◌, codes, refl, rules, arith}
 use Rattle.std.specs.Fmt.{decimal}
 use Rattle.iol_print.specs.Passing.{line_front}

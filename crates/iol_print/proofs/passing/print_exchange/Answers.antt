@@ -1,3 +1,4 @@
+-- The clauses of `passing::print_exchange` that the search can't prove.
 use Rattle.std.proofs.Common.{refl, rules, arith}
 use Rattle.iol_print.specs.Passing.{most_line}
 use Rattle.iol_print.proofs.PrintedLemmas.{adds_behind, behind_fits}

@@ -1,3 +1,4 @@
+-- The clauses of `passing::print_sent` that the search can't prove.
 use Rattle.std.proofs.Common.{◌+◌, ◌*◌, codes, length, refl, rules, arith}
 use Rattle.iol_print.specs.Passing.{line_front}
 use Rattle.iol_print.specs.Said.{said_room}

@@ -1,3 +1,4 @@
+-- The clauses of `printing::print_octets` that the search can't prove.
 use Rattle.std.proofs.Common.{rules, arith}
 use Rattle.iol_print.proofs.PrintedLemmas.{never, octet_fits, behind_fits}
 use Rattle.iol_print.proofs.printing.print_octets.Goals as goal

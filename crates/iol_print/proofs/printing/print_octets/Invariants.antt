@@ -1,3 +1,4 @@
+-- What each round of a loop of `printing::print_octets` keeps.
 use Rattle.std.proofs.Common.{◌≡◌, ◌++◌, take}
 use Rattle.iol_print.specs.Printed.{octets_text}
 use Rattle.iol_print.proofs.printing.print_octets.Given as goal

@@ -1,3 +1,4 @@
+-- The clauses of `said::print_message_of` that the search can't prove.
 use Rattle.std.proofs.Common.{refl, arith}
 use Rattle.std.proofs.lemmas.Result.{on_ok_weaker}
 use Rattle.iol_print.specs.Printed.{message_text}

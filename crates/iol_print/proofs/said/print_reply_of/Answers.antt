@@ -1,3 +1,4 @@
+-- The clauses of `said::print_reply_of` that the search can't prove.
 use Rattle.std.proofs.Common.{arith}
 use Rattle.iol_print.proofs.Lengths.{reply_room, refusal_room}
 use Rattle.iol_print.proofs.said.print_reply_of.Goals as goal

@@ -1,3 +1,4 @@
+-- The clauses of `call_line::cycle_of_micros` that the search can't prove.
 use Rattle.iol_script.proofs.Cycles.{computed}
 use Rattle.iol_script.proofs.call_line.cycle_of_micros.Goals as goal
 

@@ -1,3 +1,4 @@
+-- The clauses of `check_line::parse_layout` that the search can't prove.
 use Rattle.std.proofs.Common.{rules, codes}
 use Rattle.std.proofs.lemmas.Slice.Eq.{text_from_reads}
 use Rattle.iol_script.proofs.check_line.parse_layout.Goals as goal

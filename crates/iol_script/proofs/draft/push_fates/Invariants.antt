@@ -1,3 +1,4 @@
+-- What each round of a loop of `draft::push_fates` keeps.
 use Rattle.std.proofs.Common.{◌≡◌, ◌+◌, ◌++◌, replicate, vec_len, vec_capacity}
 use Rattle.iol_sim.specs.declared.script.Step.TheVariants.{Fate}
 use Rattle.iol_script.proofs.draft.push_fates.Given as goal

@@ -1,3 +1,4 @@
+-- The clauses of `fields::image_of` that the search can't prove.
 use Rattle.std.proofs.Common.{sym, ap, option_and_then, ◌∙◌}
 use Rattle.iol_script.specs.Numerals.{octets_within, word_octets}
 use Rattle.iol_script.proofs.FieldsLemmas.{within-is, not_within, image-within}

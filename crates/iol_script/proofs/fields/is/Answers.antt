@@ -1,3 +1,4 @@
+-- The clauses of `fields::is` that the search can't prove.
 use Rattle.std.proofs.Common.{rules, tests}
 use Rattle.std.specs.Str.{bytes_eq}
 use Rattle.std.proofs.lemmas.Bool.Decides.{same_from_decides}

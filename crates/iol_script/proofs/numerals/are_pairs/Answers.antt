@@ -1,3 +1,4 @@
+-- The clauses of `numerals::are_pairs` that the search can't prove.
 use Rattle.std.proofs.Common.{◌/◌, length, arith}
 use Rattle.std.proofs.lemmas.Bool.Decides.{nat_tests}
 use Rattle.iol_script.proofs.PairsLemmas.{left_over, pairs-fit}

@@ -1,3 +1,4 @@
+-- The clauses of `numerals::decimal_number` that the search can't prove.
 use Rattle.std.proofs.Common.{rules, ◌<◌, ◌^◌}
 use Rattle.iol_script.proofs.Decimals.{number_within}
 use Rattle.iol_script.proofs.numerals.decimal_number.Goals as goal

@@ -1,3 +1,4 @@
+-- What the search can't prove of the body of `numerals::number_of_digits`.
 use Rattle.std.proofs.Common.{rules, arith, sym, ap, ◌+◌, ◌*◌, ◌∙◌, add-one, get_or}
 use Rattle.std.specs.Char.{digit_value}
 use Rattle.std.proofs.lemmas.Int.Digits.{digits_value_more}

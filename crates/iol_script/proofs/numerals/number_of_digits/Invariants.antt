@@ -1,3 +1,4 @@
+-- What each round of a loop of `numerals::number_of_digits` keeps.
 use Rattle.std.proofs.Common.{◌≡◌, ◌<◌, ◌^◌, take}
 use Rattle.std.specs.Str.Parse.{AllDigits, digits_value}
 use Rattle.iol_script.proofs.numerals.number_of_digits.Given as goal

@@ -1,3 +1,4 @@
+-- What the search can't prove of the body of `numerals::pairs_of`.
 use Rattle.std.proofs.Common.{ap, ◌∙◌, arith, rules}
 use Rattle.std.proofs.lemmas.Grind.{common_steps}
 use Rattle.iol_script.proofs.OctetsLemmas.{behind, behind-full, behind-more, pairs_of_two}

@@ -1,3 +1,4 @@
+-- What each round of a loop of `numerals::pairs_of` keeps.
 use Rattle.std.proofs.Common.{◌≡◌, ◌≤◌, length}
 use Rattle.iol_script.specs.Numerals.{octets_of_pairs}
 use Rattle.iol_script.proofs.OctetsLemmas.{behind}

@@ -1,3 +1,4 @@
+-- What each round of a loop of `numerals::parted_octets` keeps.
 use Rattle.std.proofs.Common.{◌≡◌, ◌≤◌, length}
 use Rattle.iol_script.specs.Numerals.{octets_of_words}
 use Rattle.iol_script.specs.Text.{words_left}

@@ -1,3 +1,4 @@
+-- The clauses of `numerals::plain_number` that the search can't prove.
 use Rattle.std.proofs.Common.{rules, refl}
 use Rattle.iol_script.proofs.Decimals.{not_plain, number_is}
 use Rattle.iol_script.proofs.numerals.plain_number.Goals as goal

@@ -1,3 +1,4 @@
+-- The clauses of `parts::first_line` that the search can't prove.
 use Rattle.std.proofs.Common.{arith}
 use Rattle.std.proofs.lemmas.Grind.{common_steps}
 use Rattle.std.proofs.lemmas.List.{take_rest}

@@ -1,3 +1,4 @@
+-- The clauses of `parts::first_word` that the search can't prove.
 use Rattle.std.proofs.Common.{◌==◌, sym}
 use Rattle.std.proofs.lemmas.List.{take_rest}
 use Rattle.iol_script.proofs.Cutting.{word_at, last_word}

@@ -1,3 +1,4 @@
+-- The clauses of `setting::page_of` that the search can't prove.
 use Rattle.std.proofs.Common.{rules, ap, is_ok, true, false}
 use Rattle.iol_script.specs.Text.{words_left}
 use Rattle.iol_script.proofs.FieldsLemmas.{page_read}

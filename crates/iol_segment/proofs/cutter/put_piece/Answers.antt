@@ -1,3 +1,4 @@
+-- The clauses of `cutter::put_piece` that the search can't prove.
 use Rattle.iol_segment.proofs.Pieces.{piece-behind}
 use Rattle.iol_segment.proofs.cutter.put_piece.Goals as goal
 

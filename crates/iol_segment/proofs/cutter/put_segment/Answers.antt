@@ -1,3 +1,4 @@
+-- The clauses of `cutter::put_segment` that the search can't prove.
 use Rattle.std.proofs.Common.{◌++◌, length-append, arith}
 use Rattle.iol_segment.proofs.Pieces.{behind-full, behind-last}
 use Rattle.iol_segment.proofs.cutter.put_segment.Goals as goal

@@ -1,3 +1,4 @@
+-- The clauses of `joiner::grow` that the search can't prove.
 use Rattle.std.proofs.Common.{◌++◌, ap, sym, ◌∙◌, arith}
 use Rattle.iol_isdu.specs.Frame.{total_at}
 use Rattle.iol_segment.proofs.Growing.{grown-whole, grown-more}

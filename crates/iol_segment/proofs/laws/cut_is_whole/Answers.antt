@@ -1,3 +1,4 @@
+-- The clauses of `laws::cut_is_whole` that the search can't prove.
 use Rattle.iol_segment.proofs.CutLaws.{cut_is_pairs, segments_have_size}
 use Rattle.iol_segment.proofs.laws.cut_is_whole.Goals as goal
 

@@ -1,3 +1,4 @@
+-- The clauses of `laws::texts_join` that the search can't prove.
 use Rattle.iol_segment.proofs.TextLaws.{text_laws}
 use Rattle.iol_segment.proofs.laws.texts_join.Goals as goal
 

@@ -1,3 +1,4 @@
+-- The clauses of `image::save` that the search can't prove.
 use Rattle.std.proofs.Common.{sym, ◌∙◌}
 use Rattle.iol_slots.proofs.PowerCuts.{saved-anew}
 use Rattle.iol_slots.proofs.image.save.Goals as goal

@@ -1,3 +1,4 @@
+-- What the search can't prove of the body of `image::store_all`.
 use Rattle.std.proofs.Common.{arith, ◌+◌, length}
 use Rattle.iol_slots.proofs.Stores.{step-stores, step-holds, step-room, store_at}
 use Rattle.iol_slots.proofs.image.store_all.Goals as goal

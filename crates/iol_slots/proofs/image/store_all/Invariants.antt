@@ -1,3 +1,4 @@
+-- What each round of a loop of `image::store_all` keeps.
 use Rattle.std.proofs.Common.{◌≡◌, ◌≤◌, ◌+◌, length, take}
 use Rattle.iol_slots.specs.Memory.{slot_octets, after_stores, AreStored, stores_of}
 use Rattle.iol_slots.proofs.image.store_all.Given as goal

@@ -1,3 +1,4 @@
+-- What the search can't prove of the body of `image::store_image`.
 use Rattle.std.proofs.Common.{arith, ◌+◌, length}
 use Rattle.iol_slots.specs.Memory.{stores_of}
 use Rattle.iol_slots.proofs.Stores.{after-room, image-stored, image-after, marks}

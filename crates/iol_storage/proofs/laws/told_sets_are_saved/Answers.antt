@@ -1,3 +1,4 @@
+-- The clauses of `laws::told_sets_are_saved` that the search can't prove.
 use Rattle.iol_storage.proofs.AttemptAsks.{told-saved}
 use Rattle.iol_storage.proofs.laws.told_sets_are_saved.Goals as goal
 

@@ -1,3 +1,4 @@
+-- What the search can't prove of the body of `objects::object_at`.
 use Rattle.std.proofs.Common.{arith, length, refl, drop}
 use Rattle.std.specs.Prelude.{◌-◌}
 use Rattle.std.proofs.lemmas.List.{length-take}

@@ -1,3 +1,4 @@
+-- The clauses of `set::read_object` that the search can't prove.
 use Rattle.std.proofs.Common.{arith}
 use Rattle.iol_storage.proofs.Sets.{read-one}
 use Rattle.iol_storage.proofs.set.read_object.Goals as goal

@@ -1,3 +1,4 @@
+-- What each round of a loop of `set::read_objects` keeps.
 use Rattle.std.proofs.Common.{◌≡◌, ◌++◌, length}
 use Rattle.iol_storage.specs.Sets.{objects_image}
 use Rattle.iol_storage.proofs.set.read_objects.Given as goal

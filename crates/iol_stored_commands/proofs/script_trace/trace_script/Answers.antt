@@ -1,3 +1,4 @@
+-- The clauses of `script_trace::trace_script` that the search can't prove.
 use Rattle.std.proofs.Common.{rules}
 use Rattle.std.proofs.lemmas.Option.{IfSome_then}
 use Rattle.std.proofs.lemmas.Result.{on_ok_weaker}

@@ -1,3 +1,4 @@
+-- What the search can't prove of the body of `stored_playing::make_turns`.
 use Rattle.std.proofs.Common.{[], ◌∷◌, List, Ok, map, refl, replicate, subst}
 use Rattle.iol_port.specs.declared.call.Answered.TheVariants.{Nothing}
 use Rattle.iol_port.specs.declared.call.Call.TheVariants.{Turn}

@@ -1,3 +1,4 @@
+-- What each round of a loop of `stored_playing::make_turns` keeps.
 use Rattle.std.proofs.Common.{[], map, replicate}
 use Rattle.iol_port.specs.declared.call.Call.TheVariants.{Turn}
 use Rattle.iol_stored_commands.specs.StoredPlayed.{Plain, StoredPlays}

@@ -1,3 +1,4 @@
+-- The clauses of `stored_playing::play_line` that the search can't prove.
 use Rattle.std.proofs.Common.{[], refl, sym, append-nil}
 use Rattle.iol_stored_commands.proofs.stored_playing.play_line.Goals as goal
 

@@ -1,3 +1,4 @@
+-- The clauses of `stored_playing::play_storage` that the search can't prove.
 use Rattle.std.proofs.Common.{refl}
 use Rattle.std.proofs.lemmas.Result.{on_ok_weaker}
 use Rattle.iol_stored_commands.specs.StoredPlayed.{Storing}

@@ -1,3 +1,4 @@
+-- What the search can't prove of the body of `stored_playing::play_stored`.
 use Rattle.std.proofs.Common.{◌++◌, append_assoc}
 use Rattle.iol_script.specs.RunLines.{run_form}
 use Rattle.iol_stored_script.specs.StorageLines.{storage_form}

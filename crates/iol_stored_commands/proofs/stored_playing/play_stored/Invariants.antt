@@ -1,3 +1,4 @@
+-- What each round of a loop of `stored_playing::play_stored` keeps.
 use Rattle.std.proofs.Common.{◌≡◌, ◌++◌, ℕ, List}
 use Rattle.std.specs.String.{string_bytes}
 use Rattle.iol_script.specs.Text.{numbered_lines, lines_left}

@@ -1,3 +1,4 @@
+-- The clauses of `stored_printing::print_standing` that the search can't prove.
 use Rattle.std.proofs.lemmas.Result.{on_ok_weaker}
 use Rattle.iol_print.proofs.PrintedLemmas.{behind}
 use Rattle.iol_stored_commands.proofs.stored_printing.print_standing.Goals as goal

@@ -1,3 +1,4 @@
+-- The clauses of `stored_run::played_on` that the search can't prove.
 use Rattle.std.proofs.Common.{◌≡◌, [], refl, rules}
 use Rattle.std.specs.String.{string_bytes}
 use Rattle.iol_stored_commands.proofs.stored_run.played_on.Goals as goal

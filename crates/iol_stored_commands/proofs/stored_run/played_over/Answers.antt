@@ -1,3 +1,4 @@
+-- The clauses of `stored_run::played_over` that the search can't prove.
 use Rattle.std.proofs.Common.{inl, inr}
 use Rattle.std.proofs.lemmas.Result.{IfOk-weaker}
 use Rattle.iol_stored_commands.proofs.stored_run.played_over.Goals as goal

@@ -1,3 +1,4 @@
+-- The clauses of `stored_trace::traced_by_table` that the search can't prove.
 use Rattle.std.proofs.Common.{rules}
 use Rattle.iol_stored_commands.proofs.stored_trace.traced_by_table.Goals as goal
 

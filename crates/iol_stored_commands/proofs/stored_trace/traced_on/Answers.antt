@@ -1,3 +1,4 @@
+-- The clauses of `stored_trace::traced_on` that the search can't prove.
 use Rattle.std.proofs.Common.{◌≡◌, ◌++◌, ◌∙◌, refl}
 use Rattle.std.proofs.lemmas.Result.{on_ok_weaker}
 use Rattle.iol_script.specs.Script.{calls_in}

@@ -1,3 +1,4 @@
+-- The clauses of `stored_trace::traced_over` that the search can't prove.
 use Rattle.std.proofs.Common.{◌∙◌, inl, inr}
 use Rattle.std.proofs.lemmas.Result.{on_ok_weaker}
 use Rattle.iol_stored_commands.proofs.stored_trace.traced_over.Goals as goal

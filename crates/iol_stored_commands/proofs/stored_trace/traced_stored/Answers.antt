@@ -1,3 +1,4 @@
+-- What the search can't prove of the body of `stored_trace::traced_stored`.
 use Rattle.std.proofs.Common.{◌≡◌, arith}
 use Rattle.std.proofs.lemmas.Result.{on_ok_weaker}
 use Rattle.iol_script.specs.Text.{numbered_lines}

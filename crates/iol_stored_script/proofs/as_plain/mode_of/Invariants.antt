@@ -1,3 +1,4 @@
+-- What each round of a loop of `as_plain::mode_of` keeps.
 use Rattle.std.proofs.Common.{◌≡◌}
 use Rattle.iol_script.specs.Text.{numbered_lines, lines_left}
 use Rattle.iol_stored_script.specs.PlainText.{storage_mode_in}

@@ -1,3 +1,4 @@
+-- What the search can't prove of the body of `as_plain::plain_text`.
 use Rattle.std.proofs.Common.{◌≡◌, ◌∙◌, ℕ, List, [], ◌∷◌, ◌++◌, map, refl, sym, ap, subst, rules, append-nil, append_assoc}
 use Rattle.std.specs.List.{enumerate_from}
 use Rattle.iol_script.specs.Text.{lines_of, numbered_lines, lines_left}

@@ -1,3 +1,4 @@
+-- What each round of a loop of `as_plain::plain_text` keeps.
 use Rattle.std.proofs.Common.{◌≡◌, ◌++◌, ℕ, List, map}
 use Rattle.iol_script.specs.Text.{numbered_lines, lines_left}
 use Rattle.iol_stored_script.specs.PlainText.{plain_lines}

@@ -1,3 +1,4 @@
+-- What the search can't prove of the body of `storage_line::block_of`.
 use Rattle.std.proofs.Common.{◌∙◌, ap, option_map, rules}
 use Rattle.iol_stored_script.specs.declared.storage_line.StorageCall.TheVariants.{Block}
 use Rattle.iol_stored_script.proofs.WritesLemmas.{first_write, next_write}

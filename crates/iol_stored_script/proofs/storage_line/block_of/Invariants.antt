@@ -1,3 +1,4 @@
+-- What each round of a loop of `storage_line::block_of` keeps.
 use Rattle.std.proofs.Common.{◌≡◌, length, option_map}
 use Rattle.iol_script.specs.Text.{words_left}
 use Rattle.iol_stored_script.specs.StorageLines.{block_form, more_writes}

@@ -1,3 +1,4 @@
+-- The clauses of `performing::perform` that the search can't prove.
 use Rattle.iolink.proofs.performing.perform.Goals as goal
 
 pub returns-in-Check-clause-answers : goal.returns-in-Check-clause-answers

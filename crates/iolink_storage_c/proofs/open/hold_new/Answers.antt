@@ -1,3 +1,4 @@
+-- The clauses of `open::hold_new` that the search can't prove.
 use Rattle.iolink_storage_c.proofs.open.hold_new.Goals as goal
 
 pub returns-in-Ok-open-clause-port : goal.returns-in-Ok-open-clause-port

@@ -1,3 +1,4 @@
+-- What another thread may free: the ghost values are those of the allocator within.
 use mir.Syntax.{Dict}
 use denote.RattleType.{RattleType}
 use denote.Param.Send.{Frees}

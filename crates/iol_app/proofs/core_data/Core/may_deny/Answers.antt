@@ -1,3 +1,4 @@
+-- The clauses of `Core::may_deny` that the search can't prove.
 use Rattle.iol_app.proofs.CoreCalls.{deny_steps}
 use Rattle.iol_app.proofs.core_data.Core.may_deny.Goals as goal
 

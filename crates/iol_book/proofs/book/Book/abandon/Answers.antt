@@ -1,3 +1,4 @@
+-- What the search can't prove of the body of `Book::abandon`.
 use Rattle.std.proofs.Common.{refl}
 use Rattle.iol_book.proofs.LineLemmas.{entry_steps, line_steps}
 use Rattle.iol_book.proofs.SoundLemmas.{abandoned-taken, abandoned-waiting, abandoned-outcome, whole-replayed, whole-push}

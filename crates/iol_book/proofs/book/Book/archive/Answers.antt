@@ -1,3 +1,4 @@
+-- What the search can't prove of the body of `Book::archive`.
 use Rattle.iol_book.proofs.LineLemmas.{entry_steps}
 use Rattle.iol_book.proofs.SoundLemmas.{sound-archived, whole-replayed}
 use Rattle.iol_book.proofs.book.Book.archive.Goals as goal

@@ -1,3 +1,4 @@
+-- What the search can't prove of the body of `Book::compact`.
 use mathlib.Core.List.{[]}
 use contract.BorrowLft.{⊑_meet, ⊑_static}
 use Rattle.std.proofs.Common.{◌≡◌, refl, arith, drop, IsTrue}

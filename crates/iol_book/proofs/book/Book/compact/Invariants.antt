@@ -1,3 +1,4 @@
+-- The ghost values that `Book::compact` hands to what it calls.
 use Rattle.std.specs.Prelude.{drop}
 use Rattle.iol_book.proofs.book.Book.compact.Given as goal
 

@@ -1,3 +1,4 @@
+-- The clauses of `Book::has_next` that the search can't prove.
 use Rattle.iol_book.proofs.LineLemmas.{entry_steps}
 use Rattle.iol_book.proofs.SoundLemmas.{next-line}
 use Rattle.iol_book.proofs.book.Book.has_next.Goals as goal

@@ -1,3 +1,4 @@
+-- What the search can't prove of the body of `Book::next`.
 use Rattle.std.proofs.Common.{◌≡◌, ◌++◌, Option, None, Some, ap, sym, ◌∙◌}
 use Rattle.std.specs.Option.{option_map}
 use Rattle.iol_isdu.specs.declared.values.Request.{Request}

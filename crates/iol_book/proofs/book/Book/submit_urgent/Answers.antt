@@ -1,3 +1,4 @@
+-- What the search can't prove of the body of `Book::submit_urgent`.
 use Rattle.iol_book.proofs.LineLemmas.{entry_steps}
 use Rattle.iol_book.proofs.SoundLemmas.{sound-urgent, whole-replayed, whole-push}
 use Rattle.iol_book.proofs.book.Book.submit_urgent.Goals as goal

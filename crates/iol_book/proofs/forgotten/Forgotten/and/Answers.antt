@@ -1,3 +1,4 @@
+-- What the search can't prove of the body of `Forgotten::and`.
 use mathlib.Core.List.{[]}
 use contract.BorrowLft.{⊑_meet, ⊑_static}
 use Rattle.iol_book.proofs.forgotten.Forgotten.and.Goals as goal

@@ -1,3 +1,4 @@
+-- The ghost values that `Forgotten::and` hands to what it calls.
 use Rattle.std.specs.Prelude.{◌++◌}
 use Rattle.iol_book.proofs.forgotten.Forgotten.and.Given as goal
 

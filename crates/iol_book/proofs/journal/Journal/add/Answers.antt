@@ -1,3 +1,4 @@
+-- What the search can't prove of the body of `Journal::add`.
 use Rattle.std.proofs.Common.{◌≡◌, ◌+◌, ◌++◌, ◌≤◌, length, arith, refl}
 use Rattle.std.proofs.lemmas.Grind.{common_steps}
 use Rattle.iol_book.specs.Limits.{most_data}

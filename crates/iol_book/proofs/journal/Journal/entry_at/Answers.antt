@@ -1,3 +1,4 @@
+-- What the search can't prove of the body of `Journal::entry_at`.
 use Rattle.std.proofs.Common.{◌≡◌, Some, arith, refl}
 use Rattle.std.proofs.lemmas.Grind.{common_steps}
 use Rattle.std.proofs.lemmas.Option.{slice_get_read}

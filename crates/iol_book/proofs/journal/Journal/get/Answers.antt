@@ -1,3 +1,4 @@
+-- What the search can't prove of the body of `Journal::get`.
 use Rattle.std.proofs.Common.{◌≡◌, Some, sym, arith}
 use Rattle.std.specs.Prelude.{slice_get}
 use Rattle.std.proofs.lemmas.Grind.{common_steps}

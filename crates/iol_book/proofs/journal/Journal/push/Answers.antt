@@ -1,3 +1,4 @@
+-- The clauses of `Journal::push` that the search can't prove.
 use Rattle.std.proofs.Common.{refl}
 use Rattle.iol_book.proofs.JournalLemmas.{entry-back}
 use Rattle.iol_book.proofs.journal.Journal.push.Goals as goal

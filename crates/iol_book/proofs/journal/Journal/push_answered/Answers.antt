@@ -1,3 +1,4 @@
+-- The clauses of `Journal::push_answered` that the search can't prove.
 use Rattle.std.proofs.Common.{refl}
 use Rattle.iol_book.proofs.JournalLemmas.{outcome-back}
 use Rattle.iol_book.proofs.journal.Journal.push_answered.Goals as goal

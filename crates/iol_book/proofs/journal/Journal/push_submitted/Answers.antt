@@ -1,3 +1,4 @@
+-- The clauses of `Journal::push_submitted` that the search can't prove.
 use Rattle.std.proofs.Common.{refl}
 use Rattle.iol_book.proofs.JournalLemmas.{request-back}
 use Rattle.iol_book.proofs.journal.Journal.push_submitted.Goals as goal

@@ -1,3 +1,4 @@
+-- What the search can't prove of the body of `Journal::put_outcome`.
 use Rattle.std.proofs.Common.{◌≡◌, None, Some, arith, refl, sym}
 use Rattle.std.specs.Prelude.{slice_get}
 use Rattle.std.proofs.lemmas.Grind.{common_steps}

@@ -1,3 +1,4 @@
+-- What the search can't prove of the body of `Journal::put_request`.
 use Rattle.std.proofs.Common.{◌≡◌, Some, arith, sym}
 use Rattle.std.specs.Prelude.{slice_get}
 use Rattle.std.proofs.lemmas.Grind.{common_steps}

@@ -1,3 +1,4 @@
+-- The clauses of `Journal::reserve` that the search can't prove.
 use Rattle.std.proofs.Common.{arith}
 use Rattle.std.proofs.lemmas.Grind.{common_steps}
 use Rattle.iol_book.proofs.JournalLemmas.{octets-are}

@@ -1,3 +1,4 @@
+-- The clauses of `Journal::reserve_for` that the search can't prove.
 use Rattle.std.proofs.Common.{◌≡◌, length, arith}
 use Rattle.std.proofs.lemmas.Grind.{common_steps}
 use Rattle.iol_book.specs.JournalModel.{octet_sum}

@@ -1,3 +1,4 @@
+-- What the search can't prove of the body of `Journal::reserve_within`.
 use Rattle.std.proofs.Common.{arith}
 use Rattle.std.proofs.lemmas.Grind.{common_steps}
 use Rattle.iol_book.proofs.JournalLemmas.{octets-are}

@@ -1,3 +1,4 @@
+-- The clauses of `CaptureReader::end_line` that the search can't prove.
 use Rattle.iol_capture.proofs.ReadLemmas.{ended}
 use Rattle.iol_capture.proofs.CallLemmas.{ended_calls}
 use Rattle.iol_capture.proofs.opened.CaptureReader.end_line.Goals as goal

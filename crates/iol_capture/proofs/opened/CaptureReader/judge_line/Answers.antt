@@ -1,3 +1,4 @@
+-- The clauses of `CaptureReader::judge_line` that the search can't prove.
 use Rattle.std.proofs.Common.{refl}
 use Rattle.iol_capture.specs.contracts.opened.CaptureReader.{the_view}
 use Rattle.iol_capture.proofs.ReadLemmas.{ended_whole}

@@ -1,3 +1,4 @@
+-- What each round of a loop of `CaptureReader::take` keeps.
 use Rattle.std.proofs.Common.{◌≡◌, ℕ, List, ◌++◌, length}
 use Rattle.iol_capture.specs.Capture.{judging_after_rest}
 use Rattle.iol_capture.proofs.opened.CaptureReader.take.Given as goal

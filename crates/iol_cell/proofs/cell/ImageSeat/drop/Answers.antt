@@ -1,3 +1,4 @@
+-- What the search can't prove of the body of `ImageSeat::drop`.
 use Rattle.iol_cell.proofs.Room.{has_room}
 use Rattle.iol_cell.proofs.cell.ImageSeat.drop.Goals as goal
 

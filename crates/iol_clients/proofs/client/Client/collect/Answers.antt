@@ -1,3 +1,4 @@
+-- What the search can't prove of the body of `Client::collect`.
 use Rattle.std.proofs.Common.{◌≡◌, ◌+◌, ◌<◌, ℕ, List, get_or, take, length, refl, arith}
 use Rattle.std.specs.Prelude.{Result, Ok}
 use Rattle.std.specs.List.{FoldsTo}

@@ -1,3 +1,4 @@
+-- What each round of a loop of `Client::collect` keeps.
 use Rattle.std.proofs.Common.{◌≡◌, ◌+◌, take}
 use Rattle.std.specs.List.{FoldsTo}
 use Rattle.iol_clients.specs.Counts.{AddsUp, Notes}

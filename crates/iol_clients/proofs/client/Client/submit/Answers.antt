@@ -1,3 +1,4 @@
+-- What the search can't prove of the body of `Client::submit`.
 use Rattle.std.proofs.Common.{◌≡◌, ◌∙◌, add-one, refl, ap, arith}
 use Rattle.iol_clients.proofs.Submitting.{has_submitted}
 use Rattle.iol_clients.proofs.client.Client.submit.Goals as goal

@@ -1,3 +1,4 @@
+-- What each round of a loop of `Client::submit` keeps.
 use Rattle.std.proofs.Common.{◌≡◌, ◌≤◌, vec_len}
 use Rattle.iol_master.specs.Ports.{port_facts}
 use Rattle.iol_clients.specs.Counts.{client_state}

@@ -1,3 +1,4 @@
+-- The clauses of `Client::submit_one` that the search can't prove.
 use Rattle.std.proofs.Common.{refl}
 use Rattle.iol_clients.proofs.Submitting.{submits_read, given, other}
 use Rattle.iol_clients.proofs.client.Client.submit_one.Goals as goal

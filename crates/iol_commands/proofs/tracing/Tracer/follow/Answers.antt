@@ -1,3 +1,4 @@
+-- What the search can't prove of the body of `Tracer::follow`.
 use Rattle.std.proofs.Common.{◌≡◌, [], ◌++◌, length, refl, ap, append_assoc, length-append, rules, arith}
 use Rattle.iol_script.specs.Script.{line_calls}
 use Rattle.iol_script.specs.Text.{numbered_lines, lines_left}

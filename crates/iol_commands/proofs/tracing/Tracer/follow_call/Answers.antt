@@ -1,3 +1,4 @@
+-- The clauses of `Tracer::follow_call` that the search can't prove.
 use Rattle.std.proofs.lemmas.Result.{on_ok_weaker}
 use Rattle.iol_commands.proofs.TraceLemmas.{flows_after}
 use Rattle.iol_commands.proofs.tracing.Tracer.follow_call.Goals as goal

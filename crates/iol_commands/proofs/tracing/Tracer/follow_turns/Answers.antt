@@ -1,3 +1,4 @@
+-- What the search can't prove of the body of `Tracer::follow_turns`.
 use Rattle.std.proofs.Common.{arith}
 use Rattle.std.proofs.lemmas.List.{replicate_more}
 use Rattle.iol_commands.proofs.TraceLemmas.{traces_none, traces_more}

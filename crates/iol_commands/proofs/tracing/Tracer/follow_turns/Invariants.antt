@@ -1,3 +1,4 @@
+-- What each round of a loop of `Tracer::follow_turns` keeps.
 use Rattle.std.proofs.Common.{◌≤◌, ◌+◌, replicate}
 use Rattle.std.specs.String.{string_bytes}
 use Rattle.iol_port.specs.View.{over}

@@ -1,3 +1,4 @@
+-- The clauses of `Tracer::make` that the search can't prove.
 use Rattle.std.proofs.Common.{◌++◌, sym}
 use Rattle.std.proofs.lemmas.Result.{on_ok_weaker}
 use Rattle.iol_port.specs.Asks.{asks_of}

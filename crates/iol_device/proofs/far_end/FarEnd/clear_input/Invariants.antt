@@ -1,3 +1,4 @@
+-- The ghost values that `FarEnd::clear_input` hands to what it calls.
 use Rattle.std.specs.Prelude.{None}
 use Rattle.iol_far.specs.History.{history_after_input}
 use Rattle.iol_device.proofs.far_end.FarEnd.clear_input.Given as goal

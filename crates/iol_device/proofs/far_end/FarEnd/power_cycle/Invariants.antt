@@ -1,3 +1,4 @@
+-- The ghost values that `FarEnd::power_cycle` hands to what it calls.
 use Rattle.iol_far.specs.History.{history_after_power_cycle}
 use Rattle.iol_device.proofs.far_end.FarEnd.power_cycle.Given as goal
 

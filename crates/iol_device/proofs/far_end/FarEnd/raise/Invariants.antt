@@ -1,3 +1,4 @@
+-- The ghost values that `FarEnd::raise` hands to what it calls.
 use Rattle.std.specs.Prelude.{[], ◌∷◌, ◌++◌}
 use Rattle.iol_far.specs.History.{Raised}
 use Rattle.iol_device.proofs.far_end.FarEnd.raise.Given as goal

@@ -1,3 +1,4 @@
+-- The clauses of `KeptRecord::push` that the search can't prove.
 use Rattle.std.proofs.Common.{arith}
 use Rattle.std.proofs.Math.Seq.{set-append_seam}
 use Rattle.std.proofs.lemmas.Grind.{common_steps}

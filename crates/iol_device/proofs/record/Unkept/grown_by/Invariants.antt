@@ -1,3 +1,4 @@
+-- The ghost values that `Unkept::grown_by` hands to what it calls.
 use Rattle.iol_far.specs.Level.{grown_by}
 use Rattle.iol_device.proofs.record.Unkept.grown_by.Given as goal
 

@@ -1,3 +1,4 @@
+-- What the search can't prove of the body of `Unkept::with_history`.
 use mathlib.Core.List.{[]}
 use contract.BorrowLft.{⊑_meet, ⊑_static}
 use Rattle.iol_device.proofs.record.Unkept.with_history.Goals as goal

@@ -1,3 +1,4 @@
+-- What each round of a loop of `EventList::from_octets` keeps.
 use Rattle.std.proofs.Common.{◌≡◌, ◌+◌, ◌*◌, ◌++◌, length}
 use Rattle.iol_event.specs.Reading.{events_of}
 use Rattle.iol_event.proofs.list.EventList.from_octets.Given as goal

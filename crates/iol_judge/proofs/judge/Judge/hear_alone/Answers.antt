@@ -1,3 +1,4 @@
+-- The clauses of `Judge::hear_alone` that the search can't prove.
 use Rattle.std.proofs.Common.{◌≡◌, [], ◌∷◌, ◌∙◌, ap}
 use Rattle.iol_judge.specs.Judged.{JudgeState}
 use Rattle.iol_judge.proofs.Concluding.{alone_refused}

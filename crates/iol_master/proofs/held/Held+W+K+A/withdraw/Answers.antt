@@ -1,3 +1,4 @@
+-- What the search can't prove of the body of `Held::withdraw`.
 use Rattle.std.proofs.Common.{ap, arith, ◌∙◌}
 use Rattle.std.proofs.lemmas.Grind.{common_steps}
 use Rattle.iol_book.specs.BookModel.{BookState}

@@ -1,3 +1,4 @@
+-- The clauses of `LinePort::receive` that the search can't prove.
 use Rattle.std.proofs.Common.{refl, arith}
 use Rattle.iol_master.proofs.Turns.{one_more}
 use Rattle.iol_master.proofs.line.LinePort.receive.Goals as goal

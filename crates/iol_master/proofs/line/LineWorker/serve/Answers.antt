@@ -1,3 +1,4 @@
+-- What the search can't prove of the body of `LineWorker::serve`.
 use Rattle.std.proofs.Common.{◌≡◌, ◌+◌, ◌<◌, ◌≤◌, inl, inr, ℕ, List, [], ◌∷◌, length, refl, add-one, arith}
 use Rattle.iol_app.specs.declared.asked.Asked.{Asked}
 use Rattle.iol_master.proofs.Lets.{one_more as one_turn_more}

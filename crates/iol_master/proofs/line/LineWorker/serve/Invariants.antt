@@ -1,3 +1,4 @@
+-- What each round of a loop of `LineWorker::serve` keeps.
 use Rattle.std.proofs.Common.{◌≡◌, ◌+◌, ◌<◌, ℕ, true, List, length}
 use Rattle.iol_app.specs.declared.asked.Asked.{Asked}
 use Rattle.iol_port.specs.WireCalls.{AreCalls}

@@ -1,3 +1,4 @@
+-- What the search can't prove of the body of `Master::close`.
 use Rattle.std.proofs.Common.{◌≡◌, ℕ, ◌+◌, List, [], ◌∷◌, refl, sym, ◌∙◌, arith}
 use Rattle.iol_master.specs.Ports.{PortFacts}
 use Rattle.iol_master.specs.Entered.{HaveAccepted}

@@ -1,3 +1,4 @@
+-- The clauses of `Master::enter` that the search can't prove.
 use Rattle.std.proofs.Common.{inr}
 use Rattle.iol_master.proofs.master.Master.enter.Goals as goal
 

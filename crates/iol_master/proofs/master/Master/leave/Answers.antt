@@ -1,3 +1,4 @@
+-- The clauses of `Master::leave` that the search can't prove.
 use Rattle.std.proofs.Common.{inr}
 use Rattle.iol_master.proofs.master.Master.leave.Goals as goal
 

@@ -1,3 +1,4 @@
+-- The clauses of `Worker::turn` that the search can't prove.
 use Rattle.iol_master.proofs.worker.Worker.turn.Goals as goal
 
 pub returns-clause-turned : goal.returns-clause-turned

@@ -1,3 +1,4 @@
+-- The clauses of `Mc::from_octet` that the search can't prove.
 use Rattle.std.proofs.Common.{arith, sym, ◌∙◌}
 use Rattle.std.proofs.lemmas.Grind.{common_steps}
 use Rattle.iol_octets.proofs.ControlLemmas.{same_from_octet, control_octet-of}

@@ -1,3 +1,4 @@
+-- The clauses of `ParamDevice::work` that the search can't prove.
 use Rattle.std.proofs.Common.{◌∙◌, ◌&&◌, ap}
 use Rattle.std.specs.Prelude.{not}
 use Rattle.iol_event.specs.Memory.{is_full}

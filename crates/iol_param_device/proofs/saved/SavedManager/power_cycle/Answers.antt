@@ -1,3 +1,4 @@
+-- The clauses of `SavedManager::power_cycle` that the search can't prove.
 use Rattle.iol_param_device.proofs.Saving.{cycled}
 use Rattle.iol_param_device.proofs.saved.SavedManager.power_cycle.Goals as goal
 

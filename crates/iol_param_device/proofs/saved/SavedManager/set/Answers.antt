@@ -1,3 +1,4 @@
+-- What the search can't prove of the body of `SavedManager::set`.
 use Rattle.std.proofs.Common.{◌∙◌, ap}
 use Rattle.iol_params.specs.State.{ParamState}
 use Rattle.iol_param_device.proofs.Saving.{local_refused, same-saved}

@@ -1,3 +1,4 @@
+-- The clauses of `Manager::image_into` that the search can't prove.
 use Rattle.std.proofs.Common.{◌≡◌, ◌∙◌, ◌+◌, ◌∷◌, ap, arith, length}
 use Rattle.iol_params.specs.Image.{kept_in}
 use Rattle.iol_params.proofs.ImageLemmas.{image-says, image-octets}

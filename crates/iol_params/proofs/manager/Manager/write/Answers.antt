@@ -1,3 +1,4 @@
+-- What the search can't prove of the body of `Manager::write`.
 use Rattle.std.proofs.Common.{◌∙◌, sym, ap, arith}
 use Rattle.std.proofs.lemmas.Grind.{common_steps}
 use Rattle.iol_params.specs.Values.{values_in}

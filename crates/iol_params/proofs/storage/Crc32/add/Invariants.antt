@@ -1,3 +1,4 @@
+-- What each round of a loop of `Crc32::add` keeps.
 use Rattle.std.proofs.Common.{◌≡◌, bit_xor}
 use Rattle.iol_params.specs.Storage.{crc_bits}
 use Rattle.iol_params.proofs.storage.Crc32.add.Given as goal

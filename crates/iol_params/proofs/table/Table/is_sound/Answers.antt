@@ -1,3 +1,4 @@
+-- The clauses of `Table::is_sound` that the search can't prove.
 use Rattle.iol_params.proofs.TableLemmas.{sound-table}
 use Rattle.iol_params.proofs.table.Table.is_sound.Goals as goal
 

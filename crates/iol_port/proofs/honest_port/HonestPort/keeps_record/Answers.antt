@@ -1,3 +1,4 @@
+-- The clauses of `HonestPort::keeps_record` that the search can't prove.
 use Rattle.iol_port.proofs.HonestRuns.{record_kept}
 use Rattle.iol_port.proofs.honest_port.HonestPort.keeps_record.Goals as goal
 

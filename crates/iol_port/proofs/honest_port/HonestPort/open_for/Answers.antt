@@ -1,3 +1,4 @@
+-- What the search can't prove of the body of `HonestPort::open_for`.
 use Rattle.iol_port.proofs.HonestRuns.{began}
 use Rattle.iol_port.proofs.honest_port.HonestPort.open_for.Goals as goal
 

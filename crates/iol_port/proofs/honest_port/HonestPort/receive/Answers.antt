@@ -1,3 +1,4 @@
+-- What the search can't prove of the body of `HonestPort::receive`.
 use Rattle.std.proofs.Common.{sym, subst}
 use Rattle.iol_far.specs.Octets.{octets_in}
 use Rattle.iol_port.specs.Honestly.{HonestParts, Exchanges}

@@ -1,3 +1,4 @@
+-- What the search can't prove of the body of `HonestPort::receive_wake`.
 use Rattle.std.proofs.Common.{sym, subst}
 use Rattle.std.specs.Prelude.{is_some}
 use Rattle.iol_link.specs.Honest.{HonestWake}

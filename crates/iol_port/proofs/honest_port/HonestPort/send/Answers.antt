@@ -1,3 +1,4 @@
+-- What the search can't prove of the body of `HonestPort::send`.
 use Rattle.iol_port.proofs.HonestRuns.{sent}
 use Rattle.iol_port.proofs.honest_port.HonestPort.send.Goals as goal
 

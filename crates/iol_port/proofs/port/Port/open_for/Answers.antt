@@ -1,3 +1,4 @@
+-- What the search can't prove of the body of `Port::open_for`.
 use Rattle.iol_port.proofs.WireLemmas.{port_new}
 use Rattle.iol_port.proofs.port.Port.open_for.Goals as goal
 

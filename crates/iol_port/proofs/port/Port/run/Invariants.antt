@@ -1,3 +1,4 @@
+-- What each round of a loop of `Port::run` keeps.
 use Rattle.std.proofs.Common.{◌≡◌, length, take, vec_len, vec_capacity}
 use Rattle.iol_port.specs.View.{Runs, over}
 use Rattle.iol_port.specs.EveryWire.{RunGives}

@@ -1,3 +1,4 @@
+-- What the search can't prove of the body of `Port::serve`.
 use Rattle.std.proofs.Common.{refl}
 use Rattle.iol_port.proofs.WireLemmas.{call_kept, stays}
 use Rattle.iol_port.proofs.port.Port.serve.Goals as goal

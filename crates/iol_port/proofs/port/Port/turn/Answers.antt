@@ -1,3 +1,4 @@
+-- What the search can't prove of the body of `Port::turn`.
 use Rattle.iol_port.proofs.WireLemmas.{port_turned}
 use Rattle.iol_port.proofs.port.Port.turn.Goals as goal
 

@@ -1,3 +1,4 @@
+-- The clauses of `PortCore::archive` that the search can't prove.
 use Rattle.std.proofs.Common.{rules}
 use Rattle.iol_port.proofs.CallLemmas.{archive_does}
 use Rattle.iol_port.proofs.port_core.PortCore.archive.Goals as goal

@@ -1,3 +1,4 @@
+-- The clauses of `PortCore::cancel` that the search can't prove.
 use Rattle.std.proofs.Common.{refl, sym, ap, ◌∙◌, rules}
 use Rattle.std.specs.Result.{result_err}
 use Rattle.iol_port.proofs.CallLemmas.{cancel_does, cancel_refused}

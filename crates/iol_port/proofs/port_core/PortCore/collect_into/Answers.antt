@@ -1,3 +1,4 @@
+-- The clauses of `PortCore::collect_into` that the search can't prove.
 use Rattle.std.proofs.Common.{rules}
 use Rattle.std.specs.Result.{result_map_both}
 use Rattle.iol_port.proofs.CallLemmas.{collect_does, by_book_put}

@@ -1,3 +1,4 @@
+-- The clauses of `PortCore::drain` that the search can't prove.
 use Rattle.std.proofs.Common.{refl, rules}
 use Rattle.iol_port.proofs.CallLemmas.{drain_does, ok_always}
 use Rattle.iol_port.proofs.port_core.PortCore.drain.Goals as goal

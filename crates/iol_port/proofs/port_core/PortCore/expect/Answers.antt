@@ -1,3 +1,4 @@
+-- The clauses of `PortCore::expect` that the search can't prove.
 use Rattle.std.proofs.Common.{rules}
 use Rattle.iol_port.proofs.CorePorts.{expect_core}
 use Rattle.iol_port.proofs.port_core.PortCore.expect.Goals as goal

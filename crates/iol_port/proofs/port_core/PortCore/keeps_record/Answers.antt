@@ -1,3 +1,4 @@
+-- The clauses of `PortCore::keeps_record` that the search can't prove.
 use Rattle.iol_port.proofs.RunLemmas.{sound_keeps}
 use Rattle.iol_port.proofs.CleanLevel.{level_kept}
 use Rattle.iol_port.proofs.port_core.PortCore.keeps_record.Goals as goal

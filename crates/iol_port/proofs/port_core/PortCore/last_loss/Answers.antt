@@ -1,3 +1,4 @@
+-- The clauses of `PortCore::last_loss` that the search can't prove.
 use Rattle.std.proofs.Common.{refl, rules}
 use Rattle.iol_port.proofs.CallLemmas.{last_loss_does}
 use Rattle.iol_port.proofs.port_core.PortCore.last_loss.Goals as goal

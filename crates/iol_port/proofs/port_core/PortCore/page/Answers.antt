@@ -1,3 +1,4 @@
+-- The clauses of `PortCore::page` that the search can't prove.
 use Rattle.std.proofs.Common.{refl, ◌∙◌, rules}
 use Rattle.iol_port.proofs.CallLemmas.{page_does}
 use Rattle.iol_port.proofs.port_core.PortCore.page.Goals as goal

@@ -1,3 +1,4 @@
+-- The clauses of `PortCore::restart` that the search can't prove.
 use Rattle.std.proofs.Common.{sym, ap, ◌∙◌, rules}
 use Rattle.iol_port.proofs.CallLemmas.{restart_does, restart_book, restart_cuts, restart_quiet, some_request}
 use Rattle.iol_port.proofs.CorePorts.{nothing_out}

@@ -1,3 +1,4 @@
+-- The clauses of `PortCore::serves_right_device` that the search can't prove.
 use Rattle.iol_port.proofs.RightDevices.{right_device}
 use Rattle.iol_port.proofs.port_core.PortCore.serves_right_device.Goals as goal
 

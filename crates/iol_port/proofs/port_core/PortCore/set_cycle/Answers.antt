@@ -1,3 +1,4 @@
+-- The clauses of `PortCore::set_cycle` that the search can't prove.
 use Rattle.std.proofs.Common.{rules}
 use Rattle.iol_port.proofs.CorePorts.{set_cycle_core}
 use Rattle.iol_port.proofs.port_core.PortCore.set_cycle.Goals as goal

@@ -1,3 +1,4 @@
+-- The clauses of `PortCore::set_output` that the search can't prove.
 use Rattle.std.proofs.Common.{refl, rules}
 use Rattle.iol_port.proofs.CallLemmas.{set_output_does}
 use Rattle.iol_port.proofs.port_core.PortCore.set_output.Goals as goal

@@ -1,3 +1,4 @@
+-- The clauses of `PortCore::submit_urgent` that the search can't prove.
 use Rattle.std.proofs.Common.{rules}
 use Rattle.iol_port.proofs.CallLemmas.{submit_urgent_does}
 use Rattle.iol_port.proofs.port_core.PortCore.submit_urgent.Goals as goal

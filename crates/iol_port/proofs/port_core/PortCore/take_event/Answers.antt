@@ -1,3 +1,4 @@
+-- The clauses of `PortCore::take_event` that the search can't prove.
 use Rattle.std.proofs.Common.{refl, rules}
 use Rattle.iol_port.proofs.CallLemmas.{take_event_does, part_kept}
 use Rattle.iol_port.proofs.port_core.PortCore.take_event.Goals as goal

@@ -1,3 +1,4 @@
+-- The clauses of `PortCore::withdraw` that the search can't prove.
 use Rattle.std.proofs.Common.{rules}
 use Rattle.iol_port.proofs.CallLemmas.{withdraw_does}
 use Rattle.iol_port.proofs.port_core.PortCore.withdraw.Goals as goal

@@ -1,3 +1,4 @@
+-- The clauses of `LineCall::print` that the search can't prove.
 use Rattle.std.proofs.Common.{rules, arith}
 use Rattle.iol_print.specs.Passing.{wake_text}
 use Rattle.iol_print.proofs.PrintedLemmas.{part_fits}

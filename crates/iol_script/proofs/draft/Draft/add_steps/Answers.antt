@@ -1,3 +1,4 @@
+-- What the search can't prove of the body of `Draft::add_steps`.
 use Rattle.std.proofs.Common.{rules, ◌++◌, replicate}
 use Rattle.iol_sim.specs.declared.script.Fate.TheVariants.{Clean}
 use Rattle.iol_sim.specs.declared.script.Step.TheVariants.{Fate}

@@ -1,3 +1,4 @@
+-- The clauses of `Draft::take_call` that the search can't prove.
 use Rattle.std.proofs.Common.{sym, ◌∙◌}
 use Rattle.iol_script.proofs.FitsLemmas.{no_call, one_more}
 use Rattle.iol_script.proofs.draft.Draft.take_call.Goals as goal

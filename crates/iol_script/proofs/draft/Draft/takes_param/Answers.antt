@@ -1,3 +1,4 @@
+-- The clauses of `Draft::takes_param` that the search can't prove.
 use Rattle.std.proofs.Common.{arith}
 use Rattle.std.proofs.lemmas.Bool.Decides.{nat_tests}
 use Rattle.iol_script.proofs.draft.Draft.takes_param.Goals as goal

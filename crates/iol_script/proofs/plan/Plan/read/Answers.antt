@@ -1,3 +1,4 @@
+-- What the search can't prove of the body of `Plan::read`.
 use Rattle.std.proofs.Common.{◌≡◌, Ok, Err, length, inl, refl, ap, arith, rules}
 use Rattle.iol_script.specs.Plan.{plan_draft_after, whole_plan}
 use Rattle.iol_script.specs.Text.{line_read}

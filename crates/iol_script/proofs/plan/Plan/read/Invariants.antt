@@ -1,3 +1,4 @@
+-- What each round of a loop of `Plan::read` keeps.
 use Rattle.std.proofs.Common.{◌≡◌, Ok, fold}
 use Rattle.iol_script.specs.Plan.{plan_draft_after, IsPlanned}
 use Rattle.iol_script.specs.Text.{numbered_lines, lines_left, line_read}

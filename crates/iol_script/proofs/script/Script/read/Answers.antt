@@ -1,3 +1,4 @@
+-- The clauses of `Script::read` that the search can't prove.
 use Rattle.std.proofs.Common.{◌≡◌, Ok, Err, fold, rules, arith, ap, ◌∙◌}
 use Rattle.std.specs.Result.{result_err}
 use Rattle.iol_script.specs.Script.{draft_after, empty_draft}

@@ -1,3 +1,4 @@
+-- What each round of a loop of `Script::read` keeps.
 use Rattle.std.proofs.Common.{◌≡◌, Ok, fold}
 use Rattle.iol_script.specs.Script.{draft_after, draft_of}
 use Rattle.iol_script.specs.Text.{numbered_lines, lines_left}

@@ -1,3 +1,4 @@
+-- What the search can't prove of the body of `TableLines::members`.
 use Rattle.iol_script.specs.Tables.{IsMember}
 use Rattle.iol_script.proofs.TableLemmas.{zip_more}
 use Rattle.iol_script.proofs.table_lines.TableLines.members.Goals as goal

@@ -1,3 +1,4 @@
+-- What each round of a loop of `TableLines::members` keeps.
 use Rattle.std.proofs.Common.{take}
 use Rattle.iol_script.specs.Tables.{AreMembers}
 use Rattle.iol_script.proofs.table_lines.TableLines.members.Given as goal

@@ -1,3 +1,4 @@
+-- The clauses of `Joiner::into_answer` that the search can't prove.
 use Rattle.std.proofs.Common.{ap, ◌∙◌}
 use Rattle.iol_segment.specs.Join.{Joining}
 use Rattle.iol_segment.proofs.joiner.Joiner.into_answer.Goals as goal

@@ -1,3 +1,4 @@
+-- What each round of a loop of `Params::of` keeps.
 use Rattle.std.proofs.Common.{◌≡◌, take}
 use Rattle.iol_sim.proofs.params.Params.of.Given as goal
 

@@ -1,3 +1,4 @@
+-- The clauses of `Sim::make_wake` that the search can't prove.
 use Rattle.std.proofs.Common.{true, false}
 use Rattle.iol_sim.specs.Beside.{Stand}
 use Rattle.iol_sim.specs.Sim.{with_here}

@@ -1,3 +1,4 @@
+-- What the search can't prove of the body of `Objects::any_owned`.
 use Rattle.std.proofs.Common.{◌∙◌, ap, sym}
 use Rattle.std.specs.Option.{option_map}
 use Rattle.iol_storage.proofs.ObjectLemmas.{owned-here, owned-later}

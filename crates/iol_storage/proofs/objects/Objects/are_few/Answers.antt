@@ -1,3 +1,4 @@
+-- The clauses of `Objects::are_few` that the search can't prove.
 use Rattle.std.proofs.Common.{◌≤◌, ◌+◌, ◌*◌, length, subst}
 use Rattle.iol_storage.specs.Objects.{values_size}
 use Rattle.iol_storage.proofs.Spans.{few}

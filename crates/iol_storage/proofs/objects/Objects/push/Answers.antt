@@ -1,3 +1,4 @@
+-- What the search can't prove of the body of `Objects::push`.
 use Rattle.std.proofs.Common.{◌∙◌, ap, sym, ◌++◌, ◌∷◌, []}
 use Rattle.iol_storage.specs.Objects.{fits_behind}
 use Rattle.iol_storage.proofs.Spans.{Pushed, pushed, room-is}

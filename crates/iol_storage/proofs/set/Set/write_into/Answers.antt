@@ -1,3 +1,4 @@
+-- What the search can't prove of the body of `Set::write_into`.
 use Rattle.std.proofs.Common.{◌∙◌, ◌++◌, ap, sym, arith}
 use Rattle.std.specs.Option.{option_map}
 use Rattle.iol_storage.proofs.Sets.{header-image, image-room, image-length, next-image}

@@ -1,3 +1,4 @@
+-- What each round of a loop of `Set::write_into` keeps.
 use Rattle.std.proofs.Common.{◌≡◌, ◌≤◌, ◌+◌, ◌++◌, length, take}
 use Rattle.iol_storage.specs.Sets.{set_header, objects_image}
 use Rattle.iol_storage.proofs.set.Set.write_into.Given as goal

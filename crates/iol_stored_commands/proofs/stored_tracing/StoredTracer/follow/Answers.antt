@@ -1,3 +1,4 @@
+-- What the search can't prove of the body of `StoredTracer::follow`.
 use Rattle.std.proofs.Common.{◌≡◌, [], ◌++◌, length, refl, ap, append_assoc, length-append, rules, arith}
 use Rattle.iol_script.specs.RunLines.{run_form}
 use Rattle.iol_script.specs.Text.{numbered_lines, lines_left}

@@ -1,3 +1,4 @@
+-- The clauses of `StoredTracer::follow_call` that the search can't prove.
 use Rattle.std.proofs.lemmas.Result.{on_ok_weaker}
 use Rattle.iol_commands.proofs.TraceLemmas.{flows_after}
 use Rattle.iol_stored_commands.proofs.stored_tracing.StoredTracer.follow_call.Goals as goal

@@ -1,3 +1,4 @@
+-- The clauses of `StoredTracer::follow_line` that the search can't prove.
 use Rattle.iol_stored_commands.proofs.TracedLemmas.{stored_traces_none}
 use Rattle.iol_stored_commands.proofs.stored_tracing.StoredTracer.follow_line.Goals as goal
 

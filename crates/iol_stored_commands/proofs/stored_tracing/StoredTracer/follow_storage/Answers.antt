@@ -1,3 +1,4 @@
+-- The clauses of `StoredTracer::follow_storage` that the search can't prove.
 use Rattle.std.proofs.Common.{[], refl, sym, append-nil}
 use Rattle.std.proofs.lemmas.Result.{on_ok_weaker}
 use Rattle.iol_commands.proofs.TraceLemmas.{flows_after}

@@ -1,3 +1,4 @@
+-- What the search can't prove of the body of `StoredTracer::follow_turns`.
 use Rattle.std.proofs.Common.{◌∷◌, [], arith}
 use Rattle.iol_port.specs.declared.call.Call.TheVariants.{Turn}
 use Rattle.iol_stored_commands.specs.StoredPlayed.{Plain}

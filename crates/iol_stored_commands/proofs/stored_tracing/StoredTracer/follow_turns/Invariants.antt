@@ -1,3 +1,4 @@
+-- What each round of a loop of `StoredTracer::follow_turns` keeps.
 use Rattle.std.proofs.Common.{◌≤◌, ◌+◌, map, replicate}
 use Rattle.std.specs.String.{string_bytes}
 use Rattle.iol_port.specs.declared.call.Call.TheVariants.{Turn}

@@ -1,3 +1,4 @@
+-- The clauses of `StoredTracer::make` that the search can't prove.
 use Rattle.std.proofs.Common.{◌++◌, sym}
 use Rattle.std.proofs.lemmas.Result.{on_ok_weaker}
 use Rattle.iol_print.proofs.PrintedLemmas.{behind}

@@ -1,3 +1,4 @@
+-- The clauses of `WiredPort::archive` that the search can't prove.
 use Rattle.std.proofs.Common.{Ok, Err, rules}
 use Rattle.iol_stored_commands.proofs.wired_port.WiredPort.archive.Goals as goal
 

@@ -1,3 +1,4 @@
+-- The clauses of `WiredPort::drain` that the search can't prove.
 use Rattle.std.proofs.Common.{Ok, Err, rules}
 use Rattle.iol_stored_commands.proofs.wired_port.WiredPort.drain.Goals as goal
 

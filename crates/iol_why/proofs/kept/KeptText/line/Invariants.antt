@@ -1,3 +1,4 @@
+-- What each round of a loop of `KeptText::line` keeps.
 use Rattle.std.proofs.Common.{◌≡◌}
 use Rattle.iol_script.specs.Text.{numbered_lines, lines_left}
 use Rattle.iol_why.specs.Explained.{line_numbered}

@@ -1,3 +1,4 @@
+-- The clauses of `StoredPort::collect_asked` that the search can't prove.
 use Rattle.std.proofs.Common.{sym, ◌∙◌}
 use Rattle.iol_storage.proofs.StoredLemmas.{collected-out, collected-in, heard-one, heard-none}
 use Rattle.iol_storage.proofs.stored.port.StoredPort.collect_asked.Goals.{then-is_none, else-is_none}

@@ -1,3 +1,4 @@
+-- The clauses of `StoredPort::set_output` that the search can't prove.
 use Rattle.std.proofs.Common.{refl, sym, ◌∙◌}
 use Rattle.iol_storage.proofs.StoredLemmas.{made-output-taken, made-clear}
 use Rattle.iol_storage.proofs.stored.port.StoredPort.set_output.Goals as goal

@@ -1,3 +1,4 @@
+-- The clauses of `StoredPort::show_output` that the search can't prove.
 use Rattle.std.proofs.Common.{refl, sym, ◌∙◌}
 use Rattle.iol_storage.proofs.StoredLemmas.{made-output, one-call}
 use Rattle.iol_storage.proofs.stored.port.StoredPort.show_output.Goals as goal

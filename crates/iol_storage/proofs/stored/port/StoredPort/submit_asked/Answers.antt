@@ -1,3 +1,4 @@
+-- The clauses of `StoredPort::submit_asked` that the search can't prove.
 use Rattle.std.proofs.Common.{refl, sym, ◌∙◌}
 use Rattle.iol_storage.proofs.StoredLemmas.{made-submit, one-call, submitted-one, submitted-none}
 use Rattle.iol_storage.proofs.stored.port.StoredPort.submit_asked.Goals as goal

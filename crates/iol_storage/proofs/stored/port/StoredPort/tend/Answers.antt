@@ -1,3 +1,4 @@
+-- The clauses of `StoredPort::tend` that the search can't prove.
 use Rattle.std.proofs.Common.{refl}
 use Rattle.iol_storage.proofs.StoredLemmas.{made-serve, one-call}
 use Rattle.iol_storage.proofs.stored.port.StoredPort.tend.Goals as goal
