@@ -3,6 +3,18 @@ ghost use Rattle.std.specs.Prelude.{◌≡◌};
 
 use thiserror::Error;
 
+// The numbers of the refusals: their one table, which the definitions cite.
+const FULL: u8 = 21;
+const JOURNAL_FULL: u8 = 22;
+const TICKETS_SPENT: u8 = 23;
+const OUT_OF_MEMORY: u8 = 24;
+const UNKNOWN_TICKET: u8 = 25;
+const NOT_YET: u8 = 26;
+const TAKEN_ALREADY: u8 = 27;
+const OUTSTANDING: u8 = 28;
+const NOT_IN_FLIGHT: u8 = 36;
+const NO_JOURNAL: u8 = 63;
+
 /// Why a book refuses a call.
 #[derive(Clone, Copy, Debug, PartialEq, Eq, Error)]
 pub enum BookFault {
@@ -48,16 +60,16 @@ impl BookFault {
         ensures { result ≡ book_fault_number self.now }
     {
         match self {
-            BookFault::Full => 21,
-            BookFault::JournalFull => 22,
-            BookFault::TicketsSpent => 23,
-            BookFault::OutOfMemory => 24,
-            BookFault::UnknownTicket => 25,
-            BookFault::NotYet => 26,
-            BookFault::TakenAlready => 27,
-            BookFault::Outstanding => 28,
-            BookFault::NotInFlight => 36,
-            BookFault::NoJournal => 63,
+            BookFault::Full => FULL,
+            BookFault::JournalFull => JOURNAL_FULL,
+            BookFault::TicketsSpent => TICKETS_SPENT,
+            BookFault::OutOfMemory => OUT_OF_MEMORY,
+            BookFault::UnknownTicket => UNKNOWN_TICKET,
+            BookFault::NotYet => NOT_YET,
+            BookFault::TakenAlready => TAKEN_ALREADY,
+            BookFault::Outstanding => OUTSTANDING,
+            BookFault::NotInFlight => NOT_IN_FLIGHT,
+            BookFault::NoJournal => NO_JOURNAL,
         }
     }
 }

@@ -4,6 +4,11 @@ ghost use Rattle.std.specs.Prelude.{◌≡◌};
 use iol_judge::Open;
 use thiserror::Error;
 
+// The numbers of the refusals: their one table, which the definitions cite.
+const TIME_BACK: u8 = 1;
+const OVERLAP: u8 = 2;
+const NO_LAYOUT: u8 = 7;
+
 /// Why an octet is none of a message or a reply.
 #[derive(Clone, Copy, Debug, PartialEq, Eq, Error)]
 pub enum SplitFault {
@@ -26,9 +31,9 @@ impl SplitFault {
         ensures { result ≡ split_fault_number self.now }
     {
         match self {
-            SplitFault::TimeBack => 1,
-            SplitFault::Overlap => 2,
-            SplitFault::NoLayout(_) => 7,
+            SplitFault::TimeBack => TIME_BACK,
+            SplitFault::Overlap => OVERLAP,
+            SplitFault::NoLayout(_) => NO_LAYOUT,
         }
     }
 }

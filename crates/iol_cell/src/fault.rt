@@ -3,6 +3,9 @@ ghost use Rattle.std.specs.Prelude.{◌≡◌};
 
 use thiserror::Error;
 
+// The numbers of the refusals: their one table, which the definitions cite.
+const OUT_OF_MEMORY: u8 = 24;
+
 /// Why there is no cell for images.
 #[derive(Clone, Copy, Debug, PartialEq, Eq, Error)]
 pub enum CellFault {
@@ -19,7 +22,7 @@ impl CellFault {
         ensures { result ≡ cell_fault_number self.now }
     {
         match self {
-            CellFault::OutOfMemory => 24,
+            CellFault::OutOfMemory => OUT_OF_MEMORY,
         }
     }
 }

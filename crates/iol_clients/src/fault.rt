@@ -5,6 +5,11 @@ ghost use Rattle.iol_clients.specs.declared.fault.ClientsFault.TheVariants.{OutO
 use std::alloc::{AllocError, AllocFailed};
 use thiserror::Error;
 
+// The numbers of the refusals: their one table, which the definitions cite.
+const OUT_OF_MEMORY: u8 = 24;
+const NO_THREAD: u8 = 32;
+const DESKS_FULL: u8 = 33;
+
 /// Why a run of many clients is refused.
 #[derive(Clone, Copy, Debug, PartialEq, Eq, Error)]
 pub enum ClientsFault {
@@ -27,9 +32,9 @@ impl ClientsFault {
         ensures { result ≡ clients_fault_number self.now }
     {
         match self {
-            ClientsFault::OutOfMemory => 24,
-            ClientsFault::NoThread => 32,
-            ClientsFault::DesksFull => 33,
+            ClientsFault::OutOfMemory => OUT_OF_MEMORY,
+            ClientsFault::NoThread => NO_THREAD,
+            ClientsFault::DesksFull => DESKS_FULL,
         }
     }
 }

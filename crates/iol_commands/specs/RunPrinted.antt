@@ -10,7 +10,7 @@ use Rattle.iol_isdu.specs.declared.values.Answer.TheVariants as answer
 use Rattle.iol_event.specs.declared.event.Event.{Event}
 use Rattle.iol_far.specs.declared.carried.Carried.{Carried}
 use Rattle.iol_mode.specs.declared.why.Why.{Why}
-use Rattle.iol_mode.specs.declared.why.Why.TheVariants.{NoWake, Lost, Revision, PdLength, Code, WrongDevice, Interleaved}
+use Rattle.iol_mode.specs.declared.why.Why.TheVariants.{NoWake, Lost, Revision, BadPdLength, UnsupportedCode, WrongDevice, Interleaved}
 use Rattle.iol_app.specs.declared.mode.Mode.{Mode}
 use Rattle.iol_app.specs.declared.mode.Mode.TheVariants.{Down, Startup, Preoperate, Operate}
 use Rattle.iol_app.specs.declared.core_data.Status.{Status}
@@ -106,8 +106,8 @@ abbrev pub why_name : Why → List ℕ
 why_name NoWake = codes "NoWake"
 why_name Lost = codes "Lost"
 why_name (Revision octet) = codes "Revision"
-why_name PdLength = codes "BadPdLength"
-why_name Code = codes "UnsupportedCode"
+why_name BadPdLength = codes "BadPdLength"
+why_name UnsupportedCode = codes "UnsupportedCode"
 why_name (WrongDevice found) = codes "WrongDevice"
 why_name Interleaved = codes "Interleaved"
 

@@ -179,8 +179,8 @@ fn why_name(why: Why) -> &'static str
         Why::NoWake => "NoWake",
         Why::Lost => "Lost",
         Why::Revision(_) => "Revision",
-        Why::PdLength => "BadPdLength",
-        Why::Code => "UnsupportedCode",
+        Why::BadPdLength => "BadPdLength",
+        Why::UnsupportedCode => "UnsupportedCode",
         Why::WrongDevice(_) => "WrongDevice",
         Why::Interleaved => "Interleaved",
     }

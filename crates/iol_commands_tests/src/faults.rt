@@ -189,8 +189,8 @@ fn add_ends(table: &mut Table) {
         Why::NoWake,
         Why::Lost,
         Why::Revision(0x12),
-        Why::PdLength,
-        Why::Code,
+        Why::BadPdLength,
+        Why::UnsupportedCode,
         Why::WrongDevice(Identity {
             vendor: 1,
             device: 2,

@@ -3,6 +3,13 @@ ghost use Rattle.std.specs.Prelude.{◌≡◌};
 
 use thiserror::Error;
 
+// The numbers of the refusals: their one table, which the definitions cite.
+const WRONG_ANSWER_KIND: u8 = 14;
+const MEMORY_FULL: u8 = 16;
+const OUT_OF_MEMORY: u8 = 24;
+const WRONG_IMAGE_LENGTH: u8 = 29;
+const OTHER_REQUEST: u8 = 37;
+
 /// Why a call of a device was refused.
 #[derive(Clone, Copy, Debug, PartialEq, Eq, Error)]
 pub enum DeviceFault {
@@ -31,11 +38,11 @@ impl DeviceFault {
         ensures { result ≡ device_fault_number self.now }
     {
         match self {
-            DeviceFault::WrongAnswerKind => 14,
-            DeviceFault::MemoryFull => 16,
-            DeviceFault::OutOfMemory => 24,
-            DeviceFault::WrongImageLength => 29,
-            DeviceFault::OtherRequest => 37,
+            DeviceFault::WrongAnswerKind => WRONG_ANSWER_KIND,
+            DeviceFault::MemoryFull => MEMORY_FULL,
+            DeviceFault::OutOfMemory => OUT_OF_MEMORY,
+            DeviceFault::WrongImageLength => WRONG_IMAGE_LENGTH,
+            DeviceFault::OtherRequest => OTHER_REQUEST,
         }
     }
 }

@@ -17,7 +17,7 @@ pub struct MemoryFull;
 impl MemoryFull {
     /// The number of the refusal.
     pub fn code(&self) -> u8
-        ensures { result ≡ 16 }
+        ensures { result ≡ MEMORY_FULL }
     {
         MEMORY_FULL
     }
@@ -31,7 +31,7 @@ pub struct EventForm;
 impl EventForm {
     /// The number of the refusal.
     pub fn code(&self) -> u8
-        ensures { result ≡ 17 }
+        ensures { result ≡ EVENT_FORM }
     {
         EVENT_FORM
     }

@@ -3,6 +3,9 @@ ghost use Rattle.std.specs.Prelude.{◌≡◌};
 
 use thiserror::Error;
 
+// The numbers of the refusals: their one table, which the definitions cite.
+const WRONG_IMAGE_LENGTH: u8 = 29;
+
 /// Why there is no image.
 #[derive(Clone, Copy, Debug, PartialEq, Eq, Error)]
 pub enum ImageFault {
@@ -19,7 +22,7 @@ impl ImageFault {
         ensures { result ≡ image_fault_number self.now }
     {
         match self {
-            ImageFault::WrongImageLength => 29,
+            ImageFault::WrongImageLength => WRONG_IMAGE_LENGTH,
         }
     }
 }

@@ -3,6 +3,14 @@ ghost use Rattle.std.specs.Prelude.{◌≡◌};
 
 use thiserror::Error;
 
+// The numbers of the refusals: their one table, which the definitions cite.
+const DATA_TOO_LONG: u8 = 9;
+const TRUNCATED: u8 = 10;
+const BAD_ISDU_LENGTH: u8 = 11;
+const BAD_SERVICE: u8 = 12;
+const BAD_CHKPDU: u8 = 13;
+const WRONG_ANSWER_KIND: u8 = 14;
+
 /// Why octets are no request or no answer.
 #[derive(Clone, Copy, Debug, PartialEq, Eq, Error)]
 pub enum IsduFault {
@@ -35,12 +43,12 @@ impl IsduFault {
         ensures { result ≡ isdu_fault_number self.now }
     {
         match self {
-            IsduFault::DataTooLong => 9,
-            IsduFault::Truncated => 10,
-            IsduFault::BadIsduLength => 11,
-            IsduFault::BadService => 12,
-            IsduFault::BadChkpdu => 13,
-            IsduFault::WrongAnswerKind => 14,
+            IsduFault::DataTooLong => DATA_TOO_LONG,
+            IsduFault::Truncated => TRUNCATED,
+            IsduFault::BadIsduLength => BAD_ISDU_LENGTH,
+            IsduFault::BadService => BAD_SERVICE,
+            IsduFault::BadChkpdu => BAD_CHKPDU,
+            IsduFault::WrongAnswerKind => WRONG_ANSWER_KIND,
         }
     }
 }

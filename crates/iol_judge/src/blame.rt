@@ -3,6 +3,16 @@ ghost use Rattle.std.specs.Prelude.{◌≡◌};
 
 use thiserror::Error;
 
+// The numbers: their one table, which the definitions cite.
+const WAKE_DUE: u8 = 1;
+const NOT_REPEATED: u8 = 2;
+const NOT_START_UP: u8 = 3;
+const NOT_WELL_FORMED: u8 = 4;
+const OUTPUT_OCTETS: u8 = 5;
+const NOT_DUE: u8 = 6;
+const REQUEST_TEXT: u8 = 7;
+const NOT_IN_LINE: u8 = 8;
+
 /// Why no master by the rules would have sent a message.
 ///
 /// A new message is one behind a good reply, or behind an answered wake-up request. Of a new
@@ -69,14 +79,14 @@ impl Blame {
         ensures { result ≡ blame_number self.now }
     {
         match self {
-            Blame::WakeDue => 1,
-            Blame::NotRepeated => 2,
-            Blame::NotStartUp => 3,
-            Blame::NotWellFormed => 4,
-            Blame::OutputOctets => 5,
-            Blame::NotDue => 6,
-            Blame::RequestText => 7,
-            Blame::NotInLine => 8,
+            Blame::WakeDue => WAKE_DUE,
+            Blame::NotRepeated => NOT_REPEATED,
+            Blame::NotStartUp => NOT_START_UP,
+            Blame::NotWellFormed => NOT_WELL_FORMED,
+            Blame::OutputOctets => OUTPUT_OCTETS,
+            Blame::NotDue => NOT_DUE,
+            Blame::RequestText => REQUEST_TEXT,
+            Blame::NotInLine => NOT_IN_LINE,
         }
     }
 }

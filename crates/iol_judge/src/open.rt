@@ -3,6 +3,11 @@ ghost use Rattle.std.specs.Prelude.{◌≡◌};
 
 use thiserror::Error;
 
+// The numbers: their one table, which the definitions cite.
+const PAGE_UNREAD: u8 = 1;
+const PAGE_REFUSED: u8 = 2;
+const TOO_MANY_STATES: u8 = 3;
+
 /// Why nothing can be said of a capture from some exchange on.
 #[derive(Clone, Copy, Debug, PartialEq, Eq, Error)]
 pub enum Open {
@@ -25,9 +30,9 @@ impl Open {
         ensures { result ≡ open_number self.now }
     {
         match self {
-            Open::PageUnread => 1,
-            Open::PageRefused => 2,
-            Open::TooManyStates => 3,
+            Open::PageUnread => PAGE_UNREAD,
+            Open::PageRefused => PAGE_REFUSED,
+            Open::TooManyStates => TOO_MANY_STATES,
         }
     }
 }

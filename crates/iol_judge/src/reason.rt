@@ -3,6 +3,29 @@ ghost use Rattle.std.specs.Prelude.{◌≡◌};
 
 use thiserror::Error;
 
+// The numbers: their one table, which the definitions cite.
+const NOT_TAKEN: u8 = 1;
+const REPLY_LENGTH: u8 = 2;
+const STATUS_WITHOUT_DATA: u8 = 3;
+const INVALID_NOT_ZERO: u8 = 4;
+const FLAG_AT_CONFIRM: u8 = 5;
+const FLAG_GONE: u8 = 6;
+const STATUS_CODE: u8 = 7;
+const EVENT_OCTET: u8 = 8;
+const PAGE_CHANGED: u8 = 9;
+const PAGE_ZERO: u8 = 10;
+const CYCLE_TIME: u8 = 11;
+const PROCESS_NOT_ZERO: u8 = 12;
+const REST_NOT_ZERO: u8 = 13;
+const NO_ANSWER_DUE: u8 = 14;
+const NOT_BUSY: u8 = 15;
+const BUSY_AGAIN: u8 = 16;
+const ANSWER_KIND: u8 = 17;
+const ANSWER_LENGTH: u8 = 18;
+const ANSWER_SUM: u8 = 19;
+const ANSWER_PADDING: u8 = 20;
+const SEGMENT_CHANGED: u8 = 21;
+
 /// Why no device by the rules could have sent a reply.
 #[derive(Clone, Copy, Debug, PartialEq, Eq, Error)]
 pub enum Reason {
@@ -79,27 +102,27 @@ impl Reason {
         ensures { result ≡ reason_number self.now }
     {
         match self {
-            Reason::NotTaken => 1,
-            Reason::ReplyLength => 2,
-            Reason::StatusWithoutData => 3,
-            Reason::InvalidNotZero => 4,
-            Reason::FlagAtConfirm => 5,
-            Reason::FlagGone => 6,
-            Reason::StatusCode => 7,
-            Reason::EventOctet => 8,
-            Reason::PageChanged => 9,
-            Reason::PageZero => 10,
-            Reason::CycleTime => 11,
-            Reason::ProcessNotZero => 12,
-            Reason::RestNotZero => 13,
-            Reason::NoAnswerDue => 14,
-            Reason::NotBusy => 15,
-            Reason::BusyAgain => 16,
-            Reason::AnswerKind => 17,
-            Reason::AnswerLength => 18,
-            Reason::AnswerSum => 19,
-            Reason::AnswerPadding => 20,
-            Reason::SegmentChanged => 21,
+            Reason::NotTaken => NOT_TAKEN,
+            Reason::ReplyLength => REPLY_LENGTH,
+            Reason::StatusWithoutData => STATUS_WITHOUT_DATA,
+            Reason::InvalidNotZero => INVALID_NOT_ZERO,
+            Reason::FlagAtConfirm => FLAG_AT_CONFIRM,
+            Reason::FlagGone => FLAG_GONE,
+            Reason::StatusCode => STATUS_CODE,
+            Reason::EventOctet => EVENT_OCTET,
+            Reason::PageChanged => PAGE_CHANGED,
+            Reason::PageZero => PAGE_ZERO,
+            Reason::CycleTime => CYCLE_TIME,
+            Reason::ProcessNotZero => PROCESS_NOT_ZERO,
+            Reason::RestNotZero => REST_NOT_ZERO,
+            Reason::NoAnswerDue => NO_ANSWER_DUE,
+            Reason::NotBusy => NOT_BUSY,
+            Reason::BusyAgain => BUSY_AGAIN,
+            Reason::AnswerKind => ANSWER_KIND,
+            Reason::AnswerLength => ANSWER_LENGTH,
+            Reason::AnswerSum => ANSWER_SUM,
+            Reason::AnswerPadding => ANSWER_PADDING,
+            Reason::SegmentChanged => SEGMENT_CHANGED,
         }
     }
 

@@ -3,6 +3,13 @@ ghost use Rattle.std.specs.Prelude.{◌≡◌};
 
 use thiserror::Error;
 
+// The numbers of the refusals: their one table, which the definitions cite.
+const UNSUPPORTED_CODE: u8 = 2;
+const BAD_LENGTH: u8 = 3;
+const WRONG_LENGTH: u8 = 4;
+const WRONG_TYPE: u8 = 5;
+const BAD_CHECKSUM: u8 = 6;
+
 /// Why a code, a length or octets were refused.
 #[derive(Clone, Copy, Debug, PartialEq, Eq, Error)]
 pub enum MseqFault {
@@ -31,11 +38,11 @@ impl MseqFault {
         ensures { result ≡ mseq_fault_number self.now }
     {
         match self {
-            MseqFault::UnsupportedCode => 2,
-            MseqFault::BadLength => 3,
-            MseqFault::WrongLength => 4,
-            MseqFault::WrongType => 5,
-            MseqFault::BadChecksum => 6,
+            MseqFault::UnsupportedCode => UNSUPPORTED_CODE,
+            MseqFault::BadLength => BAD_LENGTH,
+            MseqFault::WrongLength => WRONG_LENGTH,
+            MseqFault::WrongType => WRONG_TYPE,
+            MseqFault::BadChecksum => BAD_CHECKSUM,
         }
     }
 }

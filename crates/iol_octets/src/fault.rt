@@ -3,6 +3,9 @@ ghost use Rattle.std.specs.Prelude.{◌≡◌};
 
 use thiserror::Error;
 
+// The numbers of the refusals: their one table, which the definitions cite.
+const RESERVED_TYPE: u8 = 1;
+
 /// Why an octet was refused.
 #[derive(Clone, Copy, Debug, PartialEq, Eq, Error)]
 pub enum OctetFault {
@@ -14,10 +17,10 @@ pub enum OctetFault {
 impl OctetFault {
     /// The number of the refusal.
     pub fn code(&self) -> u8
-        ensures { result ≡ 1 }
+        ensures { result ≡ RESERVED_TYPE }
     {
         match self {
-            OctetFault::ReservedType => 1,
+            OctetFault::ReservedType => RESERVED_TYPE,
         }
     }
 }

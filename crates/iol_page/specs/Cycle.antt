@@ -3,6 +3,7 @@ use Rattle.std.specs.Prelude.{ℕ, ◌+◌, ◌-◌, ◌*◌, ◌<◌, ◌≤◌
 use Rattle.iol_page.specs.declared.cycle.CycleTime.{CycleTime}
 use Rattle.iol_page.specs.declared.cycle.CycleFault.{CycleFault}
 use Rattle.iol_page.specs.declared.cycle.CycleFault.TheVariants.{BadCycleTime}
+use Rattle.iol_page.specs.declared.cycle.TheConstants.{BAD_CYCLE_TIME}
 
 -- bits 7 and 6 are the time base, of which 3 is reserved, the other bits the multiplier
 -- PAGE-8
@@ -38,4 +39,4 @@ cycle_for None least = least
 cycle_for (Some chosen) least = max chosen.octet least
 
 abbrev pub cycle_fault_number : CycleFault → ℕ
-cycle_fault_number BadCycleTime = 39
+cycle_fault_number BadCycleTime = BAD_CYCLE_TIME

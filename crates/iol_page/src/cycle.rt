@@ -4,6 +4,9 @@ ghost use Rattle.std.specs.Result.{result_err};
 
 use thiserror::Error;
 
+// The numbers of the refusals: their one table, which the definitions cite.
+const BAD_CYCLE_TIME: u8 = 39;
+
 /// Why an octet or a time is no cycle time.
 #[derive(Clone, Copy, Debug, PartialEq, Eq, Error)]
 pub enum CycleFault {
@@ -20,7 +23,7 @@ impl CycleFault {
         ensures { result ≡ cycle_fault_number self.now }
     {
         match self {
-            CycleFault::BadCycleTime => 39,
+            CycleFault::BadCycleTime => BAD_CYCLE_TIME,
         }
     }
 }

@@ -3,6 +3,10 @@ ghost use Rattle.std.specs.Prelude.{◌≡◌};
 
 use thiserror::Error;
 
+// The numbers of the refusals: their one table, which the definitions cite.
+const OUT_OF_MEMORY: u8 = 24;
+const WRONG_SLOT_SIZE: u8 = 59;
+
 /// Why a device with parameters wasn't opened.
 #[derive(Clone, Copy, Debug, PartialEq, Eq, Error)]
 pub enum OpenFault {
@@ -22,8 +26,8 @@ impl OpenFault {
         ensures { result ≡ open_fault_number self.now }
     {
         match self {
-            OpenFault::OutOfMemory => 24,
-            OpenFault::WrongSlotSize => 59,
+            OpenFault::OutOfMemory => OUT_OF_MEMORY,
+            OpenFault::WrongSlotSize => WRONG_SLOT_SIZE,
         }
     }
 }

@@ -14,6 +14,17 @@ use iol_isdu::{Octets, Place};
 use std::marker::Model;
 use thiserror::Error;
 
+// The numbers of the refusals: their one table, which the definitions cite.
+const TOO_MANY_MEMBERS: u8 = 50;
+const MANAGED_INDEX: u8 = 51;
+const SUBINDEX_OUT_OF_TURN: u8 = 52;
+const MIXED_ACCESS: u8 = 53;
+const BAD_LENGTH: u8 = 54;
+const BAD_DEFAULT: u8 = 55;
+const NO_STORED_NUMBER: u8 = 56;
+const BROKEN_AT_FIRST: u8 = 57;
+const TOO_MUCH_STORED: u8 = 58;
+
 /// The most members that a table has.
 const MOST_MEMBERS: usize = 1000;
 /// The most octets that an Index_List has: those of one ISDU.
@@ -71,15 +82,15 @@ impl Flaw {
         ensures { result ≡ flaw_number self }
     {
         match self {
-            Flaw::TooManyMembers => 50,
-            Flaw::ManagedIndex => 51,
-            Flaw::SubindexOutOfTurn => 52,
-            Flaw::MixedAccess => 53,
-            Flaw::BadLength => 54,
-            Flaw::BadDefault => 55,
-            Flaw::NoStoredNumber => 56,
-            Flaw::BrokenAtFirst => 57,
-            Flaw::TooMuchStored => 58,
+            Flaw::TooManyMembers => TOO_MANY_MEMBERS,
+            Flaw::ManagedIndex => MANAGED_INDEX,
+            Flaw::SubindexOutOfTurn => SUBINDEX_OUT_OF_TURN,
+            Flaw::MixedAccess => MIXED_ACCESS,
+            Flaw::BadLength => BAD_LENGTH,
+            Flaw::BadDefault => BAD_DEFAULT,
+            Flaw::NoStoredNumber => NO_STORED_NUMBER,
+            Flaw::BrokenAtFirst => BROKEN_AT_FIRST,
+            Flaw::TooMuchStored => TOO_MUCH_STORED,
         }
     }
 }

@@ -5,6 +5,9 @@ use iol_app::OutputFault;
 use iol_book::BookFault;
 use thiserror::Error;
 
+// The numbers of the refusals: their one table, which the definitions cite.
+const NO_EVENT: u8 = 30;
+
 /// Why a port refuses a call.
 #[derive(Clone, Copy, Debug, PartialEq, Eq, Error)]
 pub enum PortFault {
@@ -29,7 +32,7 @@ impl PortFault {
         match self {
             PortFault::Book(fault) => fault.code(),
             PortFault::Output(fault) => fault.code(),
-            PortFault::NoEvent => 30,
+            PortFault::NoEvent => NO_EVENT,
         }
     }
 }

@@ -3,6 +3,10 @@ ghost use Rattle.std.specs.Prelude.{◌≡◌};
 
 use thiserror::Error;
 
+// The numbers of the refusals: their one table, which the definitions cite.
+const BAD_ISDU_LENGTH: u8 = 11;
+const WRONG_COUNT: u8 = 15;
+
 /// What became of a segment that a [`Joiner`](crate::Joiner) was given.
 #[derive(Clone, Copy, Debug, PartialEq, Eq)]
 pub enum Took {
@@ -33,8 +37,8 @@ impl JoinFault {
         ensures { result ≡ join_fault_number self.now }
     {
         match self {
-            JoinFault::BadIsduLength => 11,
-            JoinFault::WrongCount => 15,
+            JoinFault::BadIsduLength => BAD_ISDU_LENGTH,
+            JoinFault::WrongCount => WRONG_COUNT,
         }
     }
 }

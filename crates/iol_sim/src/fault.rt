@@ -3,6 +3,10 @@ ghost use Rattle.std.specs.Prelude.{◌≡◌};
 
 use thiserror::Error;
 
+// The numbers of the refusals: their one table, which the definitions cite.
+const OUT_OF_MEMORY: u8 = 24;
+const BAD_PARAM: u8 = 35;
+
 /// Why a call was refused.
 #[derive(Clone, Copy, Debug, PartialEq, Eq, Error)]
 pub enum SimFault {
@@ -22,8 +26,8 @@ impl SimFault {
         ensures { result ≡ sim_fault_number self.now }
     {
         match self {
-            SimFault::OutOfMemory => 24,
-            SimFault::BadParam => 35,
+            SimFault::OutOfMemory => OUT_OF_MEMORY,
+            SimFault::BadParam => BAD_PARAM,
         }
     }
 }

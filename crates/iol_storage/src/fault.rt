@@ -4,6 +4,10 @@ ghost use Rattle.iol_storage.specs.Faults.{storage_fault_number};
 
 use thiserror::Error;
 
+// The numbers of the refusals: their one table, which the definitions cite.
+const TOO_LARGE: u8 = 43;
+const NO_SET: u8 = 44;
+
 /// Why a call is refused, which then changed nothing.
 #[derive(Clone, Copy, Debug, PartialEq, Eq, Error)]
 pub enum StorageFault {
@@ -21,8 +25,8 @@ impl StorageFault {
         ensures { result ≡ storage_fault_number self }
     {
         match self {
-            StorageFault::TooLarge => 43,
-            StorageFault::NoSet => 44,
+            StorageFault::TooLarge => TOO_LARGE,
+            StorageFault::NoSet => NO_SET,
         }
     }
 }

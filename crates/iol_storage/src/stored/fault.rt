@@ -5,6 +5,16 @@ ghost use Rattle.iol_storage.specs.StoredFaults.{stored_fault_number};
 use iol_port::PortFault;
 use thiserror::Error;
 
+// The numbers of the refusals: their one table, which the definitions cite.
+const OWNED_INDEX: u8 = 41;
+const STORING: u8 = 45;
+const UNKNOWN_BLOCK: u8 = 46;
+const BLOCK_NOT_OVER: u8 = 47;
+const SMALL_QUEUE: u8 = 48;
+const NO_STANDING: u8 = 60;
+const UNCOLLECTED: u8 = 61;
+const OTHER_SET: u8 = 62;
+
 /// Why a call of a stored port is refused, which then changed nothing.
 #[derive(Clone, Copy, Debug, PartialEq, Eq, Error)]
 pub enum StoredFault {
@@ -46,14 +56,14 @@ impl StoredFault {
     {
         match self {
             StoredFault::Port(fault) => fault.code(),
-            StoredFault::OwnedIndex => 41,
-            StoredFault::Storing => 45,
-            StoredFault::UnknownBlock => 46,
-            StoredFault::BlockNotOver => 47,
-            StoredFault::SmallQueue => 48,
-            StoredFault::NoStanding => 60,
-            StoredFault::Uncollected => 61,
-            StoredFault::OtherSet => 62,
+            StoredFault::OwnedIndex => OWNED_INDEX,
+            StoredFault::Storing => STORING,
+            StoredFault::UnknownBlock => UNKNOWN_BLOCK,
+            StoredFault::BlockNotOver => BLOCK_NOT_OVER,
+            StoredFault::SmallQueue => SMALL_QUEUE,
+            StoredFault::NoStanding => NO_STANDING,
+            StoredFault::Uncollected => UNCOLLECTED,
+            StoredFault::OtherSet => OTHER_SET,
         }
     }
 }
