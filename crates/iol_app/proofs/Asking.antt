@@ -36,7 +36,9 @@ use Rattle.iol_app.specs.Ends.{BusySeen, AbortAt}
 use Rattle.iol_app.specs.State.{SessionState, IsOutBy, OutSuits, od_size}
 use Rattle.iol_app.proofs.Moving.{sent_busy}
 use Rattle.iol_app.proofs.Shown.{shown_as}
-use Rattle.iol_app.specs.Core.{Ghost, BothEndsStand, BeginGives, Work, work_of, repeats_in, vain_by, vain_in, AgainBy, OutBy, LevelOut, OperateRequest, operate_core, asking_ghost, session_in, reading_in}
+use Rattle.iol_app.specs.Core.{Ghost, session_in}
+use Rattle.iol_app.specs.CoreStands.{BothEndsStand, Work, work_of, repeats_in, vain_by, vain_in, AgainBy, OutBy, LevelOut, OperateRequest, reading_in}
+use Rattle.iol_app.specs.CoreCalls.{BeginGives, operate_core, asking_ghost}
 
 -- where one may follow, the progress stays as it is
 begun_progress : (devices : Devices) (clear : Bool) (size : ℕ) (request : Request)

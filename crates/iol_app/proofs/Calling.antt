@@ -21,7 +21,9 @@ use Rattle.iol_app.specs.Requests.{request_under_way}
 use Rattle.iol_app.specs.State.{SessionState, session_wanting}
 use Rattle.iol_mode.specs.Kinds.{SeesPulses}
 use Rattle.iol_app.specs.StationState.{SessionFits}
-use Rattle.iol_app.specs.Core.{CoreState, Ghost, BothEndsStand, RequestStands, work_of, seen_in, session_in, opened_core, opened_ghost, wanting_core, restarted_core, restarted_ghost}
+use Rattle.iol_app.specs.Core.{CoreState, Ghost, seen_in, session_in}
+use Rattle.iol_app.specs.CoreStands.{BothEndsStand, RequestStands, work_of}
+use Rattle.iol_app.specs.CoreCalls.{opened_core, opened_ghost, wanting_core, restarted_core, restarted_ghost}
 use Rattle.iol_app.specs.Abstract.Session.{session_after}
 
 pub opens : (devices : Devices) (limit : ℕ) (far : Far) (silence : ℕ) (told : Bool)

@@ -31,7 +31,7 @@ use Rattle.iol_app.specs.Moves.{before_last, progress_of, segment_move}
 use Rattle.iol_app.specs.Ends.{BusyAt, AbortAt}
 use Rattle.iol_app.proofs.Joining.{taken_next}
 use Rattle.iol_app.proofs.Sessions.{text_some}
-use Rattle.iol_app.specs.Core.{vain_by, AgainBy}
+use Rattle.iol_app.specs.CoreStands.{vain_by, AgainBy}
 use Rattle.iol_isdu.specs.declared.fault.IsduFault.{IsduFault}
 use Rattle.iol_isdu.specs.declared.values.Answer.{Answer}
 use Rattle.iol_far.specs.declared.carried.Carried.{Carried}

@@ -36,7 +36,8 @@ use Rattle.iol_app.specs.EventReading.{reader_of, list_read}
 use Rattle.iol_app.specs.State.{IsExchangeSaid, clear_after, od_size}
 use Rattle.iol_app.proofs.Moving.{sent_busy, sent_follows, busy_follows, asked_after, resting_idle, unsent_idle}
 use Rattle.iol_app.proofs.Stations.{resting_quiet}
-use Rattle.iol_app.specs.Core.{seen_in, core_out}
+use Rattle.iol_app.specs.Core.{seen_in}
+use Rattle.iol_app.specs.CoreTurns.{core_out}
 use Rattle.iol_app.proofs.Had.{Good, Replied, its, Reads, Comes, m, Follows, LevelBy, keeps, rests, took, goes_on, tied, before, settled, reached, follows, od_is, told_now, sized}
 use Rattle.iol_app.proofs.ReadingOn.{Took}
 use Rattle.iol_app.specs.Abstract.Session.{MayTell}

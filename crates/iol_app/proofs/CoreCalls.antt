@@ -21,7 +21,9 @@ use Rattle.iol_app.specs.State.{SessionState, OutSuits, session_after_begin, abo
 use Rattle.iol_app.specs.StationState.{mode_in, SessionFits}
 use Rattle.iol_app.proofs.Asking.{begin_gives, denies, aborts_by, waiting_at, cancelled_at}
 use Rattle.iol_app.proofs.Calling.{asks_else, opens, wants, restarts, restarted_session}
-use Rattle.iol_app.specs.Core.{CoreState, Ghost, BothEndsStand, BeginGives, session_in, operate_core, asking_ghost, opened_core, wanting_core, restarted_core}
+use Rattle.iol_app.specs.Core.{CoreState, Ghost, session_in}
+use Rattle.iol_app.specs.CoreStands.{BothEndsStand}
+use Rattle.iol_app.specs.CoreCalls.{BeginGives, operate_core, asking_ghost, opened_core, wanting_core, restarted_core}
 use Rattle.iol_app.specs.Seen.{NewSteps, BeginSteps, DenySteps, AbortSteps, CancelSteps, WantSteps, RestartSteps}
 
 pub new_steps : (devices : Devices) (busy : ℕ) (new : CoreState) → new ≡ opened_core devices busy

@@ -24,7 +24,8 @@ use Rattle.iol_app.specs.Reports.{has_begun_reading}
 use Rattle.iol_app.specs.Requests.{request_under_way}
 use Rattle.iol_app.specs.State.{SessionState, IsSession, told_output_length, doubts, checks, message_again, question_instead, missed_by, missed_in, IsOutBy}
 use Rattle.iol_app.specs.StationState.{HasTold, SessionFits, missed_state, missed_session, missed_out, settled_session}
-use Rattle.iol_app.specs.Core.{CoreState, after_missed, after_exchange}
+use Rattle.iol_app.specs.Core.{CoreState}
+use Rattle.iol_app.specs.CoreTurns.{after_missed, after_exchange}
 
 pub missed_request_by : (devices : Devices) (exchange : Option Purpose) (current : Option Current)
     → request_under_way (missed_by devices exchange current) ≡ request_under_way current

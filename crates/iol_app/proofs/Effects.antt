@@ -35,7 +35,10 @@ use Rattle.iol_app.proofs.Told.{told_exchange}
 use Rattle.iol_app.proofs.Shown.{shown_as}
 use Rattle.iol_app.specs.Ends.{SentSeen}
 use Rattle.iol_app.specs.StationState.{SessionFits, mode_in}
-use Rattle.iol_app.specs.Core.{CoreState, Ghost, BothEndsStand, CallGives, work_of, RequestStands, EventsStand, OutputStands, CalmAt, ShownStands, moment_of, seen_in, shown_in, images_in, settled_core}
+use Rattle.iol_app.specs.Core.{CoreState, Ghost, seen_in, shown_in, images_in}
+use Rattle.iol_app.specs.CoreStands.{BothEndsStand, work_of, RequestStands, EventsStand, OutputStands, CalmAt, ShownStands}
+use Rattle.iol_app.specs.CoreGives.{CallGives, moment_of}
+use Rattle.iol_app.specs.CoreTurns.{settled_core}
 use Rattle.iol_app.specs.Abstract.Turn.{may_bring}
 use Rattle.iol_app.proofs.Orders.{InFarOrder, AnswersAwake, in_order, free_order, wake_order, replies_awake}
 

@@ -67,7 +67,10 @@ use Rattle.iol_app.proofs.Sessions.{question_parts, check_parts}
 use Rattle.iol_app.proofs.Doubts.{missed_request_by}
 use Rattle.iol_app.proofs.Missing.{stays, busy_missed, checks_confirm, confirm_vain, check_vain, confirm_stays, replaced, check_out}
 use Rattle.iol_app.proofs.Telling.{told_layout}
-use Rattle.iol_app.specs.Core.{CoreState, Ghost, OfRequest, OfEvents, BothEndsStand, CallGives, work_of, vain_by, after_missed, RequestStands, EventsStand, OutputStands, CalmAt, ShownStands, core_out, reading_in, ordered_by, moment_of, seen_in, shown_in, frozen_in, images_in, settled_core}
+use Rattle.iol_app.specs.Core.{CoreState, Ghost, OfRequest, OfEvents, seen_in, shown_in, frozen_in, images_in}
+use Rattle.iol_app.specs.CoreStands.{BothEndsStand, work_of, vain_by, RequestStands, EventsStand, OutputStands, CalmAt, ShownStands, reading_in}
+use Rattle.iol_app.specs.CoreGives.{CallGives, ordered_by, moment_of}
+use Rattle.iol_app.specs.CoreTurns.{after_missed, core_out, settled_core}
 use Rattle.iol_mode.specs.Kinds.{trusted_recalls}
 use Rattle.iol_far.specs.declared.kind.Recalls.{Recalls}
 use Rattle.iol_mode.specs.declared.configuration.Devices.{Devices}

@@ -51,7 +51,10 @@ use Rattle.iol_mode.specs.declared.configuration.Devices.{Devices}
 use Rattle.iol_app.specs.State.{IsSession, session_after_exchange, clear_after, image_in}
 use Rattle.iol_app.specs.StationState.{SessionFits}
 use Rattle.iol_app.specs.declared.output.OutputState.{OutputState}
-use Rattle.iol_app.specs.Core.{BothEndsStand, CallGives, reading_at, moment_of, seen_in, shown_in, frozen_in, settled_core}
+use Rattle.iol_app.specs.Core.{seen_in, shown_in, frozen_in}
+use Rattle.iol_app.specs.CoreStands.{BothEndsStand, reading_at}
+use Rattle.iol_app.specs.CoreGives.{CallGives, moment_of}
+use Rattle.iol_app.specs.CoreTurns.{settled_core}
 use Rattle.iol_app.proofs.Orders.{awake_first}
 use Rattle.iol_app.proofs.ReadingOn.{Took, reads_next}
 use Rattle.iol_app.proofs.SmallFacts.{begins_request, confirms_is, same_output, input_is, input_hear, input_locals, image_octets}

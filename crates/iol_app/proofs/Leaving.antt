@@ -48,7 +48,10 @@ use Rattle.iol_app.proofs.PastPart.{none_waits}
 use Rattle.arrayvec.specs.ArrayVec.{ArrayVec}
 use Rattle.iol_app.specs.Requests.{request_under_way}
 use Rattle.iol_app.specs.State.{SessionState}
-use Rattle.iol_app.specs.Core.{CoreState, Ghost, BothEndsStand, CallGives, settled_core}
+use Rattle.iol_app.specs.Core.{CoreState, Ghost}
+use Rattle.iol_app.specs.CoreStands.{BothEndsStand}
+use Rattle.iol_app.specs.CoreGives.{CallGives}
+use Rattle.iol_app.specs.CoreTurns.{settled_core}
 use Rattle.iol_app.specs.Abstract.Turn.{may_bring}
 
 below : ModeStartup ≢ ModeOperate

@@ -42,7 +42,8 @@ use Rattle.iol_app.specs.Requests.{text_of, is_over, IsCurrent}
 use Rattle.iol_app.specs.Moves.{progress_of, move_for}
 use Rattle.iol_app.specs.Ends.{BusySeen, OperateLink}
 use Rattle.iol_app.specs.State.{SessionState, doubts_by, checks_by, missed_by}
-use Rattle.iol_app.specs.Core.{Ghost, Work, vain_by, AgainBy, OutStands}
+use Rattle.iol_app.specs.Core.{Ghost}
+use Rattle.iol_app.specs.CoreStands.{Work, vain_by, AgainBy, OutStands}
 use Rattle.iol_app.proofs.Given.{Laws, level_more}
 
 -- The request, where the message goes out again as it was

@@ -32,7 +32,10 @@ use Rattle.iol_app.specs.Reports.{is_read_out, has_begun_reading}
 use Rattle.iol_app.specs.State.{SessionState, IsSession, IsMessageFor, session_sending, IsOutBy}
 use Rattle.iol_app.specs.StationState.{SessionFits, IsStill, NextFits, IsSettledSaid}
 use Rattle.iol_app.specs.StationLaws.{StationLaws}
-use Rattle.iol_app.specs.Core.{CoreState, Ghost, BothEndsStand, CallGives, IsAttempted, ordered_output, after_exchange, settled_core, after_wake, core_out, free_core}
+use Rattle.iol_app.specs.Core.{CoreState, Ghost}
+use Rattle.iol_app.specs.CoreStands.{BothEndsStand, IsAttempted}
+use Rattle.iol_app.specs.CoreGives.{CallGives, ordered_output}
+use Rattle.iol_app.specs.CoreTurns.{after_exchange, settled_core, after_wake, core_out, free_core}
 use Rattle.iol_app.proofs.DueFacts.{IsDue, due_is}
 use Rattle.iol_app.proofs.Orderly.{first_parts}
 use Rattle.iol_app.proofs.Doubts.{core_of, after_fits}

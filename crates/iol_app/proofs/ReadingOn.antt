@@ -13,7 +13,7 @@ use Rattle.iol_app.proofs.EventReading.{ReaderLaws}
 use Rattle.iol_app.specs.declared.event_work.ReadingProgress.{ReadingProgress}
 use Rattle.iol_app.specs.declared.event_work.ReadingProgress.TheVariants.{Resting, UnderWay}
 use Rattle.iol_app.specs.EventReading.{is_refused, reader_of, reading_by, list_by}
-use Rattle.iol_app.specs.Core.{reading_at}
+use Rattle.iol_app.specs.CoreStands.{reading_at}
 
 -- the reading that an octet brings, and the list where it is whole
 pub record Took (t : ReaderStep) (event : Bool) (m : Events) : Type 0 where

@@ -48,7 +48,10 @@ use Rattle.iol_app.specs.State.{SessionState, IsSession, checks_by}
 use Rattle.iol_app.specs.StationState.{SessionFits, IsSettledSaid}
 use Rattle.iol_app.proofs.OperateMessages.{exchange_command}
 use Rattle.iol_app.proofs.Turns.{good_parts}
-use Rattle.iol_app.specs.Core.{CoreState, Ghost, OfRequest, OfEvents, BothEndsStand, CallGives, Receives, core_out, after_missed, after_exchange}
+use Rattle.iol_app.specs.Core.{CoreState, Ghost, OfRequest, OfEvents}
+use Rattle.iol_app.specs.CoreStands.{BothEndsStand}
+use Rattle.iol_app.specs.CoreGives.{CallGives}
+use Rattle.iol_app.specs.CoreTurns.{Receives, core_out, after_missed, after_exchange}
 use Rattle.iol_app.proofs.SmallFacts.{operating, third_time, begins_request}
 use Rattle.iol_app.proofs.Stations.{trusts}
 use Rattle.iol_app.proofs.FarSide.{Goes, IsGoing, silent, replied, says_of, outputs_sent, outputs_after, opens_after, replied_told, replied_out}

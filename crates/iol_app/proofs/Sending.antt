@@ -45,7 +45,10 @@ use Rattle.iol_app.proofs.DueFacts.{IsDue, due_is}
 use Rattle.iol_app.proofs.OperateMessages.{tell_differs, page_command}
 use Rattle.iol_app.proofs.Telling.{told_layout}
 use Rattle.iol_app.proofs.Shown.{shown_as}
-use Rattle.iol_app.specs.Core.{CoreState, Ghost, BothEndsStand, Sends, SendGives, core_out, free_core, made_ghost, vain_by, AgainBy, RequestStands, EventsStand, OutputStands, work_of, ordered_output, reading_at, reading_in, ordered_by}
+use Rattle.iol_app.specs.Core.{CoreState, Ghost}
+use Rattle.iol_app.specs.CoreStands.{BothEndsStand, vain_by, AgainBy, RequestStands, EventsStand, OutputStands, work_of, reading_at, reading_in}
+use Rattle.iol_app.specs.CoreGives.{ordered_output, ordered_by}
+use Rattle.iol_app.specs.CoreTurns.{Sends, SendGives, core_out, free_core, made_ghost}
 use Rattle.iol_app.proofs.SmallFacts.{operating, keeps_some, events_due, confirms_is, not_operate, begins_request, tells_wanted, drops_told, some_or, image_some, sent_made, same_carried}
 
 -- which readings a confirm and a read go out for

@@ -8,7 +8,8 @@ use Rattle.iol_app.specs.Abstract.Steps.{ImageOctets}
 use Rattle.iol_app.specs.EventReading.{is_refused}
 use Rattle.iol_app.specs.State.{SessionState}
 use Rattle.iol_app.specs.StationState.{mode_in}
-use Rattle.iol_app.specs.Core.{CoreState, ShownStands}
+use Rattle.iol_app.specs.Core.{CoreState}
+use Rattle.iol_app.specs.CoreStands.{ShownStands}
 
 -- the output wanted, the layout, and whether the device has ISDU
 abbrev pub known_in : SessionState → Option ImageOctets × Option Shape × Option Bool

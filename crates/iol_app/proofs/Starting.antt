@@ -61,7 +61,10 @@ use Rattle.iol_app.specs.StationState.{SessionFits, settled_session, mode_in, wh
 use Rattle.iol_app.proofs.StartMessages.{step_channel, sends_channel, preoperate_mode, page_confirms}
 use Rattle.iol_app.proofs.Telling.{startup_layout, told_layout, told_told, told_shown, told_stays}
 use Rattle.iol_app.specs.Moves.{progress_of}
-use Rattle.iol_app.specs.Core.{CoreState, Ghost, BothEndsStand, CallGives, OutputOff, ShownStands, moment_of, seen_in, shown_in, settled_core, Rises}
+use Rattle.iol_app.specs.Core.{CoreState, Ghost, seen_in, shown_in}
+use Rattle.iol_app.specs.CoreStands.{BothEndsStand, OutputOff, ShownStands}
+use Rattle.iol_app.specs.CoreGives.{CallGives, moment_of}
+use Rattle.iol_app.specs.CoreTurns.{settled_core, Rises}
 use Rattle.iol_app.proofs.FarSide.{Goes, IsGoing, Level, OutputsAt, outputs_sent, outputs_after, opens_after, silent, replied, IsReplied}
 use Rattle.std.proofs.lemmas.Bool.Decides.{nat_tests}
 use Rattle.iol_mode.specs.declared.configuration.Configuration.{Configuration}

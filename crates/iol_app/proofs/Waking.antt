@@ -31,7 +31,10 @@ use Rattle.iol_app.proofs.PastPart.{none_waits}
 use Rattle.iol_app.specs.Requests.{request_under_way}
 use Rattle.iol_app.specs.State.{SessionState}
 use Rattle.iol_app.specs.StationState.{settled_session, waked_session}
-use Rattle.iol_app.specs.Core.{CoreState, Ghost, BothEndsStand, CallGives, WakesDevice, after_wake}
+use Rattle.iol_app.specs.Core.{CoreState, Ghost}
+use Rattle.iol_app.specs.CoreStands.{BothEndsStand}
+use Rattle.iol_app.specs.CoreGives.{CallGives}
+use Rattle.iol_app.specs.CoreTurns.{WakesDevice, after_wake}
 
 -- the core after a wake of a port for these devices
 abbrev woken_by : Devices → Bool → SessionState → CoreState

@@ -31,7 +31,10 @@ use Rattle.iol_app.specs.Reports.{has_begun_reading, SaidFits}
 use Rattle.iol_app.specs.Requests.{request_under_way, request_after}
 use Rattle.iol_app.specs.State.{SessionState, IsSession, session_sending, IsMessageFor}
 use Rattle.iol_app.specs.StationState.{SessionFits, IsSettledSaid, settled_session}
-use Rattle.iol_app.specs.Core.{CoreState, Ghost, BothEndsStand, IsAttempted, CallGives, SendGives, after_exchange, after_wake, came_of, core_out, made_ghost, ordered_output}
+use Rattle.iol_app.specs.Core.{CoreState, Ghost}
+use Rattle.iol_app.specs.CoreStands.{BothEndsStand, IsAttempted}
+use Rattle.iol_app.specs.CoreGives.{CallGives, ordered_output}
+use Rattle.iol_app.specs.CoreTurns.{SendGives, after_exchange, after_wake, came_of, core_out, made_ghost}
 
 -- What is out
 

@@ -13,7 +13,8 @@ ghost use Rattle.iol_app.specs.Due.{is_ready};
 ghost use Rattle.iol_app.specs.Reports.{SaidFits};
 ghost use Rattle.iol_app.specs.StationState.{mode_in, why_in, page_in, operates, settled_session, NextFits, IsSettledSaid, SessionFits};
 ghost use Rattle.iol_app.specs.Asking.{asked_in, beginning_in, outgoing_of};
-ghost use Rattle.iol_app.specs.Core.{after_missed, settled_core, after_wake, came_of, opened_core, restarted_core, wanting_core, IsRight};
+ghost use Rattle.iol_app.specs.CoreCalls.{opened_core, restarted_core, wanting_core};
+ghost use Rattle.iol_app.specs.CoreTurns.{after_missed, settled_core, after_wake, came_of, IsRight};
 ghost use Rattle.iol_app.specs.Pieces.{IsAskedOut, IsOutAsAsked, IsSettledBy, IsTakenUp, IsPassed, IsWholeTurn, PutsOut, WakeSteps, ReceiveSteps};
 ghost use Rattle.iol_app.specs.Seen.{NewSteps, BeginSteps, DenySteps, AbortSteps, CancelSteps, WantSteps, RestartSteps, LinkStands};
 

@@ -2,7 +2,7 @@
 ghost use Rattle.iol_app.specs.Moves.{MessagesAreMoves, AnswersAreTakenUp};
 ghost use Rattle.iol_app.specs.StationLaws.{StationLaws};
 ghost use Rattle.iol_app.specs.Exchange.{TextNamesAnswer};
-ghost use Rattle.iol_app.specs.Core.{WakesDevice, Rises, Receives, Sends};
+ghost use Rattle.iol_app.specs.CoreTurns.{WakesDevice, Rises, Receives, Sends};
 
 use iol_event::{memory_stays_valid, reading_gives_the_frozen_list};
 use iol_far::{

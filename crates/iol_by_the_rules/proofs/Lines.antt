@@ -32,7 +32,8 @@ use Rattle.iol_judge.specs.MasterPhases.{phase_layout}
 use Rattle.iol_judge.specs.Watched.{WatchState, watch_after_exchange, watch_after_wake, master_after_sending, master_after_answer, master_after_reply, master_after_wake, master_without_reply, heard_reply}
 use Rattle.iol_app.specs.declared.output.OutputState.{OutputState}
 use Rattle.iol_app.specs.declared.session.Purpose.{Purpose}
-use Rattle.iol_app.specs.Core.{CoreState, after_exchange, after_wake, came_of}
+use Rattle.iol_app.specs.Core.{CoreState}
+use Rattle.iol_app.specs.CoreTurns.{after_exchange, after_wake, came_of}
 use Rattle.iol_app.specs.State.{SessionState, checking_in, checks, missed_by, missed_in, new_session, session_after_exchange, session_after_reply, session_after_reply_to, session_at_startup}
 use Rattle.iol_app.specs.StationState.{missed_session, missed_state, settled_session}
 use Rattle.iol_port.specs.declared.awaited.AwaitedAnswer.TheVariants as awaits

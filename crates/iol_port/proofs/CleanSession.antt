@@ -33,7 +33,8 @@ use Rattle.iol_app.specs.Requests.{current_after, IsSaid}
 use Rattle.iol_app.specs.Due.{due_of, is_ready, may_follow}
 use Rattle.iol_app.specs.Messages.{Head, head_of, progress_head, head_for, progress_data, request_head, request_data}
 use Rattle.iol_app.specs.State.{SessionState, session_sending, session_after_exchange, IsMessageFor, IsExchangeSaid}
-use Rattle.iol_app.specs.Core.{CoreState, core_out}
+use Rattle.iol_app.specs.Core.{CoreState}
+use Rattle.iol_app.specs.CoreTurns.{core_out}
 use Rattle.iol_app.specs.Pieces.{NewOut, IsPassed, IsWholeTurn}
 use Rattle.iol_app.specs.Seen.{LinkStands}
 use Rattle.iol_app.specs.declared.brought.WireResult.{WireResult}

@@ -20,7 +20,10 @@ use Rattle.iol_app.specs.declared.event_work.EventRoom.{EventRoom}
 use Rattle.iol_app.specs.declared.brought.WireResult.{WireResult}
 use Rattle.iol_app.specs.State.{session_expecting, session_with_cycle}
 use Rattle.iol_app.specs.StationState.{mode_in}
-use Rattle.iol_app.specs.Core.{CoreState, Ghost, BothEndsStand, TermsStay, IsAttempted, ordered_output, session_in, frozen_in, images_in, moment_of, made_ghost}
+use Rattle.iol_app.specs.Core.{CoreState, Ghost, session_in, frozen_in, images_in}
+use Rattle.iol_app.specs.CoreStands.{BothEndsStand, IsAttempted}
+use Rattle.iol_app.specs.CoreGives.{TermsStay, ordered_output, moment_of}
+use Rattle.iol_app.specs.CoreTurns.{made_ghost}
 use Rattle.iol_app.specs.Pieces.{SendsMessage, IsWholeTurn, SendSteps, WakeSteps, ReceiveSteps, TakeUpGives}
 use Rattle.iol_app.specs.Seen.{WantSteps}
 use Rattle.iol_port.specs.declared.call.Call.{Call}

@@ -7,7 +7,7 @@ use Rattle.iol_mode.specs.declared.states.State.TheVariants.{Operate as AtOperat
 use Rattle.iol_mode.specs.declared.states.PageFacts.{PageFacts}
 use Rattle.iol_app.specs.State.{SessionState}
 use Rattle.iol_app.specs.StationState.{IsPresent, operates}
-use Rattle.iol_app.specs.Core.{IsRightIn}
+use Rattle.iol_app.specs.CoreTurns.{IsRightIn}
 use Rattle.iol_port.specs.RightDevice.{IsOfRightDevice}
 
 of_present : (layouts : Layouts) (present : Option PageFacts) → IsPresent layouts present

@@ -16,7 +16,9 @@ use Rattle.iol_mode.specs.States.{is_reset}
 use Rattle.iol_app.specs.Requests.{request_under_way}
 use Rattle.iol_app.specs.State.{SessionState, session_after_begin}
 use Rattle.iol_app.specs.StationState.{SessionFits, mode_in, IsPresent}
-use Rattle.iol_app.specs.Core.{CoreState, Ghost, OfRequest, BothEndsStand, BeginGives, begun_ghost, session_in}
+use Rattle.iol_app.specs.Core.{CoreState, Ghost, OfRequest, session_in}
+use Rattle.iol_app.specs.CoreStands.{BothEndsStand}
+use Rattle.iol_app.specs.CoreCalls.{BeginGives, begun_ghost}
 use Rattle.iol_app.specs.Seen.{BeginSteps, DenySteps}
 use Rattle.iol_port.specs.declared.call.Call.{Call}
 use Rattle.iol_port.specs.declared.call.Answered.{Answered}

@@ -14,7 +14,7 @@ use Rattle.iol_app.specs.declared.said.Said.{Said}
 use Rattle.iol_app.specs.Abstract.Steps.{through_steps}
 use Rattle.iol_app.specs.Abstract.OfMaster.{resets, book_said, reports_said}
 use Rattle.iol_app.specs.StationState.{IsSettledSaid}
-use Rattle.iol_app.specs.Core.{after_exchange, after_wake, came_of}
+use Rattle.iol_app.specs.CoreTurns.{after_exchange, after_wake, came_of}
 use Rattle.iol_app.specs.Brought.{brought_in, woken_by}
 use Rattle.iol_app.specs.Pieces.{SendsMessage}
 use Rattle.iol_port.specs.declared.awaited.AwaitedAnswer.{AwaitedAnswer}

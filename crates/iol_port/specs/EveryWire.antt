@@ -29,7 +29,8 @@ use Rattle.iol_app.specs.State as session
 use Rattle.iol_app.specs.Due.{is_ready}
 use Rattle.iol_app.specs.Asking.{core_with_request, IsCall}
 use Rattle.iol_app.specs.declared.brought.WireResult.{WireResult}
-use Rattle.iol_app.specs.Core.{CoreState, wanting_core}
+use Rattle.iol_app.specs.Core.{CoreState}
+use Rattle.iol_app.specs.CoreCalls.{wanting_core}
 use Rattle.iol_app.specs.Pieces.{SendsMessage, IsMade}
 use Rattle.iol_app.specs.StationState.{mode_in, why_in, page_in, operates}
 use Rattle.iol_port.specs.declared.fault.PortFault.{PortFault}

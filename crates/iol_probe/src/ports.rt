@@ -213,7 +213,9 @@ fn print_why(output: &mut String, why: Why) -> Result<(), AllocError> {
     match why {
         Why::Revision(octet) => print_octets(output, &[octet]),
         Why::WrongDevice(Identity { vendor, device }) => write!(output, " {vendor} {device}"),
-        Why::NoWake | Why::Lost | Why::BadPdLength | Why::UnsupportedCode | Why::Interleaved => Ok(()),
+        Why::NoWake | Why::Lost | Why::BadPdLength | Why::UnsupportedCode | Why::Interleaved => Ok(
+            (),
+        ),
     }
 }
 

@@ -4,7 +4,7 @@ use Rattle.std.proofs.Common.{arith}
 use Rattle.iol_mode.specs.declared.states.State.{State}
 use Rattle.iol_app.specs.State.{SessionState}
 use Rattle.iol_app.specs.StationState.{SessionFits}
-use Rattle.iol_app.specs.Core.{IsRightIn}
+use Rattle.iol_app.specs.CoreTurns.{IsRightIn}
 use Rattle.iol_app.proofs.core_data.Core.device_is_right.Goals as goal
 
 right_in : (state : State) (t : SessionState) → SessionFits state t → IsRightIn state t

@@ -10,7 +10,8 @@ use Rattle.iol_app.specs.declared.session.Purpose.{Purpose}
 use Rattle.iol_app.specs.Due.{due_of}
 use Rattle.iol_app.specs.State.{SessionState, IsMessageFor, session_sending}
 use Rattle.iol_app.specs.StationState.{SessionFits}
-use Rattle.iol_app.specs.Core.{CoreState, core_out}
+use Rattle.iol_app.specs.Core.{CoreState}
+use Rattle.iol_app.specs.CoreTurns.{core_out}
 use Rattle.iol_app.specs.Pieces.{SendsMessage}
 use Rattle.iol_app.proofs.Pieces.{no_exchange, new_sends, sent_reads}
 use Rattle.iol_app.proofs.core_data.Core.put_due.Goals as goal

@@ -1,7 +1,8 @@
 -- A port that is new stands for the abstract port that is opened, with every far end.
 use Rattle.std.proofs.Common.{false, sym, subst, arith, None}
 use Rattle.std.proofs.lemmas.Grind.{common_steps}
-use Rattle.iol_app.specs.Core.{CoreState, IsAttempted}
+use Rattle.iol_app.specs.Core.{CoreState}
+use Rattle.iol_app.specs.CoreStands.{IsAttempted}
 use Rattle.iol_port.proofs.RunLemmas.{opened_stands}
 use Rattle.iol_port.proofs.port_core.PortCore.open_for.Goals as goal
 

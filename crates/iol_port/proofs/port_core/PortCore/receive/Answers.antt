@@ -1,7 +1,8 @@
 -- What comes back goes to the book and to the kept events, and is one piece of a run.
 use Rattle.std.proofs.Common.{◌≡◌, ◌∙◌, ◌++◌, refl, ap}
 use Rattle.iol_far.specs.Octets.{octets_in}
-use Rattle.iol_app.specs.Core.{CoreState, came_of}
+use Rattle.iol_app.specs.Core.{CoreState}
+use Rattle.iol_app.specs.CoreTurns.{came_of}
 use Rattle.iol_mode.specs.States.{is_reset}
 use Rattle.iol_app.specs.Abstract.Steps.{through_steps}
 use Rattle.iol_app.specs.Abstract.OfMaster.{resets, book_said}
