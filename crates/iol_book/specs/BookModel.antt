@@ -1,6 +1,7 @@
 -- What callers see of a book, and what its calls answer and leave.
 use Rattle.std.specs.Prelude.{◌≡◌, ℕ, ◌+◌, ◌*◌, ◌^◌, ◌≤◌, Bool, true, false, ◌||◌, ◌&&◌, not, List, [], ◌∷◌, ◌++◌, Option, None, Some, Result, is_some, is_ok, length, nat_eq, nat_lt, nat_le, if◌then◌else◌, slice_get, filter}
 use Rattle.std.specs.Option.{ok_or}
+use Rattle.std.specs.Result.{result_map_both}
 use Rattle.std.specs.Map.{lookup}
 use Rattle.indexmap.specs.IndexMap.{insert_entry}
 use Rattle.iol_isdu.specs.declared.values.Request.{Request}
@@ -228,6 +229,10 @@ has_outcome standing ticket = is_among ticket standing.outcomes
 
 -- what a collect answers: the outcome of the ticket, or why there is none
 -- BOOK-5
+-- what a call answers that leaves its value in the caller's place
+abbrev pub in_place : {X E : Type 0} → X → Result (Unit {0}) E → Result X E
+in_place value result = result_map_both (λ _. value) (λ why. why) result
+
 abbrev pub collect_answer : Standing → Ticket → Result Outcome BookFault
 collect_answer standing ticket = ok_or (lookup (same_ticket ticket) standing.outcomes)
     (if waits standing ticket || is_awaited standing ticket then NotYet else UnknownTicket)

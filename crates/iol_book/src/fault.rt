@@ -5,14 +5,23 @@ use thiserror::Error;
 
 // The numbers of the refusals: their one table, which the definitions cite.
 const FULL: u8 = 21;
+
 const JOURNAL_FULL: u8 = 22;
+
 const TICKETS_SPENT: u8 = 23;
+
 const OUT_OF_MEMORY: u8 = 24;
+
 const UNKNOWN_TICKET: u8 = 25;
+
 const NOT_YET: u8 = 26;
+
 const TAKEN_ALREADY: u8 = 27;
+
 const OUTSTANDING: u8 = 28;
+
 const NOT_IN_FLIGHT: u8 = 36;
+
 const NO_JOURNAL: u8 = 63;
 
 /// Why a book refuses a call.

@@ -3,7 +3,7 @@
 
 ghost use Rattle.std.specs.Prelude.{◌≡◌, ◌<◌, ◌≤◌, ◌+◌, None, Some, IfOk, IfErr, OnErr, IsTrue, length, is_some};
 ghost use Rattle.iol_book.specs.Drained.{LacksRoomFor};
-ghost use Rattle.std.specs.Result.{result_map_both};
+ghost use Rattle.iol_book.specs.BookModel.{in_place};
 ghost use Rattle.iol_far.specs.Octets.{octets_in};
 ghost use Rattle.iol_far.specs.Far.{Far};
 ghost use Rattle.iol_link.specs.Honest.{HonestWake};
@@ -185,7 +185,7 @@ impl<A: Allocator + Copy> HonestPort<A> {
     /// As [`PortCore::collect_into`].
     pub fn collect_into(&mut self, ticket: Ticket, into: &mut Outcome) -> Result<(), PortFault>
         ensures is { Collects (Calls self.old self.new) self.old.parts self.new.parts
-            ticket (result_map_both (λ _. into.new) (λ why. why) result) }
+            ticket (in_place into.new result) }
         ensures kept { IfErr result (λ _. into.new ≡ into.old) }
     {
         self.core.collect_into(ticket, into)

@@ -5,7 +5,7 @@ ghost use Rattle.std.specs.Prelude.{◌≡◌, ◌<◌, ◌≤◌, ◌+◌, None
 ghost use Rattle.std.specs.Vec.{vec_capacity};
 ghost use Rattle.iol_book.specs.Drained.{LacksRoomFor};
 ghost use Rattle.std.specs.Option.{option_copied};
-ghost use Rattle.std.specs.Result.{result_map_both};
+ghost use Rattle.iol_book.specs.BookModel.{in_place};
 ghost use Rattle.iol_book.specs.declared.fault.BookFault.TheVariants.{OutOfMemory};
 ghost use Rattle.iol_book.specs.BookModel as book;
 ghost use Rattle.iol_book.specs.BookModel.{IsReplayed, is_outstanding};
@@ -163,7 +163,7 @@ impl<W: Wire, A: Handle> Port<W, A> {
     /// As [`PortCore::collect_into`].
     pub fn collect_into(&mut self, ticket: Ticket, into: &mut Outcome) -> Result<(), PortFault>
         ensures is { Collects (MakesCall self.old self.new) self.old.parts self.new.parts
-            ticket (result_map_both (λ _. into.new) (λ why. why) result) }
+            ticket (in_place into.new result) }
         ensures kept { IfErr result (λ _. into.new ≡ into.old) }
     {
         self.core.collect_into(ticket, into)

@@ -2,7 +2,7 @@
 ghost use Rattle.std.specs.Prelude.{◌≡◌, ◌<◌, ◌≤◌, ◌+◌, None, true, false, IfOk, IfErr, IfSome, OnErr, IsTrue, length, is_some};
 ghost use Rattle.iol_book.specs.Drained.{LacksRoomFor};
 ghost use Rattle.std.specs.Option.{option_copied};
-ghost use Rattle.std.specs.Result.{result_map_both};
+ghost use Rattle.iol_book.specs.BookModel.{in_place};
 ghost use Rattle.iol_isdu.specs.Texts.{IsRequest};
 ghost use Rattle.iol_far.specs.Octets.{octets_in};
 ghost use Rattle.iol_app.specs.Seen.{LinkStands};
@@ -188,7 +188,7 @@ impl<A: Allocator + Copy> PortCore<A> {
     /// little.
     pub fn collect_into(&mut self, ticket: Ticket, into: &mut Outcome) -> Result<(), PortFault>
         ensures is { Collects (CoreCalled self.old self.new) self.old self.new
-            ticket (result_map_both (λ _. into.new) (λ why. why) result) }
+            ticket (in_place into.new result) }
         ensures kept { IfErr result (λ _. into.new ≡ into.old) }
     {
         by_book(self.book.collect_into(ticket, into))

@@ -1,7 +1,7 @@
 -- What the calls of a stored port rest on.
 use Rattle.std.proofs.Common.{◌≡◌, Bool, true, false, [], ◌∷◌, Some, Option, Result, Ok, Err, refl, subst}
 use Rattle.std.specs.Prelude.{is_ok}
-use Rattle.std.specs.Result.{result_map_both}
+use Rattle.iol_book.specs.BookModel.{in_place}
 use Rattle.iol_isdu.specs.declared.values.Request.{Request}
 use Rattle.iol_book.specs.declared.entries.Outcome.{Outcome}
 use Rattle.iol_book.specs.declared.entries.Serve.{Serve}
@@ -79,13 +79,13 @@ module _ (p q : PortParts) where
 pub heard-one : (result : Result (Unit {0}) PortFault) (outcome : Outcome) (s heard : Storage)
     → is_ok result ≡ true → heard ≡ storage_heard s outcome
     → heard ≡ storage_told s
-    (outcome_reply (result_map_both (λ _. outcome) (λ why. why) result))
+    (outcome_reply (in_place outcome result))
 heard-one (Ok _) outcome s heard ok is = is
 heard-one (Err why) outcome s heard ok is = absurd (cc)
 
 pub heard-none : (result : Result (Unit {0}) PortFault) (outcome : Outcome) (s : Storage)
     → is_ok result ≡ false
-    → s ≡ storage_told s (outcome_reply (result_map_both (λ _. outcome) (λ why. why) result))
+    → s ≡ storage_told s (outcome_reply (in_place outcome result))
 heard-none (Ok _) outcome s none = absurd (cc)
 heard-none (Err why) outcome s none = refl
 

@@ -6,6 +6,7 @@ use thiserror::Error;
 
 // The numbers of the refusals: their one table, which the definitions cite.
 const TOO_LARGE: u8 = 43;
+
 const NO_SET: u8 = 44;
 
 /// Why a call is refused, which then changed nothing.

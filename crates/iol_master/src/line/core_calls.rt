@@ -1,7 +1,7 @@
 //! The calls of a line's port without Data Storage.
 ghost use Rattle.std.specs.Prelude.{◌≡◌, ◌<◌, ◌≤◌, ◌+◌, None, Some, IfOk, IfErr, OnErr, length};
 ghost use Rattle.iol_book.specs.Drained.{LacksRoomFor};
-ghost use Rattle.std.specs.Result.{result_map_both};
+ghost use Rattle.iol_book.specs.BookModel.{in_place};
 ghost use Rattle.iol_book.specs.declared.fault.BookFault.TheVariants.{OutOfMemory};
 ghost use Rattle.iol_port.specs.declared.fault.PortFault.TheVariants as fault;
 ghost use Rattle.iol_port.specs.Called.{Submits, SubmitsUrgent, Collects, Withdraws, Cancels, Abandons, SetsOutput, ClearsOutput};
@@ -79,7 +79,7 @@ impl<K: Ledger, A: Allocator + Copy> LinePort<K, PortCore<A>> {
     /// As [`PortCore::collect_into`].
     pub fn collect_into(&mut self, ticket: Ticket, into: &mut Outcome) -> Result<(), PortFault>
         ensures is { Collects (LineCalled self.old self.new) self.old.port self.new.port
-            ticket (result_map_both (λ _. into.new) (λ why. why) result) }
+            ticket (in_place into.new result) }
         ensures kept { IfErr result (λ _. into.new ≡ into.old) }
     {
         self.port.collect_into(ticket, into)

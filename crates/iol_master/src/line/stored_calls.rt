@@ -1,7 +1,8 @@
 //! The calls of a line's port with Data Storage.
 ghost use Rattle.std.specs.Prelude.{◌≡◌, ◌<◌, ◌≤◌, ◌+◌, [], None, Some, Err, false, length, is_ok, IfNone, IfSome, IfOk, IfErr, OnOk, OnErr, IsTrue};
 ghost use Rattle.iol_book.specs.Drained.{LacksRoomFor};
-ghost use Rattle.std.specs.Result.{result_err, result_map_both};
+ghost use Rattle.std.specs.Result.{result_err};
+ghost use Rattle.iol_book.specs.BookModel.{in_place};
 ghost use Rattle.iol_port.specs.Called.{Submits, SubmitsUrgent, Collects, Withdraws, Cancels, Abandons, ClearsOutput};
 ghost use Rattle.iol_port.specs.Called.{Expects, SetsCycle, TakesEvent, Archives, Drains, DrainsInto, CoreCalled};
 ghost use Rattle.iol_storage.specs.Stored.{saved_refusal, storage_saved, load_refusal, storage_loaded, storage_released, block_answer, storage_with_block};
@@ -175,7 +176,7 @@ impl<K: Ledger, A: Allocator + Copy> LinePort<K, StoredPort<A>> {
             → (result ≡ Err unknown_ticket) × (self.new.port ≡ self.old.port) }
         ensures is { is_own self.old.port.storage ticket ≡ false
             → Collects (StoredCalled self.old.port self.new.port) self.old.port.port
-            self.new.port.port ticket (result_map_both (λ _. into.new) (λ why. why) result) }
+            self.new.port.port ticket (in_place into.new result) }
         ensures kept { IfErr result (λ _. into.new ≡ into.old) }
         ensures tickets { self.new.port.tickets
             ≡ tickets_without (is_ok result) self.old.port.tickets }

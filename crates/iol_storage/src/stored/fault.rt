@@ -7,12 +7,19 @@ use thiserror::Error;
 
 // The numbers of the refusals: their one table, which the definitions cite.
 const OWNED_INDEX: u8 = 41;
+
 const STORING: u8 = 45;
+
 const UNKNOWN_BLOCK: u8 = 46;
+
 const BLOCK_NOT_OVER: u8 = 47;
+
 const SMALL_QUEUE: u8 = 48;
+
 const NO_STANDING: u8 = 60;
+
 const UNCOLLECTED: u8 = 61;
+
 const OTHER_SET: u8 = 62;
 
 /// Why a call of a stored port is refused, which then changed nothing.

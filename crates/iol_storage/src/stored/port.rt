@@ -2,7 +2,8 @@
 ghost use Rattle.std.specs.Prelude.{◌≡◌, ◌<◌, ◌≤◌, ◌+◌, ◌&&◌, not, false, [], length, Some, None, is_some, is_ok, IfSome, IfNone, Ok, Err, IfOk, IfErr, OnOk, OnErr, IsTrue};
 ghost use Rattle.iol_book.specs.Drained.{LacksRoomFor};
 ghost use Rattle.std.specs.Option.{option_copied, option_map};
-ghost use Rattle.std.specs.Result.{result_err, result_map_both};
+ghost use Rattle.std.specs.Result.{result_err};
+ghost use Rattle.iol_book.specs.BookModel.{in_place};
 ghost use Rattle.iol_far.specs.Octets.{octets_in};
 ghost use Rattle.iol_book.specs.BookModel.{is_outstanding};
 ghost use Rattle.iol_port.specs.View.{IsNewFor};
@@ -458,7 +459,7 @@ impl<A: Allocator + Copy> StoredPort<A> {
             × (self.new ≡ self.old) }
         ensures is { is_own self.old.storage ticket ≡ false
             → Collects (StoredCalled self.old self.new) self.old.port self.new.port
-            ticket (result_map_both (λ _. into.new) (λ why. why) result) }
+            ticket (in_place into.new result) }
         ensures kept { IfErr result (λ _. into.new ≡ into.old) }
         ensures tickets { self.new.tickets ≡ tickets_without (is_ok result) self.old.tickets }
     {

@@ -1,6 +1,6 @@
 -- The clauses of `PortCore::collect_into` that the search can't prove.
 use Rattle.std.proofs.Common.{rules}
-use Rattle.std.specs.Result.{result_map_both}
+use Rattle.iol_book.specs.BookModel.{in_place}
 use Rattle.iol_port.proofs.CallLemmas.{collect_does, by_book_put}
 use Rattle.iol_port.proofs.port_core.PortCore.collect_into.Goals as goal
 
@@ -15,7 +15,7 @@ returns-clause-is g c =
     (record {
       does = record {
         follows = collect_does _ c.args.ticket
-            (result_map_both (λ _. c.collect_into.new.into) (λ why. why) c.collect_into.result)
+            (in_place c.collect_into.new.into c.collect_into.result)
             c.collect_into.new.self c.collect_into.ensures.answer c.collect_into.ensures.state;
         book = c.collect_into.ensures.state;
       };
