@@ -24,9 +24,9 @@ pub struct Gateway<'a> {
 
 impl<'a> Gateway<'a> {
     /// A gateway with the set that was saved, if one was. Nothing is plugged in.
-    pub fn open(alloc: Global, kept: Option<Set>) -> Result<Gateway<'a>> {
+    pub fn open(alloc: Global, backup: Option<Set>) -> Result<Gateway<'a>> {
         let limits = Limits::default();
-        let port = StoredPort::open(alloc, &limits, Devices::Any, StorageMode::Both, kept)?;
+        let port = StoredPort::open(alloc, &limits, Devices::Any, StorageMode::Both, backup)?;
         Ok(Gateway {
             port,
             cable: Cable { sensor: None },
@@ -64,8 +64,8 @@ impl<'a> Gateway<'a> {
                 self.port.receive_wake(rate);
             }
             Asked::Exchange(sent) => {
-                let came = self.cable.exchange(rt, sent.octets.as_slice())?;
-                self.port.receive(&came);
+                let received = self.cable.exchange(rt, sent.octets.as_slice())?;
+                self.port.receive(&received);
             }
         }
         Ok(())

@@ -21,7 +21,7 @@ use crate::client::{read_limit, write_limits};
 use crate::gateway::Gateway;
 use crate::parameters::{LOWER_LIMIT, OTHER_TYPE, RULES, THERMOMETER, UPPER_LIMIT, members};
 use anyhow::{Context, Result};
-use example_kept::read_kept;
+use example_kept::read_backup;
 use iol_page::Page;
 use iol_params::Table;
 use iol_storage::Set;
@@ -107,8 +107,8 @@ fn write_blocks<'a>(rt: &impl Print, gateway: &mut Gateway<'a>, sensor: Sensor<'
 }
 
 /// What happens at a port with this set.
-fn play<'a>(rt: &HostRuntime, kept: Option<Set>, table: &'a Table<'a>) -> Result<()> {
-    let mut gateway = Gateway::open(rt.alloc(), kept)?;
+fn play<'a>(rt: &HostRuntime, backup: Option<Set>, table: &'a Table<'a>) -> Result<()> {
+    let mut gateway = Gateway::open(rt.alloc(), backup)?;
     change_and_break(rt, &mut gateway, rt.alloc(), table)?;
     let sensor = replace(rt, &mut gateway, rt.alloc(), table)?;
     mistake(rt, &mut gateway, rt.alloc(), table)?;
@@ -116,10 +116,10 @@ fn play<'a>(rt: &HostRuntime, kept: Option<Set>, table: &'a Table<'a>) -> Result
 }
 
 fn main(rt: HostRuntime) -> Result<()> {
-    let kept = read_kept(&rt)?;
+    let backup = read_backup(&rt)?;
     println!(rt;
         "{}",
-        if kept.is_some() {
+        if backup.is_some() {
             "a set was saved"
         } else {
             "no set was saved"
@@ -127,5 +127,5 @@ fn main(rt: HostRuntime) -> Result<()> {
     )?;
     let members = members();
     let table = Table::new(&members, &RULES).map_err(|fault| fault.flaw)?;
-    play(&rt, kept, &table)
+    play(&rt, backup, &table)
 }

@@ -114,9 +114,9 @@ fn visit<K: Ledger, R: Print + Wait>(
     line: &Line<K, StoredPort>,
     signs: &Signs,
 ) -> Result<()> {
-    let told = read_both(rt, line, &signs.exchange);
+    let outcome = read_both(rt, line, &signs.exchange);
     signs.done.store(true, Ordering::SeqCst);
-    told
+    outcome
 }
 
 /// The thread of a client reads, while this one makes the turns.
@@ -150,14 +150,14 @@ fn open_and_serve<W: Wire + Drop, K: Ledger + Sync, R: Print + Threads + Wait + 
     rt: &R,
     alloc: Global,
     wire: W,
-    kept: Option<Set>,
+    backup: Option<Set>,
     signs: &Signs,
     hands: Blank,
 ) -> Result<()>
     requires { IsBlankFor hands K.name K.parts 1 }
 {
     let limits = Limits::default();
-    let port = StoredPort::open(alloc, &limits, Devices::Own, StorageMode::Both, kept)?;
+    let port = StoredPort::open(alloc, &limits, Devices::Own, StorageMode::Both, backup)?;
     let (line, mut worker) = Line::<K, StoredPort>::open(port, wire, hands);
     serve_line(rt, &line, &mut worker, signs)
 }
@@ -168,13 +168,13 @@ fn exchange_sensors<'a, K: Ledger + Sync, R: Print + Threads + Wait + Sync>(
     rt: &R,
     alloc: Global,
     table: &'a Table<'a>,
-    kept: Option<Set>,
+    backup: Option<Set>,
     signs: &'a Signs,
     hands: Blank,
 ) -> Result<()>
     requires { IsBlankFor hands K.name K.parts 1 }
 {
-    let plugged = if kept.is_some() {
+    let plugged = if backup.is_some() {
         open_sensor(alloc, table)?
     } else {
         open_used_sensor(alloc, table)?
@@ -184,7 +184,7 @@ fn exchange_sensors<'a, K: Ledger + Sync, R: Print + Threads + Wait + Sync>(
         beside: Some(open_sensor(alloc, table)?),
         is_exchange_wanted: &signs.exchange,
     };
-    open_and_serve::<_, K, R>(rt, alloc, cable, kept, signs, hands)
+    open_and_serve::<_, K, R>(rt, alloc, cable, backup, signs, hands)
 }
 
 /// Serves the third port, with the set that was kept, if one was. The blank names the ledger of its
@@ -192,7 +192,7 @@ fn exchange_sensors<'a, K: Ledger + Sync, R: Print + Threads + Wait + Sync>(
 pub fn serve_third<K: Ledger + Sync, R: Print + Threads + Wait + Sync>(
     rt: &R,
     alloc: Global,
-    kept: Option<Set>,
+    backup: Option<Set>,
     hands: Blank,
 ) -> Result<()>
     requires { IsBlankFor hands K.name K.parts 1 }
@@ -202,5 +202,5 @@ pub fn serve_third<K: Ledger + Sync, R: Print + Threads + Wait + Sync>(
         done: AtomicBool::new(false),
     };
     let table = Table::new(&MEMBERS, &[]).map_err(|fault| fault.flaw)?;
-    exchange_sensors::<K, R>(rt, alloc, &table, kept, &signs, hands)
+    exchange_sensors::<K, R>(rt, alloc, &table, backup, &signs, hands)
 }

@@ -14,7 +14,7 @@ mod serve;
 use crate::exchange::serve_third;
 use crate::serve::serve;
 use anyhow::Result;
-use example_kept::read_kept;
+use example_kept::read_backup;
 use std::alloc::Global;
 use std::marker::Brand;
 use std::rt::Runtime;
@@ -30,9 +30,9 @@ const PORTS: u64 = 2;
 
 /// The same for each kind of machine: it has threads, and may wait.
 fn run<R: Runtime<A = Global> + Threads + Wait + Sync>(rt: &R) -> Result<()> {
-    let kept = read_kept(rt)?;
+    let backup = read_backup(rt)?;
     serve::<Brand, Brand, R>(rt, rt.alloc(), Blank::new(DESK_PARTS), Blank::new(PORTS))?;
-    serve_third::<Brand, R>(rt, rt.alloc(), kept, Blank::new(1))
+    serve_third::<Brand, R>(rt, rt.alloc(), backup, Blank::new(1))
 }
 
 fn main(rt: HostRuntime) -> Result<()> {

@@ -1,6 +1,6 @@
 //! The ports, each over a simulated line to a device of its own.
 ghost use Rattle.std.specs.Prelude.{IfOk};
-ghost use Rattle.iol_master.specs.Tickets.{HasGiven};
+ghost use Rattle.iol_master.specs.Tickets.{HasIssued};
 
 use anyhow::{Result, bail};
 use iol_book::Limits;
@@ -24,7 +24,7 @@ const ROOM: u32 = 100;
 /// A port over a line, at whose far end is a device with this number as its
 /// parameter and its process data.
 pub fn open_port(alloc: Global, number: u16) -> Result<Port<Sim<Params>>>
-    ensures { IfOk result (λ p. HasGiven p 0) }
+    ensures { IfOk result (λ p. HasIssued p 0) }
 {
     let octets = number.to_be_bytes();
     let mut params = Params::new();

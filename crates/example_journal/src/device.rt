@@ -2,7 +2,7 @@
 use crate::lines::{next_line, octets_of};
 use crate::text::RequestText;
 use anyhow::{Result, bail};
-use iol_device::{Apart, Device, Unkept};
+use iol_device::{Apart, Device, NoRecord};
 use iol_isdu::{Answer, Octets, Request};
 use iol_page::Page;
 use std::alloc::Global;
@@ -26,7 +26,7 @@ fn answer_to(request: &Request, count: u16) -> Answer {
 /// The device and what it did.
 #[derive(Drop)]
 struct FarDevice {
-    device: Device<Apart, Unkept>,
+    device: Device<Apart, NoRecord>,
     count: u16,
 }
 

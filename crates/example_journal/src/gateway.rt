@@ -92,13 +92,13 @@ impl Gateway {
     }
 
     /// What came, behind what clients asked for meanwhile. None where the input has ended.
-    fn came<R: Runtime<A = Global>>(&mut self, rt: &R) -> Result<Option<String>> {
+    fn received<R: Runtime<A = Global>>(&mut self, rt: &R) -> Result<Option<String>> {
         for _ in 0..u64::MAX {
             let Some(line) = next_line(rt)? else {
                 break;
             };
-            if let Some(came) = line.as_str().trim().strip_prefix("came") {
-                return Ok(Some(String::from_str(rt.alloc(), came)?));
+            if let Some(received) = line.as_str().trim().strip_prefix("came") {
+                return Ok(Some(String::from_str(rt.alloc(), received)?));
             }
             match self.port.submit(request_of(line.as_str())?) {
                 Ok(ticket) => self.tickets.push_back(ticket)?,
@@ -115,16 +115,16 @@ impl Gateway {
         self.write(rt)?;
         self.tell(rt)?;
         put_out(rt, &asked)?;
-        let Some(came) = self.came(rt)? else {
+        let Some(received) = self.received(rt)? else {
             return Ok(Line::Closed);
         };
         match self.port.awaits() {
             AwaitedAnswer::Wake => {
-                let rate = rate_of(came.as_str())?;
+                let rate = rate_of(received.as_str())?;
                 self.port.receive_wake(rate);
             }
             AwaitedAnswer::Reply => {
-                let octets = octets_of(came.as_str())?;
+                let octets = octets_of(received.as_str())?;
                 self.port.receive(&octets);
             }
             AwaitedAnswer::Nothing => {}
@@ -155,8 +155,8 @@ fn put_out<R: Runtime<A = Global>>(rt: &R, asked: &Asked) -> Result<()> {
     Ok(())
 }
 
-fn rate_of(came: &str) -> Result<Option<Rate>> {
-    match came.trim() {
+fn rate_of(received: &str) -> Result<Option<Rate>> {
+    match received.trim() {
         "" => Ok(None),
         "COM1" => Ok(Some(Rate::Com1)),
         "COM2" => Ok(Some(Rate::Com2)),

@@ -10,8 +10,8 @@ const SET: &str = "set";
 /// The set of the last line that has one; none where no line has.
 ///
 /// A line that was cut off is none: the program has never said of that set that it was saved.
-pub fn read_kept(rt: &(impl Input + AllocGlobal)) -> Result<Option<Set>> {
-    let mut kept = None;
+pub fn read_backup(rt: &(impl Input + AllocGlobal)) -> Result<Option<Set>> {
+    let mut backup = None;
     let mut line = String::new(rt.alloc());
     for _ in 0..u64::MAX {
         line.clear();
@@ -20,11 +20,11 @@ pub fn read_kept(rt: &(impl Input + AllocGlobal)) -> Result<Option<Set>> {
         }
         if let Some(line) = line.as_str().strip_suffix("\n") {
             if let Some(words) = line.strip_prefix(SET) {
-                kept = Some(read_set(words)?);
+                backup = Some(read_set(words)?);
             }
         }
     }
-    Ok(kept)
+    Ok(backup)
 }
 
 /// The set of these octets.

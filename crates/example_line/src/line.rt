@@ -33,12 +33,12 @@ pub fn exchange(rt: &(impl Input + Print + AllocGlobal), sent: &[u8]) -> Result<
         print!(rt; " {octet:02X}")?;
     }
     println!(rt;)?;
-    let mut came = Message::new();
+    let mut received = Message::new();
     for word in next_line(rt)?.split_whitespace() {
         let octet = u8::from_str_radix(word, 16).context("a reply has a word that is no octet")?;
-        if !came.is_full() {
-            came.push(octet);
+        if !received.is_full() {
+            received.push(octet);
         }
     }
-    Ok((!came.is_empty()).then_some(came))
+    Ok((!received.is_empty()).then_some(received))
 }

@@ -35,8 +35,8 @@ fn turn(rt: &(impl Input + Print + AllocGlobal), port: &mut PortCore) -> Result<
             port.receive_wake(rate);
         }
         Asked::Exchange(sent) => {
-            let came = exchange(rt, sent.octets.as_slice())?;
-            port.receive(&came);
+            let received = exchange(rt, sent.octets.as_slice())?;
+            port.receive(&received);
         }
     }
     Ok(())

@@ -12,7 +12,7 @@ use Rattle.iol_far.specs.Far.{Far, accepted_message, far_after_message, output_o
 use Rattle.iol_far.specs.Local.{LocalStep, local, locals}
 use Rattle.iol_app.specs.Abstract.Steps.{PortStep, ImageOctets, is_report}
 use Rattle.iol_app.specs.Abstract.OfMaster.{is_for_book}
-use Rattle.iol_app.specs.Abstract.OfDevice.{Hidden, again_steps, own_step, own_steps, release_steps, event_steps, output_steps, confirms_by, heard_steps_as, passed_steps, exchange_steps, woken_steps, wake_steps}
+use Rattle.iol_app.specs.Abstract.OfDevice.{Hidden, redeliver_steps, own_step, own_steps, release_steps, event_steps, output_steps, confirms_by, heard_steps_as, passed_steps, exchange_steps, woken_steps, wake_steps}
 
 -- a step that stands aside of what a call says
 abbrev is_aside : PortStep → Bool
@@ -74,9 +74,10 @@ exchange_aside request far steps passage o ys =
     (passed_aside passage (locals far steps) o))
 
 -- a request that is handed over again
-pub again_aside : (request : Option Request) (state : IsduState) (h : Hidden) (ys : List PortStep)
-    → Aside (again_steps request state h) ys
-again_aside request state h ys = grind (arith, common_steps)
+pub redeliver_aside : (request : Option Request) (state : IsduState) (h : Hidden)
+    (ys : List PortStep)
+    → Aside (redeliver_steps request state h) ys
+redeliver_aside request state h ys = grind (arith, common_steps)
 
 woken_aside : (wakes : Bool) (far : Far) → EachAside (woken_steps wakes far)
 woken_aside true far = aside-append _ _ (release_aside far.events) (output_aside None)

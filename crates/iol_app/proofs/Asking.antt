@@ -32,19 +32,19 @@ use Rattle.iol_mode.specs.declared.configuration.Devices.{Devices}
 use Rattle.iol_app.specs.Messages.{head_for, data_for}
 use Rattle.iol_app.specs.Requests.{request_under_way, new_current, current_with_abort, waiting_abort, is_over}
 use Rattle.iol_app.specs.Moves.{progress_of, move_for}
-use Rattle.iol_app.specs.Ends.{BusySeen, AbortAt}
+use Rattle.iol_app.specs.Ends.{BusyFits, AbortAt}
 use Rattle.iol_app.specs.State.{SessionState, IsOutBy, OutSuits, od_size}
 use Rattle.iol_app.proofs.Moving.{sent_busy}
 use Rattle.iol_app.proofs.Shown.{shown_as}
 use Rattle.iol_app.specs.Core.{Ghost, session_in}
-use Rattle.iol_app.specs.CoreStands.{BothEndsStand, Work, work_of, repeats_in, vain_by, vain_in, AgainBy, OutBy, LevelOut, OperateRequest, reading_in}
+use Rattle.iol_app.specs.CoreStands.{BothEndsStand, Work, work_of, repeats_in, vain_by, vain_in, RepeatBy, OutBy, LevelOut, OperateRequest, reading_in}
 use Rattle.iol_app.specs.CoreCalls.{BeginGives, operate_core, asking_ghost}
 
 -- where one may follow, the progress stays as it is
-begun_progress : (devices : Devices) (clear : Bool) (size : ℕ) (request : Request)
-    → may_follow devices clear ≡ true → progress_of devices clear (Some (new_current size request))
-    ≡ progress_of devices clear None
-begun_progress devices clear size request follows = grind (arith, common_steps)
+begun_progress : (devices : Devices) (idle : Bool) (size : ℕ) (request : Request)
+    → may_follow devices idle ≡ true → progress_of devices idle (Some (new_current size request))
+    ≡ progress_of devices idle None
+begun_progress devices idle size request follows = grind (arith, common_steps)
 
 pub waiting_at : (doubts : Bool) (limit busy : ℕ) (asked : Bool) (cause : Cause)
     (abort : Option Cause) → AbortAt doubts limit abort busy asked
@@ -63,13 +63,13 @@ pub record SameFor (devices : Devices) (old new : Option Current) (e : Purpose) 
   pub head : (r : app.ReadingProgress) → head_for e r old ≡ head_for e r new
   pub data_out : (size : ℕ) → data_for e size old ≡ data_for e size new
   pub vain : (tries : ℕ) → vain_by devices e old tries ≡ vain_by devices e new tries
-  pub again : (tries : ℕ) → IfSome old (AgainBy devices e tries)
-      → IfSome new (AgainBy devices e tries)
+  pub repeat : (tries : ℕ) → IfSome old (RepeatBy devices e tries)
+      → IfSome new (RepeatBy devices e tries)
   pub goes_on : e ≡ NextMessage → IfSome old (λ c. is_over c.progress ≡ false)
       → IfSome new (λ c. is_over c.progress ≡ false)
 
 begun_same : (devices : Devices) (e : Option Purpose) (current : Current)
-    → current.again ≡ false → OutSuits e None → IfSome e (SameFor devices None (Some current))
+    → current.repeat ≡ false → OutSuits e None → IfSome e (SameFor devices None (Some current))
 begun_same devices e current once suits = grind (arith, common_steps)
 
 aborted_same : (devices : Devices) (cause : Cause) (current : Current) (e : Option Purpose)
@@ -78,9 +78,9 @@ aborted_same devices cause current e = grind (arith, common_steps)
 
 -- so that the message out stays the session's, and both ends level
 module _ (t : SessionState) (old new : Option Current)
-    (progress : progress_of t.configuration.devices t.clear old
-    ≡ progress_of t.configuration.devices t.clear new)
-    (noted : IfSome old (λ c. c.again ≡ false) → IfSome new (λ c. c.again ≡ false)) where
+    (progress : progress_of t.configuration.devices t.idle old
+    ≡ progress_of t.configuration.devices t.idle new)
+    (noted : IfSome old (λ c. c.repeat ≡ false) → IfSome new (λ c. c.repeat ≡ false)) where
   abbrev Same : Purpose → Type 0
   Same e = SameFor t.configuration.devices old new e
 
@@ -96,7 +96,7 @@ module _ (t : SessionState) (old new : Option Current)
       let goes = rw (same.move, progress) at h.goes in
       let once = rw (same.move, same.vain out.tries) at h.once in
       let goes_on = λ (k : x ≡ NextMessage). same.goes_on k (h.goes_on k) in
-      assumption (goes, once, goes_on, same.again out.tries h.again)
+      assumption (goes, once, goes_on, same.repeat out.tries h.repeat)
   out_same layouts out e R page kind link sent same h = absurd h
 
   vain_same : (e : Option Purpose) (tries : ℕ) → IfSome e Same
@@ -125,12 +125,12 @@ module _ (t : SessionState) (old new : Option Current)
       → hidden.late ≡ None → IsOpen far.isdu (request_under_way new) hidden
       → (repeats_in g.kind.hands_over s.layouts.run.od (at t.exchange new) ≡ false
       → AnswerFits g.request.base (request_under_way new) hidden far.carried)
-      → BusySeen (doubts_at t.configuration.devices g.kind.recalls) t.limit new busy asked
+      → BusyFits (doubts_at t.configuration.devices g.kind.recalls) t.limit new busy asked
       → (IsSome (request_under_way new) → IsTrue (knows_isdu g.page))
       → BothEndsStand (operate_core s t new) (record g {
         request = record g.request { hidden = hidden; busy = busy; asked = asked };
       }) far n
-  stands_same s g far n hidden busy asked h same late opens answer seen known =
+  stands_same s g far n hidden busy asked h same late opens answer counts known =
       let after : Ghost = record g {
         request = record g.request { hidden = hidden; busy = busy; asked = asked };
       } in
@@ -140,7 +140,7 @@ module _ (t : SessionState) (old new : Option Current)
       let out = out_same s.layouts s.out t.exchange (reading_in t.events g.events) g.page g.kind
       h.request.link g.sent same h.request.out in
       let request : OperateRequest s (at t.exchange new) (reading_in t.events g.events) after far =
-      search (late, opens, linked, h.request.in_operate, level, out, answer, seen, known) in
+      search (late, opens, linked, h.request.in_operate, level, out, answer, counts, known) in
       let out_for = joined_same t.exchange (message_out s.out) same h.joined.out_for in
       let shown = shown_as {next = operate_core s t new} h.shown h.shown.image refl h.shown.present
       h.shown.no_form in
@@ -161,14 +161,14 @@ opened state h r opens late = grind (arith, common_steps)
 pub begin_gives : (s : Operate) (t : SessionState) (g : Ghost) (far : Far) (n : ℕ)
     (request : Request)
     → BothEndsStand (operate_core s t None) g far n → OutSuits t.exchange None → t.isdu ≡ Some true
-    → may_follow t.configuration.devices t.clear ≡ true
+    → may_follow t.configuration.devices t.idle ≡ true
     → BeginGives (operate_core s t None)
     (operate_core s t (Some (new_current (od_size t.layout) request))) g far n request
 begin_gives s t g far n request h suits known follows =
     let devices = t.configuration.devices in
     let next : Option Current = Some (new_current (od_size t.layout) request) in
-    let stays : progress_of devices t.clear next ≡ progress_of devices t.clear None =
-    begun_progress devices t.clear (od_size t.layout) request follows in
+    let stays : progress_of devices t.idle next ≡ progress_of devices t.idle None =
+    begun_progress devices t.idle (od_size t.layout) request follows in
     let has : IsTrue (knows_isdu g.page) = sym (rw known at h.shown.isdu) in
     let opens = opened far.isdu g.request.hidden request h.request.opens h.request.late in
     record {
@@ -181,7 +181,7 @@ begin_gives s t g far n request h suits known follows =
             h.request.answer (unbegun devices g.kind.hands_over s.layouts.run.od t.exchange),
           )) (
             sent_busy (doubts_at devices g.kind.recalls)
-                (record { source = request; size = od_size t.layout; given = 0 }) _ 0 refl,
+                (record { source = request; size = od_size t.layout; issued = 0 }) _ 0 refl,
             tt,
           ) (λ k. has);
       may = λ moment ticket page. (ap knows_isdu page ∙ has, refl, h.request.late, refl);

@@ -21,16 +21,16 @@ use Rattle.iol_app.specs.Requests.{request_under_way}
 use Rattle.iol_app.specs.State.{SessionState, session_wanting}
 use Rattle.iol_mode.specs.Kinds.{SeesPulses}
 use Rattle.iol_app.specs.StationState.{SessionFits}
-use Rattle.iol_app.specs.Core.{CoreState, Ghost, seen_in, session_in}
+use Rattle.iol_app.specs.Core.{CoreState, Ghost, fields_in, session_in}
 use Rattle.iol_app.specs.CoreStands.{BothEndsStand, RequestStands, work_of}
 use Rattle.iol_app.specs.CoreCalls.{opened_core, opened_ghost, wanting_core, restarted_core, restarted_ghost}
 use Rattle.iol_app.specs.Abstract.Session.{session_after}
 
-pub opens : (devices : Devices) (limit : ℕ) (far : Far) (silence : ℕ) (told : Bool)
+pub opens : (devices : Devices) (limit : ℕ) (far : Far) (silence : ℕ) (reported : Bool)
     (due : Event × List Event)
     → SeesPulses devices far
-    → BothEndsStand (opened_core devices limit) (opened_ghost far told due) far silence
-opens devices limit far silence told due sees = grind (arith, common_steps)
+    → BothEndsStand (opened_core devices limit) (opened_ghost far reported due) far silence
+opens devices limit far silence reported due sees = grind (arith, common_steps)
 
 joined_want : (state : State) (t : SessionState) (image : Option (List ℕ)) → SessionFits state t
     → SessionFits state (session_wanting image t)
@@ -57,17 +57,17 @@ request_opens : (state : State) (t : SessionState) (g : Ghost) (far : Far) → S
     → IsOpen far.isdu (request_under_way t.current) g.request.hidden
 request_opens state t g far j h = grind (arith, common_steps)
 
-session_is : (seen : MasterFields) (h : Hidden) (carried : List Carried)
-    → through_steps session_after (restart_steps seen.request) (session_of seen h carried)
-    ≡ session_of (record seen { request = None; mode = ModeDown; why = None })
-    (hidden_lost seen.request h) carried
-session_is seen h carried = grind (arith, common_steps)
+session_is : (fields : MasterFields) (h : Hidden) (carried : List Carried)
+    → through_steps session_after (restart_steps fields.request) (session_of fields h carried)
+    ≡ session_of (record fields { request = None; mode = ModeDown; why = None })
+    (hidden_lost fields.request h) carried
+session_is fields h carried = grind (arith, common_steps)
 
 pub restarted_session : (c : CoreState) (g : Ghost) (far : Far)
     → through_steps session_after (restart_steps (request_under_way c.session.current))
     (session_in c g far)
     ≡ session_in (restarted_core c) (restarted_ghost c g) far
-restarted_session c g far = session_is (seen_in c g) g.request.hidden far.carried
+restarted_session c g far = session_is (fields_in c g) g.request.hidden far.carried
 
 pub restarts : (c : CoreState) (g : Ghost) (far : Far) (silence : ℕ) → BothEndsStand c g far silence
     → BothEndsStand (restarted_core c) (restarted_ghost c g) far silence

@@ -11,12 +11,12 @@ use Rattle.iol_isdu.specs.declared.values.Request.{Request}
 use Rattle.iol_isdu.specs.declared.values.Cause.{Cause}
 use Rattle.iol_isdu.specs.declared.values.Cause.TheVariants.{BusyTooLong, Protocol}
 use Rattle.iol_segment.specs.TextLaws.{segments_up_to}
-use Rattle.iol_segment.specs.Cut.{Cutting, last_given}
+use Rattle.iol_segment.specs.Cut.{Cutting, last_issued}
 use Rattle.iol_segment.specs.Join.{Joining, Stage, JoinStep, stage, stage_step, join_step, Complete}
 use Rattle.iol_far.specs.declared.kind.HandsOver.{HandsOver}
 use Rattle.iol_far.specs.declared.kind.Recalls.{Recalls}
 use Rattle.iol_far.specs.declared.kind.Recalls.TheVariants.{UntilSent}
-use Rattle.iol_far.specs.Level.{Clear, Had as IsHad, Unsure, Move, Leave, Other, IsIdle, is_open, progress_after_ask, may_be_none, Busy as IsBusy, Stands as FarStands, grown_by}
+use Rattle.iol_far.specs.Level.{NoneHeld, Received as IsReceived, Unsure, Move, Leave, Other, IsIdle, is_open, progress_after_ask, may_be_none, Busy as IsBusy, Stands as FarStands, grown_by}
 use Rattle.iol_mode.specs.declared.configuration.Devices.{Devices}
 use Rattle.iol_mode.specs.declared.configuration.Devices.TheVariants.{Own, Any}
 use Rattle.iol_mode.specs.Kinds.{trusted_recalls}
@@ -31,20 +31,20 @@ use Rattle.iol_app.specs.Moves.{before_last, progress_of, segment_move}
 use Rattle.iol_app.specs.Ends.{BusyAt, AbortAt}
 use Rattle.iol_app.proofs.Joining.{taken_next}
 use Rattle.iol_app.proofs.Sessions.{text_some}
-use Rattle.iol_app.specs.CoreStands.{vain_by, AgainBy}
+use Rattle.iol_app.specs.CoreStands.{vain_by, RepeatBy}
 use Rattle.iol_isdu.specs.declared.fault.IsduFault.{IsduFault}
 use Rattle.iol_isdu.specs.declared.values.Answer.{Answer}
 use Rattle.iol_far.specs.declared.carried.Carried.{Carried}
 use Rattle.iol_far.specs.Isdu.{IsduState, fits, answer_text_to, isdu_data}
 use Rattle.iol_app.specs.Abstract.OfDevice.{Hidden}
 use Rattle.iol_app.specs.Abstract.Shown.{MasterFields}
-use Rattle.iol_app.specs.Abstract.OfMaster.{WasAborted, brought_steps}
+use Rattle.iol_app.specs.Abstract.OfMaster.{WasAborted, received_steps}
 use Rattle.iol_app.specs.BothEnds.{AnswerFits}
 use Rattle.iol_app.proofs.OwnSession.{SessionRuns}
 
-pub first_idle : (devices : Devices) (source : Request) (given : ℕ)
-    → segment_move source given ≡ Leave → IsIdle (before_last devices source given)
-first_idle devices source given e = grind (arith, common_steps)
+pub first_idle : (devices : Devices) (source : Request) (issued : ℕ)
+    → segment_move source issued ≡ Leave → IsIdle (before_last devices source issued)
+first_idle devices source issued e = grind (arith, common_steps)
 
 pub busy_waits : (doubts : Bool) (limit busy : ℕ) (cancels : Bool) (abort : Option Cause)
     (counted : ℕ) → counted ≡ min busy 65535 → AbortAt doubts limit abort busy cancels
@@ -60,8 +60,8 @@ hands_none devices hands_over size what asks = grind (arith, common_steps)
 
 -- At a port for any device
 
-pub any_again : (devices : Devices) → (devices ≡ Own → ⊥) → devices ≡ Any
-any_again devices other = grind (arith, common_steps)
+pub repeats_any : (devices : Devices) → (devices ≡ Own → ⊥) → devices ≡ Any
+repeats_any devices other = grind (arith, common_steps)
 
 pub refused_waits : (doubts : Bool) (limit busy : ℕ) (cancels : Bool) (abort : Option Cause)
     → IsTrue doubts → AbortAt doubts limit abort busy cancels
@@ -70,25 +70,25 @@ refused_waits doubts limit busy cancels abort may h = grind (arith, common_steps
 
 -- the one segment goes out anew
 pub anew_busy : (doubts : Bool) (cutter : Cutting Request) (busy : ℕ) → busy ≡ 0
-    → cutter.given ≡ 1
-    → BusyAt doubts (segment_progress (last_given cutter.size (text_of cutter) cutter.given)) busy
+    → cutter.issued ≡ 1
+    → BusyAt doubts (segment_progress (last_issued cutter.size (text_of cutter) cutter.issued)) busy
 anew_busy doubts cutter busy e one = grind (arith, nat_tests, common_steps, text_some)
 
-pub anew_clear : (clear : Bool) (current : Current)
-    → current.cutter.given ≡ 1 → progress_of Any clear (Some (sent_anew current)) ≡ Clear
-anew_clear clear current one = grind (arith, nat_tests, common_steps, text_some)
+pub anew_idle : (idle : Bool) (current : Current)
+    → current.cutter.issued ≡ 1 → progress_of Any idle (Some (sent_anew current)) ≡ NoneHeld
+anew_idle idle current one = grind (arith, nat_tests, common_steps, text_some)
 
 -- it was asked for so often in vain
-pub vain_again : (devices : Devices) (current : Current) (tries : ℕ) → devices ≡ Any
-    → AgainBy devices NextMessage tries current → current.again ≡ true
+pub vain_repeat : (devices : Devices) (current : Current) (tries : ℕ) → devices ≡ Any
+    → RepeatBy devices NextMessage tries current → current.repeat ≡ true
     → (k : ℕ) × (vain_by devices NextMessage (Some current) tries ≡ suc k)
-vain_again Any current zero any low again =
-    absurd (omega (arith, low again))
-vain_again Any current (suc k) any low again = (k, rw again refl)
-vain_again Own current tries any low again = cc
+vain_repeat Any current zero any low repeat =
+    absurd (omega (arith, low repeat))
+vain_repeat Any current (suc k) any low repeat = (k, rw repeat refl)
+vain_repeat Own current tries any low repeat = cc
 
 pub vain_some : (devices : Devices) (current : Current) (tries k : ℕ) → devices ≡ Any
-    → vain_by devices NextMessage (Some current) tries ≡ suc k → current.again ≡ true
+    → vain_by devices NextMessage (Some current) tries ≡ suc k → current.repeat ≡ true
 vain_some devices current tries k any some = grind (arith, common_steps)
 
 -- zeros where a text would end
@@ -101,48 +101,49 @@ staged_forgotten : (count : Option ℕ) (octets od : List ℕ) (at : Stage) → 
 staged_forgotten count octets od at e = grind (arith, common_steps)
 
 -- such are none of an answer, or are as a device sends them that has forgotten it
-pub forgotten_none : {size had : ℕ} {joining : Joining} (od : List ℕ) (k : ℕ)
-    → IsJoining size had joining
-    → forgotten_by (join_step joining (Count ((had + 1) % 16)) od).took od ≡ true
+pub forgotten_none : {size last : ℕ} {joining : Joining} (od : List ℕ) (k : ℕ)
+    → IsJoining size last joining
+    → forgotten_by (join_step joining (Count ((last + 1) % 16)) od).took od ≡ true
     → may_be_none UntilSent (suc k) joining.text od ≡ true
-forgotten_none {size} {had} {joining} od k h e =
-    let found = staged_forgotten (Some (suc had % 16)) (joining.text ++ od) od
-    (stage (joining.text ++ od)) (rw (taken_next size had joining od h) at e) in
+forgotten_none {size} {last} {joining} od k h e =
+    let found = staged_forgotten (Some (suc last % 16)) (joining.text ++ od) od
+    (stage (joining.text ++ od)) (rw (taken_next size last joining od h) at e) in
     rw (← zeros od, found.0, found.1) refl
 
 -- where they end a text, it is refused, or taken for an answer's by who asked for them once
 abbrev pub EndsText : Bool → Current → ReplyEffect → Type 0
-EndsText again current (GoesOn next) = next ≡ current_after_refusal current
-EndsText again current (HasText text) = again ≡ false
+EndsText repeat current (GoesOn next) = next ≡ current_after_refusal current
+EndsText repeat current (HasText text) = repeat ≡ false
 
 none_zeros : (text od : List ℕ) (k : ℕ) → are_zeros od ≡ bytes_eq od (replicate (length od) 0)
     → may_be_none UntilSent (suc k) text od ≡ true
     → (are_zeros od ≡ true) × (is_open (stage (text ++ od)) ≡ false)
 none_zeros text od k same e = grind (arith, common_steps)
 
-finished_ends : (again : Bool) (current : Current) (text : List ℕ) (fault : Option IsduFault)
-    → EndsText again current (if again && true
+finished_ends : (repeat : Bool) (current : Current) (text : List ℕ) (fault : Option IsduFault)
+    → EndsText repeat current (if repeat && true
     then GoesOn (current_after_refusal current) else effect_of_text text fault current)
-finished_ends again current text fault = grind (arith, common_steps)
+finished_ends repeat current text fault = grind (arith, common_steps)
 
-staged_ends : (again : Bool) (current : Current) (had : ℕ)
+staged_ends : (repeat : Bool) (current : Current) (last : ℕ)
     (count : Option ℕ) (octets od : List ℕ) (at : Stage) → are_zeros od ≡ true
     → is_open at ≡ false → let t : JoinStep = stage_step count octets at in
-    EndsText again current (if again && forgotten_by t.took od
-    then GoesOn (current_after_refusal current) else effect_of_segment had t.took t.joining current)
-staged_ends again current had count octets od (Complete text) none closed =
-    rw none (finished_ends again current text
+    EndsText repeat current (if repeat && forgotten_by t.took od
+    then GoesOn (current_after_refusal current) else effect_of_segment last t.took t.joining
+    current)
+staged_ends repeat current last count octets od (Complete text) none closed =
+    rw none (finished_ends repeat current text
     (answer_fault (is_read current.cutter.source) text))
-staged_ends again current had count octets od at none closed = grind (arith, common_steps)
+staged_ends repeat current last count octets od at none closed = grind (arith, common_steps)
 
-pub none_ends : {size had : ℕ} {joining : Joining} (current : Current)
-    (od : List ℕ) (k : ℕ) (again : Bool) → IsJoining size had joining
+pub none_ends : {size last : ℕ} {joining : Joining} (current : Current)
+    (od : List ℕ) (k : ℕ) (repeat : Bool) → IsJoining size last joining
     → may_be_none UntilSent (suc k) joining.text od ≡ true
-    → EndsText again current (effect_of_count_read again joining (had + 1) od current)
-none_ends {size} {had} {joining} current od k again h e =
+    → EndsText repeat current (effect_of_count_read repeat joining (last + 1) od current)
+none_ends {size} {last} {joining} current od k repeat h e =
     let none = none_zeros joining.text od k (zeros od) e in
-    rw (taken_next size had joining od h) (staged_ends again current (had + 1)
-    (Some (suc had % 16)) (joining.text ++ od) od (stage (joining.text ++ od)) none.0 none.1)
+    rw (taken_next size last joining od h) (staged_ends repeat current (last + 1)
+    (Some (suc last % 16)) (joining.text ++ od) od (stage (joining.text ++ od)) none.0 none.1)
 
 pub trusts_none : (devices : Devices) (recalls : Recalls) (vain : ℕ) (text od : List ℕ)
     → may_be_none (trusted_recalls devices recalls) vain text od ≡ true
@@ -158,7 +159,7 @@ doubts_of devices recalls h = grind (arith, common_steps)
 -- a START read that brought nothing: an answer that is recalled begins otherwise
 pub asked_nothing : (devices : Devices) (recalls : Recalls) (source : Request) (od : List ℕ)
     → (slice_index od 0 == 1) ≡ false → (slice_index od 0 == 0) ≡ true
-    → (progress_after_ask (trusted_recalls devices recalls) source od ≡ IsHad source 0 od)
+    → (progress_after_ask (trusted_recalls devices recalls) source od ≡ IsReceived source 0 od)
     ⊎ ((progress_after_ask (trusted_recalls devices recalls) source od ≡ Unsure source)
     × IsTrue (doubts_at devices recalls))
 asked_nothing devices recalls source od other none = grind (arith, common_steps)
@@ -171,18 +172,18 @@ not_both x y h = grind (arith, common_steps)
 
 -- of a request whose message isn't out nothing is noted
 pub other_once : (devices : Devices) (e : Purpose) (tries : ℕ) (current : Option Current)
-    → (e ≡ NextMessage → ⊥) → IfSome current (AgainBy devices e tries)
-    → IfSome current (λ c. c.again ≡ false)
+    → (e ≡ NextMessage → ⊥) → IfSome current (RepeatBy devices e tries)
+    → IfSome current (λ c. c.repeat ≡ false)
 other_once devices e tries current other h = grind (arith, common_steps)
 
 -- the session where a request is cut off, whether it had an answer or not
-pub aborted_session : (m : Moment) (seen : MasterFields) (h : Hidden) (c : List Carried)
+pub aborted_session : (m : Moment) (fields : MasterFields) (h : Hidden) (c : List Carried)
     (r : Request)
-    (cause : Cause) → seen.request ≡ Some r
-    → MayAbort (doubts_at m.terms.devices m.terms.kind.recalls) m.terms.busy_limit seen.busy
-    seen.asked cause → SessionRuns m seen h c (brought_steps (WasAborted cause) seen.request)
-    (record seen { request = None }) h c
-aborted_session m seen h c r cause under may = grind (arith, common_steps)
+    (cause : Cause) → fields.request ≡ Some r
+    → MayAbort (doubts_at m.terms.devices m.terms.kind.recalls) m.terms.busy_limit fields.busy
+    fields.asked cause → SessionRuns m fields h c (received_steps (WasAborted cause) fields.request)
+    (record fields { request = None }) h c
+aborted_session m fields h c r cause under may = grind (arith, common_steps)
 
 -- What a good reply says of the answer
 
@@ -205,11 +206,12 @@ pub grown_answered : (base : List Carried) (r : Request) (a : Answer) (h : Hidde
     (c : List Carried) → AnswerFits base (Some r) h c → c ≡ grown_by base r a → IsSome h.answer
 grown_answered base r a h c fits grown = grind (arith, common_steps, more_grown)
 
-pub had_answer : (hands_over : HandsOver) (size : ℕ) (base : List Carried) (r : Request) (i : ℕ)
+pub answer_received : (hands_over : HandsOver) (size : ℕ) (base : List Carried) (r : Request)
+    (i : ℕ)
     (text : List ℕ) (s : IsduState) (counted : Option ℕ) (c : List Carried) (h : Hidden)
-    (x : Answer) → FarStands hands_over size base (IsHad r i text) s counted c
+    (x : Answer) → FarStands hands_over size base (IsReceived r i text) s counted c
     → AnswerFits base (Some r) h c
     → ((a : Answer) → IsTrue (fits r a) → text ≡ segments_up_to size (answer_text_to r a) i → a ≡ x)
     → h.answer ≡ Some x
-had_answer hands_over size base r i text s counted c h x stands fits only =
+answer_received hands_over size base r i text s counted c h x stands fits only =
     grind (arith, common_steps)

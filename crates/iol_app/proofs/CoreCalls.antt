@@ -24,13 +24,13 @@ use Rattle.iol_app.proofs.Calling.{asks_else, opens, wants, restarts, restarted_
 use Rattle.iol_app.specs.Core.{CoreState, Ghost, session_in}
 use Rattle.iol_app.specs.CoreStands.{BothEndsStand}
 use Rattle.iol_app.specs.CoreCalls.{BeginGives, operate_core, asking_ghost, opened_core, wanting_core, restarted_core}
-use Rattle.iol_app.specs.Seen.{NewSteps, BeginSteps, DenySteps, AbortSteps, CancelSteps, WantSteps, RestartSteps}
+use Rattle.iol_app.specs.CallSteps.{NewSteps, BeginSteps, DenySteps, AbortSteps, CancelSteps, WantSteps, RestartSteps}
 
 pub new_steps : (devices : Devices) (busy : ℕ) (new : CoreState) → new ≡ opened_core devices busy
     → NewSteps new
 unfolding NewSteps
 new_steps devices busy new e =
-    λ far sees n told due. rw e (opens devices busy far n told due (rw e at sees))
+    λ far sees n reported due. rw e (opens devices busy far n reported due (rw e at sees))
 
 -- in OPERATE with no request under way
 at_free : (P : CoreState → Type 0) (state : State) (session : SessionState)

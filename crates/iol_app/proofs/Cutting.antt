@@ -5,7 +5,7 @@ use Rattle.arrayvec.specs.ArrayVec.{ArrayVec}
 use Rattle.iol_octets.specs.declared.flow_control.Flow.{Flow}
 use Rattle.iol_isdu.specs.declared.values.Request.{Request}
 use Rattle.iol_isdu.specs.Texts.{IsRequest}
-use Rattle.iol_segment.specs.Cut.{Cutting, segment, flow_at, pair_at, last_given}
+use Rattle.iol_segment.specs.Cut.{Cutting, segment, flow_at, pair_at, last_issued}
 use Rattle.iol_app.specs.declared.request.Current.{Current}
 use Rattle.iol_app.specs.Requests.{text_of, current_after_segment, IsCurrent}
 
@@ -30,13 +30,13 @@ abbrev pub GoesOn : ℕ → List ℕ → ℕ → Type 0
 GoesOn size text zero = Unit {0}
 GoesOn size text (suc i) = i * size < length text
 
-pub given_goes_on : (size : ℕ) (text : List ℕ) (given : ℕ) (flow : Flow) (piece : ArrayVec ℕ)
-    → last_given size text given ≡ Some (flow, piece) → GoesOn size text given
-given_goes_on size text given flow piece e = grind (arith, common_steps)
+pub issued_goes_on : (size : ℕ) (text : List ℕ) (issued : ℕ) (flow : Flow) (piece : ArrayVec ℕ)
+    → last_issued size text issued ≡ Some (flow, piece) → GoesOn size text issued
+issued_goes_on size text issued flow piece e = grind (arith, common_steps)
 
 -- on to the next segment, or to asking
 pub sent_on_fits : (current : Current) → let cutter : Cutting Request = current.cutter in
     IsRequest cutter.source
     → 1 ≤ cutter.size → cutter.size ≤ 32 → 0 < length (text_of cutter)
-    → GoesOn cutter.size (text_of cutter) cutter.given → IsCurrent (current_after_segment current)
+    → GoesOn cutter.size (text_of cutter) cutter.issued → IsCurrent (current_after_segment current)
 sent_on_fits current request some most text on = grind (arith, common_steps)

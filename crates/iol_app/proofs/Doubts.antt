@@ -22,8 +22,8 @@ use Rattle.iol_app.specs.declared.request.Current.{Current}
 use Rattle.iol_app.specs.declared.session.Purpose.{Purpose}
 use Rattle.iol_app.specs.Reports.{has_begun_reading}
 use Rattle.iol_app.specs.Requests.{request_under_way}
-use Rattle.iol_app.specs.State.{SessionState, IsSession, told_output_length, doubts, checks, message_again, question_instead, missed_by, missed_in, IsOutBy}
-use Rattle.iol_app.specs.StationState.{HasTold, SessionFits, missed_state, missed_session, missed_out, settled_session}
+use Rattle.iol_app.specs.State.{SessionState, IsSession, known_output_length, doubts, checks, message_repeated, question_instead, missed_by, missed_in, IsOutBy}
+use Rattle.iol_app.specs.StationState.{HasLayouts, SessionFits, missed_state, missed_session, missed_out, settled_session}
 use Rattle.iol_app.specs.Core.{CoreState}
 use Rattle.iol_app.specs.CoreTurns.{after_missed, after_exchange}
 
@@ -54,16 +54,16 @@ missed_out_by t exchange out h = grind (
   check_head t.output.carried.items,
 )
 
-missed_told : (layouts : Layouts) (s : SessionState) → HasTold layouts s
-    → HasTold layouts (missed_in s)
-missed_told layouts s h = grind (arith, common_steps)
+missed_layouts : (layouts : Layouts) (s : SessionState) → HasLayouts layouts s
+    → HasLayouts layouts (missed_in s)
+missed_layouts layouts s h = grind (arith, common_steps)
 
 -- so the session fits the mode as before
 missed_joined : (state : Operate) (s : SessionState) → SessionFits (AtOperate state) s
     → SessionFits (missed_state (AtOperate state) s) (missed_in s)
 missed_joined state s h =
     record {
-      told = missed_told state.layouts s h.told;
+      has_layouts = missed_layouts state.layouts s h.has_layouts;
       out_for = missed_out_by s s.exchange state.out h.out_for;
     }
 
@@ -77,11 +77,11 @@ check_stays out = refl
 
 -- and the mode is one still
 missed_fits : (layouts : Layouts) (sent : Sending) (s : SessionState)
-    → IsOutput (told_output_length s.layout) s.output → s.layout ≡ Some layouts.run
+    → IsOutput (known_output_length s.layout) s.output → s.layout ≡ Some layouts.run
     → OperateFits (record { out = Some sent; layouts = layouts })
-    → let message : MasterMsg = message_again s sent.message in
+    → let message : MasterMsg = message_repeated s sent.message in
     OperateFits (record { out = Some (record sent { message = message }); layouts = layouts })
-missed_fits layouts sent s output told h = by_message (checks s) (doubts s)
+missed_fits layouts sent s output has_layouts h = by_message (checks s) (doubts s)
   where
     out : List ℕ
     out = s.output.carried.items
@@ -107,8 +107,8 @@ pub after_fits : (sent : Sending) (layouts : Layouts) (attempt : Attempt) (s : S
     → SessionFits (next_state outcome) (settled_session outcome s)
     → StateFits (after_exchange outcome s).state
     × SessionFits (after_exchange outcome s).state (after_exchange outcome s).session
-after_fits sent layouts attempt s valid told fits joined =
-    let fitting = missed_fits layouts sent s valid.output told in
+after_fits sent layouts attempt s valid has_layouts fits joined =
+    let fitting = missed_fits layouts sent s valid.output has_layouts in
     let linked = missed_joined (record { out = Some sent; layouts = layouts }) s in
     grind (arith, common_steps)
 

@@ -14,7 +14,7 @@ use Rattle.iol_app.specs.State.{SessionState}
 
 pub record IsDue (s : SessionState) (room : EventRoom) (exchange : Purpose) : Type 0 where
   pub suits : Suits exchange s.current
-  pub output : output_for exchange ≡ output_due s.output.wanted s.output.told
+  pub output : output_for exchange ≡ output_due s.output.wanted s.output.acknowledged
   pub confirm : exchange ≡ ConfirmEvents → is_confirm_due s.events.reading ≡ true
   pub reads : exchange ≡ ReadEvent
       → (is_under_way s.events.reading ≡ true)

@@ -13,29 +13,29 @@ use Rattle.iol_mode.specs.Kinds.{SeesPulses}
 use Rattle.iol_mode.specs.Stands.{StateStands}
 use Rattle.iol_mode.specs.States.{InDown, StateFits, is_reset}
 use Rattle.iol_app.specs.declared.mode.Mode.TheVariants.{Down as ModeDown, Operate as ModeOperate}
-use Rattle.iol_app.specs.declared.said.Said.TheVariants.{Idle}
+use Rattle.iol_app.specs.declared.report.Said.TheVariants.{Idle}
 use Rattle.iol_app.specs.Abstract.Steps.{PortStep, Report, Move as MoveTo, WireCall, Woke, Exchanged, Moment, silence_by, CallFits, is_report}
 use Rattle.iol_app.specs.Abstract.OfMaster.{is_for_book, resets}
-use Rattle.iol_app.specs.Abstract.OfDevice.{Hidden, IsOpen, hidden_through, told_through, wake_steps, told_wake, exchange_steps, told_exchanged}
+use Rattle.iol_app.specs.Abstract.OfDevice.{Hidden, IsOpen, hidden_through, reported_through, wake_steps, reported_wake, exchange_steps, reported_exchanged}
 use Rattle.iol_app.specs.Abstract.Session.{MayMove, MaySession, session_after}
-use Rattle.iol_app.specs.Abstract.Events.{untold_events, MayFrozen, frozen_after}
+use Rattle.iol_app.specs.Abstract.Events.{marked_unreported, MayFrozen, frozen_after}
 use Rattle.iol_app.specs.Abstract.Images.{MayImages, images_after}
 use Rattle.iol_app.specs.Abstract.Shown.{frozen_of, images_of, past_of}
 use Rattle.iol_app.specs.BothEnds.{Resting}
-use Rattle.iol_app.proofs.Given.{Laws, page_locals, page_after, kind_after, sees_kept, misses_passed}
+use Rattle.iol_app.proofs.AllLaws.{Laws, page_locals, page_after, kind_after, pulses_stay, misses_passed}
 use Rattle.iol_app.proofs.Parts.{runs-append}
 use Rattle.iol_app.proofs.OwnSession.{SessionRuns, wake_session, exchange_session, own_open, woken_if, woken_as}
-use Rattle.iol_app.proofs.FrozenPart.{FrozenRuns, ConfirmsTold, wake_frozen, exchange_frozen}
-use Rattle.iol_app.proofs.PastPart.{PastRuns, NoneWaits, wake_past, exchange_past, brought_past}
+use Rattle.iol_app.proofs.FrozenPart.{FrozenRuns, ConfirmsReported, wake_frozen, exchange_frozen}
+use Rattle.iol_app.proofs.PastPart.{PastRuns, NoneWaits, wake_past, exchange_past, received_past}
 use Rattle.iol_app.specs.Abstract.Past.{MayPast, past_after}
 use Rattle.iol_app.proofs.ImagesPart.{ImagesRuns, OutputsSent, wake_images, exchange_images}
 use Rattle.iol_app.proofs.Aside.{Aside, wake_aside, exchange_aside}
 use Rattle.iol_app.specs.Requests.{request_under_way}
-use Rattle.iol_app.proofs.Told.{told_exchange}
+use Rattle.iol_app.proofs.ReportedFacts.{reported_exchange}
 use Rattle.iol_app.proofs.Shown.{shown_as}
-use Rattle.iol_app.specs.Ends.{SentSeen}
+use Rattle.iol_app.specs.Ends.{SentFits}
 use Rattle.iol_app.specs.StationState.{SessionFits, mode_in}
-use Rattle.iol_app.specs.Core.{CoreState, Ghost, seen_in, shown_in, images_in}
+use Rattle.iol_app.specs.Core.{CoreState, Ghost, fields_in, shown_in, images_in}
 use Rattle.iol_app.specs.CoreStands.{BothEndsStand, work_of, RequestStands, EventsStand, OutputStands, CalmAt, ShownStands}
 use Rattle.iol_app.specs.CoreGives.{CallGives, moment_of}
 use Rattle.iol_app.specs.CoreTurns.{settled_core}
@@ -49,11 +49,12 @@ pub none_rests : (awake : Bool) → false ≡ (awake && false)
 none_rests awake = grind (arith, common_steps)
 
 -- a start takes back what was told
-pub untold_of : (f : List Event) (t : Bool) → untold_events (frozen_of f t) ≡ frozen_of f false
-untold_of f t = grind (arith, common_steps)
+pub unreported_of : (f : List Event) (t : Bool)
+    → marked_unreported (frozen_of f t) ≡ frozen_of f false
+unreported_of f t = grind (arith, common_steps)
 
 pub unconfirming : (o : List ℕ) (far : Far) (t : Bool) → octets_confirm o ≡ false
-    → ConfirmsTold o far t
+    → ConfirmsReported o far t
 unconfirming o far t unconfirmed w e = absurd (let z : false ≡ true = sym unconfirmed ∙ e in cc)
 
 -- octets that hand nothing over leave nothing under way
@@ -73,10 +74,10 @@ module _ (c : CoreState) (g : Ghost) (far : Far) where
   pub record Effect (far' : Far) (n n' : ℕ) : Type 0 where
     pub steps : List PortStep
     pub hidden : Hidden
-    pub told : Bool
-    pub session : (m : Moment) → SessionRuns m (seen_in c g) g.request.hidden far.carried steps
-        (seen_in c g) hidden far'.carried
-    pub frozen : FrozenRuns far.events.frozen g.events.told steps far'.events.frozen told
+    pub reported : Bool
+    pub session : (m : Moment) → SessionRuns m (fields_in c g) g.request.hidden far.carried steps
+        (fields_in c g) hidden far'.carried
+    pub frozen : FrozenRuns far.events.frozen g.events.reported steps far'.events.frozen reported
     pub past : PastRuns (past_of far) steps (past_of far')
     pub images : (m : Moment) → CallFits (mode_in c.state) m.call
         → ImagesRuns m (images_in c g far) steps (images_of (shown_in c.session g.sent) far')
@@ -92,8 +93,8 @@ module _ (c : CoreState) (g : Ghost) (far : Far) where
   module _ (laws : Laws) (free : request_under_way c.session.current ≡ None)
       (opens : IsOpen far.isdu None g.request.hidden) (none : NoneWaits far.events)
       (own : List LocalStep) where
-    pub opens_seen : IsOpen far.isdu (request_under_way c.session.current) g.request.hidden
-    opens_seen = rw free opens
+    pub opens_shown : IsOpen far.isdu (request_under_way c.session.current) g.request.hidden
+    opens_shown = rw free opens
 
     abbrev there : Far
     there = locals far own
@@ -102,42 +103,42 @@ module _ (c : CoreState) (g : Ghost) (far : Far) where
     hidden_there = hidden_through None far own g.request.hidden
 
     -- a wake that it sees, or nothing of it
-    pub seen_effect : (n : ℕ) → mode_in c.state ≡ ModeDown → (wakes : Bool)
+    pub shown_effect : (n : ℕ) → mode_in c.state ≡ ModeDown → (wakes : Bool)
         → Effect (woken_if wakes there) n n
-    seen_effect n down wakes =
+    shown_effect n down wakes =
         let page = page_locals laws own far in
-        let kind = laws.much.kind_kept far own in
-        let misses = laws.much.misses_kept far own in
-        let kept = woken_as (λ (f : Far). (f.page ≡ far.page) × (f.kind ≡ far.kind)
+        let kind = laws.much.kind_stays far own in
+        let misses = laws.much.misses_stay far own in
+        let unchanged = woken_as (λ (f : Far). (f.page ≡ far.page) × (f.kind ≡ far.kind)
         × (f.misses_pulses ≡ far.misses_pulses) × IsOpen f.isdu None hidden_there) wakes there
         (page, kind, misses, tt)
         (page, kind, misses, own_open None g.request.hidden own far opens) in
         record {
           steps = wake_steps far own wakes;
           hidden = hidden_there;
-          told = told_wake far own wakes g.events.told;
+          reported = reported_wake far own wakes g.events.reported;
           session = λ m.
-              wake_session m (seen_in c g) g.request.hidden far own wakes free opens_seen;
-          frozen = wake_frozen far own wakes g.events.told;
+              wake_session m (fields_in c g) g.request.hidden far own wakes free opens_shown;
+          frozen = wake_frozen far own wakes g.events.reported;
           past = wake_past far own wakes none;
           images = λ m fits.
               wake_images m (shown_in c.session g.sent) far own wakes (rw down at fits);
           aside = wake_aside far own wakes;
           order = wake_order (mode_in c.state) far own wakes;
           awake = λ call fits silent. woken_awake call (woken_if wakes there) (rw down at fits);
-          opens = kept.3;
-          page = kept.0;
-          kind = kept.1;
-          misses = kept.2;
+          opens = unchanged.3;
+          page = unchanged.0;
+          kind = unchanged.1;
+          misses = unchanged.2;
         }
 
     -- where nothing was told, octets that confirm nothing leave it so
-    pub untold_after : (passage : Passage) (o : List ℕ) → octets_confirm o ≡ false
-        → g.events.told ≡ false → told_exchanged far own passage o g.events.told ≡ false
-    untold_after passage o unconfirmed untold =
-        (told_exchange laws.events o Resting
+    pub unreported_after : (passage : Passage) (o : List ℕ) → octets_confirm o ≡ false
+        → g.events.reported ≡ false → reported_exchanged far own passage o g.events.reported ≡ false
+    unreported_after passage o unconfirmed unreported =
+        (reported_exchange laws.events o Resting
         (λ e. absurd (let z : false ≡ true = sym unconfirmed ∙ e in cc)) own passage far
-        g.events.told ((λ a. tt), untold ∙ none_rests far.awake)).1
+        g.events.reported ((λ a. tt), unreported ∙ none_rests far.awake)).1
         ∙ sym (none_rests (far_after passage there o).awake)
 
     -- octets that confirm nothing
@@ -149,11 +150,12 @@ module _ (c : CoreState) (g : Ghost) (far : Far) where
     passed_effect n n' passage o answers unconfirmed still_open sent = record {
       steps = exchange_steps None far own passage o;
       hidden = hidden_there;
-      told = told_exchanged far own passage o g.events.told;
-      session = λ m. rw free (rw free at (exchange_session m (seen_in c g) g.request.hidden far own
-          passage o opens_seen));
-      frozen = exchange_frozen None far own passage o g.events.told
-          (unconfirming o there (told_through far own g.events.told) unconfirmed);
+      reported = reported_exchanged far own passage o g.events.reported;
+      session = λ m. rw free (rw free at
+          (exchange_session m (fields_in c g) g.request.hidden far own
+          passage o opens_shown));
+      frozen = exchange_frozen None far own passage o g.events.reported
+          (unconfirming o there (reported_through far own g.events.reported) unconfirmed);
       past = exchange_past None far own passage o none;
       images = λ m fits. exchange_images m None (shown_in c.session g.sent) far own passage o sent;
       aside = exchange_aside None far own passage o;
@@ -161,22 +163,22 @@ module _ (c : CoreState) (g : Ghost) (far : Far) where
       awake = answers;
       opens = still_open;
       page = page_after laws passage there o ∙ page_locals laws own far;
-      kind = kind_after laws passage there o ∙ laws.much.kind_kept far own;
+      kind = kind_after laws passage there o ∙ laws.much.kind_stays far own;
       misses = misses_passed laws.much passage own far o;
     }
 
-    abbrev pub untold_effect : (n n' : ℕ) (passage : Passage) (o : List ℕ)
+    abbrev pub unreported_effect : (n n' : ℕ) (passage : Passage) (o : List ℕ)
         → n' ≡ silence_after n (unaltered_reply passage there o) → octets_confirm o ≡ false
         → IsOpen (far_after passage there o).isdu None hidden_there
-        → OutputsSent g.sent there o → g.events.told ≡ false
+        → OutputsSent g.sent there o → g.events.reported ≡ false
         → Effect (far_after passage there o) n n'
-    untold_effect n n' passage o silence unconfirmed still_open sent untold =
+    unreported_effect n n' passage o silence unconfirmed still_open sent unreported =
         let e = passed_effect n n' passage o
         (λ call fits silent. replies_awake call passage there o n n' silence silent) unconfirmed
         still_open sent in
         record e {
-          told = false;
-          frozen = rw (untold_after passage o unconfirmed untold) at e.frozen;
+          reported = false;
+          frozen = rw (unreported_after passage o unconfirmed unreported) at e.frozen;
         }
 
   -- what the port makes of it, outside OPERATE
@@ -184,52 +186,53 @@ module _ (c : CoreState) (g : Ghost) (far : Far) where
       (below : mode_in c.state ≢ ModeOperate) where
     -- with this of its hidden part, and of whether the frozen list is told
     abbrev pub ended : Hidden → Bool → Ghost
-    ended hidden told = record g {
+    ended hidden reported = record g {
       request = record g.request { hidden = hidden; base = far'.carried };
-      events = record g.events { told = told };
+      events = record g.events { reported = reported };
     }
 
     -- how the new mode and the session stand
-    pub record Left (next : CoreState) (hidden : Hidden) (told : Bool) : Type 0 where
+    pub record Left (next : CoreState) (hidden : Hidden) (reported : Bool) : Type 0 where
       pub request : RequestStands next.state (work_of next.session) next.session.events
-          (ended hidden told) far'
+          (ended hidden reported) far'
       pub events : EventsStand next.state next.session.exchange next.session.events
-          (ended hidden told).events far'
-      pub output : OutputStands next.state next.session.exchange next.session.output.told g.sent
+          (ended hidden reported).events far'
+      pub output : OutputStands next.state next.session.exchange
+          next.session.output.acknowledged g.sent
           far'
       pub quiet : CalmAt next.state n'
 
     -- what an outcome has to bring
     pub record Ends (call : WireCall) (ys : List PortStep) (next : CoreState) (hidden : Hidden)
-        (told : Bool) : Type 0 where
+        (reported : Bool) : Type 0 where
       pub limit : next.session.limit ≡ c.session.limit
       pub configuration : next.session.configuration ≡ c.session.configuration
       pub brings : IsTrue (may_bring (mode_in c.state) call ys)
       pub reports : filter is_report ys ≡ []
       pub book : filter is_for_book ys ≡ resets (is_reset c.state) (is_reset next.state) ++ []
-      pub session : SessionRuns (moment_of c g n call) (seen_in c g) effect.hidden far'.carried ys
-          (seen_in next (ended hidden told)) hidden far'.carried
-      pub frozen : FrozenRuns far'.events.frozen effect.told ys far'.events.frozen told
+      pub session : SessionRuns (moment_of c g n call) (fields_in c g) effect.hidden far'.carried ys
+          (fields_in next (ended hidden reported)) hidden far'.carried
+      pub frozen : FrozenRuns far'.events.frozen effect.reported ys far'.events.frozen reported
       pub images : ImagesRuns (moment_of c g n call) (images_of (shown_in c.session g.sent) far')
           ys (images_of (shown_in next.session g.sent) far')
       pub image : next.session.image ≡ None
-      pub left : Left next hidden told
-      pub sent : SentSeen next.session.layout next.session.output.carried.items g.sent
+      pub left : Left next hidden reported
+      pub sent : SentFits next.session.layout next.session.output.carried.items g.sent
       pub shown : ShownStands next g.page
 
     -- the steps of both, one after the other
     pub gives : (call : WireCall) (ys : List PortStep) (next : CoreState) (hidden : Hidden)
-        (told : Bool)
-        → Ends call ys next hidden told → CallFits (mode_in c.state) call
+        (reported : Bool)
+        → Ends call ys next hidden reported → CallFits (mode_in c.state) call
         → n' ≡ silence_by call n → StateFits next.state → StateStands next.state n' far'
         → SessionFits next.state next.session → CallGives c g far n Idle next far' n'
-    gives call ys next hidden told e fits_call silence fits link joined =
+    gives call ys next hidden reported e fits_call silence fits link joined =
         let m = moment_of c g n call in
         let aside = effect.aside ys in
-        let after : Ghost = ended hidden told in
+        let after : Ghost = ended hidden reported in
         let was : c.session.image ≡ None = stands.shown.image below in
         let sees : SeesPulses next.session.configuration.devices far' = rw e.configuration
-        (sees_kept c.session.configuration.devices far far' effect.misses stands.sees) in
+        (pulses_stay c.session.configuration.devices far far' effect.misses stands.sees) in
         record {
           call = call;
           steps = effect.steps ++ ys;
@@ -238,14 +241,14 @@ module _ (c : CoreState) (g : Ghost) (far : Far) where
           fits = fits_call;
           silent = silence;
           terms = (e.limit, refl, e.configuration, refl);
-          said_book = aside.book ∙ e.book;
-          said_reports = aside.reports ∙ e.reports;
+          book_steps_are = aside.book ∙ e.book;
+          report_steps_are = aside.reports ∙ e.reports;
           was_frozen = λ events k.
               let none : [] ≡ Report events ∷ [] = sym (aside.reports ∙ e.reports) ∙ k in cc;
           session = runs-append (MaySession m) session_after _ _ _ (effect.session m) e.session;
           frozen = runs-append MayFrozen frozen_after _ _ _ effect.frozen e.frozen;
           past = runs-append MayPast past_after _ _ _ effect.past
-              (brought_past (mode_in c.state) call ys _ e.brings);
+              (received_past (mode_in c.state) call ys _ e.brings);
           images = runs-append (MayImages m) (images_after m) _ _ _
               (effect.images m fits_call) e.images;
           awake = effect.awake call fits_call silence;
@@ -259,7 +262,7 @@ module _ (c : CoreState) (g : Ghost) (far : Far) where
         → IsTrue (may_bring (mode_in c.state) call (MoveTo ModeDown (Some why) ∷ []))
         → MayMove (moment_of c g n call) (mode_in c.state) ModeDown (Some why)
         → Ends call (MoveTo ModeDown (Some why) ∷ [])
-        (settled_core (InDown (record { why = Some why })) c.session) effect.hidden effect.told
+        (settled_core (InDown (record { why = Some why })) c.session) effect.hidden effect.reported
     falls call why free brings may = record {
       limit = refl;
       configuration = refl;
@@ -283,5 +286,5 @@ module _ (c : CoreState) (g : Ghost) (far : Far) where
         far' n'
     loses call why free brings may fits_call silence =
         gives call (MoveTo ModeDown (Some why) ∷ [])
-        (settled_core (InDown (record { why = Some why })) c.session) effect.hidden effect.told
+        (settled_core (InDown (record { why = Some why })) c.session) effect.hidden effect.reported
         (falls call why free brings may) fits_call silence tt tt (refl, refl)

@@ -9,8 +9,8 @@ use Rattle.iol_far.specs.Local.{LocalStep, locals}
 use Rattle.iol_far.specs.Laws.{confirms as octets_confirm}
 use Rattle.iol_app.specs.Abstract.OfDevice.{confirms_by}
 use Rattle.iol_app.specs.BothEnds.{ReadingState, wants_confirm, wants_octet, EventsFit}
-use Rattle.iol_app.specs.Exchange.{reading_kept}
-use Rattle.iol_app.proofs.Given.{by_locals}
+use Rattle.iol_app.specs.Exchange.{reading_continued}
+use Rattle.iol_app.proofs.AllLaws.{by_locals}
 use Rattle.iol_app.proofs.Accepted.{by_accepted}
 use Rattle.iol_app.proofs.FirstOctet.{confirms_of}
 use Rattle.std.proofs.lemmas.Grind.{common_steps}
@@ -37,16 +37,17 @@ module _ (laws : ReaderLaws) where
       (λ w c k m e. memory_worked far.events (confirms_by m.mc) h)
 
 pub undue : (r : ReadingState) → wants_octet r ≡ true → wants_confirm r ≡ false
-undue r given = grind (arith, common_steps)
+undue r holds = grind (arith, common_steps)
 
 -- what is kept
-pub kept_due : (r : ReadingState) (event : Bool)
-    → wants_confirm (reading_kept r event) ≡ wants_confirm r
-kept_due r event = grind (arith, common_steps)
+pub continued_due : (r : ReadingState) (event : Bool)
+    → wants_confirm (reading_continued r event) ≡ wants_confirm r
+continued_due r event = grind (arith, common_steps)
 
-pub kept_fits : (r : ReadingState) (event : Bool) (m : Events) → event ≡ not (is_empty m.frozen)
-    → m.held ≡ false → EventsFit r false m → EventsFit (reading_kept r event) false m
-kept_fits r event m is held fit = grind (arith, common_steps)
+pub continued_fits : (r : ReadingState) (event : Bool) (m : Events)
+    → event ≡ not (is_empty m.frozen)
+    → m.held ≡ false → EventsFit r false m → EventsFit (reading_continued r event) false m
+continued_fits r event m is held fit = grind (arith, common_steps)
 
 -- what is heard and is no confirm ends the hold
 released_held : (m : Events) → (events_after_release m).held ≡ false

@@ -24,30 +24,30 @@ use Rattle.iol_mode.specs.Stands.{StateStands, operate_link}
 use Rattle.iol_mode.specs.States.{InDown, StateFits}
 use Rattle.iol_mode.specs.declared.why.Why.TheVariants.{Lost}
 use Rattle.iol_app.specs.declared.mode.Mode.TheVariants.{Down as ModeDown, Operate as ModeOperate}
-use Rattle.iol_app.specs.declared.said.Said.{Said}
-use Rattle.iol_app.specs.declared.said.Said.TheVariants.{Busy as SaidBusy, Answered, Cut as SaidCut, Reported}
+use Rattle.iol_app.specs.declared.report.Said.{Said}
+use Rattle.iol_app.specs.declared.report.Said.TheVariants.{Busy as SaidBusy, Answered, Cut as SaidCut, Reported}
 use Rattle.iol_app.specs.Abstract.Steps.{PortStep, Moment, silence_left, repeats_at, doubts_at, Report, WireCall, Exchanged, silence_by, CallFits, is_report}
-use Rattle.iol_app.specs.Abstract.OfDevice.{Hidden, IsOpen, hidden_through, hidden_again, again_steps, told_through, exchange_steps, told_exchanged}
+use Rattle.iol_app.specs.Abstract.OfDevice.{Hidden, IsOpen, hidden_through, hidden_redelivered, redeliver_steps, reported_through, exchange_steps, reported_exchanged}
 use Rattle.iol_app.specs.Abstract.Shown.{MasterFields}
-use Rattle.iol_app.specs.Abstract.OfMaster.{ExchangeResult, Missed, Unconfirmed, Gone, WasBusy, WasAnswered, WasAborted, WasReported, Had, lost_steps, brought_steps, quiet_said, lost_said, is_for_book, book_said, reports_said}
+use Rattle.iol_app.specs.Abstract.OfMaster.{ExchangeResult, Missed, Unconfirmed, Gone, WasBusy, WasAnswered, WasAborted, WasReported, PlainReply, lost_steps, received_steps, quiet_report, lost_report, is_for_book, book_said, reports_said}
 use Rattle.iol_app.specs.Abstract.Shown.{images_of}
 use Rattle.iol_app.specs.BothEnds.{ReadingState, AnswerFits, wants_confirm}
-use Rattle.iol_app.specs.Exchange.{hidden_lost, is_output_told}
+use Rattle.iol_app.specs.Exchange.{hidden_lost, acknowledged_by}
 use Rattle.iol_app.specs.Abstract.Turn.{ImageIsLast, may_bring, IsInOrder}
-use Rattle.iol_app.proofs.Given.{Laws, page_locals, page_after, kind_after, level_locals, level_after, level_more, sees_kept, misses_passed}
+use Rattle.iol_app.proofs.AllLaws.{Laws, page_locals, page_after, kind_after, level_locals, level_after, level_more, pulses_stay, misses_passed}
 use Rattle.iol_app.specs.Abstract.Session.{MaySession, session_after}
 use Rattle.iol_app.specs.Abstract.Events.{Frozen, MayFrozen, frozen_after}
 use Rattle.iol_app.specs.Abstract.Images.{Images, MayImages, images_after}
 use Rattle.iol_app.proofs.Parts.{runs-append}
-use Rattle.iol_app.proofs.OwnSession.{SessionRuns, MayAgain, exchange_session, again_session}
-use Rattle.iol_app.proofs.FrozenPart.{FrozenRuns, exchange_frozen, again_frozen}
-use Rattle.iol_app.proofs.PastPart.{NoneWaits, exchange_past, again_past, brought_past}
+use Rattle.iol_app.proofs.OwnSession.{SessionRuns, MayRedeliver, exchange_session, redeliver_session}
+use Rattle.iol_app.proofs.FrozenPart.{FrozenRuns, exchange_frozen, redeliver_frozen}
+use Rattle.iol_app.proofs.PastPart.{NoneWaits, exchange_past, redeliver_past, received_past}
 use Rattle.iol_app.specs.Abstract.Past.{MayPast, past_after}
-use Rattle.iol_app.proofs.ImagesPart.{ImagesRuns, OutputsSent, exchange_images, again_images}
-use Rattle.iol_app.specs.Ends.{OutputTold, EventsTold, output_for, SentSeen}
-use Rattle.iol_app.proofs.OpenLevel.{lost_opens, IsTied, tied_locals, again_late, carried_after}
-use Rattle.iol_app.proofs.Aside.{exchange_aside, again_aside}
-use Rattle.iol_app.proofs.Told.{told_locals, told_exchange, confirms_told}
+use Rattle.iol_app.proofs.ImagesPart.{ImagesRuns, OutputsSent, exchange_images, redeliver_images}
+use Rattle.iol_app.specs.Ends.{OutputFits, EventsReported, output_for, SentFits}
+use Rattle.iol_app.proofs.OpenLevel.{lost_opens, IsTied, tied_locals, redeliver_late, carried_after}
+use Rattle.iol_app.proofs.Aside.{exchange_aside, redeliver_aside}
+use Rattle.iol_app.proofs.ReportedFacts.{reported_locals, reported_exchange, confirms_reported}
 use Rattle.iol_app.proofs.FirstOctet.{confirms_of}
 use Rattle.iol_app.proofs.Shown.{shown_as}
 use Rattle.iol_app.specs.declared.request.Current.{Current}
@@ -58,7 +58,7 @@ use Rattle.iol_app.specs.Moves.{progress_of, move_for, confirms_events}
 use Rattle.iol_octets.specs.declared.control.Channel.TheVariants.{Diagnosis}
 use Rattle.iol_app.specs.Messages.{head_of, head_for, write_of, question, check}
 use Rattle.iol_app.specs.EventReading.{new_event_work}
-use Rattle.iol_app.proofs.Effects.{untold_of, none_rests}
+use Rattle.iol_app.proofs.Effects.{unreported_of, none_rests}
 use Rattle.iol_app.specs.State.{SessionState, IsSession, doubts, checks_by, missed_by}
 use Rattle.iol_app.specs.StationState.{SessionFits, mode_in}
 use Rattle.iol_app.proofs.OperateMessages.{exchange_confirms}
@@ -66,8 +66,8 @@ use Rattle.iol_app.proofs.SmallFacts.{confirms_is, more_silence, same_carried}
 use Rattle.iol_app.proofs.Sessions.{question_parts, check_parts}
 use Rattle.iol_app.proofs.Doubts.{missed_request_by}
 use Rattle.iol_app.proofs.Missing.{stays, busy_missed, checks_confirm, confirm_vain, check_vain, confirm_stays, replaced, check_out}
-use Rattle.iol_app.proofs.Telling.{told_layout}
-use Rattle.iol_app.specs.Core.{CoreState, Ghost, OfRequest, OfEvents, seen_in, shown_in, frozen_in, images_in}
+use Rattle.iol_app.proofs.PageReads.{read_layout}
+use Rattle.iol_app.specs.Core.{CoreState, Ghost, OfRequest, OfEvents, fields_in, shown_in, frozen_in, images_in}
 use Rattle.iol_app.specs.CoreStands.{BothEndsStand, work_of, vain_by, RequestStands, EventsStand, OutputStands, CalmAt, ShownStands, reading_in}
 use Rattle.iol_app.specs.CoreGives.{CallGives, ordered_by, moment_of}
 use Rattle.iol_app.specs.CoreTurns.{after_missed, core_out, settled_core}
@@ -92,33 +92,35 @@ no_repeats devices hands_over size = grind (arith, common_steps)
 
 -- what is said of what an exchange brings
 abbrev pub Says : ExchangeResult → Option Request → Said → Type 0
-Says Missed request said = said ≡ quiet_said request
-Says Unconfirmed request said = said ≡ quiet_said request
-Says Gone request said = said ≡ lost_said request
-Says WasBusy request said = said ≡ SaidBusy
-Says (WasAnswered answer) request said = said ≡ Answered answer
-Says (WasAborted cause) request said = said ≡ SaidCut cause
-Says (WasReported events) request said = said ≡ Reported events
-Says Had request said = said ≡ quiet_said request
-Says kind request said = ⊥
+Says Missed request report = report ≡ quiet_report request
+Says Unconfirmed request report = report ≡ quiet_report request
+Says Gone request report = report ≡ lost_report request
+Says WasBusy request report = report ≡ SaidBusy
+Says (WasAnswered answer) request report = report ≡ Answered answer
+Says (WasAborted cause) request report = report ≡ SaidCut cause
+Says (WasReported events) request report = report ≡ Reported events
+Says PlainReply request report = report ≡ quiet_report request
+Says kind request report = ⊥
 
-said_of : (kind : ExchangeResult) (request : Option Request) (said : Said) → Says kind request said
-    → (filter is_for_book (brought_steps kind request) ≡ book_said said)
-    × (filter is_report (brought_steps kind request) ≡ reports_said said)
-said_of kind request said says = grind (arith, common_steps)
+report_of : (kind : ExchangeResult) (request : Option Request) (report : Said)
+    → Says kind request report
+    → (filter is_for_book (received_steps kind request) ≡ book_said report)
+    × (filter is_report (received_steps kind request) ≡ reports_said report)
+report_of kind request report says = grind (arith, common_steps)
 
 -- a loss, with a request under way or none
-lost_parts : (m : Moment) (f : List Event) (told : Bool) (i : Images) (r : Option Request)
-    → FrozenRuns f told (lost_steps r) f told
+lost_parts : (m : Moment) (f : List Event) (reported : Bool) (i : Images) (r : Option Request)
+    → FrozenRuns f reported (lost_steps r) f reported
     × ImagesRuns m i (lost_steps r) (record i { image = None })
-lost_parts m f told i r = grind (arith, common_steps)
+lost_parts m f reported i r = grind (arith, common_steps)
 
-lost_session : (m : Moment) (seen : MasterFields) (h : Hidden) (c : List Carried)
-    → seen.mode ≡ ModeOperate → 3 ≤ silence_left m
-    → SessionRuns m seen h c (lost_steps seen.request)
-    (record seen { request = None; mode = ModeDown; why = Some Lost }) (hidden_lost seen.request h)
+lost_session : (m : Moment) (fields : MasterFields) (h : Hidden) (c : List Carried)
+    → fields.mode ≡ ModeOperate → 3 ≤ silence_left m
+    → SessionRuns m fields h c (lost_steps fields.request)
+    (record fields { request = None; mode = ModeDown; why = Some Lost })
+    (hidden_lost fields.request h)
     c
-lost_session m seen h c runs third = grind (arith, common_steps)
+lost_session m fields h c runs third = grind (arith, common_steps)
 
 lost_brings : (r : Option Request)
     → IsTrue (may_bring ModeOperate (Exchanged false) (lost_steps r))
@@ -129,7 +131,7 @@ lost_brings r = grind (arith, common_steps)
 pub record Words : Type 0 where
   pub o : List ℕ
   pub passed : Far
-  pub told : Bool
+  pub reported : Bool
   pub R : ReadingState
   pub devices : Devices
   pub trust : Recalls
@@ -154,14 +156,14 @@ pub record RequestWords : Type 0 where
   pub vain : ℕ
 
 -- what is said to be reported was frozen, and not reported yet
-abbrev pub SaidWasFrozen : Said → Option Frozen → Type 0
-SaidWasFrozen said f = (events : List Event) → reports_said said ≡ Report events ∷ []
-    → f ≡ Some (record { events = events; told = false })
+abbrev pub ReportWasFrozen : Said → Option Frozen → Type 0
+ReportWasFrozen report f = (events : List Event) → reports_said report ≡ Report events ∷ []
+    → f ≡ Some (record { events = events; reported = false })
 
-quiet_frozen : (r : Option Request) (f : Option Frozen) → SaidWasFrozen (quiet_said r) f
+quiet_frozen : (r : Option Request) (f : Option Frozen) → ReportWasFrozen (quiet_report r) f
 quiet_frozen r f events k = grind (arith, common_steps)
 
-lost_frozen : (r : Option Request) (f : Option Frozen) → SaidWasFrozen (lost_said r) f
+lost_frozen : (r : Option Request) (f : Option Frozen) → ReportWasFrozen (lost_report r) f
 lost_frozen r f events k = grind (arith, common_steps)
 
 -- an exchange under way: the message out, and the far end's own steps before it
@@ -184,7 +186,7 @@ module _ (turn : Turn) (passage : Passage) where
       record {
         o = o;
         passed = far_after passage (locals far steps) o;
-        told = told_exchanged far steps passage o g.events.told;
+        reported = reported_exchanged far steps passage o g.events.reported;
         R = reading_in t.events g.events;
         devices = t.configuration.devices;
         trust = trusted_recalls t.configuration.devices g.kind.recalls;
@@ -200,13 +202,13 @@ module _ (turn : Turn) (passage : Passage) where
           c = core_out layouts w t e current;
           request = request;
           own = own;
-          hidden = hidden_again request words.passed.isdu own;
+          hidden = hidden_redelivered request words.passed.isdu own;
           xs = exchange_steps request far steps passage words.o;
-          back = again_steps request words.passed.isdu own;
+          back = redeliver_steps request words.passed.isdu own;
           what = move_for e current;
           repeats = repeats_at words.devices g.kind.hands_over layouts.run.od
               (move_for e current);
-          progress = progress_of words.devices t.clear current;
+          progress = progress_of words.devices t.idle current;
           vain = vain_by words.devices e current w.tries;
         }
 
@@ -217,10 +219,10 @@ module _ (turn : Turn) (passage : Passage) where
     pub record Passes : Type 0 where
       pub opens : IsOpen passed.isdu request hidden
       -- the answer is taken back only where the device may carry the request out again
-      pub again : MayAgain (λ r. repeats_at devices g.kind.hands_over
+      pub repeat : MayRedeliver (λ r. repeats_at devices g.kind.hands_over
           (layout_in g.page FarOperate).od (Begin r)) request passed.isdu own
-      pub kept : repeats ≡ false → hidden ≡ own
-      pub outputs : OutputTold g.sent (output_for e ≡ None) t.output.told passed
+      pub unchanged : repeats ≡ false → hidden ≡ own
+      pub outputs : OutputFits g.sent (output_for e ≡ None) t.output.acknowledged passed
       pub sends : OutputsSent g.sent (locals far steps) o
       pub none : NoneWaits far.events
 
@@ -228,14 +230,15 @@ module _ (turn : Turn) (passage : Passage) (e : Purpose) (current : Option Curre
     (stands : BothEndsStand (core_out turn.layouts turn.w turn.t e current) turn.g turn.far
     turn.n) where
   open turn use {laws, layouts, w, t, g, far, n, steps}
-  open (words turn passage) use {o, passed, told, R, devices, doubts as in_doubt}
+  open (words turn passage) use {o, passed, reported, R, devices, doubts as in_doubt}
   open (request_words turn passage e current) use {c, request, own as h, hidden as h', xs, back}
   open (request_words turn passage e current) use {repeats, progress, vain}
   open stands use {request as up}
 
   -- the far end's part, that of the level by the request's own fields
   pub at : layout_in g.page FarOperate ≡ layouts.run
-  at = told_layout g.page FarOperate layouts (ap layouts_of (sym stands.page) ∙ stands.link.told)
+  at = read_layout g.page FarOperate layouts
+      (ap layouts_of (sym stands.page) ∙ stands.link.read_from)
 
   pub some_od : 1 ≤ layouts.run.od
   some_od = subst (λ (l : Shape). 1 ≤ l.od) at (laws.layouts g.page FarOperate).1
@@ -255,7 +258,7 @@ module _ (turn : Turn) (passage : Passage) (e : Purpose) (current : Option Curre
       up.opens (up.late, up.answer)
 
   pub late' : h'.late ≡ None
-  late' = again_late request passed.isdu h ∙ own_tied.0
+  late' = redeliver_late request passed.isdu h ∙ own_tied.0
 
   pub tied' : repeats ≡ false → AnswerFits g.request.base request h passed.carried
   tied' once = rw (carried_after passage (locals far steps) o) (own_tied.1 once)
@@ -268,63 +271,64 @@ module _ (turn : Turn) (passage : Passage) (e : Purpose) (current : Option Curre
   due : octets_confirm o ≡ true → wants_confirm R ≡ true
   due k = up.out.confirm (confirms_is e (sym confirms ∙ k))
 
-  told_before : EventsTold R (octets_confirm o) far g.events.told
-  told_before = rw confirms stands.events
+  reported_before : EventsReported R (octets_confirm o) far g.events.reported
+  reported_before = rw confirms stands.events
 
-  pub told' : EventsTold R (octets_confirm o) passed told
-  told' = told_exchange laws.events o R due steps passage far g.events.told told_before
+  pub reported' : EventsReported R (octets_confirm o) passed reported
+  reported' = reported_exchange laws.events o R due steps passage far g.events.reported
+      reported_before
 
   abbrev pub ended : OfRequest → OfEvents → Ghost
   ended of_request of_events =
       record g { request = of_request; events = of_events }
 
   -- what an outcome has to bring
-  pub record Ends (said : Said) (call : WireCall) (next : CoreState) (of_request : OfRequest)
+  pub record Ends (report : Said) (call : WireCall) (next : CoreState) (of_request : OfRequest)
       (of_events : OfEvents) (kind : ExchangeResult) : Type 0 where
     pub terms : (next.session.limit ≡ t.limit)
         × (next.session.configuration ≡ t.configuration)
-    pub session : SessionRuns (moment_of c g n call) (seen_in c g) h' passed.carried
-        (brought_steps kind request) (seen_in next (ended of_request of_events))
+    pub session : SessionRuns (moment_of c g n call) (fields_in c g) h' passed.carried
+        (received_steps kind request) (fields_in next (ended of_request of_events))
         of_request.hidden passed.carried
-    pub frozen : FrozenRuns passed.events.frozen told (brought_steps kind request)
-        passed.events.frozen of_events.told
+    pub frozen : FrozenRuns passed.events.frozen reported (received_steps kind request)
+        passed.events.frozen of_events.reported
     pub images : ImagesRuns (moment_of c g n call) (images_of (shown_in t g.sent) passed)
-        (brought_steps kind request) (images_in next (ended of_request of_events) passed)
-    pub says : Says kind request said
-    pub was_frozen : SaidWasFrozen said (frozen_in g far)
-    pub brings : IsTrue (may_bring ModeOperate call (brought_steps kind request))
+        (received_steps kind request) (images_in next (ended of_request of_events) passed)
+    pub says : Says kind request report
+    pub was_frozen : ReportWasFrozen report (frozen_in g far)
+    pub brings : IsTrue (may_bring ModeOperate call (received_steps kind request))
     pub last : ImageIsLast (moment_of c g n call) (mode_in next.state) (images_in c g far)
         (images_in next (ended of_request of_events) passed)
     pub wanted : silence_by call n ≡ 0
-        → output_of passed ≡ ordered_by (is_output_told (output_for e) t.output.told)
+        → output_of passed ≡ ordered_by (acknowledged_by (output_for e) t.output.acknowledged)
         w.message.out.items
     pub request_is : RequestStands next.state (work_of next.session) next.session.events
         (ended of_request of_events) passed
     pub events : EventsStand next.state next.session.exchange next.session.events
         of_events passed
-    pub output : OutputStands next.state next.session.exchange next.session.output.told
+    pub output : OutputStands next.state next.session.exchange next.session.output.acknowledged
         g.sent passed
-    pub sent : SentSeen next.session.layout next.session.output.carried.items g.sent
+    pub sent : SentFits next.session.layout next.session.output.carried.items g.sent
     pub shown : ShownStands next g.page
 
   module _ (p : Passes turn passage e current) where
-    pub gives : {far' : Far} {n' : ℕ} {said : Said} {call : WireCall} {next : CoreState}
+    pub gives : {far' : Far} {n' : ℕ} {report : Said} {call : WireCall} {next : CoreState}
         {of_request : OfRequest} {of_events : OfEvents} {kind : ExchangeResult} → far' ≡ passed
-        → Ends said call next of_request of_events kind → AnswersAwake call passed
+        → Ends report call next of_request of_events kind → AnswersAwake call passed
         → CallFits ModeOperate call
         → n' ≡ silence_by call n → StateStands next.state n' far' → StateFits next.state
         → SessionFits next.state next.session → CalmAt next.state n'
-        → CallGives c g far n said next far' n'
-    gives {n'} {said} {call} {next} {of_request} {of_events} {kind} far_is b answers fits silent
+        → CallGives c g far n report next far' n'
+    gives {n'} {report} {call} {next} {of_request} {of_events} {kind} far_is b answers fits silent
         link
         state_fits joined calm =
-        let ys : List PortStep = brought_steps kind request in
-        let said_is = said_of kind request said b.says in
+        let ys : List PortStep = received_steps kind request in
+        let report_is = report_of kind request report b.says in
         let m = moment_of c g n call in
-        let again = again_aside request passed.isdu h ys in
+        let repeat = redeliver_aside request passed.isdu h ys in
         let aside = exchange_aside request far steps passage o (back ++ ys) in
         let after : Ghost = ended of_request of_events in
-        subst (λ (f : Far). CallGives c g far n said next f n') (sym far_is) (record {
+        subst (λ (f : Far). CallGives c g far n report next f n') (sym far_is) (record {
           call = call;
           steps = xs ++ (back ++ ys);
           after = after;
@@ -334,27 +338,29 @@ module _ (turn : Turn) (passage : Passage) (e : Purpose) (current : Option Curre
           fits = fits;
           silent = silent;
           terms = (b.terms.0, refl, b.terms.1, refl);
-          said_book = aside.book ∙ again.book ∙ said_is.0;
-          said_reports = aside.reports ∙ again.reports ∙ said_is.1;
+          book_steps_are = aside.book ∙ repeat.book ∙ report_is.0;
+          report_steps_are = aside.reports ∙ repeat.reports ∙ report_is.1;
           was_frozen = λ events k. b.was_frozen events
-              (sym (aside.reports ∙ again.reports ∙ said_is.1) ∙ k);
+              (sym (aside.reports ∙ repeat.reports ∙ report_is.1) ∙ k);
           session = runs-append (MaySession m) session_after _ _ _
-              (exchange_session m (seen_in c g) g.request.hidden far steps passage o up.opens)
+              (exchange_session m (fields_in c g) g.request.hidden far steps passage o up.opens)
               (runs-append (MaySession m) session_after back ys _
-              (again_session m (seen_in c g) h passed.isdu passed.carried p.again) b.session);
+              (redeliver_session m (fields_in c g) h passed.isdu passed.carried p.repeat)
+              b.session);
           frozen = runs-append MayFrozen frozen_after _ _ _
-              (exchange_frozen request far steps passage o g.events.told
-              (confirms_told laws.events o R due (locals far steps)
-              (told_through far steps g.events.told)
-              (told_locals laws.events R (octets_confirm o) steps far g.events.told told_before)))
-              (again_frozen request passed.isdu h _ _ _ _ ys b.frozen);
+              (exchange_frozen request far steps passage o g.events.reported
+              (confirms_reported laws.events o R due (locals far steps)
+              (reported_through far steps g.events.reported)
+              (reported_locals laws.events R (octets_confirm o) steps far g.events.reported
+              reported_before)))
+              (redeliver_frozen request passed.isdu h _ _ _ _ ys b.frozen);
           past = runs-append MayPast past_after _ _ _
               (exchange_past request far steps passage o p.none)
-              (again_past request passed.isdu h _ _ ys
-              (brought_past ModeOperate call ys _ b.brings));
+              (redeliver_past request passed.isdu h _ _ ys
+              (received_past ModeOperate call ys _ b.brings));
           images = runs-append (MayImages m) (images_after m) _ _ _
               (exchange_images m request (shown_in t g.sent) far steps passage o p.sends)
-              (again_images m request passed.isdu h _ _ ys b.images);
+              (redeliver_images m request passed.isdu h _ _ ys b.images);
           awake = answers;
           image_is_last = b.last;
           output_is_wanted = λ k. b.wanted k.2;
@@ -362,8 +368,8 @@ module _ (turn : Turn) (passage : Passage) (e : Purpose) (current : Option Curre
             page = page_after laws passage (locals far steps) o ∙ page_locals laws steps far
                 ∙ stands.page;
             kind = kind_after laws passage (locals far steps) o
-                ∙ laws.much.kind_kept far steps ∙ stands.kind;
-            sees = rw b.terms.1 (sees_kept t.configuration.devices far passed
+                ∙ laws.much.kind_stays far steps ∙ stands.kind;
+            sees = rw b.terms.1 (pulses_stay t.configuration.devices far passed
                 (misses_passed laws.much passage steps far o) stands.sees);
             fits = state_fits;
             link = rw far_is at link;
@@ -383,41 +389,41 @@ module _ (turn : Turn) (passage : Passage) (e : Purpose) (current : Option Curre
     unheard = record g.request { hidden = h' }
 
     abbrev pub away : OfEvents
-    away = record g.events { told = told }
+    away = record g.events { reported = reported }
 
     -- nothing counts as reported
     abbrev pub unreported : OfEvents
-    unreported = record g.events { told = false }
+    unreported = record g.events { reported = false }
 
     -- what is left of it
-    abbrev pub again : Sending
-    again = record { message = w.message; tries = w.tries + 1 }
+    abbrev pub repeat : Sending
+    repeat = record { message = w.message; tries = w.tries + 1 }
 
     abbrev carried : List ℕ
     carried = t.output.carried.items
 
     -- the message out stays so, or a question goes out in place of a request's
     abbrev pub missed_core : CoreState
-    missed_core = core_out layouts (record again {
+    missed_core = core_out layouts (record repeat {
       message = if doubts c.session then question carried else w.message;
     }) t e (missed_by t.configuration.devices (Some e) current)
 
     pub missed_is : checks_by t.configuration.devices (Some e) ≡ false
-        → missed_core ≡ after_missed (core_out layouts again t e current)
+        → missed_core ≡ after_missed (core_out layouts repeat t e current)
     missed_is other = rw other refl
 
     -- or a check goes out in that of a confirm
     abbrev pub checked_core : CoreState
-    checked_core = core_out layouts (record again { message = check carried })
+    checked_core = core_out layouts (record repeat { message = check carried })
         (record t { events = new_event_work }) CheckEvents current
 
     pub checked_is : checks_by t.configuration.devices (Some e) ≡ true
-        → checked_core ≡ after_missed (core_out layouts again t e current)
+        → checked_core ≡ after_missed (core_out layouts repeat t e current)
     checked_is is = rw is refl
 
     module _ (heard : TextsAreHeard) (valid : IsSession c.session) where
       layout_is : t.layout ≡ Some layouts.run
-      layout_is = stands.joined.told.0
+      layout_is = stands.joined.has_layouts.0
 
       parts : HasMasterParts layouts.run (question carried)
       parts = rw layout_is at (question_parts t.layout t.output valid.output)
@@ -454,14 +460,14 @@ module _ (turn : Turn) (passage : Passage) (e : Purpose) (current : Option Curre
               answer = λ once.
                   let still = repeats_missed devices g.kind.hands_over layouts.run.od e current
                   once in
-                  rw same_request (rw (p.kept still) (tied' still));
+                  rw same_request (rw (p.unchanged still) (tied' still));
               busy = busy_missed devices in_doubt t.limit e current g.request.busy g.request.asked
                   up.busy;
               known = rw same_request up.known;
             }
 
-        pub misses : {said : Said} → said ≡ quiet_said request
-            → Ends said (Exchanged false) missed_core unheard away Missed
+        pub misses : {report : Said} → report ≡ quiet_report request
+            → Ends report (Exchanged false) missed_core unheard away Missed
         misses says = record {
           terms = (refl, refl);
           session = (tt, rw same_request refl);
@@ -473,7 +479,7 @@ module _ (turn : Turn) (passage : Passage) (e : Purpose) (current : Option Curre
           last = ((λ k. absurd (more_silence n k.1)), (λ k. absurd (k refl)), (λ k l. refl));
           wanted = λ k. absurd (more_silence n k);
           request_is = request_out;
-          events = rw confirms at told';
+          events = rw confirms at reported';
           output = p.outputs;
           sent = stands.sent;
           shown = shown_as stands.shown (λ k. absurd (k refl)) refl stands.shown.present
@@ -542,18 +548,18 @@ module _ (turn : Turn) (passage : Passage) (e : Purpose) (current : Option Curre
           in_operate = λ k. refl;
           level = check_level;
           out = check_out laws heard layouts operate_link w R t g at some_od parts carries passed
-              devices e current (w.tries + 1) checked_parts is up.out.again;
-          answer = λ once. rw (p.kept unrepeated) (tied' unrepeated);
+              devices e current (w.tries + 1) checked_parts is up.out.repeat;
+          answer = λ once. rw (p.unchanged unrepeated) (tied' unrepeated);
           busy = up.busy;
           known = up.known;
         }
 
-        pub unconfirms : {said : Said} → said ≡ quiet_said request
-            → Ends said (Exchanged false) checked_core unheard unreported Unconfirmed
+        pub unconfirms : {report : Said} → report ≡ quiet_report request
+            → Ends report (Exchanged false) checked_core unheard unreported Unconfirmed
         unconfirms says = record {
           terms = (refl, refl);
           session = (((any, refl, refl), tt), refl);
-          frozen = ((tt, tt), untold_of passed.events.frozen told);
+          frozen = ((tt, tt), unreported_of passed.events.frozen reported);
           images = ((tt, tt), refl);
           says = says;
           was_frozen = rw says (quiet_frozen request (frozen_in g far));
@@ -562,22 +568,24 @@ module _ (turn : Turn) (passage : Passage) (e : Purpose) (current : Option Curre
           wanted = λ k. absurd (more_silence n k);
           request_is = check_request;
           events = ((λ k. tt), none_rests passed.awake);
-          output = subst (λ (x : Purpose). OutputTold g.sent (output_for x ≡ None) t.output.told
+          output = subst (λ (x : Purpose). OutputFits g.sent (output_for x ≡ None)
+              t.output.acknowledged
               passed) confirms_out p.outputs;
           sent = stands.sent;
           shown = shown_as stands.shown (λ k. absurd (k refl)) refl stands.shown.present refl;
         }
 
-    pub loses : {said : Said} → said ≡ lost_said request → 3 ≤ min 3 (n + 1)
-        → Ends said (Exchanged false) (settled_core (InDown (record { why = Some Lost }))
+    pub loses : {report : Said} → report ≡ lost_report request → 3 ≤ min 3 (n + 1)
+        → Ends report (Exchanged false) (settled_core (InDown (record { why = Some Lost }))
         c.session) (record g.request { hidden = hidden_lost request h' }) away Gone
     loses says third =
         let m = moment_of c g n (Exchanged false) in
-        let parts = lost_parts m passed.events.frozen told (images_of (shown_in t g.sent) passed)
+        let parts = lost_parts m passed.events.frozen reported
+        (images_of (shown_in t g.sent) passed)
         request in
         record {
           terms = (refl, refl);
-          session = lost_session m (seen_in c g) h' passed.carried refl third;
+          session = lost_session m (fields_in c g) h' passed.carried refl third;
           frozen = parts.0;
           images = parts.1;
           says = says;

@@ -24,38 +24,38 @@ use Rattle.iol_app.specs.declared.mode.Mode.{Mode}
 use Rattle.iol_app.specs.declared.mode.Mode.TheVariants.{Operate}
 use Rattle.iol_app.specs.Abstract.Steps.{ImageOctets}
 use Rattle.iol_app.specs.BothEnds.{far_mode, output_by, AnswerFits, ProgressFits}
-use Rattle.iol_app.specs.Exchange.{is_output_told}
+use Rattle.iol_app.specs.Exchange.{acknowledged_by}
 use Rattle.iol_isdu.specs.declared.values.Request.{Request}
-use Rattle.iol_app.specs.Abstract.OfDevice.{Hidden, IsOpen, hidden_again}
-use Rattle.iol_app.proofs.OpenLevel.{replied_opens, open_again}
+use Rattle.iol_app.specs.Abstract.OfDevice.{Hidden, IsOpen, hidden_redelivered}
+use Rattle.iol_app.proofs.OpenLevel.{replied_opens, open_redelivered}
 use Rattle.iol_app.proofs.Moves.{begins_idle}
-use Rattle.iol_app.proofs.Given.{Laws, level_locals, page_locals, sized_locals}
+use Rattle.iol_app.proofs.AllLaws.{Laws, level_locals, page_locals, sized_locals}
 use Rattle.iol_app.proofs.Accepted.{accepted_as}
 use Rattle.iol_app.proofs.ImagesPart.{OutputsSent}
-use Rattle.iol_app.specs.Ends.{OutputTold}
+use Rattle.iol_app.specs.Ends.{OutputFits}
 
 -- in OPERATE the octets heard are the output
 out_is : (mode : device.DeviceMode) (old new : List ℕ) → mode ≡ FarOperate
     → out_after mode old new ≡ new
-out_is mode old new given = grind (arith, common_steps)
+out_is mode old new holds = grind (arith, common_steps)
 
 -- the mode that a command waits for, where none waits for its own, finds no valid output
-moved_told : (at into : device.DeviceMode) (valid told : Bool) → is_mode at into ≡ false
-    → into ≡ FarOperate → (valid ≡ true → at ≡ FarOperate) → valid ≡ told → false ≡ told
-moved_told at into valid told elsewhere up given same = grind (arith, common_steps)
+moved_acknowledged : (at into : device.DeviceMode) (valid acked : Bool) → is_mode at into ≡ false
+    → into ≡ FarOperate → (valid ≡ true → at ≡ FarOperate) → valid ≡ acked → false ≡ acked
+moved_acknowledged at into valid acked elsewhere up holds same = grind (arith, common_steps)
 
 -- a message that is worked leaves the output valid in OPERATE alone, as told, and the image sent
-output_worked : (mode : Mode) (at : device.DeviceMode) (valid told : Bool)
+output_worked : (mode : Mode) (at : device.DeviceMode) (valid acked : Bool)
     (command : Option MasterCommand) (old items : List ℕ) (sent : Option ImageOctets)
     → at ≡ far_mode mode → (valid ≡ true → (at ≡ FarOperate) × IsSome sent)
-    → (output_by mode command ≡ None → valid ≡ told)
+    → (output_by mode command ≡ None → valid ≡ acked)
     → (mode ≡ Operate → IfSome sent (λ image. items ≡ image))
     → (output_by mode command ≡ Some true → IsSome sent)
     → (valid_after at valid command ≡ true → (at ≡ FarOperate) × IsSome sent)
-    × (valid_after at valid command ≡ is_output_told (output_by mode command) told)
+    × (valid_after at valid command ≡ acknowledged_by (output_by mode command) acked)
     × IfSome (if valid_after at valid command && nat_lt 0 (length (out_after at old items))
     then Some (out_after at old items) else None) (λ x. sent ≡ Some x)
-output_worked mode at valid told command old items sent same before as_told carries tells =
+output_worked mode at valid acked command old items sent same before as_reported carries tells =
     grind (arith, common_steps)
 
 waits_stay : (mode : device.DeviceMode) (waits : Option WaitingCommand) (octets : List ℕ)
@@ -79,7 +79,7 @@ pub record Goes : Type 0 where
   pub vain : ℕ
   pub mode : Mode
   pub sent : Option ImageOctets
-  pub told : Bool
+  pub acked : Bool
 
 pub record IsGoing (x : Goes) : Type 0 where
   pub sent_at : IsSent x.page x.run.od x.link x.progress x.o x.message x.what
@@ -88,10 +88,10 @@ pub record IsGoing (x : Goes) : Type 0 where
   pub layout : layout_in x.page (far_mode x.mode) ≡ x.run
   pub carries : x.mode ≡ Operate → IfSome x.sent (λ image. x.message.out.items ≡ image)
   pub tells : output_by x.mode (command_in x.message) ≡ Some true → IsSome x.sent
-  pub starting : x.mode ≢ Operate → x.told ≡ false
+  pub starting : x.mode ≢ Operate → x.acked ≡ false
 
 module _ (laws : Laws) (going : Goes) (sending : IsGoing going) where
-  open going use {page, kind, run, base, link, progress, o, message, what, vain, mode, sent, told}
+  open going use {page, kind, run, base, link, progress, o, message, what, vain, mode, sent, acked}
 
   -- both ends are level
   abbrev pub Level : Far → Type 0
@@ -101,7 +101,7 @@ module _ (laws : Laws) (going : Goes) (sending : IsGoing going) where
   command = output_by mode (command_in message)
 
   abbrev pub OutputsAt : Far → Type 0
-  OutputsAt far = OutputTold sent (command ≡ None) told far
+  OutputsAt far = OutputFits sent (command ≡ None) acked far
 
   some : 1 ≤ run.od
   some = rw sending.layout at (laws.layouts page (far_mode mode)).1
@@ -144,7 +144,7 @@ module _ (laws : Laws) (going : Goes) (sending : IsGoing going) where
         let sized : IsSized g = laws.sized.hears here o
         (sized_locals laws h.steps from h.regular.sized) in
         let read = rw same at (laws.reads g message sized) in
-        let came = rw (sending.at_mode, sending.layout) at says.reply_is in
+        let received = rw (sending.at_mode, sending.layout) at says.reply_is in
         let octets : reply ≡ reply_octets (reply_to g run message) = cc in
         rw octets read
 
@@ -245,8 +245,8 @@ module _ (laws : Laws) (going : Goes) (sending : IsGoing going) where
           )) there message e at
         where
           by_mode : (x : Mode) → mode ≡ x → g.awake ≡ true → (c : WaitingCommand)
-              → g.waits ≡ Some c → c.into ≡ far_mode mode → command ≡ None → false ≡ told
-          by_mode Operate is awake c q at none = moved_told g.mode c.into g.valid told
+              → g.waits ≡ Some c → c.into ≡ far_mode mode → command ≡ None → false ≡ acked
+          by_mode Operate is awake c q at none = moved_acknowledged g.mode c.into g.valid acked
               (rw q at h.2) (at ∙ ap far_mode is) (λ v. (h.0 awake v).0) (h.1 awake none)
           by_mode other is awake c q at none =
               sym (sending.starting (λ op. let z : other ≡ Operate = sym is ∙ op in absurd (cc)))
@@ -254,11 +254,11 @@ module _ (laws : Laws) (going : Goes) (sending : IsGoing going) where
       worked_now : (there : Far) → accepted_message g o ≡ Some (there, message)
           → there.mode ≡ far_mode mode → there.awake ≡ true
           → OutputsAt (far_after_message there o message)
-          × ((far_after_message there o message).valid ≡ is_output_told command told)
+          × ((far_after_message there o message).valid ≡ acknowledged_by command acked)
           × IfSome (output_of (far_after_message there o message)) (λ x. sent ≡ Some x)
       worked_now there e at awake =
           let before = there_outputs there at e in
-          let k = output_worked mode there.mode there.valid told (command_in message) there.out
+          let k = output_worked mode there.mode there.valid acked (command_in message) there.out
           message.out.items sent at (before.0 awake) (before.1 awake) sending.carries
           sending.tells in
           let waits = waits_stay there.mode there.waits o
@@ -275,9 +275,10 @@ module _ (laws : Laws) (going : Goes) (sending : IsGoing going) where
           (λ t k at awake. (worked_now t k at awake).0)
 
       -- with a reply the output is as told then
-      pub replied_told : (reply : List ℕ) → (hear g o).reply ≡ Some reply
-          → (hear g o).far.valid ≡ is_output_told command told
-      replied_told reply e = replied_by (λ f. f.valid ≡ is_output_told command told) reply e
+      pub replied_acknowledged : (reply : List ℕ) → (hear g o).reply ≡ Some reply
+          → (hear g o).far.valid ≡ acknowledged_by command acked
+      replied_acknowledged reply e = replied_by (λ f. f.valid ≡ acknowledged_by command acked)
+          reply e
           (λ t k at awake. (worked_now t k at awake).1)
 
   pub outputs_after : (passage : Passage) (g : Far) → g.page ≡ page
@@ -293,7 +294,7 @@ module _ (laws : Laws) (going : Goes) (sending : IsGoing going) where
       (before : IsOpen g.isdu request h) where
     -- with the answer that it had taken back; and as it is, where no request is handed over again
     abbrev OpensAs : IsduState → Type 0
-    OpensAs state = IsOpen state request (hidden_again request state h)
+    OpensAs state = IsOpen state request (hidden_redelivered request state h)
         × (IsOutOnce kind.hands_over run.od what (suc vain)
         → AnswerFits base request h (hear g o).far.carried → IsOpen state request h)
 
@@ -301,7 +302,7 @@ module _ (laws : Laws) (going : Goes) (sending : IsGoing going) where
     begins_from q k = (begins q k, begins_idle sending.sent_at q k)
 
     opens_still : OpensAs g.isdu
-    opens_still = ((open_again g.isdu request h before).0, λ once answer. before)
+    opens_still = ((open_redelivered g.isdu request h before).0, λ once answer. before)
 
     opens_heard : (q : Option (Far × MasterMsg)) → accepted_message g o ≡ q
         → OpensAs (heard_as g o q).far.isdu

@@ -14,7 +14,7 @@ use Rattle.iol_app.specs.Abstract.Steps.{PortStep, ImageOctets, CallFits, Moment
 use Rattle.iol_app.specs.declared.mode.Mode.TheVariants.{Down}
 use Rattle.iol_app.specs.Abstract.Images.{Images, images_after, MayImages}
 use Rattle.iol_app.proofs.Parts.{runs-append, own_runs}
-use Rattle.iol_app.specs.Abstract.OfDevice.{Hidden, again_steps, carry_steps, own_step, own_steps, worked_steps, heard_steps_as, heard_steps, passed_steps, exchange_steps, wake_steps}
+use Rattle.iol_app.specs.Abstract.OfDevice.{Hidden, redeliver_steps, carry_steps, own_step, own_steps, worked_steps, heard_steps_as, heard_steps, passed_steps, exchange_steps, wake_steps}
 use Rattle.iol_app.specs.Abstract.Shown.{ShownProcessData, images_of}
 use Rattle.iol_app.proofs.Accepted.{by_accepted}
 use Rattle.iol_app.proofs.OwnSession.{woken_if}
@@ -102,7 +102,7 @@ wake_images m s far steps wakes woken = runs-append (MayImages m) (images_after 
     (own_images m None s steps far) (grind (arith, common_steps))
 
 -- nor an image's
-pub again_images : (m : Moment) (request : Option Request) (state : IsduState) (h : Hidden)
+pub redeliver_images : (m : Moment) (request : Option Request) (state : IsduState) (h : Hidden)
     (i i' : Images) (ys : List PortStep) → ImagesRuns m i ys i'
-    → ImagesRuns m i (again_steps request state h ++ ys) i'
-again_images m request state h i i' ys k = grind (arith, common_steps)
+    → ImagesRuns m i (redeliver_steps request state h ++ ys) i'
+redeliver_images m request state h i i' ys k = grind (arith, common_steps)

@@ -43,10 +43,10 @@ more_follow size laws text holds (suc i) e =
     (more_follow size laws text holds i (open_before (segments_up_to size text i) _ e)) e
 
 -- a joiner takes the next segment, whatever its octets
-pub taken_next : (size had : ℕ) (j : Joining) (od : List ℕ) → IsJoining size had j
-    → join_step j (Count ((had + 1) % 16)) od
-    ≡ stage_step (Some (suc had % 16)) (j.text ++ od) (stage (j.text ++ od))
-taken_next size had j od h = grind (arith, common_steps)
+pub taken_next : (size last : ℕ) (j : Joining) (od : List ℕ) → IsJoining size last j
+    → join_step j (Count ((last + 1) % 16)) od
+    ≡ stage_step (Some (suc last % 16)) (j.text ++ od) (stage (j.text ++ od))
+taken_next size last j od h = grind (arith, common_steps)
 
 -- what becomes of a request goes on as one, of the same cut
 abbrev pub StaysCurrent : Cutting Request → ReplyEffect → Type 0
@@ -65,32 +65,32 @@ module _ (current : Current) (h : IsCurrent current) where
   finished_stays text fault = grind (arith, common_steps)
 
   -- a segment of this number was taken
-  pub joined_stays : (had : ℕ) (octets : List ℕ) (at : Stage) → stage octets ≡ at
-      → length octets ≡ suc had * cutter.size
-      → let t : JoinStep = stage_step (count_at had) octets at in
-      StaysCurrent cutter (effect_of_segment had t.took t.joining current)
-  joined_stays had octets at e size = grind (arith, common_steps, finished_stays, refused_stays)
+  pub joined_stays : (last : ℕ) (octets : List ℕ) (at : Stage) → stage octets ≡ at
+      → length octets ≡ suc last * cutter.size
+      → let t : JoinStep = stage_step (count_at last) octets at in
+      StaysCurrent cutter (effect_of_segment last t.took t.joining current)
+  joined_stays last octets at e size = grind (arith, common_steps, finished_stays, refused_stays)
 
   -- the reply to a COUNT read, with the next segment
-  pub received_stays : (again : Bool) (j : Joining) (had : ℕ) (od : List ℕ)
-      → IsJoining cutter.size had j → length od ≡ cutter.size
-      → StaysCurrent cutter (effect_of_count_read again j (had + 1) od current)
-  received_stays again j had od joining size =
-      elim (again && forgotten_by t.took od) as
+  pub received_stays : (repeat : Bool) (j : Joining) (last : ℕ) (od : List ℕ)
+      → IsJoining cutter.size last j → length od ≡ cutter.size
+      → StaysCurrent cutter (effect_of_count_read repeat j (last + 1) od current)
+  received_stays repeat j last od joining size =
+      elim (repeat && forgotten_by t.took od) as
       (λ b. StaysCurrent cutter (if b then GoesOn (current_after_refusal current)
-      else effect_of_segment (had + 1) t.took t.joining current))
+      else effect_of_segment (last + 1) t.took t.joining current))
       [ true ↦ refused_stays | false ↦ next ]
     where
       t : JoinStep
-      t = join_step j (Count ((had + 1) % 16)) od
+      t = join_step j (Count ((last + 1) % 16)) od
 
-      next : StaysCurrent cutter (effect_of_segment (had + 1) t.took t.joining current)
+      next : StaysCurrent cutter (effect_of_segment (last + 1) t.took t.joining current)
       next =
           let all = length-append j.text od in
-          let before : length j.text ≡ suc had * cutter.size = joining.size_of in
-          let long : length (j.text ++ od) ≡ suc (suc had) * cutter.size = omega arith in
-          rw (taken_next cutter.size had j od joining, add-one had)
-          (joined_stays (suc had) (j.text ++ od) (stage (j.text ++ od)) refl long)
+          let before : length j.text ≡ suc last * cutter.size = joining.size_of in
+          let long : length (j.text ++ od) ≡ suc (suc last) * cutter.size = omega arith in
+          rw (taken_next cutter.size last j od joining, add-one last)
+          (joined_stays (suc last) (j.text ++ od) (stage (j.text ++ od)) refl long)
 
 -- what becomes of a request is the same, whatever it was about before
 finished_at : (current : Current) (p : RequestProgress) (text : List ℕ) (fault : Option IsduFault)
@@ -99,21 +99,21 @@ finished_at : (current : Current) (p : RequestProgress) (text : List ℕ) (fault
 finished_at current p text None = refl
 finished_at current p text (Some fault) = refl
 
-pub joined_at : (current : Current) (p : RequestProgress) (had : ℕ) (took : Result Took JoinFault)
-    (joining : Joining) → effect_of_segment had took joining (record current { progress = p })
-    ≡ effect_of_segment had took joining current
-joined_at current p had (Err fault) joining = refl
-joined_at current p had (Ok Whole) joining = finished_at current p joining.text _
-joined_at current p had (Ok More) joining = refl
-joined_at current p had (Ok Repeat) joining = refl
+pub joined_at : (current : Current) (p : RequestProgress) (last : ℕ) (took : Result Took JoinFault)
+    (joining : Joining) → effect_of_segment last took joining (record current { progress = p })
+    ≡ effect_of_segment last took joining current
+joined_at current p last (Err fault) joining = refl
+joined_at current p last (Ok Whole) joining = finished_at current p joining.text _
+joined_at current p last (Ok More) joining = refl
+joined_at current p last (Ok Repeat) joining = refl
 
-pub joined_then : (cutter : Cutting Request) (again : Bool) (abort : Option Cause)
+pub joined_then : (cutter : Cutting Request) (repeat : Bool) (abort : Option Cause)
     (p : RequestProgress)
-    (had : ℕ) (took : Result Took JoinFault) (joining : Joining)
-    → effect_of_segment had took joining
-    (record { cutter = cutter; progress = p; again = again; abort = abort })
-    ≡ effect_of_segment had took joining
-    (record { cutter = cutter; progress = Refused; again = again; abort = abort })
-joined_then cutter again abort p had took joining = sym (joined_at
-    (record { cutter = cutter; progress = p; again = again; abort = abort }) Refused had took
+    (last : ℕ) (took : Result Took JoinFault) (joining : Joining)
+    → effect_of_segment last took joining
+    (record { cutter = cutter; progress = p; repeat = repeat; abort = abort })
+    ≡ effect_of_segment last took joining
+    (record { cutter = cutter; progress = Refused; repeat = repeat; abort = abort })
+joined_then cutter repeat abort p last took joining = sym (joined_at
+    (record { cutter = cutter; progress = p; repeat = repeat; abort = abort }) Refused last took
     joining)

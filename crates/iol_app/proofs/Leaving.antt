@@ -17,7 +17,7 @@ use Rattle.iol_far.specs.Level.{FarLink}
 use Rattle.iol_far.specs.Linked.{TextsAreHeard, IsAt}
 use Rattle.iol_far.specs.Laws.{IsSized, confirms as octets_confirm}
 use Rattle.iol_far.specs.Orderly.{IsOrderly, IsToPage, OrderlyLaws}
-use Rattle.iol_link.specs.declared.handler.Attempt.TheVariants.{Again, Lost as WasLost}
+use Rattle.iol_link.specs.declared.handler.Attempt.TheVariants.{Retry, Lost as WasLost}
 use Rattle.iol_link.specs.Attempts.{good_reply}
 use Rattle.iol_link.specs.Honest.{Passage, OutLost, IsUnread, HonestExchange, far_after}
 use Rattle.iol_mode.specs.declared.configuration.Devices.{Devices}
@@ -33,13 +33,13 @@ use Rattle.iol_mode.specs.States.{NextMode, InStartup, NextModeFits, StartupFits
 use Rattle.iol_mode.specs.Turns.{IsRisen}
 use Rattle.iol_mode.specs.Exchanges.{text_out, mode_after_reply}
 use Rattle.iol_app.specs.declared.mode.Mode.TheVariants.{Startup as ModeStartup, Operate as ModeOperate}
-use Rattle.iol_app.specs.declared.said.Said.TheVariants.{Idle}
+use Rattle.iol_app.specs.declared.report.Said.TheVariants.{Idle}
 use Rattle.iol_app.specs.Abstract.Steps.{PortStep, Reset, Exchanged, silence_by}
 use Rattle.iol_app.specs.Abstract.Session.{MayReset}
 use Rattle.iol_app.specs.Abstract.OfDevice.{Hidden}
-use Rattle.iol_app.proofs.Given.{Laws, sized_locals}
+use Rattle.iol_app.proofs.AllLaws.{Laws, sized_locals}
 use Rattle.iol_app.proofs.Orderly.{orderly_locals, alike_sent}
-use Rattle.iol_app.proofs.Effects.{Effect, Ends, untold_effect, opens_passed, untold_of, gives, loses}
+use Rattle.iol_app.proofs.Effects.{Effect, Ends, unreported_effect, opens_passed, unreported_of, gives, loses}
 use Rattle.iol_app.proofs.Shown.{shown_as}
 use Rattle.iol_app.proofs.FirstOctet.{confirms_of}
 use Rattle.iol_app.proofs.StartMessages.{step_channel, page_confirms}
@@ -64,10 +64,10 @@ is_valid_not : (v : Bool) → (v ≡ true → FarStartup ≡ FarOperate) → v �
 is_valid_not v h = grind (arith, common_steps)
 
 module _ (laws : Laws) (leaves : OrderlyLaws) (heard : TextsAreHeard) (s : Startup)
-    (t : SessionState) (g : Ghost) (far far' : Far) (n n' : ℕ) (came : Option (List ℕ))
+    (t : SessionState) (g : Ghost) (far far' : Far) (n n' : ℕ) (received : Option (List ℕ))
     (b : is_behind s.step ≡ false)
     (stands : BothEndsStand (record { state = AtStartup s; session = t }) g far n)
-    (x : HonestExchange far n (text_out (AtStartup s)) came far' n') where
+    (x : HonestExchange far n (text_out (AtStartup s)) received far' n') where
   abbrev c : CoreState
   c = record { state = AtStartup s; session = t }
 
@@ -106,7 +106,7 @@ module _ (laws : Laws) (leaves : OrderlyLaws) (heard : TextsAreHeard) (s : Start
   nothing = ap request_under_way stands.joined.0.0
 
   abbrev effect : Effect c g far passed n n'
-  effect = untold_effect c g far laws nothing stands.request.1
+  effect = unreported_effect c g far laws nothing stands.request.1
       (none_waits far.events x.regular.memory) x.steps n n' x.passage o
       x.silence_is unconfirmed
       (opens_passed g.request.hidden far x.steps x.passage o
@@ -140,11 +140,11 @@ module _ (laws : Laws) (leaves : OrderlyLaws) (heard : TextsAreHeard) (s : Start
       (sym alike.message_is) ∙ reads) in
       let k : None ≡ Some answer = sym bad ∙ here in cc
 
-  missed : good_reply startup_shape message came ≡ None → n' ≡ min 3 (n + 1)
+  missed : good_reply startup_shape message received ≡ None → n' ≡ min 3 (n + 1)
   missed bad = grind (arith, common_steps, answers)
 
-  had : (r : Reply) → good_reply startup_shape message came ≡ Some r → n' ≡ 0
-  had r good = grind (arith, common_steps, unread)
+  takes_reply : (r : Reply) → good_reply startup_shape message received ≡ Some r → n' ≡ 0
+  takes_reply r good = grind (arith, common_steps, unread)
 
   -- The outcomes
 
@@ -219,7 +219,7 @@ module _ (laws : Laws) (leaves : OrderlyLaws) (heard : TextsAreHeard) (s : Start
         reports = refl;
         book = rw b refl;
         session = ((may_reset t.configuration.devices (stands.request.3 b), tt), rw nothing refl);
-        frozen = ((tt, tt), untold_of passed.events.frozen effect.told);
+        frozen = ((tt, tt), unreported_of passed.events.frozen effect.reported);
         images = ((tt, tt), rw none refl);
         image = no_image;
         left = record {
@@ -233,7 +233,7 @@ module _ (laws : Laws) (leaves : OrderlyLaws) (heard : TextsAreHeard) (s : Start
           output = (
             stands.output.0,
             λ _. record {
-              untold = stands.output.0;
+              unacknowledged = stands.output.0;
               off = λ a. off;
               waits = rw (ap (λ (l : FarLink). l.waits) at.link_is) tt;
             },
@@ -250,7 +250,7 @@ module _ (laws : Laws) (leaves : OrderlyLaws) (heard : TextsAreHeard) (s : Start
   by_tries : (two : Bool) → (s.sent.tries == 2) ≡ two → n' ≡ min 3 (n + 1)
       → let outcome : NextMode = startup_by t.configuration
       (record { message = message; tries = if two then 0 else s.sent.tries + 1 }) s.step
-      (if two then WasLost else Again) in
+      (if two then WasLost else Retry) in
       IsRisen (is_behind s.step) outcome n' far far' → NextModeFits outcome → Gives outcome
   by_tries true two silence risen fits =
       loses c g far passed n n' effect stands below (Exchanged false) Lost nothing refl
@@ -267,15 +267,15 @@ module _ (laws : Laws) (leaves : OrderlyLaws) (heard : TextsAreHeard) (s : Start
       (rw x.far_is at (risen.both.met refl)) (rw x.far_is at risen.both.stands) fits
   by_step other before r silence risen fits = absurd (cc)
 
-  by_reply : (q : Option Reply) → good_reply startup_shape message came ≡ q
+  by_reply : (q : Option Reply) → good_reply startup_shape message received ≡ q
       → let outcome : NextMode = startup_turned t.configuration s q in
       IsRisen (is_behind s.step) outcome n' far far' → NextModeFits outcome → Gives outcome
   by_reply None bad = by_tries (s.sent.tries == 2) refl (missed bad)
-  by_reply (Some r) good = by_step s.step b r (had r good)
+  by_reply (Some r) good = by_step s.step b r (takes_reply r good)
 
   pub leaving_rises : let outcome : NextMode =
-      mode_after_reply t.configuration (AtStartup s) came in
+      mode_after_reply t.configuration (AtStartup s) received in
       IsRisen (is_behind s.step) outcome n' far far' → NextModeFits outcome
       → CallGives c g far n Idle (settled_core outcome t) far' n'
   leaving_rises risen fits =
-      rw x.far_is (by_reply (good_reply startup_shape message came) refl risen fits)
+      rw x.far_is (by_reply (good_reply startup_shape message received) refl risen fits)

@@ -8,10 +8,10 @@ pub mod FrozenPart
 pub mod PastPart
 pub mod ImagesPart
 pub mod Aside
-pub mod Told
+pub mod ReportedFacts
 pub mod OpenLevel
 pub mod Orders
-pub mod Given
+pub mod AllLaws
 pub mod Outputs
 pub mod EventReading
 pub mod Moves
@@ -26,7 +26,7 @@ pub mod Turns
 pub mod Settling
 pub mod Doubts
 pub mod StartMessages
-pub mod Telling
+pub mod PageReads
 pub mod DueFacts
 pub mod OperateMessages
 pub mod Reporting
@@ -42,7 +42,7 @@ pub mod FarSide
 pub mod ReadingOn
 pub mod Missing
 pub mod Exchanging
-pub mod Had
+pub mod GoodReplies
 pub mod CaseFacts
 pub mod Cases
 pub mod Receiving

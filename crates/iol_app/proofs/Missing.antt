@@ -14,7 +14,7 @@ use Rattle.iol_mseq.specs.declared.master.MasterMsg.{MasterMsg}
 use Rattle.iol_page.specs.declared.page.Layouts.{Layouts}
 use Rattle.iol_isdu.specs.declared.values.Request.{Request}
 use Rattle.iol_isdu.specs.Texts.{request_text}
-use Rattle.iol_segment.specs.Cut.{last_given}
+use Rattle.iol_segment.specs.Cut.{last_issued}
 use Rattle.iol_far.specs.declared.carried.Carried.{Carried}
 use Rattle.iol_far.specs.declared.kind.Kind.{Kind}
 use Rattle.iol_far.specs.declared.kind.HandsOver.{HandsOver}
@@ -25,7 +25,7 @@ use Rattle.iol_far.specs.Far.{Far, accepted_message, hear, heard_as}
 use Rattle.iol_far.specs.Local.{local}
 use Rattle.iol_far.specs.declared.kind.Recalls.TheVariants.{UntilSent}
 use Rattle.iol_link.specs.Honest.{Passage, OutLost, far_after}
-use Rattle.iol_far.specs.Level.{Progress, Clear, Perhaps, Ask, Other, FarLink, accepting_link, turned_link, hands_whole, IsMove, IsSent, IsLevelBefore, Happening, Own, Hears, far_after_all, hearings, IsLevel, IsOutOnce}
+use Rattle.iol_far.specs.Level.{Progress, NoneHeld, Perhaps, Ask, Other, FarLink, accepting_link, turned_link, hands_whole, IsMove, IsSent, IsLevelBefore, Happening, Own, Hears, far_after_all, hearings, IsLevel, IsOutOnce}
 use Rattle.iol_far.specs.Linked.{TextsAreHeard}
 use Rattle.iol_link.specs.Attempts.{Sending}
 use Rattle.iol_mode.specs.declared.configuration.Devices.{Devices}
@@ -40,39 +40,39 @@ use Rattle.iol_app.specs.declared.session.Purpose.TheVariants.{ReadEvent, Confir
 use Rattle.iol_app.specs.Messages.{Head, head_of, write_of, question, check}
 use Rattle.iol_app.specs.Requests.{text_of, is_over, IsCurrent}
 use Rattle.iol_app.specs.Moves.{progress_of, move_for}
-use Rattle.iol_app.specs.Ends.{BusySeen, OperateLink}
+use Rattle.iol_app.specs.Ends.{BusyFits, OperateLink}
 use Rattle.iol_app.specs.State.{SessionState, doubts_by, checks_by, missed_by}
 use Rattle.iol_app.specs.Core.{Ghost}
-use Rattle.iol_app.specs.CoreStands.{Work, vain_by, AgainBy, OutStands}
-use Rattle.iol_app.proofs.Given.{Laws, level_more}
+use Rattle.iol_app.specs.CoreStands.{Work, vain_by, RepeatBy, OutStands}
+use Rattle.iol_app.proofs.AllLaws.{Laws, level_more}
 
 -- The request, where the message goes out again as it was
-record SentAgain (d : Devices) (e : Purpose) (current : Option Current) : Type 0 where
-  pub progress : (clear : Bool) → progress_of d clear (missed_by d (Some e) current)
-      ≡ progress_of d clear current
+record IsResent (d : Devices) (e : Purpose) (current : Option Current) : Type 0 where
+  pub progress : (idle : Bool) → progress_of d idle (missed_by d (Some e) current)
+      ≡ progress_of d idle current
   pub move : move_for e (missed_by d (Some e) current) ≡ move_for e current
   pub vain : (tries : ℕ) → suc (vain_by d e current tries)
       ≤ vain_by d e (missed_by d (Some e) current) (tries + 1)
-  pub noted : (tries : ℕ) → IfSome current (AgainBy d e tries)
-      → IfSome (missed_by d (Some e) current) (AgainBy d e (tries + 1))
+  pub noted : (tries : ℕ) → IfSome current (RepeatBy d e tries)
+      → IfSome (missed_by d (Some e) current) (RepeatBy d e (tries + 1))
   pub goes_on : IfSome current (λ c. is_over c.progress ≡ false)
       → IfSome (missed_by d (Some e) current) (λ c. is_over c.progress ≡ false)
 
 sent_as_was : (d : Devices) (e : Purpose) (current : Option Current)
-    → checks_by d (Some e) ≡ false → doubts_by d (Some e) current ≡ false → SentAgain d e current
+    → checks_by d (Some e) ≡ false → doubts_by d (Some e) current ≡ false → IsResent d e current
 sent_as_was d e current other sure = grind (arith, common_steps)
 
 -- busy replies were counted as before
 pub busy_missed : (d : Devices) (doubts : Bool) (limit : ℕ) (e : Purpose)
     (current : Option Current) (busy : ℕ) (asked : Bool)
-    → BusySeen doubts limit current busy asked
-    → BusySeen doubts limit (missed_by d (Some e) current) busy asked
+    → BusyFits doubts limit current busy asked
+    → BusyFits doubts limit (missed_by d (Some e) current) busy asked
 busy_missed d doubts limit e current busy asked h = grind (arith, common_steps)
 
 -- a segment that hands a request over is the whole text, so that it doesn't go out again
-first_given : (size : ℕ) (text : List ℕ) (given : ℕ) (piece : ArrayVec ℕ)
-    → last_given size text given ≡ Some (Start, piece) → given ≡ 1
-first_given size text given piece e = grind (arith, nat_tests, common_steps)
+first_issued : (size : ℕ) (text : List ℕ) (issued : ℕ) (piece : ArrayVec ℕ)
+    → last_issued size text issued ≡ Some (Start, piece) → issued ≡ 1
+first_issued size text issued piece e = grind (arith, nat_tests, common_steps)
 
 none_handed : (kind : Kind) (size : ℕ) (e : Purpose) (current : Option Current)
     → IfSome current IsCurrent → IfSome current (λ c. c.cutter.size ≡ size)
@@ -106,10 +106,10 @@ pub check_vain : (d : Devices) (current : Option Current) (tries : ℕ)
     → vain_by d CheckEvents current tries ≡ tries
 check_vain d current tries = grind (arith, common_steps)
 
-check_again : (d : Devices) (e : Purpose) (current : Option Current) (tries more : ℕ)
-    → checks_by d (Some e) ≡ true → IfSome current (AgainBy d e tries)
-    → IfSome current (AgainBy d CheckEvents more)
-check_again d e current tries more is h = grind (arith, common_steps)
+check_repeat : (d : Devices) (e : Purpose) (current : Option Current) (tries more : ℕ)
+    → checks_by d (Some e) ≡ true → IfSome current (RepeatBy d e tries)
+    → IfSome current (RepeatBy d CheckEvents more)
+check_repeat d e current tries more is h = grind (arith, common_steps)
 
 check_moves : (size : ℕ) (p : Progress) (out : List ℕ)
     → IsMove size Other p (check out).mc.channel (check out).mc.read
@@ -169,13 +169,13 @@ module _ (laws : Laws) (page : List ℕ) (kind : Kind) (size : ℕ) (some : 1 �
   replaced OutLost far h = still_level far h
   replaced passage far h = heard_level far h
 
-clear_link : (layouts : Layouts) (link : FarLink) → OperateLink layouts Clear link
+idle_link : (layouts : Layouts) (link : FarLink) → OperateLink layouts NoneHeld link
     → link ≡ operate_link
-clear_link layouts link linked = grind (arith, common_steps)
+idle_link layouts link linked = grind (arith, common_steps)
 
-short_text : (given size : ℕ) (text : List ℕ) → given ≡ 1
-    → not (nat_lt (given * size) (length text)) ≡ true → length text ≤ size
-short_text given size text one whole = grind (arith, nat_tests, common_steps)
+short_text : (issued size : ℕ) (text : List ℕ) → issued ≡ 1
+    → not (nat_lt (issued * size) (length text)) ≡ true → length text ≤ size
+short_text issued size text one whole = grind (arith, nat_tests, common_steps)
 
 module _ (laws : Laws) (heard : TextsAreHeard) (layouts : Layouts) (link : FarLink) (w : Sending)
     (R : ReadingState) (t : SessionState) (g : Ghost)
@@ -185,7 +185,7 @@ module _ (laws : Laws) (heard : TextsAreHeard) (layouts : Layouts) (link : FarLi
     (carries : IfSome g.sent (λ image. t.output.carried.items ≡ image)) (far : Far) where
   open layouts use {run}
   open g use {page, kind, sent}
-  open t use {clear}
+  open t use {idle}
 
   abbrev base : List Carried
   base = g.request.base
@@ -196,7 +196,7 @@ module _ (laws : Laws) (heard : TextsAreHeard) (layouts : Layouts) (link : FarLi
   abbrev work : Devices → Purpose → Option Current → Work
   work d e current = record {
     devices = d;
-    clear = clear;
+    idle = idle;
     limit = t.limit;
     current = current;
     exchange = Some e;
@@ -208,10 +208,10 @@ module _ (laws : Laws) (heard : TextsAreHeard) (layouts : Layouts) (link : FarLi
   -- both ends stand with this message out
   pub record Stays (d : Devices) (e : Purpose) (current : Option Current)
       (m : MasterMsg) : Type 0 where
-    pub level : LevelAt (progress_of d clear current) m (vain_by d e current (w.tries + 1))
+    pub level : LevelAt (progress_of d idle current) m (vain_by d e current (w.tries + 1))
     pub out : OutStands layouts (record { message = m; tries = w.tries + 1 }) e
         (work d e current) R page kind link sent
-    pub linked : OperateLink layouts (progress_of d clear current) link
+    pub linked : OperateLink layouts (progress_of d idle current) link
 
   -- so they do where a message stood out that brought no good reply, in doubt or not
   abbrev Leaves : Bool → MasterMsg → Devices → Purpose → Option Current → Type 0
@@ -219,26 +219,26 @@ module _ (laws : Laws) (heard : TextsAreHeard) (layouts : Layouts) (link : FarLi
       → IfSome current (λ c. c.cutter.size ≡ run.od) → checks_by d (Some e) ≡ false
       → doubts_by d (Some e) current ≡ doubted
       → OutStands layouts w e (work d e current) R page kind link sent
-      → OperateLink layouts (progress_of d clear current) link
-      → LevelAt (progress_of d clear current) w.message (suc (vain_by d e current w.tries))
+      → OperateLink layouts (progress_of d idle current) link
+      → LevelAt (progress_of d idle current) w.message (suc (vain_by d e current w.tries))
       → Stays d e (missed_by d (Some e) current) m
 
-  sent_again : (d : Devices) (e : Purpose) (current : Option Current)
+  resent : (d : Devices) (e : Purpose) (current : Option Current)
       → Leaves false w.message d e current
-  sent_again d e current valid same other sure out linked level =
+  resent d e current valid same other sure out linked level =
       let is = sent_as_was d e current other sure in
       let next : Option Current = missed_by d (Some e) current in
-      let goes = rw (← is.progress clear, ← is.move) at out.goes in
+      let goes = rw (← is.progress idle, ← is.move) at out.goes in
       let once : d ≡ Any → IsOutOnce kind.hands_over run.od (move_for e next)
       (suc (vain_by d e next (w.tries + 1))) = λ any hands.
       let none = none_handed kind run.od e current valid same (rw any at sure) in
       absurd (false≢true (sym none ∙ (rw is.move at hands))) in
       let goes_on = λ (k : e ≡ NextMessage). is.goes_on (out.goes_on k) in
       record {
-        level = rw (is.progress clear) (level_more laws page kind run.od some base link _ _ _ _ far
+        level = rw (is.progress idle) (level_more laws page kind run.od some base link _ _ _ _ far
             (is.vain w.tries) level);
-        out = assumption (goes, once, is.noted w.tries out.again, goes_on);
-        linked = rw (is.progress clear) linked;
+        out = assumption (goes, once, is.noted w.tries out.repeat, goes_on);
+        linked = rw (is.progress idle) linked;
       }
 
   -- the one segment of a request was out: it is asked for
@@ -247,11 +247,11 @@ module _ (laws : Laws) (heard : TextsAreHeard) (layouts : Layouts) (link : FarLi
   by_cursor c (Cut Start piece) valid same confirms whole out linked level =
       let asked : MasterMsg = question carried in
       let r : Request = c.cutter.source in
-      let one : c.cutter.given ≡ 1 =
-      first_given c.cutter.size (text_of c.cutter) c.cutter.given piece valid.progress in
-      let link_is : link ≡ operate_link = clear_link layouts link (rw one at linked) in
+      let one : c.cutter.issued ≡ 1 =
+      first_issued c.cutter.size (text_of c.cutter) c.cutter.issued piece valid.progress in
+      let link_is : link ≡ operate_link = idle_link layouts link (rw one at linked) in
       let short : length (request_text r) ≤ run.od =
-      rw same at (short_text c.cutter.given c.cutter.size (request_text r) one whole) in
+      rw same at (short_text c.cutter.issued c.cutter.size (request_text r) one whole) in
       let layout : layout_in page (accepting_link link (master_text run asked)).mode ≡ run =
       rw link_is there in
       rw whole (record {
@@ -268,7 +268,7 @@ module _ (laws : Laws) (heard : TextsAreHeard) (layouts : Layouts) (link : FarLi
             idle = rw link_is tt;
           };
           once = λ any hands. absurd (asks_whole kind.hands_over run.od hands);
-          again = λ k. absurd (false≢true k);
+          repeat = λ k. absurd (false≢true k);
           goes_on = λ k. refl;
           confirm = λ k. absurd (let z : Path Purpose NextMessage ConfirmEvents = k in cc);
           reads = λ k. absurd (let z : Path Purpose NextMessage ReadEvent = k in cc);
@@ -290,20 +290,20 @@ module _ (laws : Laws) (heard : TextsAreHeard) (layouts : Layouts) (link : FarLi
   -- the check that is out from now on
   pub check_out : (d : Devices) (e : Purpose) (current : Option Current) (tries : ℕ)
       → HasMasterParts layouts.run (check carried) → checks_by d (Some e) ≡ true
-      → IfSome current (AgainBy d e w.tries)
+      → IfSome current (RepeatBy d e w.tries)
       → OutStands layouts (record { message = check carried; tries = tries }) CheckEvents
       (work d CheckEvents current) Resting page kind operate_link sent
-  check_out d e current tries has is again = record {
+  check_out d e current tries has is repeat = record {
     mode = refl;
     goes = record {
       spells = rw there (heard run (check carried) has);
       size_of = rw there refl;
-      move = check_moves run.od (progress_of d clear current) carried;
+      move = check_moves run.od (progress_of d idle current) carried;
       begins = tt;
       idle = tt;
     };
     once = λ any hands. absurd (others_whole kind.hands_over run.od hands);
-    again = check_again d e current w.tries tries is again;
+    repeat = check_repeat d e current w.tries tries is repeat;
     goes_on = λ k. absurd (let z : Path Purpose CheckEvents NextMessage = k in cc);
     confirm = λ k. absurd (let z : Path Purpose CheckEvents ConfirmEvents = k in cc);
     reads = λ k. absurd (let z : Path Purpose CheckEvents ReadEvent = k in cc);
@@ -314,4 +314,4 @@ module _ (laws : Laws) (heard : TextsAreHeard) (layouts : Layouts) (link : FarLi
   pub stays : (doubted : Bool) (d : Devices) (e : Purpose) (current : Option Current)
       → Leaves doubted (if doubted then question carried else w.message) d e current
   stays true d e current = asked_for d e current
-  stays false d e current = sent_again d e current
+  stays false d e current = resent d e current

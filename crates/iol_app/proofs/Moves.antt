@@ -10,7 +10,7 @@ use Rattle.iol_far.specs.declared.carried.Carried.{Carried}
 use Rattle.iol_far.specs.declared.kind.Recalls.{Recalls}
 use Rattle.iol_far.specs.Isdu.{fits, answer_text_to, isdu_data, IsduState, Answered}
 use Rattle.iol_far.specs.Far.{Far, data_of}
-use Rattle.iol_far.specs.Level.{Progress, Had as IsHad, Move, Begin, Ask, Next, Leave, FarLink, after, IsSent, base_after, IsIdle, IsGrown, Perhaps, Written, Busy as IsBusy, Unsure, Stands as FarStands, progress_after_ask, progress_after_doubt, may_be_none}
+use Rattle.iol_far.specs.Level.{Progress, Received as IsReceived, Move, Begin, Ask, Next, Leave, FarLink, after, IsSent, base_after, IsIdle, IsGrown, Perhaps, Written, Busy as IsBusy, Unsure, Stands as FarStands, progress_after_ask, progress_after_doubt, may_be_none}
 use Rattle.iol_far.specs.declared.kind.HandsOver.{HandsOver}
 use Rattle.iol_mode.specs.declared.configuration.Devices.{Devices}
 use Rattle.iol_app.specs.Abstract.Steps.{repeats_at}
@@ -21,8 +21,8 @@ use Rattle.std.proofs.lemmas.List.{append_cancel_right}
 use Rattle.iol_segment.specs.Cut.{segment}
 
 -- the octets that the reply to a message brings
-abbrev pub data_had : ℕ → MasterMsg → Far → List ℕ
-data_had size m far = if m.mc.read then data_of far size m.mc.channel m.mc.address else []
+abbrev pub data_received : ℕ → MasterMsg → Far → List ℕ
+data_received size m far = if m.mc.read then data_of far size m.mc.channel m.mc.address else []
 
 -- only reads of the answer bring the request on by what they bring
 same_after : (trust : Recalls) (vain : ℕ) (p : Progress) (what : Move) (x y : List ℕ)
@@ -32,13 +32,14 @@ same_after trust vain p what x y same = grind (arith, common_steps)
 module _ {page : List ℕ} {size : ℕ} {link : FarLink} {p : Progress} {o : List ℕ} {m : MasterMsg}
     {what : Move} (sent : IsSent page size link p o m what) where
   -- and they bring what the device's ISDU sends
-  pub answers_data : (far : Far) → ReadsAnswer what → data_had size m far ≡ isdu_data size far.isdu
+  pub answers_data : (far : Far) → ReadsAnswer what
+      → data_received size m far ≡ isdu_data size far.isdu
   answers_data far asks = grind (arith, common_steps, sent.move)
 
   pub data_after : (trust : Recalls) (vain : ℕ) (far : Far)
-      → after trust vain p what (data_had size m far)
+      → after trust vain p what (data_received size m far)
       ≡ after trust vain p what (isdu_data size far.isdu)
-  data_after trust vain far = same_after trust vain p what (data_had size m far)
+  data_after trust vain far = same_after trust vain p what (data_received size m far)
       (isdu_data size far.isdu) (answers_data far)
 
   -- a request is begun where none is under way, and an answer asked for where one is
@@ -47,7 +48,7 @@ module _ {page : List ℕ} {size : ℕ} {link : FarLink} {p : Progress} {o : Lis
 
 -- a COUNT read wants a segment that each answer has whose text begins with the octets so far
 pub next_wants : {page : List ℕ} {size : ℕ} {link : FarLink} {r : Request} {i : ℕ} {t o : List ℕ}
-    {m : MasterMsg} → IsSent page size link (IsHad r i t) o m Next → (a : Answer)
+    {m : MasterMsg} → IsSent page size link (IsReceived r i t) o m Next → (a : Answer)
     → IsTrue (fits r a) → t ≡ segments_up_to size (answer_text_to r a) i
     → suc i * size < length (answer_text_to r a)
 next_wants sent a fitting same = grind (arith, common_steps, sent.move)
@@ -65,7 +66,7 @@ whole_begins devices hands_over size what whole = grind (arith, common_steps)
 -- the base stays while the answer is read
 pub answers_base : (what : Move) (base carried : List Carried) → ReadsAnswer what
     → base_after what base carried ≡ base
-answers_base what base carried given = grind (arith, common_steps)
+answers_base what base carried holds = grind (arith, common_steps)
 
 -- and the record is the base still, or again
 pub answer_after : (what : Move) (base carried : List Carried) (request : Option Request)
@@ -78,7 +79,7 @@ answer_after what base carried request h leaves begins answer = grind (arith, co
 
 -- where these octets are the last segment had of an answer, it has octets of its text
 abbrev HasText : ℕ → List ℕ → Progress → Type 0
-HasText size data_in (IsHad r i octets) = (a : Answer) → IsTrue (fits r a)
+HasText size data_in (IsReceived r i octets) = (a : Answer) → IsTrue (fits r a)
     → octets ≡ segments_up_to size (answer_text_to r a) i
     → data_in ≡ segment size (answer_text_to r a) i
     → i * size < length (answer_text_to r a)
@@ -101,7 +102,7 @@ wondered_text vain size q data_in = grind (arith, common_steps, first_text)
 next_text : (size : ℕ) (q : Request) (i : ℕ) (t data_in : List ℕ)
     → ((a : Answer) → IsTrue (fits q a) → t ≡ segments_up_to size (answer_text_to q a) i
     → suc i * size < length (answer_text_to q a))
-    → HasText size data_in (IsHad q (suc i) (t ++ data_in))
+    → HasText size data_in (IsReceived q (suc i) (t ++ data_in))
 next_text size q i t data_in wants a fitting whole part = wants a fitting
     (append_cancel_right t (segments_up_to size (answer_text_to q a) i)
     (segment size (answer_text_to q a) (suc i)) (rw part at whole))
@@ -113,9 +114,9 @@ has_text : {page : List ℕ} {size : ℕ} {link : FarLink} {o : List ℕ} {m : M
 has_text {size} trust vain data_in Ask (Perhaps q) k sent = wondered_text vain size q data_in
 has_text {size} trust vain data_in Ask (Written q i) k sent = asked_text trust size q data_in
 has_text {size} trust vain data_in Ask (IsBusy q) k sent = asked_text trust size q data_in
-has_text {size} trust vain data_in Next (IsHad q i t) k sent =
+has_text {size} trust vain data_in Next (IsReceived q i t) k sent =
     elim (may_be_none trust vain t data_in) as (λ b. HasText size data_in
-    (if b then Unsure q else IsHad q (suc i) (t ++ data_in)))
+    (if b then Unsure q else IsReceived q (suc i) (t ++ data_in)))
     [ true ↦ tt | false ↦ next_text size q i t data_in (next_wants sent) ]
 has_text trust vain data_in Ask p k sent = absurd sent.move
 has_text trust vain data_in Next p k sent = absurd sent.move
@@ -124,16 +125,16 @@ has_text trust vain data_in what p k sent = absurd k
 -- they are the segments of an answer to the request, the last of which has octets of its text
 module _ {page : List ℕ} {size : ℕ} {link : FarLink} {p : Progress} {o : List ℕ} {m : MasterMsg}
     {what : Move} (sent : IsSent page size link p o m what) where
-  pub had_text : (trust : Recalls) (vain : ℕ) (hands_over : HandsOver) (base : List Carried)
+  pub text_received : (trust : Recalls) (vain : ℕ) (hands_over : HandsOver) (base : List Carried)
       (r : Request) (i : ℕ) (octets : List ℕ) (s : IsduState) (counted : Option ℕ)
-      (c : List Carried) → FarStands hands_over size base (IsHad r i octets) s counted c
-      → ReadsAnswer what → after trust vain p what (isdu_data size s) ≡ IsHad r i octets
+      (c : List Carried) → FarStands hands_over size base (IsReceived r i octets) s counted c
+      → ReadsAnswer what → after trust vain p what (isdu_data size s) ≡ IsReceived r i octets
       → (a : Answer) × IsTrue (fits r a) × (octets ≡ segments_up_to size (answer_text_to r a) i)
       × (i * size < length (answer_text_to r a))
-  had_text trust vain hands_over base r i octets (Answered q a (Some j)) counted c h k is =
+  text_received trust vain hands_over base r i octets (Answered q a (Some j)) counted c h k is =
       let fitting = rw h.0 at h.1 in
       let data_in = isdu_data size (Answered q a (Some j)) in
       let last : data_in ≡ segment size (answer_text_to r a) i = rw (h.2, h.0) refl in
       let has = rw is at (has_text trust vain data_in what p k sent) in
       (a, fitting, h.3, has a fitting h.3 last)
-  had_text trust vain hands_over base r i octets state counted c h k is = absurd h
+  text_received trust vain hands_over base r i octets state counted c h k is = absurd h

@@ -13,7 +13,7 @@ use Rattle.iol_octets.specs.Flow.{flow_address}
 use Rattle.iol_isdu.specs.declared.values.Request.{Request}
 use Rattle.iol_isdu.specs.Answers.{is_read}
 use Rattle.iol_isdu.specs.Texts.{IsRequest, request_text}
-use Rattle.iol_segment.specs.Cut.{Cutting, pair, segment, flow_at, last_given}
+use Rattle.iol_segment.specs.Cut.{Cutting, pair, segment, flow_at, last_issued}
 use Rattle.iol_segment.specs.Join.{stage}
 use Rattle.iol_segment.specs.TextLaws.{TextLaws}
 use Rattle.iol_far.specs.Codec.{flow_of}
@@ -26,7 +26,7 @@ use Rattle.iol_app.specs.declared.request.Current.{Current}
 use Rattle.iol_app.specs.declared.request.RequestProgress.{RequestProgress}
 use Rattle.iol_app.specs.declared.request.RequestProgress.TheVariants.{Sending, Doubting, Asking, Receiving, Refused}
 use Rattle.iol_app.specs.declared.session.Purpose.TheVariants.{Request as NextMessage}
-use Rattle.iol_app.specs.Requests.{text_of, segment_progress, IsAllGiven, IsJoining, IsCurrent, current_after_segment, one_more_busy, IsUnsent}
+use Rattle.iol_app.specs.Requests.{text_of, segment_progress, IsAllIssued, IsJoining, IsCurrent, current_after_segment, one_more_busy, IsUnsent}
 use Rattle.iol_app.specs.Messages.{Head, progress_head, progress_data, request_head, request_data}
 use Rattle.iol_app.specs.Moves.{progress_at_begin, before_last, asked_for, progress_of, progress_at, segment_move, move_at, request_move, MessagesAreMoves}
 use Rattle.iol_app.specs.Ends.{BusyAt}
@@ -50,9 +50,9 @@ begin_moves : (devices : Devices) (size : ℕ) (request : Request) (octets : Lis
 begin_moves devices size request octets h e = grind (arith, common_steps)
 
 segment_moves : (devices : Devices) (size : ℕ) (request : Request) (flow : Flow)
-    (piece : ArrayVec ℕ) (given : ℕ) → IsRequest request
-    → last_given size (request_text request) given ≡ Some (flow, piece)
-    → IsMove size (segment_move request given) (before_last devices request given) Isdu false
+    (piece : ArrayVec ℕ) (issued : ℕ) → IsRequest request
+    → last_issued size (request_text request) issued ≡ Some (flow, piece)
+    → IsMove size (segment_move request issued) (before_last devices request issued) Isdu false
     (flow_of (flow_address flow)) piece.items
 unfolding flow_of
 segment_moves devices size request flow piece zero h e = cc
@@ -64,7 +64,7 @@ segment_moves devices size request flow piece (suc (suc i)) h e =
     rw (is.flow_is, flow_at_next i, flow_of_count (suc i)) (is.within, refl, is.octets)
 
 asking_moves : (devices : Devices) (cutter : Cutting Request) (busy : ℕ)
-    → IsAllGiven cutter.size (text_of cutter) cutter.given
+    → IsAllIssued cutter.size (text_of cutter) cutter.issued
     → IsMove cutter.size Ask (asked_for devices cutter busy) Isdu true Start []
 asking_moves devices cutter busy h = grind (arith, common_steps)
 
@@ -81,50 +81,50 @@ module _ (fit : AnswersFit) (laws : (size : ℕ) → 1 ≤ size → TextLaws siz
         (progress_at devices cutter p) (progress_head p) (progress_data p)
     unfolding flow_of
     progress_moves (Sending flow piece) e =
-        segment_moves devices size source flow piece cutter.given h.request (rw e at h.progress)
+        segment_moves devices size source flow piece cutter.issued h.request (rw e at h.progress)
     progress_moves Doubting e = tt
     progress_moves (Asking busy) e = asking_moves devices cutter busy (rw e at h.progress)
-    progress_moves (Receiving joining had) e =
-        let joins : IsJoining size had joining = rw e at h.progress in
+    progress_moves (Receiving joining last) e =
+        let joins : IsJoining size last joining = rw e at h.progress in
         let text = laws size h.some in
-        rw (add-one had, flow_of_count (suc had)) (
+        rw (add-one last, flow_of_count (suc last)) (
           refl,
           λ answer fitting same. more_follow size text (answer_text_to source answer)
-              (text.answers (is_read source) answer (fit source answer fitting)) had
+              (text.answers (is_read source) answer (fit source answer fitting)) last
               (ap stage (sym same) ∙ joins.open_text),
         )
     progress_moves Refused e = tt
 
-  request_moves : (size : ℕ) (devices : Devices) (clear : Bool) (current : Option Current)
+  request_moves : (size : ℕ) (devices : Devices) (idle : Bool) (current : Option Current)
       → IfSome current IsCurrent → IfSome current (λ c. c.cutter.size ≡ size)
-      → Moves size (request_move current) (progress_of devices clear current)
+      → Moves size (request_move current) (progress_of devices idle current)
       (request_head current) (request_data current)
   unfolding flow_of
-  request_moves size devices clear current h same = grind (arith, common_steps, progress_moves)
+  request_moves size devices idle current h same = grind (arith, common_steps, progress_moves)
 
   pub messages_are_moves : MessagesAreMoves
   unfolding flow_of
-  messages_are_moves s layout NextMessage h told = request_moves layout.od
-      s.configuration.devices s.clear s.current h.current (rw told at h.size)
-  messages_are_moves s layout other h told = tt
+  messages_are_moves s layout NextMessage h has_layouts = request_moves layout.od
+      s.configuration.devices s.idle s.current h.current (rw has_layouts at h.size)
+  messages_are_moves s layout other h has_layouts = tt
 
 -- A segment of the request was written
 
 -- busy replies are counted from here
 pub sent_busy : (doubts : Bool) (cutter : Cutting Request) (b : Bool) (busy : ℕ) → busy ≡ 0
     → BusyAt doubts (segment_progress
-    (if b then Some (pair cutter.size (text_of cutter) cutter.given) else
+    (if b then Some (pair cutter.size (text_of cutter) cutter.issued) else
     None)) busy
 sent_busy doubts cutter b busy e = grind (arith, common_steps)
 
-pub sent_follows : (trust : Recalls) (vain : ℕ) (devices : Devices) (clear : Bool)
+pub sent_follows : (trust : Recalls) (vain : ℕ) (devices : Devices) (idle : Bool)
     (current : Current) (flow : Flow) (piece : ArrayVec ℕ) (od : List ℕ)
     → let cutter : Cutting Request = current.cutter in
-    last_given cutter.size (text_of cutter) cutter.given ≡ Some (flow, piece)
-    → progress_of devices clear (Some (current_after_segment current))
-    ≡ after trust vain (before_last devices cutter.source cutter.given)
-    (segment_move cutter.source cutter.given) od
-sent_follows trust vain devices clear current flow piece od h = grind (arith, common_steps)
+    last_issued cutter.size (text_of cutter) cutter.issued ≡ Some (flow, piece)
+    → progress_of devices idle (Some (current_after_segment current))
+    ≡ after trust vain (before_last devices cutter.source cutter.issued)
+    (segment_move cutter.source cutter.issued) od
+sent_follows trust vain devices idle current flow piece od h = grind (arith, common_steps)
 
 -- The reply to a START read
 
@@ -133,17 +133,17 @@ pub busy_follows : (devices : Devices) (cutter : Cutting Request) (busy : ℕ)
 busy_follows devices cutter busy = grind (arith, common_steps)
 
 pub asked_after : (trust : Recalls) (vain : ℕ) (devices : Devices) (cutter : Cutting Request)
-    (busy : ℕ) (od : List ℕ) → IsAllGiven cutter.size (text_of cutter) cutter.given
+    (busy : ℕ) (od : List ℕ) → IsAllIssued cutter.size (text_of cutter) cutter.issued
     → after trust vain (asked_for devices cutter busy) Ask od
     ≡ progress_after_ask trust cutter.source od
 asked_after trust vain devices cutter busy od h = grind (arith, common_steps)
 
 -- The reply to any other message
 
-pub unsent_idle : (devices : Devices) (clear : Bool) (current : Option Current)
-    → IsUnsent current → IsIdle (progress_of devices clear current)
-unsent_idle devices clear current h = grind (arith, common_steps)
+pub unsent_idle : (devices : Devices) (idle : Bool) (current : Option Current)
+    → IsUnsent current → IsIdle (progress_of devices idle current)
+unsent_idle devices idle current h = grind (arith, common_steps)
 
 -- with none under way
-pub resting_idle : (devices : Devices) (clear : Bool) → IsIdle (progress_of devices clear None)
-resting_idle devices clear = unsent_idle devices clear None tt
+pub resting_idle : (devices : Devices) (idle : Bool) → IsIdle (progress_of devices idle None)
+resting_idle devices idle = unsent_idle devices idle None tt

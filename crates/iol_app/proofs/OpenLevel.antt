@@ -14,7 +14,7 @@ use Rattle.iol_far.specs.declared.kind.HandsOver.{HandsOver}
 use Rattle.iol_far.specs.declared.kind.Recalls.{Recalls}
 use Rattle.iol_far.specs.Level.{Progress, IsWritten, Stands as FarStands, Move, Begin, Leave, after, base_after, FarLink, IsIdle, IsGrown, IsOutOnce}
 use Rattle.iol_far.specs.Laws.{ReplySays}
-use Rattle.iol_app.specs.Abstract.OfDevice.{Hidden, open_request, IsOpen, hidden_after, hidden_through, hidden_again, again_steps}
+use Rattle.iol_app.specs.Abstract.OfDevice.{Hidden, open_request, IsOpen, hidden_after, hidden_through, hidden_redelivered, redeliver_steps}
 use Rattle.iol_app.specs.BothEnds.{AnswerFits, ProgressFits}
 use Rattle.iol_app.proofs.Accepted.{by_accepted}
 use Rattle.iol_app.proofs.Moves.{idle_base}
@@ -75,18 +75,18 @@ module _ (hands_over : HandsOver) (size : ℕ) (base : List Carried) (p : Progre
   stands_open state request h stands fits answer = tt
 
 -- what is handed once more has no answer any more
-pub again_opens : (request : Option Request) (q : Request) (h : Hidden) → request ≡ Some q
-    → IsOpen (Handed q) request (hidden_again request (Handed q) h)
-again_opens request q h e = grind (arith, common_steps)
+pub redeliver_opens : (request : Option Request) (q : Request) (h : Hidden) → request ≡ Some q
+    → IsOpen (Handed q) request (hidden_redelivered request (Handed q) h)
+redeliver_opens request q h e = grind (arith, common_steps)
 
-pub open_again : (state : IsduState) (request : Option Request) (h : Hidden)
-    → IsOpen state request h → IsOpen state request (hidden_again request state h)
-    × (hidden_again request state h ≡ h) × (again_steps request state h ≡ [])
-open_again state request h opens = grind (arith, common_steps)
+pub open_redelivered : (state : IsduState) (request : Option Request) (h : Hidden)
+    → IsOpen state request h → IsOpen state request (hidden_redelivered request state h)
+    × (hidden_redelivered request state h ≡ h) × (redeliver_steps request state h ≡ [])
+open_redelivered state request h opens = grind (arith, common_steps)
 
-pub again_late : (request : Option Request) (state : IsduState) (h : Hidden)
-    → (hidden_again request state h).late ≡ h.late
-again_late request state h = grind (arith, common_steps)
+pub redeliver_late : (request : Option Request) (state : IsduState) (h : Hidden)
+    → (hidden_redelivered request state h).late ≡ h.late
+redeliver_late request state h = grind (arith, common_steps)
 
 -- the progress behind a reply is that of the request too
 fits_after : (trust : Recalls) (vain : ℕ) (p : Progress) (what : Move) (x : List ℕ)
@@ -96,10 +96,10 @@ fits_after : (trust : Recalls) (vain : ℕ) (p : Progress) (what : Move) (x : Li
 fits_after trust vain p what x request fits begins = grind (arith, common_steps)
 
 -- where that isn't over, the record that it began with is that of before
-base_kept : (what : Move) (base c : List Carried) (p : Progress) → (what ≡ Leave → ⊥)
+base_stays : (what : Move) (base c : List Carried) (p : Progress) → (what ≡ Leave → ⊥)
     → ((q : Request) → what ≡ Begin q → IsIdle p) → IsGrown base p c → c ≡ base_after what base c
     → c ≡ base
-base_kept what base c p other idle grown e = grind (arith, common_steps, idle_base)
+base_stays what base c p other idle grown e = grind (arith, common_steps, idle_base)
 
 -- the far end once it heard a message that it replies to
 pub replied_opens : {page : List ℕ} {kind : Kind} {trust : Recalls} {vain size : ℕ}
@@ -107,7 +107,7 @@ pub replied_opens : {page : List ℕ} {kind : Kind} {trust : Recalls} {vain size
     {heard : HearResult} → ReplySays page kind trust vain size base link p o m what heard
     → (request : Option Request) (h : Hidden) → ProgressFits p request
     → ((q : Request) → what ≡ Begin q → (request ≡ Some q) × IsIdle p)
-    → IsOpen heard.far.isdu request (hidden_again request heard.far.isdu h)
+    → IsOpen heard.far.isdu request (hidden_redelivered request heard.far.isdu h)
     × (IsOutOnce kind.hands_over size what (suc vain)
     → AnswerFits base request h heard.far.carried → IsOpen heard.far.isdu request h)
 replied_opens {kind} {trust} {vain} {size} {base} {p} {what} {heard} says request h fits begins =
@@ -125,7 +125,8 @@ replied_opens {kind} {trust} {vain} {size} {base} {p} {what} {heard} says reques
     left : (q : Request) → what ≡ Leave → Holds (Handed q) → ⊥
     left q e = grind (arith, common_steps)
 
-    by_state : (s : IsduState) → heard.far.isdu ≡ s → IsOpen s request (hidden_again request s h)
+    by_state : (s : IsduState) → heard.far.isdu ≡ s
+        → IsOpen s request (hidden_redelivered request s h)
         × (IsOutOnce kind.hands_over size what (suc vain) → AnswerFits base request h c
         → IsOpen s request h)
     by_state (Handed q) e =
@@ -134,9 +135,9 @@ replied_opens {kind} {trust} {vain} {size} {base} {p} {what} {heard} says reques
         heard.far.counted c q stands in
         let named = there.0 request (fits_after trust vain p what (isdu_data size heard.far.isdu)
         request fits (λ r k. (begins r k).0)) in (
-          again_opens request q h named,
+          redeliver_opens request q h named,
           λ once answer. handed_opens base request h c q named
-              (base_kept what base c p (λ k. left q k stands) (λ r k. (begins r k).1)
+              (base_stays what base c p (λ k. left q k stands) (λ r k. (begins r k).1)
               (says.grown once) there.1) answer,
         )
     by_state s e = (tt, λ once answer. tt)

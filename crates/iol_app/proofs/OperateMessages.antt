@@ -9,7 +9,7 @@ use Rattle.iol_far.specs.Far.{command_in}
 use Rattle.iol_app.specs.declared.event_work.ReadingProgress.{ReadingProgress}
 use Rattle.iol_app.specs.declared.request.Current.{Current}
 use Rattle.iol_app.specs.declared.session.Purpose.{Purpose}
-use Rattle.iol_app.specs.declared.session.Purpose.TheVariants.{TellOutput, DropOutput}
+use Rattle.iol_app.specs.declared.session.Purpose.TheVariants.{EnableOutput, DropOutput}
 use Rattle.iol_app.specs.Messages.{head_for, head_of, data_for}
 use Rattle.iol_app.specs.Moves.{confirms_events}
 use Rattle.iol_mseq.specs.Texts.{master_text}
@@ -56,10 +56,10 @@ parts_differ (x ∷ xs) m n low e =
     let k : x ∷ (xs ++ 0x98 ∷ replicate (m - 1) 0) ≡ 0x99 ∷ replicate (n - 1) 0 = e in
     not_zero 0x98 refl (zeros_only xs 0x98 (replicate (m - 1) 0) (n - 1) cc)
 
-pub tell_differs : (run pre : Shape) (message : MasterMsg) (size : ℕ)
-    → 1 ≤ length message.out.items → message.od.items ≡ data_for TellOutput size None
+pub enable_differs : (run pre : Shape) (message : MasterMsg) (size : ℕ)
+    → 1 ≤ length message.out.items → message.od.items ≡ data_for EnableOutput size None
     → master_text run message ≡ master_text pre (command_message pre DeviceOperate) → ⊥
-tell_differs run pre message size low od e =
+enable_differs run pre message size low od e =
     parts_differ message.out.items size pre.od low
     (ap (λ (o : List ℕ). message.out.items ++ o) (sym od) ∙ ap (drop 2) e)
 
@@ -67,5 +67,5 @@ tell_differs run pre message size low od e =
 
 pub page_command : (exchange : Purpose) (reading : ReadingProgress) (current : Option Current)
     → (head_for exchange reading current).channel ≡ Page
-    → (exchange ≡ TellOutput) ⊎ (exchange ≡ DropOutput)
+    → (exchange ≡ EnableOutput) ⊎ (exchange ≡ DropOutput)
 page_command exchange going current e = grind (arith, common_steps)

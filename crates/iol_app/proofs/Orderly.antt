@@ -15,7 +15,7 @@ use Rattle.iol_far.specs.Orderly.{IsOrderly, IsToPage, OrderlyLaws}
 use Rattle.iol_link.specs.Honest.{test_read}
 use Rattle.iol_mode.specs.Messages.{page_read}
 use Rattle.iol_app.proofs.ImagesPart.{OutputsSent}
-use Rattle.iol_app.proofs.Given.{by_locals}
+use Rattle.iol_app.proofs.AllLaws.{by_locals}
 
 pub test_confirms : octets_confirm test_read ≡ false
 unfolding control_of

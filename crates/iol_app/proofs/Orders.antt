@@ -18,11 +18,11 @@ use Rattle.iol_app.specs.declared.mode.Mode.{Mode}
 use Rattle.iol_app.specs.declared.mode.Mode.TheVariants.{Operate}
 use Rattle.iol_app.specs.Abstract.Steps.{PortStep, WireCall, Exchanged, silence_by, ImageOctets}
 use Rattle.iol_app.specs.Abstract.Turn.{is_own_step, is_hearing, may_bring, IsInOrder}
-use Rattle.iol_app.specs.Abstract.OfDevice.{Hidden, IsOpen, again_steps, own_step, own_steps, hidden_through, event_steps, output_steps, heard_steps_as, heard_steps, passed_steps, exchange_steps, woken_steps, wake_steps, confirms_by}
+use Rattle.iol_app.specs.Abstract.OfDevice.{Hidden, IsOpen, redeliver_steps, own_step, own_steps, hidden_through, event_steps, output_steps, heard_steps_as, heard_steps, passed_steps, exchange_steps, woken_steps, wake_steps, confirms_by}
 use Rattle.iol_app.proofs.Accepted.{by_accepted}
 use Rattle.iol_app.proofs.FirstOctet.{confirms_of}
-use Rattle.iol_app.proofs.Given.{by_locals}
-use Rattle.iol_app.proofs.Told.{heard_awake}
+use Rattle.iol_app.proofs.AllLaws.{by_locals}
+use Rattle.iol_app.proofs.ReportedFacts.{heard_awake}
 use Rattle.iol_app.proofs.OwnSession.{own_open}
 
 -- what the far end does in a call
@@ -39,7 +39,7 @@ pub in_order : {mode : Mode} {call : WireCall} {xs : List PortStep} (ys : List P
 in_order ys f brings = record {
   own = f.own;
   heard = f.heard;
-  brought = ys;
+  received = ys;
   is = rw f.is refl;
   by_itself = f.by_itself;
   hears = f.hears;
@@ -67,21 +67,21 @@ MayConfirm mode confirms = confirms ≡ true → mode ≡ Operate
 worked_order : (mode : Mode) (request : Option Request) (state : IsduState) (h : Hidden)
     (e : Events) (confirms : Bool) (output : Option ImageOctets) → MayConfirm mode confirms
     → IsTrue (is_hearing mode
-    ((event_steps e confirms ++ output_steps output) ++ again_steps request state h))
+    ((event_steps e confirms ++ output_steps output) ++ redeliver_steps request state h))
 worked_order mode request state h e confirms output may = grind (arith, common_steps)
 
 -- where nothing is heard, the device is handed nothing
 unheard_order : (mode : Mode) (request : Option Request) (state : IsduState) (h : Hidden)
-    → IsOpen state request h → IsTrue (is_hearing mode (again_steps request state h))
+    → IsOpen state request h → IsTrue (is_hearing mode (redeliver_steps request state h))
 unheard_order mode request state h opens = grind (arith, common_steps)
 
 heard_order : (mode : Mode) (request : Option Request) (h : Hidden) (far : Far) (o : List ℕ)
     → MayConfirm mode (octets_confirm o) → IsOpen far.isdu request h
     → IsTrue (is_hearing mode
-    (heard_steps far o ++ again_steps request (hear far o).far.isdu h))
+    (heard_steps far o ++ redeliver_steps request (hear far o).far.isdu h))
 heard_order mode request h far o may opens = by_accepted
     (λ q. IsTrue (is_hearing mode
-    (heard_steps_as q o ++ again_steps request (heard_as far o q).far.isdu h)))
+    (heard_steps_as q o ++ redeliver_steps request (heard_as far o q).far.isdu h)))
     far o (unheard_order mode request far.isdu h opens)
     (λ awake m spells. worked_order mode request (far_after_message far o m).isdu h far.events
     (confirms_by m.mc) (output_of (far_after_message far o m))
@@ -94,7 +94,7 @@ heard_order mode request h far o may opens = by_accepted
 passed_order : (mode : Mode) (request : Option Request) (h : Hidden) (passage : Passage)
     (far : Far) (o : List ℕ) → MayConfirm mode (octets_confirm o) → IsOpen far.isdu request h
     → IsTrue (is_hearing mode
-    (passed_steps passage far o ++ again_steps request (far_after passage far o).isdu h))
+    (passed_steps passage far o ++ redeliver_steps request (far_after passage far o).isdu h))
 passed_order mode request h OutLost far o may opens = unheard_order mode request far.isdu h opens
 passed_order mode request h other far o may opens = heard_order mode request h far o may opens
 
@@ -139,15 +139,15 @@ pub exchange_order : (mode : Mode) (request : Option Request) (h : Hidden) (far 
     (steps : List LocalStep) (passage : Passage) (o : List ℕ)
     → MayConfirm mode (octets_confirm o) → IsOpen far.isdu request h
     → InFarOrder mode (exchange_steps request far steps passage o
-    ++ again_steps request (far_after passage (locals far steps) o).isdu
+    ++ redeliver_steps request (far_after passage (locals far steps) o).isdu
     (hidden_through request far steps h))
 exchange_order mode request h far steps passage o may opens = record {
   own = own_steps request far steps;
   heard = passed_steps passage (locals far steps) o
-      ++ again_steps request (far_after passage (locals far steps) o).isdu
+      ++ redeliver_steps request (far_after passage (locals far steps) o).isdu
       (hidden_through request far steps h);
   is = append_assoc (own_steps request far steps) (passed_steps passage (locals far steps) o)
-      (again_steps request (far_after passage (locals far steps) o).isdu
+      (redeliver_steps request (far_after passage (locals far steps) o).isdu
       (hidden_through request far steps h));
   by_itself = own_all request steps far;
   hears = passed_order mode request (hidden_through request far steps h) passage

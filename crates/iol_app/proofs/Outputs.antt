@@ -6,12 +6,12 @@ use Rattle.std.specs.Prelude.{Option}
 use Rattle.iol_far.specs.Far.{Far}
 use Rattle.iol_far.specs.Local.{LocalStep, locals}
 use Rattle.iol_app.specs.Abstract.Steps.{ImageOctets}
-use Rattle.iol_app.proofs.Given.{by_locals}
-use Rattle.iol_app.specs.Ends.{OutputTold}
+use Rattle.iol_app.proofs.AllLaws.{by_locals}
+use Rattle.iol_app.specs.Ends.{OutputFits}
 
-module _ (sent : Option ImageOctets) (known : Type 0) (told : Bool) where
+module _ (sent : Option ImageOctets) (known : Type 0) (acked : Bool) where
   abbrev Outputs : Far → Type 0
-  Outputs far = OutputTold sent known told far
+  Outputs far = OutputFits sent known acked far
 
   pub outputs_locals : (steps : List LocalStep) (far : Far) → Outputs far
       → Outputs (locals far steps)

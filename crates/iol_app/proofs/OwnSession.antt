@@ -13,7 +13,7 @@ use Rattle.iol_far.specs.Local.{LocalStep, local, locals, far_after_wake}
 use Rattle.iol_app.specs.Abstract.Steps.{PortStep, Moment, may_repeat, TakesSteps}
 use Rattle.iol_app.specs.Abstract.Session.{session_after, MaySession}
 use Rattle.iol_app.proofs.Parts.{runs-append, own_runs}
-use Rattle.iol_app.specs.Abstract.OfDevice.{Hidden, IsOpen, again_steps, hidden_again, own_steps, hidden_after, hidden_through, worked_steps, heard_steps_as, heard_steps, passed_steps, exchange_steps, wake_steps}
+use Rattle.iol_app.specs.Abstract.OfDevice.{Hidden, IsOpen, redeliver_steps, hidden_redelivered, own_steps, hidden_after, hidden_through, worked_steps, heard_steps_as, heard_steps, passed_steps, exchange_steps, wake_steps}
 use Rattle.iol_app.specs.Abstract.Shown.{MasterFields}
 use Rattle.iol_app.specs.Abstract.Shown.{session_of}
 use Rattle.iol_app.proofs.Accepted.{by_accepted}
@@ -22,9 +22,9 @@ use Rattle.iol_app.proofs.Accepted.{by_accepted}
 abbrev pub SessionRuns : Moment → MasterFields → Hidden → List Carried → List PortStep
     → MasterFields → Hidden
     → List Carried → Type 0
-SessionRuns m seen h carried steps seen' h' carried' =
-    TakesSteps (MaySession m) session_after (session_of seen h carried) steps
-    (session_of seen' h' carried')
+SessionRuns m fields h carried steps fields' h' carried' =
+    TakesSteps (MaySession m) session_after (session_of fields h carried) steps
+    (session_of fields' h' carried')
 
 pub own_open_step : (request : Option Request) (h : Hidden) (far : Far) (step : LocalStep)
     → IsOpen far.isdu request h → IsOpen (local far step).isdu request
@@ -50,22 +50,23 @@ woken_as P true far h k = h
 woken_as P false far h k = k
 
 -- the device may carry out again what it is handed
-abbrev pub MayAgain : (Request → Bool) → Option Request → IsduState → Hidden → Type 0
-MayAgain repeats (Some request) (Handed held) h = IsSome h.answer → IsTrue (repeats request)
-MayAgain repeats request state h = ⊤
+abbrev pub MayRedeliver : (Request → Bool) → Option Request → IsduState → Hidden → Type 0
+MayRedeliver repeats (Some request) (Handed held) h = IsSome h.answer → IsTrue (repeats request)
+MayRedeliver repeats request state h = ⊤
 
 -- What the session shows stays
-module _ (m : Moment) (seen : MasterFields) where
+module _ (m : Moment) (fields : MasterFields) where
   abbrev Leaves : Hidden → Far → List PortStep → Hidden → Far → Type 0
-  Leaves h far steps h' far' = SessionRuns m seen h far.carried steps seen h' far'.carried
+  Leaves h far steps h' far' = SessionRuns m fields h far.carried steps fields h' far'.carried
 
   -- all own steps of a call
-  own_session : (h : Hidden) (steps : List LocalStep) (far : Far) → IsOpen far.isdu seen.request h
-      → Leaves h far (own_steps seen.request far steps) (hidden_through seen.request far steps h)
+  own_session : (h : Hidden) (steps : List LocalStep) (far : Far) → IsOpen far.isdu fields.request h
+      → Leaves h far (own_steps fields.request far steps)
+      (hidden_through fields.request far steps h)
       (locals far steps)
-  own_session h steps far = own_runs (MaySession m) session_after seen.request
-      (λ f k. session_of seen k f.carried) (λ f k. IsOpen f.isdu seen.request k)
-      (hidden_after seen.request) (λ f step k. own_open_step seen.request k f step)
+  own_session h steps far = own_runs (MaySession m) session_after fields.request
+      (λ f k. session_of fields k f.carried) (λ f k. IsOpen f.isdu fields.request k)
+      (hidden_after fields.request) (λ f step k. own_open_step fields.request k f step)
       (λ f step k opens. grind (arith, common_steps)) far steps h
 
   -- What is heard and a wake: nothing of the session's
@@ -88,23 +89,23 @@ module _ (m : Moment) (seen : MasterFields) where
 
   -- the far end's part of an exchange
   pub exchange_session : (h : Hidden) (far : Far) (steps : List LocalStep) (passage : Passage)
-      (o : List ℕ) → IsOpen far.isdu seen.request h
-      → Leaves h far (exchange_steps seen.request far steps passage o)
-      (hidden_through seen.request far steps h) (far_after passage (locals far steps) o)
+      (o : List ℕ) → IsOpen far.isdu fields.request h
+      → Leaves h far (exchange_steps fields.request far steps passage o)
+      (hidden_through fields.request far steps h) (far_after passage (locals far steps) o)
   exchange_session h far steps passage o opens =
       runs-append (MaySession m) session_after _ _ _ (own_session h steps far opens)
-      (passed_session (hidden_through seen.request far steps h) passage (locals far steps) o)
+      (passed_session (hidden_through fields.request far steps h) passage (locals far steps) o)
 
   -- its answer is taken back, where the device may carry out again what it is handed
-  pub again_session : (h : Hidden) (state : IsduState) (c : List Carried)
-      → MayAgain (may_repeat m.terms) seen.request state h
-      → SessionRuns m seen h c (again_steps seen.request state h) seen
-      (hidden_again seen.request state h) c
-  again_session h state c may = grind (arith, common_steps)
+  pub redeliver_session : (h : Hidden) (state : IsduState) (c : List Carried)
+      → MayRedeliver (may_repeat m.terms) fields.request state h
+      → SessionRuns m fields h c (redeliver_steps fields.request state h) fields
+      (hidden_redelivered fields.request state h) c
+  redeliver_session h state c may = grind (arith, common_steps)
 
   -- the far end's part of a wake; no request is under way
   pub wake_session : (h : Hidden) (far : Far) (steps : List LocalStep) (wakes : Bool)
-      → seen.request ≡ None → IsOpen far.isdu seen.request h
+      → fields.request ≡ None → IsOpen far.isdu fields.request h
       → Leaves h far (wake_steps far steps wakes) (hidden_through None far steps h)
       (woken_if wakes (locals far steps))
   wake_session h far steps wakes free opens = runs-append (MaySession m) session_after _ _ _

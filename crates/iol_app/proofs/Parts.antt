@@ -31,13 +31,13 @@ module _ {S : Type 0} (May : PortStep → S → Type 0) (after : PortStep → S 
       → Fits (local far step) (next far step x))
       (runs : (far : Far) (step : LocalStep) (x : X) → Fits far x
       → Takes (at far x) (own_step request far step) (at (local far step) (next far step x))) where
-    abbrev pub kept_through : Far → List LocalStep → X → X
-    kept_through far [] x = x
-    kept_through far (step ∷ steps) x = kept_through (local far step) steps (next far step x)
+    abbrev pub left_through : Far → List LocalStep → X → X
+    left_through far [] x = x
+    left_through far (step ∷ steps) x = left_through (local far step) steps (next far step x)
 
     pub own_runs : (far : Far) (steps : List LocalStep) (x : X) → Fits far x
         → Takes (at far x) (own_steps request far steps)
-        (at (locals far steps) (kept_through far steps x))
+        (at (locals far steps) (left_through far steps x))
     own_runs far [] x fits = (tt, refl)
     own_runs far (step ∷ steps) x fits = runs-append _ _ _ (runs far step x fits)
         (own_runs (local far step) steps (next far step x) (keeps far step x fits))

@@ -16,10 +16,10 @@ use Rattle.iol_far.specs.Far.{Far, far_in_mode, hear, heard_as, far_after_messag
 use Rattle.iol_far.specs.Local.{LocalStep, Carry, Raise, local, locals, carried_by}
 use Rattle.iol_app.specs.declared.mode.Mode.{Mode}
 use Rattle.iol_app.specs.declared.mode.Mode.TheVariants.{Down, Startup, Preoperate, Operate}
-use Rattle.iol_app.specs.Abstract.Steps.{PortStep, Done, Unknown, Start, Reset, Report, Untell, ShowImage, DropImage, Busy, Move, WireCall, Woke, Exchanged, ImageOctets, TakesSteps}
+use Rattle.iol_app.specs.Abstract.Steps.{PortStep, Done, Unknown, Start, Reset, Report, Unreport, ShowImage, DropImage, Busy, Move, WireCall, Woke, Exchanged, ImageOctets, TakesSteps}
 use Rattle.iol_app.specs.Abstract.Turn.{wake_brings, loss_brings, startup_brings, preoperate_brings, operate_brings, may_bring}
 use Rattle.iol_app.specs.Abstract.Past.{Past, MayPast, past_after}
-use Rattle.iol_app.specs.Abstract.OfDevice.{Hidden, again_steps, carry_steps, raise_steps, own_step, own_steps, event_steps, output_steps, release_steps, confirms_by, worked_steps, heard_steps_as, heard_steps, passed_steps, exchange_steps, woken_steps, wake_steps}
+use Rattle.iol_app.specs.Abstract.OfDevice.{Hidden, redeliver_steps, carry_steps, raise_steps, own_step, own_steps, event_steps, output_steps, release_steps, confirms_by, worked_steps, heard_steps_as, heard_steps, passed_steps, exchange_steps, woken_steps, wake_steps}
 use Rattle.iol_app.specs.Abstract.Shown.{past_of}
 use Rattle.iol_app.proofs.Accepted.{by_accepted}
 use Rattle.iol_app.proofs.OwnSession.{woken_if}
@@ -133,9 +133,9 @@ wake_past far steps wakes none = runs-append MayPast past_after _ _ _ (own_past 
 
 -- What the answer brings, and the request that is handed over again
 
-pub again_past : (request : Option Request) (state : IsduState) (h : Hidden) (p p' : Past)
-    (ys : List PortStep) → PastRuns p ys p' → PastRuns p (again_steps request state h ++ ys) p'
-again_past request state h p p' ys k = grind (arith, common_steps)
+pub redeliver_past : (request : Option Request) (state : IsduState) (h : Hidden) (p p' : Past)
+    (ys : List PortStep) → PastRuns p ys p' → PastRuns p (redeliver_steps request state h ++ ys) p'
+redeliver_past request state h p p' ys k = grind (arith, common_steps)
 
 wake_brings_past : (answered : Bool) (steps : List PortStep) (p : Past)
     → IsTrue (wake_brings answered steps) → PastRuns p steps p
@@ -147,7 +147,7 @@ wake_brings_past answered steps p brings = grind (arith, common_steps)
 loss_brings_past : (steps : List PortStep) (p : Past) → IsTrue (loss_brings steps)
     → PastRuns p steps p
 loss_brings_past [] p brings = (tt, refl)
-loss_brings_past (Untell ∷ []) p brings = ((tt, tt), refl)
+loss_brings_past (Unreport ∷ []) p brings = ((tt, tt), refl)
 loss_brings_past (Move mode why ∷ []) p brings = ((tt, tt), refl)
 loss_brings_past (DropImage ∷ Move mode why ∷ []) p brings = ((tt, (tt, tt)), refl)
 loss_brings_past (Unknown cause ∷ DropImage ∷ Move mode why ∷ []) p brings =
@@ -176,14 +176,14 @@ operate_brings_past (Report events ∷ ShowImage ∷ []) p brings = ((tt, (tt, t
 operate_brings_past (step ∷ ShowImage ∷ []) p brings = absurd (cc)
 operate_brings_past steps p brings = absurd (cc)
 
-pub brought_past : (mode : Mode) (call : WireCall) (steps : List PortStep) (p : Past)
+pub received_past : (mode : Mode) (call : WireCall) (steps : List PortStep) (p : Past)
     → IsTrue (may_bring mode call steps) → PastRuns p steps p
-brought_past Down (Woke answered) steps p brings = wake_brings_past answered steps p brings
-brought_past Startup (Exchanged true) steps p brings = start_brings_past steps p brings
-brought_past Preoperate (Exchanged true) steps p brings = preoperate_brings_past steps p brings
-brought_past Operate (Exchanged true) steps p brings = operate_brings_past steps p brings
-brought_past Down (Exchanged false) steps p brings = loss_brings_past steps p brings
-brought_past Startup (Exchanged false) steps p brings = loss_brings_past steps p brings
-brought_past Preoperate (Exchanged false) steps p brings = loss_brings_past steps p brings
-brought_past Operate (Exchanged false) steps p brings = loss_brings_past steps p brings
-brought_past mode call steps p brings = absurd (cc)
+received_past Down (Woke answered) steps p brings = wake_brings_past answered steps p brings
+received_past Startup (Exchanged true) steps p brings = start_brings_past steps p brings
+received_past Preoperate (Exchanged true) steps p brings = preoperate_brings_past steps p brings
+received_past Operate (Exchanged true) steps p brings = operate_brings_past steps p brings
+received_past Down (Exchanged false) steps p brings = loss_brings_past steps p brings
+received_past Startup (Exchanged false) steps p brings = loss_brings_past steps p brings
+received_past Preoperate (Exchanged false) steps p brings = loss_brings_past steps p brings
+received_past Operate (Exchanged false) steps p brings = loss_brings_past steps p brings
+received_past mode call steps p brings = absurd (cc)

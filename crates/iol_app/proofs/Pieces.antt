@@ -20,17 +20,17 @@ use Rattle.iol_mode.specs.Next.{EnteredFits}
 use Rattle.iol_mode.specs.States.{NextMode, NextModeFits, StateFits, IsDown, next_state, mode_after_wake, operate_by, sending_after_try}
 use Rattle.iol_mode.specs.Exchanges.{IsSending, AcceptedBy, StandsOn, WakeStands, mode_after_reply, text_out}
 use Rattle.iol_mode.specs.Stands.{StateStands}
-use Rattle.iol_app.specs.declared.said.Said.{Said}
-use Rattle.iol_app.specs.declared.said.Said.TheVariants.{Idle}
+use Rattle.iol_app.specs.declared.report.Said.{Said}
+use Rattle.iol_app.specs.declared.report.Said.TheVariants.{Idle}
 use Rattle.iol_app.specs.declared.event_work.EventRoom.{EventRoom}
 use Rattle.iol_app.specs.declared.session.Purpose.{Purpose}
-use Rattle.iol_app.specs.declared.brought.WireResult.{WireResult}
+use Rattle.iol_app.specs.declared.wire_result.WireResult.{WireResult}
 use Rattle.iol_app.specs.declared.event_work.EventRoom.TheVariants.{Left}
 use Rattle.iol_app.specs.Due.{due_of, is_under_way}
 use Rattle.iol_app.specs.Outputs.{output_to_carry}
 use Rattle.iol_app.specs.Reports.{is_read_out, has_begun_reading}
 use Rattle.iol_app.specs.State.{SessionState, IsSession, IsMessageFor, session_sending, IsOutBy}
-use Rattle.iol_app.specs.StationState.{SessionFits, IsStill, NextFits, IsSettledSaid}
+use Rattle.iol_app.specs.StationState.{SessionFits, IsStill, NextFits, IsSettledReport}
 use Rattle.iol_app.specs.StationLaws.{StationLaws}
 use Rattle.iol_app.specs.Core.{CoreState, Ghost}
 use Rattle.iol_app.specs.CoreStands.{BothEndsStand, IsAttempted}
@@ -51,9 +51,9 @@ waked_fits : (devices : Devices) (answered : Bool) → NextModeFits (mode_after_
 waked_fits devices answered = grind (arith, common_steps, first_parts, reset_parts)
 
 -- in a start-up nothing is said
-pub still_said : (outcome : NextMode) (s : SessionState) (said : Said) → IsStill s
-    → IsSettledSaid outcome s said → said ≡ Idle
-still_said outcome s said still h = grind (arith, common_steps)
+pub still_report : (outcome : NextMode) (s : SessionState) (report : Said) → IsStill s
+    → IsSettledReport outcome s report → report ≡ Idle
+still_report outcome s report still h = grind (arith, common_steps)
 
 -- none is out where the session has none
 pub no_exchange : (e : Option Purpose) (s : SessionState) → IsOutBy e s None → e ≡ None
@@ -120,34 +120,35 @@ pub sent_reads : (room : EventRoom) (old new : CoreState) → SendsMessage room 
 sent_reads room old new sent = sent_by_reads old.state room old new sent
 
 -- what is made of what comes back may be taken up
-out_next : (out : Option Sending) (layouts : Layouts) (came : Option (List ℕ))
+out_next : (out : Option Sending) (layouts : Layouts) (received : Option (List ℕ))
     (s : SessionState) → let state : Operate = record { out = out; layouts = layouts } in
     IsSending (AtOperate state) → SessionFits (AtOperate state) s
-    → NextFits (mode_after_reply s.configuration (AtOperate state) came) s
-out_next out layouts came s sends fits = grind (arith, common_steps, operate_next)
+    → NextFits (mode_after_reply s.configuration (AtOperate state) received) s
+out_next out layouts received s sends fits = grind (arith, common_steps, operate_next)
 
-pub judged_next : (state : State) (came : Option (List ℕ)) (s : SessionState) → IsSending state
-    → SessionFits state s → NextFits (mode_after_reply s.configuration state came) s
-judged_next state came s sends fits =
+pub judged_next : (state : State) (received : Option (List ℕ)) (s : SessionState) → IsSending state
+    → SessionFits state s → NextFits (mode_after_reply s.configuration state received) s
+judged_next state received s sends fits =
     grind (arith, common_steps, startup_next, preoperate_next, out_next)
 
-module _ (laws : StationLaws) (came : Option (List ℕ)) (said : Said) (brought : WireResult)
+module _ (laws : StationLaws) (received : Option (List ℕ)) (report : Said)
+    (wire_result : WireResult)
     (g : Ghost)
     (far far' : Far) (n n' : ℕ) where
   -- what it comes to
   abbrev outcome : State → SessionState → NextMode
-  outcome state s = mode_after_reply s.configuration state came
+  outcome state s = mode_after_reply s.configuration state received
 
-  abbrev Came : State → SessionState → Type 0
-  Came state s =
-      TakeUpGives (core_of state s) g far n said (after_exchange (outcome state s) s) far' n'
+  abbrev Received : State → SessionState → Type 0
+  Received state s =
+      TakeUpGives (core_of state s) g far n report (after_exchange (outcome state s) s) far' n'
 
   abbrev Gives : State → SessionState → Type 0
   Gives state s = BothEndsStand (core_of state s) g far n
-      → HonestExchange far n (text_out state) came far' n'
-      → IsSettledBy (core_of state s) came said brought
+      → HonestExchange far n (text_out state) received far' n'
+      → IsSettledBy (core_of state s) received report wire_result
       → StandsOn (next_state (outcome state s)) (after_exchange (outcome state s) s).state
-      → Came state s
+      → Received state s
 
   -- in OPERATE, where the message is for this
   operate_gives : (out : Option Sending) (layouts : Layouts) (t : SessionState)
@@ -158,17 +159,18 @@ module _ (laws : StationLaws) (came : Option (List ℕ)) (said : Said) (brought 
   operate_gives (Some w) layouts t None sends stands x j on = absurd stands.joined.out_for
   operate_gives (Some w) layouts t (Some e) sends stands x j on =
       let s : SessionState = record t { exchange = Some e } in
-      let reply : Option Reply = good_reply layouts.run w.message came in
+      let reply : Option Reply = good_reply layouts.run w.message received in
       let met = j.gives far far' n n' stands.link x in
       let fitting = after_fits (sending_after_try w reply) layouts (attempt_of w.tries reply) s
       j.valid
-      stands.joined.told.0 j.fits (settled_fits
+      stands.joined.has_layouts.0 j.fits (settled_fits
       (operate_by (sending_after_try w reply) layouts (attempt_of w.tries reply)) s j.fits
-      (out_next (Some w) layouts came s refl stands.joined)) in
-      let got = laws.receives.gives layouts w t e g far far' n n' came said stands j.valid x j.few
-      met.0 met.1 on fitting.0 fitting.1 j.said_is in
+      (out_next (Some w) layouts received s refl stands.joined)) in
+      let got = laws.receives.gives layouts w t e g far far' n n' received report stands j.valid
+      x j.few
+      met.0 met.1 on fitting.0 fitting.1 j.report_is in
       record {
-        given = got;
+        gives = got;
         attempted = operate_tried w layouts reply s;
       }
 
@@ -179,20 +181,22 @@ module _ (laws : StationLaws) (came : Option (List ℕ)) (said : Said) (brought 
   state_gives state s sends = λ stands x j on.
       let o : NextMode = outcome state s in
       let risen = j.gives far far' n n' stands.link x in
-      let given : CallGives (core_of state s) g far n Idle (settled_core o s) far' n' =
-      laws.rises.gives (core_of state s) g far far' n n' came refl stands j.valid x risen j.fits
-      (settled_fits o s j.fits (judged_next state came s sends stands.joined)) in
+      let gives : CallGives (core_of state s) g far n Idle (settled_core o s) far' n' =
+      laws.rises.gives (core_of state s) g far far' n n' received refl stands j.valid x risen j.fits
+      (settled_fits o s j.fits (judged_next state received s sends stands.joined)) in
       let settled = risen_settled o s n' far' risen.entered in
-      rw (settled.0, still_said o s said stands.joined.0 j.said_is)
-      (record { given = given; attempted = settled.1 })
+      rw (settled.0, still_report o s report stands.joined.0 j.report_is)
+      (record { gives = gives; attempted = settled.1 })
 
-pub receive_steps : StationLaws → {old : CoreState} {came : Option (List ℕ)} {said : Said}
-    {brought : WireResult} {new : CoreState} → IsSending old.state
-    → IsTakenUp old came said brought new
-    → ReceiveSteps old came said new
+pub receive_steps : StationLaws → {old : CoreState} {received : Option (List ℕ)} {report : Said}
+    {wire_result : WireResult} {new : CoreState} → IsSending old.state
+    → IsTakenUp old received report wire_result new
+    → ReceiveSteps old received report new
 unfolding ReceiveSteps
-receive_steps laws {old} {came} {said} {brought} sends t = λ g far far' n n' stands x. rw t.is
-    (state_gives laws came said brought g far far' n n' old.state old.session sends stands x
+receive_steps laws {old} {received} {report} {wire_result} sends t =
+    λ g far far' n n' stands x. rw t.is
+    (state_gives laws received report wire_result g far far' n n' old.state old.session sends
+    stands x
     t.settled (rw t.is at t.on))
 
 -- In OPERATE a new message goes out
@@ -216,7 +220,8 @@ module _ (laws : StationLaws) (layouts : Layouts) (t : SessionState) (room : Eve
       let same : free t ≡ free_core layouts t =
       ap (λ (x : Option Purpose). free (record t { exchange = x })) none in
       inr (rw same (laws.sends.gives layouts t room m g far n (rw same at stands) valid is carries
-      (on far n stands.link) fits (λ link operating. accepted far stands.link.told link operating)))
+      (on far n stands.link) fits (λ link operating. accepted far stands.link.read_from link
+      operating)))
 
 -- A wake
 
@@ -226,10 +231,10 @@ pub wake_steps : StationLaws → (old : CoreState) (answered : Bool) (new : Core
     → new ≡ after_wake answered old.session → WakeSteps old answered new
 unfolding WakeSteps
 wake_steps laws old answered new down stands_by e = λ g far far' n stands x.
-    let given : CallGives old g far n Idle (after_wake answered old.session) far' n =
+    let gives : CallGives old g far n Idle (after_wake answered old.session) far' n =
     laws.wakes.gives old g far far' n answered stands down x (stands_by far far' n stands.sees x)
     (waked_fits old.session.configuration.devices answered) in
     rw e (record {
-      given = given;
+      gives = gives;
       attempted = waked_tried old.session.configuration.devices answered;
     })

@@ -27,29 +27,29 @@ use Rattle.iol_app.specs.Abstract.Steps.{ImageOctets}
 use Rattle.iol_app.specs.StationState.{mode_in}
 use Rattle.iol_app.specs.Abstract.Images.{image_or}
 use Rattle.iol_app.specs.BothEnds.{wants_confirm, wants_octet}
-use Rattle.iol_app.specs.Exchange.{output_due, is_output_told}
+use Rattle.iol_app.specs.Exchange.{output_due, acknowledged_by}
 use Rattle.iol_app.specs.declared.event_work.EventRoom.{EventRoom}
 use Rattle.iol_app.specs.declared.event_work.EventRoom.TheVariants.{Left}
 use Rattle.iol_app.specs.declared.event_work.ReadingProgress as app
 use Rattle.iol_app.specs.declared.session.Purpose.{Purpose}
-use Rattle.iol_app.specs.declared.session.Purpose.TheVariants.{TellOutput, DropOutput}
+use Rattle.iol_app.specs.declared.session.Purpose.TheVariants.{EnableOutput, DropOutput}
 use Rattle.iol_app.specs.Due.{due_of, is_under_way, is_confirm_due, is_resting}
 use Rattle.iol_app.specs.Messages.{Head, data_for}
 use Rattle.iol_app.specs.declared.request.Current.{Current}
 use Rattle.iol_app.specs.Requests.{aborts, is_over, IsCurrent}
 use Rattle.iol_app.specs.Moves.{progress_of, move_for, confirms_events, MessagesAreMoves}
 use Rattle.iol_app.specs.Outputs.{output_to_carry}
-use Rattle.iol_app.specs.Ends.{OperateLink, SentSeen, output_for}
+use Rattle.iol_app.specs.Ends.{OperateLink, SentFits, output_for}
 use Rattle.iol_app.specs.State.{SessionState, IsSession, IsMessageFor, session_sending}
 use Rattle.iol_app.proofs.DueFacts.{IsDue, due_is}
-use Rattle.iol_app.proofs.OperateMessages.{tell_differs, page_command}
-use Rattle.iol_app.proofs.Telling.{told_layout}
+use Rattle.iol_app.proofs.OperateMessages.{enable_differs, page_command}
+use Rattle.iol_app.proofs.PageReads.{read_layout}
 use Rattle.iol_app.proofs.Shown.{shown_as}
 use Rattle.iol_app.specs.Core.{CoreState, Ghost}
-use Rattle.iol_app.specs.CoreStands.{BothEndsStand, vain_by, AgainBy, RequestStands, EventsStand, OutputStands, work_of, reading_at, reading_in}
+use Rattle.iol_app.specs.CoreStands.{BothEndsStand, vain_by, RepeatBy, RequestStands, EventsStand, OutputStands, work_of, reading_at, reading_in}
 use Rattle.iol_app.specs.CoreGives.{ordered_output, ordered_by}
 use Rattle.iol_app.specs.CoreTurns.{Sends, SendGives, core_out, free_core, made_ghost}
-use Rattle.iol_app.proofs.SmallFacts.{operating, keeps_some, events_due, confirms_is, not_operate, begins_request, tells_wanted, drops_told, some_or, image_some, sent_made, same_carried}
+use Rattle.iol_app.proofs.SmallFacts.{operating, keeps_some, events_due, confirms_is, not_operate, begins_request, enables_wanted, drops_acknowledged, some_or, image_some, sent_made, same_carried}
 
 -- which readings a confirm and a read go out for
 confirm_due : (r : app.ReadingProgress) (flag : Bool) (due : Event × List Event)
@@ -62,18 +62,20 @@ octet_due : (r : app.ReadingProgress) (flag : Bool) (room : EventRoom) (due : Ev
 octet_due r flag room due k = grind (arith, common_steps)
 
 -- what a message asks for is what is wanted, where the command that is due goes with it
-asks_wanted : (wanted : Option ImageOctets) (told : Bool) (carried : List ℕ) → IfSome wanted IsImage
-    → ordered_by (is_output_told (output_due wanted told) told) (unwrap_or wanted carried) ≡ wanted
-asks_wanted wanted told carried h = grind (arith, common_steps)
+asks_wanted : (wanted : Option ImageOctets) (acked : Bool) (carried : List ℕ)
+    → IfSome wanted IsImage
+    → ordered_by (acknowledged_by (output_due wanted acked) acked) (unwrap_or wanted carried)
+    ≡ wanted
+asks_wanted wanted acked carried h = grind (arith, common_steps)
 
 -- it was not out before
 none_vain : (devices : Devices) (e : Purpose) (current : Option Current)
     → vain_by devices e current 0 ≡ 0
 none_vain devices e current = grind (arith, common_steps)
 
-not_again : (devices : Devices) (e : Purpose) (current : Option Current)
-    → IfSome current (λ c. c.again ≡ false) → IfSome current (AgainBy devices e 0)
-not_again devices e current h = grind (arith, common_steps)
+not_repeated : (devices : Devices) (e : Purpose) (current : Option Current)
+    → IfSome current (λ c. c.repeat ≡ false) → IfSome current (RepeatBy devices e 0)
+not_repeated devices e current h = grind (arith, common_steps)
 
 not_over : (current : Option Current) → IfSome current IsCurrent → aborts current ≡ false
     → IfSome current (λ c. is_over c.progress ≡ false)
@@ -102,24 +104,25 @@ module _ (levels : (size : ℕ) → 1 ≤ size → LevelLaws size) (modes : Mode
     devices = t.configuration.devices
 
     abbrev progress : Progress
-    progress = progress_of devices t.clear t.current
+    progress = progress_of devices t.idle t.current
 
     due : IsDue t room e
     due = due_is t room
 
     od : m.od.items ≡ data_for e layouts.run.od t.current
-    od = rw stands.joined.told.0 at is.octets
+    od = rw stands.joined.has_layouts.0 at is.octets
 
     at : layout_in g.page FarOperate ≡ layouts.run
-    at = told_layout g.page FarOperate layouts (ap layouts_of (sym stands.page) ∙ stands.link.told)
+    at = read_layout g.page FarOperate layouts
+        (ap layouts_of (sym stands.page) ∙ stands.link.read_from)
 
     accepted : IsAccepted layouts g.page link m
     accepted = subst (λ (p : List ℕ). IsAccepted layouts p link m) stands.page
         (accepts link (operating layouts progress link stands.request.linked))
 
     -- before the first good reply in OPERATE no output is told
-    untold : link ≡ entering_link layouts → t.output.told ≡ false
-    untold k =
+    unacknowledged : link ≡ entering_link layouts → t.output.acknowledged ≡ false
+    unacknowledged k =
         let at_entry = rw k at (ap (λ (l : FarLink). l.mode) stands.request.level.link_is) in
         sym (stands.output.1 stands.request.level.awake refl)
         ∙ false_from_ne_true far.valid (λ v. not_operate layouts.pre
@@ -131,15 +134,17 @@ module _ (levels : (size : ℕ) → 1 ≤ size → LevelLaws size) (modes : Mode
         (command_message (entering_layout layouts) DeviceOperate) → ⊥
     is_other k page same =
         ⊎_elim
-        (λ (tell : e ≡ TellOutput).
+        (λ (tell : e ≡ EnableOutput).
         let some : IsSome t.output.wanted =
-        tells_wanted t.output.wanted t.output.told (sym (ap output_for tell) ∙ due.output) in
-        tell_differs layouts.run (entering_layout layouts) m layouts.run.od
+        enables_wanted t.output.wanted t.output.acknowledged
+        (sym (ap output_for tell) ∙ due.output) in
+        enable_differs layouts.run (entering_layout layouts) m layouts.run.od
         (rw carried (image_some t.output.wanted t.output.carried.items some stands.shown.wanted))
         (od ∙ ap (λ (x : Purpose). data_for x layouts.run.od t.current) tell) same)
         (λ (drop : e ≡ DropOutput). let z : true ≡ false =
-        sym (drops_told t.output.wanted t.output.told (sym (ap output_for drop) ∙ due.output))
-        ∙ untold k in cc)
+        sym (drops_acknowledged t.output.wanted t.output.acknowledged
+        (sym (ap output_for drop) ∙ due.output))
+        ∙ unacknowledged k in cc)
         (page_command e t.events.reading t.current
         (sym (ap (λ (h : Head). h.channel) is.head) ∙ page))
 
@@ -184,7 +189,7 @@ module _ (levels : (size : ℕ) → 1 ≤ size → LevelLaws size) (modes : Mode
       spells = rw there accepted.out.spells;
       size_of = rw there refl;
       move = subst (λ (h : Head). IsMoved h m.od.items) (sym is.head)
-          (rw od (moves t layouts.run e valid stands.joined.told.0));
+          (rw od (moves t layouts.run e valid stands.joined.has_layouts.0));
       begins = may_begin (move_for e t.current) refl;
       idle = still link stands.request.linked;
     }
@@ -195,7 +200,7 @@ module _ (levels : (size : ℕ) → 1 ≤ size → LevelLaws size) (modes : Mode
     -- the image that it carries is the one sent
     sent : IfSome (image_or t.output.wanted g.sent) (λ image. image ≡ output_to_carry t.output)
     sent = sent_made t.output.wanted g.sent t.output.carried.items
-        (rw stands.joined.told.0 at stands.sent)
+        (rw stands.joined.has_layouts.0 at stands.sent)
 
     pub sends : let next : CoreState =
         core_out layouts (new_sending m) (session_sending e t) e t.current in
@@ -218,14 +223,14 @@ module _ (levels : (size : ℕ) → 1 ≤ size → LevelLaws size) (modes : Mode
             mode = mode;
             goes = goes;
             once = λ any k. rw first (omega arith);
-            again = not_again devices e t.current stands.request.out;
+            repeat = not_repeated devices e t.current stands.request.out;
             goes_on = λ k. not_over t.current valid.current (due.asks k);
             confirm = λ k. confirm_due t.events.reading t.events.flag g.events.due (due.confirm k);
             reads = λ k. octet_due t.events.reading t.events.flag room g.events.due (due.reads k);
             carries = same_carried (image_or t.output.wanted g.sent) m.out.items
                 (output_to_carry t.output) carried sent;
             tells = λ k. some_or t.output.wanted g.sent
-                (tells_wanted t.output.wanted t.output.told (sym k ∙ due.output));
+                (enables_wanted t.output.wanted t.output.acknowledged (sym k ∙ due.output));
           };
           answer = λ once. stands.request.answer refl;
           busy = stands.request.busy;
@@ -238,17 +243,17 @@ module _ (levels : (size : ℕ) → 1 ≤ size → LevelLaws size) (modes : Mode
               (due.confirm (confirms_is e c))) (stands.events.0 k)),
           stands.events.1,
         ) in
-        let output : OutputStands next.state next.session.exchange next.session.output.told
+        let output : OutputStands next.state next.session.exchange next.session.output.acknowledged
         after.sent far = (
           (λ k v. let here = stands.output.0 k v in
               (here.0, keeps_some t.output.wanted g.sent here.1)),
           (λ k none. stands.output.1 k refl),
           stands.output.2,
         ) in
-        let carried_last : SentSeen t.layout (output_to_carry t.output) after.sent =
-        rw stands.joined.told.0 sent in
+        let carried_last : SentFits t.layout (output_to_carry t.output) after.sent =
+        rw stands.joined.has_layouts.0 sent in
         let asks : ordered_output next.state next.session ≡ t.output.wanted =
-        rw (due.output, carried) (asks_wanted t.output.wanted t.output.told
+        rw (due.output, carried) (asks_wanted t.output.wanted t.output.acknowledged
         t.output.carried.items stands.shown.wanted) in
         let image : mode_in next.state ≢ ModeOperate → t.image ≡ None = λ k. absurd (k refl) in
         let shown = shown_as {next = next} stands.shown image refl stands.shown.present

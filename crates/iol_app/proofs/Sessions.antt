@@ -29,13 +29,13 @@ use Rattle.iol_app.specs.declared.request.RequestProgress.{RequestProgress}
 use Rattle.iol_app.specs.declared.request.RequestProgress.TheVariants.{Sending, Doubting, Asking, Receiving, Refused}
 use Rattle.iol_app.specs.declared.session.Purpose.{Purpose}
 use Rattle.iol_app.specs.declared.session.Purpose.TheVariants.{Abort, Request as NextMessage}
-use Rattle.iol_app.specs.declared.said.Said.{Said}
+use Rattle.iol_app.specs.declared.report.Said.{Said}
 use Rattle.iol_app.specs.Outputs.{output_to_carry, IsOutput}
-use Rattle.iol_app.specs.Requests.{text_of, ReplyEffect, GoesOn, effect_of_start_read, effect_of_question, sent_anew, effect_of_text, effect_of_segment, forgotten_by, current_after_refusal, segment_progress, is_doubting, replied_at, effect_of_reply, current_of_effect, current_after, request_under_way, request_after, IsEffectSaid, IsSaid, Suits, CutAndJoinFit, IsAllGiven, IsCurrent, IsSure}
-use Rattle.iol_app.specs.State.{SessionState, IsSession, od_size, told_output_length, session_after_exchange}
+use Rattle.iol_app.specs.Requests.{text_of, ReplyEffect, GoesOn, effect_of_start_read, effect_of_question, sent_anew, effect_of_text, effect_of_segment, forgotten_by, current_after_refusal, segment_progress, is_doubting, replied_at, effect_of_reply, current_of_effect, current_after, request_under_way, request_after, IsEffectReport, IsReport, Suits, CutAndJoinFit, IsAllIssued, IsCurrent, IsSure}
+use Rattle.iol_app.specs.State.{SessionState, IsSession, od_size, known_output_length, session_after_exchange}
 use Rattle.iol_octets.specs.declared.control.Channel.TheVariants.{Diagnosis}
 use Rattle.iol_app.specs.Messages.{Head, ask_of, read_head, read_with, question, check, head_of, head_for, data_for, progress_head, progress_data}
-use Rattle.iol_app.proofs.Cutting.{length-segment, is_pair, given_goes_on, sent_on_fits}
+use Rattle.iol_app.proofs.Cutting.{length-segment, is_pair, issued_goes_on, sent_on_fits}
 use Rattle.iol_app.proofs.Joining.{StaysCurrent, refused_stays, joined_stays, received_stays}
 
 -- a text has an octet
@@ -49,9 +49,9 @@ either P true x y h k = h
 either P false x y h k = k
 
 -- the one segment of a request is all of it
-one_given : (cutter : Cutting Request) → CutAndJoinFit cutter None Doubting
-    → IsAllGiven cutter.size (text_of cutter) 1
-one_given cutter h = grind (arith, common_steps, nat_tests, text_some)
+one_issued : (cutter : Cutting Request) → CutAndJoinFit cutter None Doubting
+    → IsAllIssued cutter.size (text_of cutter) 1
+one_issued cutter h = grind (arith, common_steps, nat_tests, text_some)
 
 -- and goes out anew
 anew_stays : (current : Current) → IsCurrent current
@@ -71,13 +71,13 @@ abbrev pub IsAnswered : ℕ → RequestProgress → List ℕ → Type 0
 IsAnswered size p od = (progress_head p).read ≡ true → length od ≡ size
 
 -- the reply to the question whether the device has the one segment
-doubted_stays : (current : Current) (again : Bool) (limit : ℕ) (od : List ℕ) → IsCurrent current
+doubted_stays : (current : Current) (repeat : Bool) (limit : ℕ) (od : List ℕ) → IsCurrent current
     → CutAndJoinFit current.cutter current.abort Doubting → length od ≡ current.cutter.size
-    → StaysCurrent current.cutter (effect_of_question again limit od current)
-doubted_stays current again limit od h whole size =
+    → StaysCurrent current.cutter (effect_of_question repeat limit od current)
+doubted_stays current repeat limit od h whole size =
     let all : CutAndJoinFit current.cutter current.abort (Asking 0) =
-    rw whole.0 (one_given current.cutter whole) in
-    either (StaysCurrent current.cutter) ((slice_index od 0 == 0) && not again) _ _
+    rw whole.0 (one_issued current.cutter whole) in
+    either (StaysCurrent current.cutter) ((slice_index od 0 == 0) && not repeat) _ _
     (anew_stays current h whole) (asked_stays current 0 limit od h all size)
 
 -- no good reply leaves anything in doubt
@@ -85,39 +85,39 @@ abbrev IsGoingSure : ReplyEffect → Type 0
 IsGoingSure outcome = IfSome (current_of_effect outcome) IsSure
 
 finished_sure : (current : Current) (text : List ℕ) (fault : Option IsduFault)
-    → current.again ≡ false → IsGoingSure (effect_of_text text fault current)
+    → current.repeat ≡ false → IsGoingSure (effect_of_text text fault current)
 finished_sure current text fault sure = grind (arith, common_steps)
 
-joined_sure : (current : Current) (had : ℕ) (took : Result Took JoinFault) (joining : Joining)
-    → current.again ≡ false → IsGoingSure (effect_of_segment had took joining current)
-joined_sure current had took joining sure = grind (arith, common_steps, finished_sure)
+joined_sure : (current : Current) (last : ℕ) (took : Result Took JoinFault) (joining : Joining)
+    → current.repeat ≡ false → IsGoingSure (effect_of_segment last took joining current)
+joined_sure current last took joining sure = grind (arith, common_steps, finished_sure)
 
 sending_sure : (piece : Option (Flow × ArrayVec ℕ)) → is_doubting (segment_progress piece) ≡ false
 sending_sure piece = grind (arith, common_steps)
 
 asked_sure : (current : Current) (busy limit : ℕ) (od : List ℕ)
-    → current.again ≡ false → IsGoingSure (effect_of_start_read busy limit od current)
+    → current.repeat ≡ false → IsGoingSure (effect_of_start_read busy limit od current)
 asked_sure current busy limit od sure = grind (arith, common_steps, joined_sure)
 
-replied_sure : (p : RequestProgress) (again : Bool) (limit : ℕ) (od : List ℕ) (current : Current)
-    → current.again ≡ false → current.progress ≡ p
-    → IsGoingSure (replied_at p again limit od current)
-replied_sure (Sending flow segment) again limit od current sure is = (sure, sending_sure _)
-replied_sure Doubting again limit od current sure is =
-    either IsGoingSure ((slice_index od 0 == 0) && not again) _ _ (sure, sending_sure _)
+replied_sure : (p : RequestProgress) (repeat : Bool) (limit : ℕ) (od : List ℕ) (current : Current)
+    → current.repeat ≡ false → current.progress ≡ p
+    → IsGoingSure (replied_at p repeat limit od current)
+replied_sure (Sending flow segment) repeat limit od current sure is = (sure, sending_sure _)
+replied_sure Doubting repeat limit od current sure is =
+    either IsGoingSure ((slice_index od 0 == 0) && not repeat) _ _ (sure, sending_sure _)
     (asked_sure current 0 limit od sure)
-replied_sure (Asking busy) again limit od current sure is = asked_sure current busy limit od sure
-replied_sure (Receiving joining had) again limit od current sure is =
-    let t = join_step joining (Count ((had + 1) % 16)) od in
-    either IsGoingSure (again && forgotten_by t.took od)
+replied_sure (Asking busy) repeat limit od current sure is = asked_sure current busy limit od sure
+replied_sure (Receiving joining last) repeat limit od current sure is =
+    let t = join_step joining (Count ((last + 1) % 16)) od in
+    either IsGoingSure (repeat && forgotten_by t.took od)
     (GoesOn (current_after_refusal current)) _ (sure, refl)
-    (joined_sure current (had + 1) t.took t.joining sure)
-replied_sure Refused again limit od current sure is = (sure, ap is_doubting is)
+    (joined_sure current (last + 1) t.took t.joining sure)
+replied_sure Refused repeat limit od current sure is = (sure, ap is_doubting is)
 
-replied_stays : (current : Current) (p : RequestProgress) (again : Bool) (limit : ℕ) (od : List ℕ)
+replied_stays : (current : Current) (p : RequestProgress) (repeat : Bool) (limit : ℕ) (od : List ℕ)
     → IsCurrent current → current.progress ≡ p → IsAnswered current.cutter.size p od
-    → StaysCurrent current.cutter (replied_at p again limit od current)
-replied_stays current p again limit od h e size =
+    → StaysCurrent current.cutter (replied_at p repeat limit od current)
+replied_stays current p repeat limit od h e size =
     grind (
       arith,
       common_steps,
@@ -125,7 +125,7 @@ replied_stays current p again limit od h e size =
       doubted_stays,
       received_stays,
       sent_on_fits,
-      given_goes_on,
+      issued_goes_on,
       text_some,
     )
 
@@ -138,10 +138,10 @@ going_stays : (cutter : Cutting Request) (outcome : ReplyEffect) → StaysCurren
     → StaysGoing cutter.size (current_of_effect outcome)
 going_stays cutter outcome h = grind (arith, common_steps)
 
-going_request : (cutter : Cutting Request) (read : Bool) (outcome : ReplyEffect) (said : Said)
-    → StaysCurrent cutter outcome → IsEffectSaid read outcome said
-    → request_under_way (current_of_effect outcome) ≡ request_after (Some cutter.source) said
-going_request cutter read outcome said stays h = grind (arith, common_steps)
+going_request : (cutter : Cutting Request) (read : Bool) (outcome : ReplyEffect) (report : Said)
+    → StaysCurrent cutter outcome → IsEffectReport read outcome report
+    → request_under_way (current_of_effect outcome) ≡ request_after (Some cutter.source) report
+going_request cutter read outcome report stays h = grind (arith, common_steps)
 
 module _ (layout : Option Shape) (reading : ReadingProgress) (limit : ℕ) (od : List ℕ) where
   abbrev Fits : Purpose → Option Current → Type 0
@@ -154,7 +154,7 @@ module _ (layout : Option Shape) (reading : ReadingProgress) (limit : ℕ) (od :
   stays current h size fits =
       let answered : IsAnswered current.cutter.size current.progress od =
       grind (arith, common_steps) in
-      replied_stays (record current { again = false }) current.progress current.again limit od
+      replied_stays (record current { repeat = false }) current.progress current.repeat limit od
       (record { request = h.request; some = h.some; most = h.most; progress = h.progress }) refl
       answered
 
@@ -169,22 +169,22 @@ module _ (layout : Option Shape) (reading : ReadingProgress) (limit : ℕ) (od :
       (going_stays current.cutter (effect_of_reply limit od current) (stays current h size fits))
   current_stays any (Some current) h size fits = (h, size)
 
-  pub current_request : (exchange : Purpose) (current : Option Current) (said : Said)
+  pub current_request : (exchange : Purpose) (current : Option Current) (report : Said)
       → IfSome current IsCurrent → IfSome current (λ c. c.cutter.size ≡ od_size layout)
       → Fits exchange current
-      → Suits exchange current → IsSaid exchange limit od current said
+      → Suits exchange current → IsReport exchange limit od current report
       → request_under_way (current_after exchange limit od current)
-      ≡ request_after (request_under_way current) said
-  current_request exchange None said h size fits suits said_is =
-      ap (request_after None) (sym said_is)
-  current_request Abort (Some current) said h size fits suits said_is =
+      ≡ request_after (request_under_way current) report
+  current_request exchange None report h size fits suits report_is =
+      ap (request_after None) (sym report_is)
+  current_request Abort (Some current) report h size fits suits report_is =
       grind (arith, common_steps)
-  current_request NextMessage (Some current) said h size fits suits said_is =
+  current_request NextMessage (Some current) report h size fits suits report_is =
       going_request current.cutter (is_read current.cutter.source)
-      (effect_of_reply limit od current) said
-      (stays current h size fits) said_is
-  current_request any (Some current) said h size fits suits said_is =
-      ap (request_after (Some current.cutter.source)) (sym said_is)
+      (effect_of_reply limit od current) report
+      (stays current h size fits) report_is
+  current_request any (Some current) report h size fits suits report_is =
+      ap (request_after (Some current.cutter.source)) (sym report_is)
 
 -- a session that takes up a good reply
 pub absorbed_stays : (s : SessionState) (exchange : Purpose) (reply : Reply) → IsSession s
@@ -229,19 +229,20 @@ data_length exchange size other current some h same =
 
 pub parts_fit : (layout : Shape) (output : OutputState) (reading : ReadingProgress)
     (current : Option Current) (exchange : Purpose) (message : MasterMsg) {size : Option Shape}
-    → size ≡ Some layout → IfSome size IsLayout → IsOutput (told_output_length size) output
+    → size ≡ Some layout → IfSome size IsLayout → IsOutput (known_output_length size) output
     → IfSome current IsCurrent → IfSome current (λ c. c.cutter.size ≡ od_size size)
     → head_of message.mc ≡ head_for exchange reading current
     → message.od.items ≡ data_for exchange layout.od current
     → message.out.items ≡ output_to_carry output → IfSome size (λ l. HasMasterParts l message)
-parts_fit layout output going current exchange message told valid sized fits same head od out =
-    let some = rw told at valid in
-    let carried = rw told at sized in
-    rw told (record {
+parts_fit layout output going current exchange message has_layouts valid sized fits same head od
+    out =
+    let some = rw has_layouts at valid in
+    let carried = rw has_layouts at sized in
+    rw has_layouts (record {
       out = rw out (carried_length layout.pd_out output.wanted output.carried.items
           carried.carried carried.wanted);
       od = rw od (data_length exchange layout.od going current
-          (grind (arith, common_steps, some)) fits (rw told at same))
+          (grind (arith, common_steps, some)) fits (rw has_layouts at same))
           ∙ ap (λ (head : Head). if head.read then 0 else layout.od) (sym head);
     })
 
@@ -258,7 +259,7 @@ check_head out = refl
 
 -- have the parts of the layout too
 read_parts : (control : ℕ) → (control_of control).read ≡ true → (size : Option Shape)
-    (output : OutputState) → IsOutput (told_output_length size) output
+    (output : OutputState) → IsOutput (known_output_length size) output
     → IfSome size (λ layout. HasMasterParts layout (read_with control output.carried.items))
 read_parts control is None output h = tt
 read_parts control is (Some layout) output h = record {
@@ -267,13 +268,13 @@ read_parts control is (Some layout) output h = record {
 }
 
 pub question_parts : (size : Option Shape) (output : OutputState)
-    → IsOutput (told_output_length size) output
+    → IsOutput (known_output_length size) output
     → IfSome size (λ layout. HasMasterParts layout (question output.carried.items))
 question_parts size output h =
     read_parts 0xF0 (ap (λ x. x.read) (question_head output.carried.items)) size output h
 
 pub check_parts : (size : Option Shape) (output : OutputState)
-    → IsOutput (told_output_length size) output
+    → IsOutput (known_output_length size) output
     → IfSome size (λ layout. HasMasterParts layout (check output.carried.items))
 check_parts size output h =
     read_parts 0xC0 (ap (λ x. x.read) (check_head output.carried.items)) size output h

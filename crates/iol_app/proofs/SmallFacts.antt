@@ -15,11 +15,11 @@ use Rattle.iol_far.specs.Local.{LocalStep, locals}
 use Rattle.iol_mode.specs.Stands.{entering_mode, IsOperating}
 use Rattle.iol_app.specs.Abstract.Steps.{ImageOctets}
 use Rattle.iol_app.specs.Abstract.Images.{image_or}
-use Rattle.iol_app.specs.Exchange.{image_had, is_output_told, output_due}
+use Rattle.iol_app.specs.Exchange.{image_received, acknowledged_by, output_due}
 use Rattle.iol_event.specs.Memory.{Events}
 use Rattle.iol_app.specs.BothEnds.{ReadingState, wants_confirm, EventsFit}
 use Rattle.iol_app.proofs.Accepted.{by_accepted}
-use Rattle.iol_app.proofs.Given.{by_locals}
+use Rattle.iol_app.proofs.AllLaws.{by_locals}
 use Rattle.iol_app.specs.declared.output.OutputState.{OutputState}
 use Rattle.iol_app.specs.declared.session.Purpose.{Purpose}
 use Rattle.iol_app.specs.declared.session.Purpose.TheVariants.{ConfirmEvents}
@@ -38,7 +38,7 @@ image_octets input h = grind (arith, common_steps)
 pub input_is : (size : ℕ) (input : Option ImageOctets) (reply : Reply)
     → IfSome input (λ image. length image ≡ size) → HasOctets input
     → reply.input.items ≡ (if size == 0 then [] else unwrap_or input (replicate size 0))
-    → reply.invalid ≡ (not (size == 0) && not (is_some input)) → image_had size reply ≡ input
+    → reply.invalid ≡ (not (size == 0) && not (is_some input)) → image_received size reply ≡ input
 input_is size input reply sized octets items invalid = grind (arith, common_steps)
 
 pub input_locals : (steps : List LocalStep) (far : Far) → HasOctets far.input
@@ -54,7 +54,7 @@ not_operate p e = grind (arith, common_steps)
 
 pub same_output : (exchange : Purpose) (output : OutputState)
     → output_after exchange output ≡ record output
-    { told = is_output_told (output_for exchange) output.told }
+    { acknowledged = acknowledged_by (output_for exchange) output.acknowledged }
 same_output exchange output = grind (arith, common_steps)
 
 pub confirms_is : (exchange : Purpose) → confirms_events exchange ≡ true → exchange ≡ ConfirmEvents
@@ -70,13 +70,15 @@ pub begins_request : (exchange : Purpose) (current : Option Current) (request : 
     → move_for exchange current ≡ Begin request → request_under_way current ≡ Some request
 begins_request exchange current request e = grind (arith, common_steps)
 
-pub tells_wanted : (wanted : Option ImageOctets) (told : Bool) → Some true ≡ output_due wanted told
+pub enables_wanted : (wanted : Option ImageOctets) (acked : Bool)
+    → Some true ≡ output_due wanted acked
     → IsSome wanted
-tells_wanted wanted told e = grind (arith, common_steps)
+enables_wanted wanted acked e = grind (arith, common_steps)
 
-pub drops_told : (wanted : Option ImageOctets) (told : Bool) → Some false ≡ output_due wanted told
-    → told ≡ true
-drops_told wanted told e = grind (arith, common_steps)
+pub drops_acknowledged : (wanted : Option ImageOctets) (acked : Bool)
+    → Some false ≡ output_due wanted acked
+    → acked ≡ true
+drops_acknowledged wanted acked e = grind (arith, common_steps)
 
 pub some_or : (wanted sent : Option ImageOctets) → IsSome wanted → IsSome (image_or wanted sent)
 some_or wanted sent h = grind (arith, common_steps)

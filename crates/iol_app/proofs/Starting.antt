@@ -32,12 +32,12 @@ use Rattle.iol_mode.specs.declared.why.Why.{Why}
 use Rattle.iol_mode.specs.Next.{IsEntered, read_by}
 use Rattle.iol_mode.specs.declared.states.StartupStep.{StartupStep}
 use Rattle.iol_mode.specs.Stands.{startup_link, preoperate_link, entering_link, StepLevel, StateStands, StepStands}
-use Rattle.iol_mode.specs.States.{NextMode, InDown, NextModeFits, StateFits, next_state, is_behind, is_reset, StepFits, is_starting, startup_at, step_behind, step_after, told_of, is_left_out, layouts_taken, page_taken, taken_where, mode_after_check, startup_by, startup_turned, preoperate_by, preoperate_after, preoperate_turned}
+use Rattle.iol_mode.specs.States.{NextMode, InDown, NextModeFits, StateFits, next_state, is_behind, is_reset, StepFits, is_starting, startup_at, step_behind, step_after, facts_of, is_left_out, layouts_taken, page_taken, taken_where, mode_after_check, startup_by, startup_turned, preoperate_by, preoperate_after, preoperate_turned}
 use Rattle.iol_mode.specs.Turns.{IsRisen}
 use Rattle.iol_app.specs.declared.mode.Mode.{Mode}
 use Rattle.iol_app.specs.declared.mode.Mode.TheVariants.{Down as ModeDown, Startup as ModeStartup, Operate as ModeOperate}
-use Rattle.iol_app.specs.declared.said.Said.TheVariants.{Idle}
-use Rattle.iol_app.specs.Abstract.Steps.{PortStep, TellLength, Move as MoveTo, Exchanged, silence_by, output_length, page_refusal, fault_in}
+use Rattle.iol_app.specs.declared.report.Said.TheVariants.{Idle}
+use Rattle.iol_app.specs.Abstract.Steps.{PortStep, PageRead, Move as MoveTo, Exchanged, silence_by, output_length, page_refusal, fault_in}
 use Rattle.iol_app.specs.Abstract.OfMaster.{resets}
 use Rattle.iol_app.specs.Abstract.OfDevice.{Hidden, IsOpen, hidden_through}
 use Rattle.iol_app.specs.Abstract.Shown.{MasterFields}
@@ -46,22 +46,22 @@ use Rattle.iol_app.specs.Abstract.Images.{Images}
 use Rattle.iol_app.specs.Abstract.Shown.{ShownProcessData, images_of, session_of}
 use Rattle.iol_app.specs.BothEnds.{far_mode, output_by, wants_confirm}
 use Rattle.iol_app.specs.Exchange.{reading_flagged}
-use Rattle.iol_app.proofs.Given.{Laws, page_locals, page_after as page_passed, kind_after, level_locals, all_laws}
+use Rattle.iol_app.proofs.AllLaws.{Laws, page_locals, page_after as page_passed, kind_after, level_locals, all_laws}
 use Rattle.iol_app.proofs.OwnSession.{own_open}
-use Rattle.iol_app.specs.Ends.{OutputTold, ShownSeen}
+use Rattle.iol_app.specs.Ends.{OutputFits, ShownFits}
 use Rattle.iol_app.proofs.Outputs.{outputs_locals}
 use Rattle.iol_app.proofs.OpenLevel.{tied_locals, hear_carried}
-use Rattle.iol_app.proofs.EventReading.{kept_fits, ends_hold}
-use Rattle.iol_app.proofs.Effects.{Effect, Ends, Left, untold_effect, gives as call_gives, falls as call_falls}
+use Rattle.iol_app.proofs.EventReading.{continued_fits, ends_hold}
+use Rattle.iol_app.proofs.Effects.{Effect, Ends, Left, unreported_effect, gives as call_gives, falls as call_falls}
 use Rattle.iol_app.proofs.Shown.{shown_as}
 use Rattle.iol_app.proofs.FirstOctet.{confirms_of}
 use Rattle.iol_app.specs.declared.event_work.ReadingProgress.TheVariants.{Resting}
 use Rattle.iol_app.specs.State.{SessionState, IsSession, session_with_page, session_with_flag}
-use Rattle.iol_app.specs.StationState.{SessionFits, settled_session, mode_in, why_in, HasToldPage, told_in}
+use Rattle.iol_app.specs.StationState.{SessionFits, settled_session, mode_in, why_in, HasReadPage, with_page_read}
 use Rattle.iol_app.proofs.StartMessages.{step_channel, sends_channel, preoperate_mode, page_confirms}
-use Rattle.iol_app.proofs.Telling.{startup_layout, told_layout, told_told, told_shown, told_stays}
+use Rattle.iol_app.proofs.PageReads.{startup_layout, read_layout, length_acknowledged, page_is_shown, page_stays}
 use Rattle.iol_app.specs.Moves.{progress_of}
-use Rattle.iol_app.specs.Core.{CoreState, Ghost, seen_in, shown_in}
+use Rattle.iol_app.specs.Core.{CoreState, Ghost, fields_in, shown_in}
 use Rattle.iol_app.specs.CoreStands.{BothEndsStand, OutputOff, ShownStands}
 use Rattle.iol_app.specs.CoreGives.{CallGives, moment_of}
 use Rattle.iol_app.specs.CoreTurns.{settled_core, Rises}
@@ -74,7 +74,7 @@ use Rattle.iol_page.specs.declared.fault.PageFault.{PageFault}
 use Rattle.iol_page.specs.declared.fault.PageFault.TheVariants.{Revision, BadPdLength, UnsupportedCode}
 use Rattle.iol_event.specs.declared.event.Event.{Event}
 use Rattle.iol_far.specs.Orderly.{OrderlyLaws}
-use Rattle.iol_link.specs.declared.handler.Attempt.TheVariants.{Again, Lost as WasLost}
+use Rattle.iol_link.specs.declared.handler.Attempt.TheVariants.{Retry, Lost as WasLost}
 use Rattle.iol_mode.specs.declared.states.StartupStep.TheVariants.{Read, Ident, Leave, Cycle, Enter}
 use Rattle.iol_mode.specs.declared.why.Why.TheVariants.{WrongDevice}
 use Rattle.iol_mode.specs.Why.{why_of}
@@ -103,13 +103,13 @@ abbrev still : SessionState → SessionState
 still t = record t {
   current = None;
   exchange = None;
-  output = record t.output { told = false };
+  output = record t.output { acknowledged = false };
   events = record t.events { reading = Resting };
   image = None;
 }
 
 is_still : (t : SessionState) → t.current ≡ None → t.exchange ≡ None → t.image ≡ None
-    → t.events.reading ≡ Resting → t.output.told ≡ false → t ≡ still t
+    → t.events.reading ≡ Resting → t.output.acknowledged ≡ false → t ≡ still t
 is_still t a b c d e = grind (arith, common_steps)
 
 abbrev at_rest : State → SessionState → CoreState
@@ -147,14 +147,14 @@ moves_brings : (start : Start) (mode : Mode) (why : Option Why)
     → IsTrue (may_bring (mode_at start) (Exchanged true) (MoveTo mode why ∷ []))
 moves_brings start mode why = grind (arith, common_steps)
 
-tells_brings : (start : Start) → mode_at start ≡ ModeStartup
-    → IsTrue (may_bring (mode_at start) (Exchanged true) (TellLength ∷ []))
-tells_brings start first = subst (λ (mode : Mode).
-    IsTrue (may_bring mode (Exchanged true) (TellLength ∷ []))) (sym first) refl
+page_read_brings : (start : Start) → mode_at start ≡ ModeStartup
+    → IsTrue (may_bring (mode_at start) (Exchanged true) (PageRead ∷ []))
+page_read_brings start first = subst (λ (mode : Mode).
+    IsTrue (may_bring mode (Exchanged true) (PageRead ∷ []))) (sym first) refl
 
 -- an output that isn't valid is as told
 invalid : (sent : Option (List ℕ)) (known : Type 0) (far : Far) → OutputOff false far
-    → OutputTold sent known false far
+    → OutputFits sent known false far
 invalid sent known far h = ((λ a v. absurd (cc (h.off a))), (λ a none. h.off a), h.waits)
 
 -- Its message, and the level of both ends
@@ -192,7 +192,7 @@ message_of (InPre s) n far fits stands = record {
   page = sends_channel s.cycle_written s.pre s.sent.message fits.sends;
   parts = fits.parts;
   mode = preoperate_mode s.cycle_written s.pre s.sent.message fits.sends;
-  layout = told_layout far.page FarPreoperate s.layouts stands.told
+  layout = read_layout far.page FarPreoperate s.layouts stands.read_from
       ∙ ap (λ (p : Option Shape). unwrap_or p startup_shape) fits.layouts.pre_is;
   level = stands.level;
 }
@@ -201,9 +201,9 @@ message_of (InPre s) n far fits stands = record {
 record Rests (t : SessionState) (g : Ghost) (far : Far) : Type 0 where
   late : g.request.hidden.late ≡ None
   opens : IsOpen far.isdu None g.request.hidden
-  clear : t.clear ≡ false
-  untold : g.events.told ≡ false
-  output : OutputOff t.output.told far
+  idle : t.idle ≡ false
+  unreported : g.events.reported ≡ false
+  output : OutputOff t.output.acknowledged far
 
 rests_of : (start : Start) (t : SessionState) (g : Ghost) (far : Far) (n : ℕ)
     → BothEndsStand (record { state = state_at start; session = t }) g far n → Rests t g far
@@ -211,19 +211,19 @@ rests_of start t g far n h = grind (arith, common_steps)
 
 -- one exchange of it
 record Exchange (start : Start) (session : SessionState) (g : Ghost) (far far' : Far)
-    (n n' : ℕ) (came : Option (List ℕ)) : Type 0 where
+    (n n' : ℕ) (received : Option (List ℕ)) : Type 0 where
   laws : Laws
   heard : TextsAreHeard
   stands : BothEndsStand (at_rest (state_at start) session) g far n
   k : Message start far
-  x : HonestExchange far n (master_text k.shape k.message) came far' n'
+  x : HonestExchange far n (master_text k.shape k.message) received far' n'
 
 -- no list was read before
 none_flagged : (flag : Bool) → wants_confirm (reading_flagged flag) ≡ true → ⊥
 none_flagged flag k = grind (arith, common_steps)
 
 module _ {start : Start} {session : SessionState} {g : Ghost} {far far' : Far} {n n' : ℕ}
-    {came : Option (List ℕ)} (it : Exchange start session g far far' n n' came) where
+    {received : Option (List ℕ)} (it : Exchange start session g far far' n n' received) where
   open it use {laws, heard, stands, k, x}
 
   abbrev c : CoreState
@@ -264,7 +264,7 @@ module _ {start : Start} {session : SessionState} {g : Ghost} {far far' : Far} {
     vain = k.tries;
     mode = mode_at start;
     sent = g.sent;
-    told = false;
+    acked = false;
   }
 
   uncommanded : output_by (mode_at start) (command_in k.message) ≡ None
@@ -297,7 +297,7 @@ module _ {start : Start} {session : SessionState} {g : Ghost} {far far' : Far} {
   page_new = rw x.far_is page_is
 
   kind_is : passed.kind ≡ g.kind
-  kind_is = kind_after laws x.passage there o ∙ laws.much.kind_kept far x.steps ∙ stands.kind
+  kind_is = kind_after laws x.passage there o ∙ laws.much.kind_stays far x.steps ∙ stands.kind
 
   level : Level laws going goes there
   level = level_locals laws far.page far.kind k.shape.od
@@ -310,7 +310,7 @@ module _ {start : Start} {session : SessionState} {g : Ghost} {far far' : Far} {
   off : OutputOff false passed
   off =
       let h = outputs_after laws going goes x.passage there page_there level outputs in
-      record { untold = refl; off = λ a. h.1 a uncommanded; waits = h.2 }
+      record { unacknowledged = refl; off = λ a. h.1 a uncommanded; waits = h.2 }
 
   tied : (h.late ≡ None) × (there.carried ≡ far.carried)
   tied =
@@ -328,10 +328,10 @@ module _ {start : Start} {session : SessionState} {g : Ghost} {far far' : Far} {
       goes.sent_at.spells) ∙ page_confirms k.message k.page
 
   abbrev effect : Effect c g far passed n n'
-  effect = untold_effect c g far laws refl rests.opens (none_waits far.events x.regular.memory)
+  effect = unreported_effect c g far laws refl rests.opens (none_waits far.events x.regular.memory)
       x.steps n n' x.passage o
       x.silence_is unconfirmed opens
-      (outputs_sent laws going goes there page_there level outputs) rests.untold
+      (outputs_sent laws going goes there page_there level outputs) rests.unreported
 
   -- What an outcome has to bring
 
@@ -361,14 +361,14 @@ module _ {start : Start} {session : SessionState} {g : Ghost} {far far' : Far} {
 
   -- The outcomes
 
-  kept : (next : Start) → LeftIn (state_at next) (still session)
-  kept (InStart s b) = record {
-    request = (λ _. tied.0, opens, rests.clear, λ k. absurd (cc (b, k)));
+  unchanged : (next : Start) → LeftIn (state_at next) (still session)
+  unchanged (InStart s b) = record {
+    request = (λ _. tied.0, opens, rests.idle, λ k. absurd (cc (b, k)));
     events = (refl, refl);
     output = (refl, λ _. off);
     quiet = tt;
   }
-  kept (InPre s) = assumption (tied, opens, rests.clear, refl, off)
+  unchanged (InPre s) = assumption (tied, opens, rests.idle, refl, off)
 
   shown' : (state : State) (event : Bool)
       → ShownStands (record {
@@ -379,7 +379,7 @@ module _ {start : Start} {session : SessionState} {g : Ghost} {far far' : Far} {
 
   -- a start-up goes on in its mode
   stays : (answered : Bool) (next : Start)
-      → seen_in (at_rest (state_at next) session) g ≡ seen_in c g
+      → fields_in (at_rest (state_at next) session) g ≡ fields_in c g
       → Brings answered (at_rest (state_at next) session) []
   stays answered next same =
       let shows = ap (λ (e : MasterFields). session_of e h passed.carried) (sym same) in
@@ -388,7 +388,7 @@ module _ {start : Start} {session : SessionState} {g : Ghost} {far far' : Far} {
         stays_brings start answered,
         shows,
         no_book (is_reset (state_at next)),
-        kept next,
+        unchanged next,
         stands.sent,
         shown' (state_at next) session.events.flag,
       )
@@ -424,7 +424,7 @@ module _ {start : Start} {session : SessionState} {g : Ghost} {far far' : Far} {
   -- the page is whole, that of the device that is expected, and is told
   tells : (s : Startup) (behind : is_behind s.step ≡ true) (read : PageFacts)
       → mode_at start ≡ ModeStartup
-      → seen_in (at_rest (AtStartup s) session) g ≡ seen_in c g
+      → fields_in (at_rest (AtStartup s) session) g ≡ fields_in c g
       → layouts_of g.page ≡ Ok read.layouts → read.layouts.isdu ≡ knows_isdu g.page
       → read.page ≡ g.page → is_expected session.configuration.expected g.page ≡ true
       → IsSession (still session)
@@ -432,20 +432,20 @@ module _ {start : Start} {session : SessionState} {g : Ghost} {far far' : Far} {
         state = AtStartup s;
         session = session_with_page read (still session);
       })
-      (TellLength ∷ [])
+      (PageRead ∷ [])
   tells s behind read first same asked isdu page right valid =
-      let q = kept (InStart s behind) in
+      let q = unchanged (InStart s behind) in
       let shown : ShownProcessData = shown_in (still session) g.sent in
       let size : output_length g.page ≡ read.layouts.run.pd_out =
-      ap (λ (l : Shape). l.pd_out) (told_layout g.page FarOperate read.layouts asked) in
-      let seen : ShownSeen (still session) shown = assumption (stands.sent, refl) in
-      let w = told_shown (still session) shown read g.page (knows_isdu g.page)
-      (output_length g.page) valid seen stands.shown.wanted stands.shown.lengths size (sym isdu)
+      ap (λ (l : Shape). l.pd_out) (read_layout g.page FarOperate read.layouts asked) in
+      let fits : ShownFits (still session) shown = assumption (stands.sent, refl) in
+      let w = page_is_shown (still session) shown read g.page (knows_isdu g.page)
+      (output_length g.page) valid fits stands.shown.wanted stands.shown.lengths size (sym isdu)
       (sym page) in
       record {
         limit = refl;
         configuration = refl;
-        brings = tells_brings start first;
+        brings = page_read_brings start first;
         session = ((tt, tt), ap (λ (e : MasterFields). session_of e h passed.carried) (sym same));
         frozen = ((tt, tt), refl);
         images = (
@@ -453,7 +453,7 @@ module _ {start : Start} {session : SessionState} {g : Ghost} {far far' : Far} {
           λ i.
               let y : Images = images_of (record shown {
                 wanted = w.wanted i;
-                told = w.told i;
+                known_length = w.known_length i;
                 isdu = w.isdu i;
                 page = w.page i;
               }) passed in y,
@@ -463,7 +463,8 @@ module _ {start : Start} {session : SessionState} {g : Ghost} {far far' : Far} {
         left = record {
           request = q.request;
           events = q.events;
-          output = rw (told_told read.layouts.run.pd_out (still session).output) (refl, λ _. off);
+          output = rw (length_acknowledged read.layouts.run.pd_out (still session).output)
+              (refl, λ _. off);
           quiet = tt;
         };
         sent = w.sent;
@@ -481,13 +482,13 @@ module _ {start : Start} {session : SessionState} {g : Ghost} {far far' : Far} {
   -- What came back
 
   abbrev Good : Reply → Type 0
-  Good r = IsReplied laws going goes far far' n n' came x k.level refl r
+  Good r = IsReplied laws going goes far far' n n' received x k.level refl r
 
-  missed : good_reply k.shape k.message came ≡ None → n' ≡ min 3 (n + 1)
-  missed = silent laws going goes far far' n n' came x k.level refl
+  missed : good_reply k.shape k.message received ≡ None → n' ≡ min 3 (n + 1)
+  missed = silent laws going goes far far' n n' received x k.level refl
 
-  had : (r : Reply) → good_reply k.shape k.message came ≡ Some r → Good r
-  had = replied laws going goes far far' n n' came x k.level refl
+  takes_reply : (r : Reply) → good_reply k.shape k.message received ≡ Some r → Good r
+  takes_reply = replied laws going goes far far' n n' received x k.level refl
 
   -- it comes to OPERATE, with the Event flag of the reply: the hold has ended, and the flag is the
   -- memory's
@@ -499,8 +500,8 @@ module _ {start : Start} {session : SessionState} {g : Ghost} {far far' : Far} {
         session = session_with_flag r.event (still session);
       }) (MoveTo ModeOperate None ∷ [])
   enters {layouts} {r} good may entered_is =
-      let none : progress_of session.configuration.devices session.clear None ≡ Quiet =
-      resting_quiet session.configuration.devices session.clear rests.clear in
+      let none : progress_of session.configuration.devices session.idle None ≡ Quiet =
+      resting_quiet session.configuration.devices session.idle rests.idle in
       let same : (hear there o).far ≡ passed = sym good.far_is ∙ x.far_is in
       let held : passed.events.held ≡ false =
       rw same at (ends_hold there o good.octets unconfirmed good.replies) in
@@ -523,7 +524,7 @@ module _ {start : Start} {session : SessionState} {g : Ghost} {far far' : Far} {
           known = λ e. absurd (cc e);
         };
         events = (
-          (λ awake. kept_fits steps.Resting r.event passed.events event held tt),
+          (λ awake. continued_fits steps.Resting r.event passed.events event held tt),
           none_due r.event passed.awake,
         );
         output = invalid _ _ passed off;
@@ -544,7 +545,7 @@ left_at Own read page out asked = absurd (cc)
 left_at Any read page out asked = asked
 
 module _ (known : Known) (session : SessionState) (valid : IsSession (still session))
-    (g : Ghost) (far far' : Far) (n n' : ℕ) (came : Option (List ℕ)) where
+    (g : Ghost) (far far' : Far) (n n' : ℕ) (received : Option (List ℕ)) where
   open known use {laws, heard, asks}
 
   asked_by : (layouts : Layouts) → layouts_of g.page ≡ Ok layouts → IsAskedBy g.page layouts
@@ -552,12 +553,12 @@ module _ (known : Known) (session : SessionState) (valid : IsSession (still sess
       (asks g.page)
 
   abbrev Exchanging : Start → Type 0
-  Exchanging start = Exchange start session g far far' n n' came
+  Exchanging start = Exchange start session g far far' n n' received
 
   abbrev exchange_of : (start : Start)
       → (stands : BothEndsStand (at_rest (state_at start) session) g far n)
       → let k = message_of start n far stands.fits stands.link in
-      HonestExchange far n (master_text k.shape k.message) came far' n' → Exchanging start
+      HonestExchange far n (master_text k.shape k.message) received far' n' → Exchanging start
   exchange_of start stands x = record {
     laws = laws;
     heard = heard;
@@ -568,14 +569,14 @@ module _ (known : Known) (session : SessionState) (valid : IsSession (still sess
 
   -- PREOPERATE
   module _ (s : Preoperate) (stands : BothEndsStand (at_rest (AtPreoperate s) session) g far n)
-      (x : HonestExchange far n (text_out (AtPreoperate s)) came far' n') where
+      (x : HonestExchange far n (text_out (AtPreoperate s)) received far' n') where
     abbrev pre : Exchanging (InPre s)
     pre = exchange_of (InPre s) stands x
 
     pre_tries : (b : Bool) → (s.sent.tries == 2) ≡ b → n' ≡ min 3 (n + 1)
         → Rising pre (preoperate_by
         (record { message = s.sent.message; tries = if b then 0 else s.sent.tries + 1 })
-        s.cycle_written s.pre s.layouts (if b then WasLost else Again))
+        s.cycle_written s.pre s.layouts (if b then WasLost else Retry))
     pre_tries true two silence = down pre false silence refl
         (third_time s.sent.tries n (grind (arith, nat_tests)) stands.link.tries)
     pre_tries false two silence = by pre false silence refl (stays pre false (InPre _) refl)
@@ -587,15 +588,15 @@ module _ (known : Known) (session : SessionState) (valid : IsSession (still sess
     pre_written false r good risen =
         by pre true good.silence_is refl (stays pre true (InPre _) refl) risen
 
-    pre_rises : (q : Option Reply) → good_reply s.pre s.sent.message came ≡ q
+    pre_rises : (q : Option Reply) → good_reply s.pre s.sent.message received ≡ q
         → Rising pre (preoperate_turned s q)
     pre_rises None e = pre_tries (s.sent.tries == 2) refl (missed pre e)
-    pre_rises (Some r) e = pre_written s.cycle_written r (had pre r e)
+    pre_rises (Some r) e = pre_written s.cycle_written r (takes_reply pre r e)
 
   -- STARTUP
   module _ (s : Startup) (b : is_behind s.step ≡ true)
       (stands : BothEndsStand (at_rest (AtStartup s) session) g far n)
-      (x : HonestExchange far n (text_out (AtStartup s)) came far' n') where
+      (x : HonestExchange far n (text_out (AtStartup s)) received far' n') where
     abbrev start : Exchanging (InStart s b)
     start = exchange_of (InStart s b) stands x
 
@@ -605,16 +606,17 @@ module _ (known : Known) (session : SessionState) (valid : IsSession (still sess
     start_tries : (b : Bool) → (s.sent.tries == 2) ≡ b → n' ≡ min 3 (n + 1)
         → Rising start (startup_by asks_now
         (record { message = s.sent.message; tries = if b then 0 else s.sent.tries + 1 })
-        s.step (if b then WasLost else Again))
+        s.step (if b then WasLost else Retry))
     start_tries true two silence = down start false silence refl
         (third_time s.sent.tries n (grind (arith, nat_tests)) stands.link.tries)
     start_tries false two silence = by start false silence
-        (told_stays (read_by s.step) (still session) valid stands.joined.1)
+        (page_stays (read_by s.step) (still session) valid stands.joined.1)
         (stays start false (InStart _ b) refl)
 
     module _ (r : Reply) (good : Good start r) where
       goes_on : (step : StartupStep) → is_behind step ≡ true
-          → told_in (read_by step) (still session) ≡ still session → Rising start (startup_at step)
+          → with_page_read (read_by step) (still session) ≡ still session
+          → Rising start (startup_at step)
       goes_on step behind same =
           by start true good.silence_is same (stays start true (InStart _ behind) refl)
 
@@ -626,16 +628,16 @@ module _ (known : Known) (session : SessionState) (valid : IsSession (still sess
       may_fault UnsupportedCode e = e
 
       behind_session : (page : PageFacts) (p : Option Shape)
-          → told_in (read_by (step_behind page p)) (still session)
+          → with_page_read (read_by (step_behind page p)) (still session)
           ≡ session_with_page page (still session)
       behind_session page p = grind (arith, common_steps)
 
       behind_page : (page : PageFacts) (p : Option Shape) → is_behind (step_behind page p) ≡ true
       behind_page page p = grind (arith, common_steps)
 
-      behind_told : (page : PageFacts) (p : Option Shape) → StepStands (step_behind page p) far'
+      behind_is_read : (page : PageFacts) (p : Option Shape) → StepStands (step_behind page p) far'
           → (layouts_of far'.page ≡ Ok page.layouts) × (page.page ≡ far'.page)
-      behind_told page p q = grind (arith, common_steps)
+      behind_is_read page p q = grind (arith, common_steps)
 
       by_layouts : (b : Bool) (layouts : Layouts) (octets : List ℕ)
           → is_left_out asks_now.devices octets ≡ b
@@ -648,9 +650,9 @@ module _ (known : Known) (session : SessionState) (valid : IsSession (still sess
           down start true good.silence_is refl
           (left_at asks_now.devices octets g.page out asked) risen
       by_layouts false layouts octets out known risen =
-          let read : PageFacts = told_of asks_now layouts octets in
+          let read : PageFacts = facts_of asks_now layouts octets in
           let behind = rw (page_new start) at
-          (behind_told read layouts.pre risen.both.stands.step) in
+          (behind_is_read read layouts.pre risen.both.stands.step) in
           let right : is_expected asks_now.expected g.page ≡ true =
           rw behind.1 at known in
           by start true good.silence_is (behind_session read layouts.pre)
@@ -690,20 +692,20 @@ module _ (known : Known) (session : SessionState) (valid : IsSession (still sess
       by_octets false octets = goes_on (Read (record { items = octets })) refl refl
 
       by_step : (step : StartupStep) → is_behind step ≡ true → StepFits step → StepStands step far
-          → HasToldPage (read_by step) (still session) → Rising start (step_after asks_now step r)
+          → HasReadPage (read_by step) (still session) → Rising start (step_after asks_now step r)
       by_step (Read read) behind proper at before risen =
           by_octets (length (read.items ++ slice_index r.od.items 0 ∷ []) == 10)
           (read.items ++ slice_index r.od.items 0 ∷ []) risen
       by_step (Ident page pre) behind proper at before risen =
-          goes_on (Leave page pre) refl (told_stays (Some page) (still session) valid before) risen
+          goes_on (Leave page pre) refl (page_stays (Some page) (still session) valid before) risen
       by_step (Cycle page) behind proper at before risen =
-          goes_on (Enter page) refl (told_stays (Some page) (still session) valid before) risen
+          goes_on (Enter page) refl (page_stays (Some page) (still session) valid before) risen
       by_step (Leave page pre) behind proper up before risen =
           let q = asked_by page.layouts (rw stands.page at up.0) in
           let present : is_present g.page ≡ true = q.present ∙ sym q.old
           ∙ ap (λ (p : Option Shape). is_some p) proper.pre_is in
           by start true good.silence_is refl (moves start session.events.flag (AtPreoperate _)
-          (present, (tied start).0) (kept start (InPre _))) risen
+          (present, (tied start).0) (unchanged start (InPre _))) risen
       by_step (Enter page) behind proper up before risen =
           let q = asked_by page.layouts (rw stands.page at up.0) in
           let none : not (is_old g.page) ≡ false = sym q.old
@@ -712,19 +714,19 @@ module _ (known : Known) (session : SessionState) (valid : IsSession (still sess
           by start true good.silence_is refl (enters start good old risen.entered) risen
       by_step other behind proper at before risen = absurd (cc)
 
-    start_rises : (q : Option Reply) → good_reply startup_shape s.sent.message came ≡ q
+    start_rises : (q : Option Reply) → good_reply startup_shape s.sent.message received ≡ q
         → Rising start (startup_turned asks_now s q)
     start_rises None e = start_tries (s.sent.tries == 2) refl (missed start e)
     start_rises (Some r) e =
-        by_step r (had start r e) s.step b stands.fits.step stands.link.step stands.joined.1
+        by_step r (takes_reply start r e) s.step b stands.fits.step stands.link.step stands.joined.1
 
 -- in both
 module _ (known : Known) (t : SessionState) (valid : IsSession t) (g : Ghost) (far far' : Far)
-    (n n' : ℕ) (came : Option (List ℕ)) where
+    (n n' : ℕ) (received : Option (List ℕ)) where
   abbrev RisesBy : State → Type 0
-  RisesBy state = let o : NextMode = mode_after_reply t.configuration state came in
+  RisesBy state = let o : NextMode = mode_after_reply t.configuration state received in
       BothEndsStand (record { state = state; session = t }) g far n
-      → HonestExchange far n (text_out state) came far' n'
+      → HonestExchange far n (text_out state) received far' n'
       → IsRisen (is_reset state) o n' far far' → NextModeFits o
       → SessionFits (next_state o) (settled_session o t)
       → CallGives (record { state = state; session = t }) g far n Idle (settled_core o t) far' n'
@@ -732,12 +734,13 @@ module _ (known : Known) (t : SessionState) (valid : IsSession t) (g : Ghost) (f
   by_startup : (s : Startup) (behind : Bool) → is_behind s.step ≡ behind
       → RisesBy (AtStartup s)
   by_startup s false b stands x risen fits joined =
-      leaving_rises known.laws known.leaves known.heard s t g far far' n n' came b stands x
+      leaving_rises known.laws known.leaves known.heard s t g far far' n n' received b stands x
       risen fits
   by_startup s true b stands x risen fits joined =
       let e : t ≡ still t = is_still t stands.joined.0.0 stands.joined.0.1
       (stands.shown.image (λ k. absurd (cc k))) stands.events.0 stands.output.0 in
-      rw e (start_rises known t (rw e at valid) g far far' n n' came s b (rw e at stands) x _ refl
+      rw e (start_rises known t (rw e at valid) g far far' n n' received s b (rw e at stands) x
+      _ refl
       (rw b at risen) fits (rw e at joined))
 
   rises_at : (state : State) → is_starting state ≡ true → RisesBy state
@@ -745,8 +748,8 @@ module _ (known : Known) (t : SessionState) (valid : IsSession t) (g : Ghost) (f
       by_startup s (is_behind s.step) refl stands x risen fits joined
   rises_at (AtPreoperate s) up stands x risen fits joined =
       let e : t ≡ still t = is_still t stands.joined.0.0 stands.joined.0.1
-      (stands.shown.image (λ k. absurd (cc k))) stands.events.0 stands.output.untold in
-      rw e (pre_rises known t (rw e at valid) g far far' n n' came s (rw e at stands) x _ refl
+      (stands.shown.image (λ k. absurd (cc k))) stands.events.0 stands.output.unacknowledged in
+      rw e (pre_rises known t (rw e at valid) g far far' n n' received s (rw e at stands) x _ refl
       risen fits (rw e at joined))
   rises_at state up stands x risen fits joined = absurd (cc up)
 
@@ -754,11 +757,11 @@ pub rises : ((size : ℕ) → 1 ≤ size → LevelLaws size) → MuchStays → R
     → InputStaysSized → ((first : Event) (rest : List Event) → EventLaws first rest)
     → ModesHaveLayouts → OrderlyLaws → TextsAreHeard → PagesAskForLayouts → Rises
 rises levels much reads sized events layouts leaves heard asks = record {
-  gives = λ c g far far' n n' came up stands valid x.
+  gives = λ c g far far' n n' received up stands valid x.
       rises_at (record {
         laws = all_laws levels much reads sized events layouts;
         leaves = leaves;
         heard = heard;
         asks = asks;
-      }) c.session valid g far far' n n' came c.state up stands x;
+      }) c.session valid g far far' n n' received c.state up stands x;
 }

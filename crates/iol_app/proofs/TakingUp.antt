@@ -23,7 +23,7 @@ use Rattle.iol_app.specs.declared.request.Current.{Current}
 use Rattle.iol_app.specs.declared.request.RequestProgress.{RequestProgress}
 use Rattle.iol_app.specs.declared.request.RequestProgress.TheVariants.{Doubting, Asking, Receiving}
 use Rattle.iol_app.specs.Requests.{effect_of_segment, effect_of_reply, IsCurrent}
-use Rattle.iol_app.specs.Moves.{next_segment, octets_had, IsReading, is_forgotten, TakesUpSegment, AnswersAreTakenUp}
+use Rattle.iol_app.specs.Moves.{next_segment, octets_received, IsReading, is_forgotten, TakesUpSegment, AnswersAreTakenUp}
 use Rattle.iol_app.proofs.Joining.{taken_next}
 
 -- an answer that fits the request of a cut
@@ -55,30 +55,30 @@ whole_front : (total : Result ℕ IsduFault) (octets text : List ℕ)
 whole_front total octets text e = grind (arith, nat_tests, common_steps)
 
 -- the segment of this number was joined
-joined_up : (current : Current) (answer : Answer) (had : ℕ) → Fitting current.cutter answer
-    → had * current.cutter.size < length (answer_text_to current.cutter.source answer)
+joined_up : (current : Current) (answer : Answer) (last : ℕ) → Fitting current.cutter answer
+    → last * current.cutter.size < length (answer_text_to current.cutter.source answer)
     → (octets : List ℕ) → octets ≡ segments_up_to current.cutter.size
-    (answer_text_to current.cutter.source answer) had
-    → TakesUpSegment current answer had octets
-    (effect_of_segment had (stage_step (count_at had) octets (stage octets)).took
-    (stage_step (count_at had) octets (stage octets)).joining
-    (record current { again = false }))
-joined_up current answer had h low octets same =
+    (answer_text_to current.cutter.source answer) last
+    → TakesUpSegment current answer last octets
+    (effect_of_segment last (stage_step (count_at last) octets (stage octets)).took
+    (stage_step (count_at last) octets (stage octets)).joining
+    (record current { repeat = false }))
+joined_up current answer last h low octets same =
     let size = current.cutter.size in
     let text = answer_text_to current.cutter.source answer in
     ⊎_elim
-    (λ (more : suc had * size < length text).
-    rw (ap stage same ∙ h.laws.grows text had h.holds more)
-    ((stage_step (count_at had) octets Open).joining, refl, refl))
-    (λ (all : length text ≤ suc had * size).
+    (λ (more : suc last * size < length text).
+    rw (ap stage same ∙ h.laws.grows text last h.holds more)
+    ((stage_step (count_at last) octets Open).joining, refl, refl))
+    (λ (all : length text ≤ suc last * size).
     let whole : stage octets ≡ Complete text =
-    ap stage same ∙ h.laws.ends text had h.holds (low, all) in
+    ap stage same ∙ h.laws.ends text last h.holds (low, all) in
     let front = whole_front (total_at octets) octets text whole in
     let rest = drop (length text) octets in
     let parts : octets ≡ text ++ rest = rw front at (sym (take-append-drop (length text) octets)) in
     rw (whole, h.accepted)
     (h.begins, record { text = text; rest = rest; spells = h.spells; whole = parts }))
-    (cases_lt (suc had * size) (length text))
+    (cases_lt (suc last * size) (length text))
 
 -- the first segment of an answer is no word of the device's own
 module _ (cutter : Cutting Request) (od : List ℕ) (answer : Answer) (h : Fitting cutter answer)
@@ -91,27 +91,27 @@ module _ (cutter : Cutting Request) (od : List ℕ) (answer : Answer) (h : Fitti
 
 taken_up : (t : Current) (p : RequestProgress) (limit : ℕ) (od : List ℕ) (answer : Answer)
     → let current : Current = record t { progress = p } in
-    IsCurrent current → is_forgotten p current.again od ≡ false → IsReading p
+    IsCurrent current → is_forgotten p current.repeat od ≡ false → IsReading p
     → Fitting current.cutter answer
-    → octets_had p od ≡ segments_up_to current.cutter.size
+    → octets_received p od ≡ segments_up_to current.cutter.size
     (answer_text_to current.cutter.source answer) (next_segment p)
     → next_segment p * current.cutter.size < length (answer_text_to current.cutter.source answer)
-    → TakesUpSegment current answer (next_segment p) (octets_had p od)
+    → TakesUpSegment current answer (next_segment p) (octets_received p od)
     (effect_of_reply limit od current)
-taken_up t Doubting limit od answer c kept reading h is low =
+taken_up t Doubting limit od answer c retained reading h is low =
     rw (not_none t.cutter od answer h is, not_busy t.cutter od answer h is)
     (joined_up (record t { progress = Doubting }) answer 0 h low od is)
-taken_up t (Asking busy) limit od answer c kept reading h is low =
+taken_up t (Asking busy) limit od answer c retained reading h is low =
     rw (not_busy t.cutter od answer h is, not_none t.cutter od answer h is)
     (joined_up (record t { progress = Asking busy }) answer 0 h low od is)
-taken_up t (Receiving joining had) limit od answer c kept reading h is low =
-    rw (kept, taken_next t.cutter.size had joining od c.progress, add-one had)
-    (joined_up (record t { progress = Receiving joining had }) answer (suc had) h low
+taken_up t (Receiving joining last) limit od answer c retained reading h is low =
+    rw (retained, taken_next t.cutter.size last joining od c.progress, add-one last)
+    (joined_up (record t { progress = Receiving joining last }) answer (suc last) h low
     (joining.text ++ od) is)
-taken_up t other limit od answer c kept reading h is low = absurd reading
+taken_up t other limit od answer c retained reading h is low = absurd reading
 
 pub answers_are_taken_up : AnswersFit → ((size : ℕ) → 1 ≤ size → TextLaws size) → OneAnswerText
     → AnswersAreTakenUp
-answers_are_taken_up fit_answers laws one current limit od answer c kept reading fit is low =
-    taken_up current current.progress limit od answer c kept reading
+answers_are_taken_up fit_answers laws one current limit od answer c retained reading fit is low =
+    taken_up current current.progress limit od answer c retained reading
     (fitting fit_answers laws one current.cutter answer c.some fit) is low

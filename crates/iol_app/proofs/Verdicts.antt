@@ -12,9 +12,9 @@ use Rattle.iol_link.specs.Attempts.{good_reply, attempt_of}
 use Rattle.iol_link.specs.declared.handler.Attempt.{Attempt}
 use Rattle.iol_mode.specs.declared.states.State.{State}
 use Rattle.iol_mode.specs.Exchanges.{IsSending, attempt_result, tries_in, text_out, layout_out}
-use Rattle.iol_app.specs.declared.brought.WireResult.TheVariants.{Exchanged}
+use Rattle.iol_app.specs.declared.wire_result.WireResult.TheVariants.{Exchanged}
 use Rattle.iol_app.specs.Asking.{outgoing_of, reply_size}
-use Rattle.iol_app.specs.Brought.{verdict_on, verdict_by, brought_in}
+use Rattle.iol_app.specs.WireResults.{verdict_on, verdict_by, wire_result_in}
 
 -- bit 7 of the first octet is that of a read
 reads : (mc : Mc) → nat_le 128 (control_octet mc) ≡ mc.read
@@ -29,15 +29,17 @@ pub size_is : (layout : Shape) (m : MasterMsg)
 size_is layout m = grind (arith, common_steps, reads, first_is)
 
 -- of one message
-verdict_is : (layout : Shape) (m : MasterMsg) (tries : ℕ) (came : Option (List ℕ))
+verdict_is : (layout : Shape) (m : MasterMsg) (tries : ℕ) (received : Option (List ℕ))
     → let out = outgoing_of layout (master_text layout m) in
-    verdict_by (attempt_of tries (good_reply layout m came)) out.reply came ≡ verdict_on out came
-verdict_is layout m tries came = grind (arith, common_steps, size_is)
+    verdict_by (attempt_of tries (good_reply layout m received)) out.reply received
+    ≡ verdict_on out received
+verdict_is layout m tries received = grind (arith, common_steps, size_is)
 
 -- of the message that is out
-pub brought_is : (state : State) (came : Option (List ℕ)) (attempt : Attempt) → IsSending state
-    → attempt ≡ attempt_result state came
+pub wire_result_is : (state : State) (received : Option (List ℕ)) (attempt : Attempt)
+    → IsSending state
+    → attempt ≡ attempt_result state received
     → Exchanged (tries_in state)
-    (verdict_by attempt (reply_size (layout_out state) (text_out state)) came)
-    ≡ brought_in state came
-brought_is state came attempt sends is = grind (arith, common_steps, verdict_is)
+    (verdict_by attempt (reply_size (layout_out state) (text_out state)) received)
+    ≡ wire_result_in state received
+wire_result_is state received attempt sends is = grind (arith, common_steps, verdict_is)

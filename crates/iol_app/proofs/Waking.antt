@@ -20,12 +20,12 @@ use Rattle.iol_app.specs.Abstract.Session.{MayReset}
 use Rattle.iol_mode.specs.States.{StateFits, IsDown, next_state, mode_after_wake}
 use Rattle.iol_mode.specs.Stands.{StateStands}
 use Rattle.iol_app.specs.declared.mode.Mode.TheVariants.{Down as ModeDown, Operate as ModeOperate}
-use Rattle.iol_app.specs.declared.said.Said.TheVariants.{Idle}
+use Rattle.iol_app.specs.declared.report.Said.TheVariants.{Idle}
 use Rattle.iol_app.specs.Abstract.Steps.{Start, Reset, Woke}
-use Rattle.iol_app.proofs.Given.{Laws, all_laws}
+use Rattle.iol_app.proofs.AllLaws.{Laws, all_laws}
 use Rattle.iol_app.proofs.OwnSession.{woken_if}
 use Rattle.iol_app.proofs.Orderly.{orderly_locals, alike_sent, test_confirms, test_to_page}
-use Rattle.iol_app.proofs.Effects.{Effect, seen_effect, passed_effect, opens_passed, untold_of, gives, loses}
+use Rattle.iol_app.proofs.Effects.{Effect, shown_effect, passed_effect, opens_passed, unreported_of, gives, loses}
 use Rattle.iol_app.proofs.Shown.{shown_as}
 use Rattle.iol_app.proofs.PastPart.{none_waits}
 use Rattle.iol_app.specs.Requests.{request_under_way}
@@ -78,7 +78,7 @@ module _ (s : Down) (t : SessionState) (g : Ghost) (far : Far) (silence : ℕ)
         reports = refl;
         book = refl;
         session = (((any, refl, refl), tt), rw free refl);
-        frozen = ((tt, tt), untold_of far'.events.frozen effect.told);
+        frozen = ((tt, tt), unreported_of far'.events.frozen effect.reported);
         images = ((tt, tt), refl);
         image = no_image;
         left = record {
@@ -104,13 +104,13 @@ module _ (s : Down) (t : SessionState) (g : Ghost) (far : Far) (silence : ℕ)
         reports = refl;
         book = refl;
         session = ((may_reset t.configuration.devices own, tt), rw free refl);
-        frozen = ((tt, tt), untold_of (far_after_wake there).events.frozen effect.told);
+        frozen = ((tt, tt), unreported_of (far_after_wake there).events.frozen effect.reported);
         images = ((tt, tt), refl);
         image = no_image;
         left = record {
           request = (λ b. refl, tt, refl, λ b. absurd (cc b));
           events = (refl, refl);
-          output = (refl, λ b. record { untold = refl; off = λ a. refl; waits = tt });
+          output = (refl, λ b. record { unacknowledged = refl; off = λ a. refl; waits = tt });
           quiet = tt;
         };
         sent = stands.sent;
@@ -132,35 +132,35 @@ module _ (s : Down) (t : SessionState) (g : Ghost) (far : Far) (silence : ℕ)
   answers there effect Own own = resets there effect own
 
   -- a wake that it doesn't see
-  unseen : (after : Far) → Effect c g far after silence silence → far.misses_pulses ≡ true
+  no_pulse : (after : Far) → Effect c g far after silence silence → far.misses_pulses ≡ true
       → (answered : Bool)
       (devices : Devices) → t.configuration.devices ≡ devices → Gives devices answered after
-  unseen after effect misses false devices e = fails after effect devices
-  unseen after effect misses true Any any = starts after effect any
-  unseen after effect misses true Own own =
+  no_pulse after effect misses false devices e = fails after effect devices
+  no_pulse after effect misses true Any any = starts after effect any
+  no_pulse after effect misses true Own own =
       absurd (let sees : far.misses_pulses ≡ false = rw own at stands.sees in cc)
 
   -- from the wire's own words
   module _ (laws : Laws) (leaves : OrderlyLaws) (heard : TextsAreHeard) where
-    by_seen : (far' : Far) (answered : Bool) → SeenWake far answered far'
+    by_pulse : (far' : Far) (answered : Bool) → SeenWake far answered far'
         → Gives t.configuration.devices answered far'
-    by_seen far' true w =
+    by_pulse far' true w =
         let there : Far = locals far w.steps in
         let is : far' ≡ far_after_wake there = w.far_is
         ∙ ap (λ (b : Bool). woken_if b there) (w.answered_is refl) in
-        rw is (answers there (seen_effect c g far laws free stands.request
+        rw is (answers there (shown_effect c g far laws free stands.request
         (none_waits far.events w.regular.memory) w.steps silence refl true) _ refl)
-    by_seen far' false w = rw w.far_is (fails (woken_if w.wakes (locals far w.steps))
-        (seen_effect c g far laws free stands.request (none_waits far.events w.regular.memory)
+    by_pulse far' false w = rw w.far_is (fails (woken_if w.wakes (locals far w.steps))
+        (shown_effect c g far laws free stands.request (none_waits far.events w.regular.memory)
         w.steps silence refl w.wakes)
         t.configuration.devices)
 
-    by_unseen : (far' : Far) (answered : Bool) → UnseenWake far answered far'
+    by_no_pulse : (far' : Far) (answered : Bool) → UnseenWake far answered far'
         → Gives t.configuration.devices answered far'
-    by_unseen far' answered w =
+    by_no_pulse far' answered w =
         let there : Far = locals far w.steps in
         let to_page : IsToPage test_read (page_read 2) = test_to_page heard in
-        rw w.far_is (unseen (hear there test_read).far
+        rw w.far_is (no_pulse (hear there test_read).far
         (passed_effect c g far laws free stands.request (none_waits far.events w.regular.memory)
         w.steps silence silence BackLost test_read
         (λ call fits silent k. absurd (rw k at fits)) test_confirms
@@ -177,9 +177,9 @@ wakes_at : Laws → OrderlyLaws → TextsAreHeard → (state : State) (t : Sessi
     → StateFits (next_state (mode_after_wake t.configuration.devices answered))
     → CallGives (record { state = state; session = t }) g far n Idle (after_wake answered t) far' n
 wakes_at laws leaves heard (AtDown s) t g far far' n answered stands down (inl w) =
-    by_seen s t g far n stands laws leaves heard far' answered w
+    by_pulse s t g far n stands laws leaves heard far' answered w
 wakes_at laws leaves heard (AtDown s) t g far far' n answered stands down (inr w) =
-    by_unseen s t g far n stands laws leaves heard far' answered w
+    by_no_pulse s t g far n stands laws leaves heard far' answered w
 wakes_at laws leaves heard other t g far far' n answered stands down w = absurd down
 
 pub wakes : ((size : ℕ) → 1 ≤ size → LevelLaws size) → MuchStays → RepliesAreRead

@@ -12,7 +12,7 @@ use Rattle.iol_far.specs.declared.carried.Carried.{Carried}
 use Rattle.iol_far.specs.declared.mode.DeviceMode as far
 use Rattle.iol_far.specs.declared.mode.DeviceMode.TheVariants.{Startup as FarStartup, Preoperate as FarPreoperate, Operate as FarOperate}
 use Rattle.iol_far.specs.Far.{Far, is_mode}
-use Rattle.iol_far.specs.Level.{Progress, Quiet, Clear, Perhaps, Written, Had, Unsure, grown_by, Busy as IsBusy}
+use Rattle.iol_far.specs.Level.{Progress, Quiet, NoneHeld, Perhaps, Written, Received, Unsure, grown_by, Busy as IsBusy}
 use Rattle.iol_far.specs.Laws.{IsFrozen, IsConfirming}
 use Rattle.iol_app.specs.declared.mode.Mode.{Mode}
 use Rattle.iol_app.specs.declared.mode.Mode.TheVariants.{Down, Startup, Preoperate, Operate}
@@ -69,15 +69,15 @@ AnswerFits base (Some request) hidden carried =
     ((hidden.answer ≡ None) × (carried ≡ base))
     ⊎ ((answer : Answer) × (hidden.answer ≡ Some answer) × (carried ≡ grown_by base request answer))
 
--- the progress is that of the request under way; at Quiet and Clear none of its segments had a good
--- reply
+-- the progress is that of the request under way; at Quiet and NoneHeld none of its segments had a
+-- good reply
 abbrev pub ProgressFits : Progress → Option Request → Type 0
 ProgressFits Quiet request = ⊤
-ProgressFits Clear request = ⊤
+ProgressFits NoneHeld request = ⊤
 ProgressFits (Perhaps named) request = request ≡ Some named
 ProgressFits (Written named i) request = request ≡ Some named
 ProgressFits (IsBusy named) request = request ≡ Some named
-ProgressFits (Had named i text) request = request ≡ Some named
+ProgressFits (Received named i text) request = request ≡ Some named
 ProgressFits (Unsure named) request = request ≡ Some named
 
 -- the event memory while a list is read, and while its confirm is due; and while

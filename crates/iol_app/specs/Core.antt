@@ -32,7 +32,7 @@ pub record OfRequest : Type 0 where
 
 -- of the events: whether the frozen list was reported; the list whose confirm is due
 pub record OfEvents : Type 0 where
-  pub told : Bool
+  pub reported : Bool
   pub due : Event × List Event
 
 pub record Ghost : Type 0 where
@@ -45,8 +45,8 @@ pub record Ghost : Type 0 where
 
 -- The abstract port that it shows
 
-abbrev pub seen_in : CoreState → Ghost → MasterFields
-seen_in c g = record {
+abbrev pub fields_in : CoreState → Ghost → MasterFields
+fields_in c g = record {
   request = request_under_way c.session.current;
   busy = g.request.busy;
   asked = g.request.asked;
@@ -59,16 +59,16 @@ shown_in s sent = record {
   image = s.image;
   wanted = s.output.wanted;
   sent = sent;
-  told = option_map (λ layout. layout.pd_out) s.layout;
+  known_length = option_map (λ layout. layout.pd_out) s.layout;
   isdu = s.isdu;
   page = option_map (λ t. t.page) s.present;
 }
 
 abbrev pub session_in : CoreState → Ghost → Far → Session
-session_in c g far = session_of (seen_in c g) g.request.hidden far.carried
+session_in c g far = session_of (fields_in c g) g.request.hidden far.carried
 
 abbrev pub frozen_in : Ghost → Far → Option Frozen
-frozen_in g far = frozen_of far.events.frozen g.events.told
+frozen_in g far = frozen_of far.events.frozen g.events.reported
 
 abbrev pub images_in : CoreState → Ghost → Far → Images
 images_in c g far = images_of (shown_in c.session g.sent) far

@@ -21,7 +21,7 @@ opened_core devices limit =
     record { state = AtDown (record { why = None }); session = new_session devices limit }
 
 abbrev pub opened_ghost : Far → Bool → Event × List Event → Ghost
-opened_ghost far told due = record {
+opened_ghost far reported due = record {
   page = far.page;
   kind = far.kind;
   request = record {
@@ -30,7 +30,7 @@ opened_ghost far told due = record {
     asked = false;
     base = far.carried;
   };
-  events = record { told = told; due = due };
+  events = record { reported = reported; due = due };
   sent = None;
 }
 

@@ -4,7 +4,7 @@ use Rattle.iol_link.specs.Attempts.{Sending}
 use Rattle.iol_mode.specs.declared.states.State.{State}
 use Rattle.iol_mode.specs.declared.states.State.TheVariants.{Operate as AtOperate}
 use Rattle.iol_mode.specs.States.{is_reset}
-use Rattle.iol_app.specs.declared.said.Said.{Said}
+use Rattle.iol_app.specs.declared.report.Said.{Said}
 use Rattle.iol_app.specs.Abstract.Steps.{PortStep, WireCall, Exchanged, Moment, ImageOctets, silence_by, CallFits, is_report, TakesSteps}
 use Rattle.iol_app.specs.Abstract.OfMaster.{is_for_book, book_said, reports_said, resets}
 use Rattle.iol_app.specs.Abstract.Session.{MaySession, session_after}
@@ -12,7 +12,7 @@ use Rattle.iol_app.specs.Abstract.Events.{MayFrozen, frozen_after}
 use Rattle.iol_app.specs.Abstract.Images.{MayImages, images_after}
 use Rattle.iol_app.specs.Abstract.Past.{MayPast, past_after}
 use Rattle.iol_app.specs.Abstract.Shown.{past_of}
-use Rattle.iol_app.specs.Exchange.{is_output_told}
+use Rattle.iol_app.specs.Exchange.{acknowledged_by}
 use Rattle.iol_app.specs.Abstract.Turn.{ImageIsLast, OutputIsWanted, IsInOrder, WasFrozen}
 use Rattle.iol_app.specs.State.{SessionState}
 use Rattle.iol_app.specs.StationState.{mode_in}
@@ -22,12 +22,13 @@ use Rattle.iol_app.specs.CoreStands.{command_out, BothEndsStand}
 
 -- the output that the message out asks for; with none out, the one that is wanted
 abbrev pub ordered_by : Bool → List ℕ → Option ImageOctets
-ordered_by told items = if told && nat_lt 0 (length items) then Some items else None
+ordered_by acknowledged items = if acknowledged && nat_lt 0 (length items) then Some items else None
 
 abbrev pub ordered_at : Option Sending → SessionState → Option ImageOctets
 ordered_at None t = t.output.wanted
 ordered_at (Some out) t =
-    ordered_by (is_output_told (command_out t.exchange) t.output.told) out.message.out.items
+    ordered_by (acknowledged_by (command_out t.exchange) t.output.acknowledged)
+    out.message.out.items
 
 abbrev pub ordered_output : State → SessionState → Option ImageOctets
 ordered_output (AtOperate s) t = ordered_at s.out t
@@ -55,7 +56,7 @@ TermsStay c next g after = (next.session.limit ≡ c.session.limit) × (after.pa
 
 -- one call of the wire, and one list of steps, each allowed where it is taken, whose effects on the
 -- four parts of the abstract port are what happened; and both ends stand together afterwards
-pub record CallGives (c : CoreState) (g : Ghost) (far : Far) (silence : ℕ) (said : Said)
+pub record CallGives (c : CoreState) (g : Ghost) (far : Far) (silence : ℕ) (report : Said)
     (next : CoreState)
     (far_new : Far) (silence_new : ℕ) : Type 0 where
   pub call : WireCall
@@ -65,9 +66,9 @@ pub record CallGives (c : CoreState) (g : Ghost) (far : Far) (silence : ℕ) (sa
   pub fits : CallFits (mode_in c.state) call
   pub silent : silence_new ≡ silence_by call silence
   pub terms : TermsStay c next g after
-  pub said_book : filter is_for_book steps
-      ≡ resets (is_reset c.state) (is_reset next.state) ++ book_said said
-  pub said_reports : filter is_report steps ≡ reports_said said
+  pub book_steps_are : filter is_for_book steps
+      ≡ resets (is_reset c.state) (is_reset next.state) ++ book_said report
+  pub report_steps_are : filter is_report steps ≡ reports_said report
   pub was_frozen : WasFrozen steps (frozen_in g far)
   pub session :
       TakesSteps (MaySession (moment_of c g silence call)) session_after (session_in c g far) steps

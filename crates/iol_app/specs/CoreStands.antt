@@ -32,7 +32,7 @@ use Rattle.iol_app.specs.declared.request.Current.{Current}
 use Rattle.iol_app.specs.Requests.{request_under_way, is_over}
 use Rattle.iol_app.specs.EventReading.{is_refused}
 use Rattle.iol_app.specs.Moves.{progress_of, move_for, confirms_events}
-use Rattle.iol_app.specs.Ends.{OutputTold, EventsTold, OperateLink, BusySeen, SentSeen, output_for}
+use Rattle.iol_app.specs.Ends.{OutputFits, EventsReported, OperateLink, BusyFits, SentFits, output_for}
 use Rattle.iol_app.specs.State.{SessionState}
 use Rattle.iol_app.specs.StationState.{SessionFits, mode_in}
 use Rattle.iol_app.specs.declared.session.Purpose.{Purpose}
@@ -44,7 +44,7 @@ use Rattle.iol_app.specs.Core.{CoreState, OfEvents, Ghost}
 -- what a session says of requests
 pub record Work : Type 0 where
   pub devices : Devices
-  pub clear : Bool
+  pub idle : Bool
   pub limit : ℕ
   pub current : Option Current
   pub exchange : Option Purpose
@@ -52,21 +52,21 @@ pub record Work : Type 0 where
 abbrev pub work_of : SessionState → Work
 work_of s = record {
   devices = s.configuration.devices;
-  clear = s.clear;
+  idle = s.idle;
   limit = s.limit;
   current = s.current;
   exchange = s.exchange;
 }
 
 abbrev pub progress_in : Work → Progress
-progress_in w = progress_of w.devices w.clear w.current
+progress_in w = progress_of w.devices w.idle w.current
 
 -- In OPERATE, with the message that is out
 
 -- how often that was sent in vain, of so many attempts: a question only once it went out again; a
 -- confirm at a port for any device never
 abbrev pub vain_by : Devices → Purpose → Option Current → ℕ → ℕ
-vain_by Any NextMessage (Some current) tries = if current.again then tries else 0
+vain_by Any NextMessage (Some current) tries = if current.repeat then tries else 0
 vain_by Any ConfirmEvents current tries = 0
 vain_by devices exchange current tries = tries
 
@@ -75,9 +75,9 @@ vain_in w tries = unwrap_or (option_map (λ exchange. vain_by w.devices exchange
     w.exchange) tries
 
 -- that it went out again is noted of a request at a port for any device
-abbrev pub AgainBy : Devices → Purpose → ℕ → Current → Type 0
-AgainBy Any NextMessage tries current = current.again ≡ true → 1 ≤ tries
-AgainBy devices exchange tries current = current.again ≡ false
+abbrev pub RepeatBy : Devices → Purpose → ℕ → Current → Type 0
+RepeatBy Any NextMessage tries current = current.repeat ≡ true → 1 ≤ tries
+RepeatBy devices exchange tries current = current.repeat ≡ false
 
 abbrev pub LevelOut : Ghost → Shape → FarLink → Work → Option Sending → Far → Type 0
 LevelOut g run link w None far =
@@ -112,7 +112,7 @@ pub record OutStands (layouts : Layouts) (out : Sending) (exchange : Purpose) (w
   -- at a port for any device one that hands a request over was not out before
   pub once : w.devices ≡ Any → IsOutOnce kind.hands_over layouts.run.od
       (move_for exchange w.current) (suc (vain_by w.devices exchange w.current out.tries))
-  pub again : IfSome w.current (AgainBy w.devices exchange out.tries)
+  pub repeat : IfSome w.current (RepeatBy w.devices exchange out.tries)
   -- nothing goes out for a request that is over but for its abort
   pub goes_on : exchange ≡ NextMessage → IfSome w.current
       (λ current. is_over current.progress ≡ false)
@@ -126,7 +126,7 @@ abbrev pub OutBy : Layouts → Option Sending → Option Purpose → Work → Re
 OutBy layouts (Some out) (Some exchange) w events page kind link sent =
     OutStands layouts out exchange w events page kind link sent
 OutBy layouts None None w events page kind link sent =
-    IfSome w.current (λ current. current.again ≡ false)
+    IfSome w.current (λ current. current.repeat ≡ false)
 OutBy layouts out exchange w events page kind link sent = ⊥
 
 -- the request under way, or that none is
@@ -147,7 +147,7 @@ pub record OperateRequest (s : Operate) (w : Work) (reading : ReadingState) (g :
   pub answer : repeats_in g.kind.hands_over s.layouts.run.od w ≡ false
       → AnswerFits g.request.base (request_under_way w.current) g.request.hidden far.carried
   -- the busy replies are counted, and an abort waits for what it may
-  pub busy : BusySeen (doubts_at w.devices g.kind.recalls) w.limit w.current g.request.busy
+  pub busy : BusyFits (doubts_at w.devices g.kind.recalls) w.limit w.current g.request.busy
       g.request.asked
   -- a request is under way only where the device has ISDU
   pub known : IsSome (request_under_way w.current) → IsTrue (knows_isdu g.page)
@@ -168,35 +168,36 @@ abbrev pub RequestStands : State → Work → EventWork → Ghost → Far → Ty
 RequestStands (AtDown s) w events g far = IsOpen far.isdu None g.request.hidden
 RequestStands (AtStartup s) w events g far =
     (IsTrue (is_behind s.step) → g.request.hidden.late ≡ None)
-    × IsOpen far.isdu None g.request.hidden × (w.clear ≡ false)
+    × IsOpen far.isdu None g.request.hidden × (w.idle ≡ false)
     × (is_behind s.step ≡ false → w.devices ≡ Any)
 RequestStands (AtPreoperate s) w events g far =
-    (g.request.hidden.late ≡ None) × IsOpen far.isdu None g.request.hidden × (w.clear ≡ false)
+    (g.request.hidden.late ≡ None) × IsOpen far.isdu None g.request.hidden × (w.idle ≡ false)
 RequestStands (AtOperate s) w events g far =
     OperateRequest s w (reading_in events g.events) g far
 
 -- in OPERATE the device's events fit the reading; in a start-up none is read, nor told
 abbrev pub EventsStand : State → Option Purpose → EventWork → OfEvents → Far → Type 0
 EventsStand (AtDown s) exchange events g far = ⊤
-EventsStand (AtStartup s) exchange events g far = (events.reading ≡ Resting) × (g.told ≡ false)
-EventsStand (AtPreoperate s) exchange events g far = (events.reading ≡ Resting) × (g.told ≡ false)
+EventsStand (AtStartup s) exchange events g far = (events.reading ≡ Resting) × (g.reported ≡ false)
+EventsStand (AtPreoperate s) exchange events g far = (events.reading ≡ Resting)
+    × (g.reported ≡ false)
 EventsStand (AtOperate s) exchange events g far =
-    EventsTold (reading_in events g) (confirm_out exchange) far g.told
+    EventsReported (reading_in events g) (confirm_out exchange) far g.reported
 
 -- the device's output is invalid outside OPERATE
-pub record OutputOff (told : Bool) (far : Far) : Type 0 where
-  pub untold : told ≡ false
+pub record OutputOff (acknowledged : Bool) (far : Far) : Type 0 where
+  pub unacknowledged : acknowledged ≡ false
   pub off : far.awake ≡ true → far.valid ≡ false
   pub waits : WaitsElsewhere far
 
 -- in OPERATE it is as told, unless a command is out
 abbrev pub OutputStands : State → Option Purpose → Bool → Option ImageOctets → Far → Type 0
-OutputStands (AtDown s) exchange told sent far = ⊤
-OutputStands (AtStartup s) exchange told sent far = (told ≡ false)
-    × (IsTrue (is_behind s.step) → OutputOff told far)
-OutputStands (AtPreoperate s) exchange told sent far = OutputOff told far
-OutputStands (AtOperate s) exchange told sent far =
-    OutputTold sent (command_out exchange ≡ None) told far
+OutputStands (AtDown s) exchange acknowledged sent far = ⊤
+OutputStands (AtStartup s) exchange acknowledged sent far = (acknowledged ≡ false)
+    × (IsTrue (is_behind s.step) → OutputOff acknowledged far)
+OutputStands (AtPreoperate s) exchange acknowledged sent far = OutputOff acknowledged far
+OutputStands (AtOperate s) exchange acknowledged sent far =
+    OutputFits sent (command_out exchange ≡ None) acknowledged far
 
 -- with no message out in OPERATE there is no silence
 abbrev pub CalmBy : Option Sending → ℕ → Type 0
@@ -229,10 +230,10 @@ pub record BothEndsStand (c : CoreState) (g : Ghost) (far : Far) (silence : ℕ)
   pub joined : SessionFits c.state c.session
   pub calm : CalmAt c.state silence
   -- the image sent is the one carried last
-  pub sent : SentSeen c.session.layout c.session.output.carried.items g.sent
+  pub sent : SentFits c.session.layout c.session.output.carried.items g.sent
   pub request : RequestStands c.state (work_of c.session) c.session.events g far
   pub events : EventsStand c.state c.session.exchange c.session.events g.events far
-  pub output : OutputStands c.state c.session.exchange c.session.output.told g.sent far
+  pub output : OutputStands c.state c.session.exchange c.session.output.acknowledged g.sent far
   pub shown : ShownStands c g.page
 
 -- Where a turn is one piece, a message that is out between two turns was sent at least once

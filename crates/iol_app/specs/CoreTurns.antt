@@ -9,8 +9,8 @@ use Rattle.iol_mode.specs.States.{NextMode, NextModeFits, StateFits, IsDown, nex
 use Rattle.iol_mode.specs.Exchanges.{StandsOn, text_out, mode_after_reply}
 use Rattle.iol_mode.specs.Turns.{IsRisen, IsMet}
 use Rattle.iol_mode.specs.Stands.{StateStands, IsOperating, IsAccepted}
-use Rattle.iol_app.specs.declared.said.Said.{Said}
-use Rattle.iol_app.specs.declared.said.Said.TheVariants.{Idle}
+use Rattle.iol_app.specs.declared.report.Said.{Said}
+use Rattle.iol_app.specs.declared.report.Said.TheVariants.{Idle}
 use Rattle.iol_app.specs.Abstract.Steps.{Make, WireCall}
 use Rattle.iol_app.specs.Abstract.Images.{MayImages, images_after, image_or}
 use Rattle.iol_app.specs.declared.event_work.EventRoom.{EventRoom}
@@ -18,7 +18,7 @@ use Rattle.iol_app.specs.declared.request.Current.{Current}
 use Rattle.iol_app.specs.State.{IsSession, IsMessageFor, session_sending, SessionState}
 use Rattle.iol_app.specs.Due.{due_of}
 use Rattle.iol_app.specs.Outputs.{output_to_carry}
-use Rattle.iol_app.specs.StationState.{IsSettledSaid, IsPresent, SessionFits, waked_session, settled_session, missed_state, missed_session}
+use Rattle.iol_app.specs.StationState.{IsSettledReport, IsPresent, SessionFits, waked_session, settled_session, missed_state, missed_session}
 use Rattle.iol_app.specs.declared.session.Purpose.{Purpose}
 use Rattle.iol_page.specs.declared.page.Layouts.{Layouts}
 use Rattle.iol_mseq.specs.declared.master.MasterMsg.{MasterMsg}
@@ -60,17 +60,17 @@ abbrev pub after_exchange : NextMode → SessionState → CoreState
 after_exchange outcome t = after_missed (settled_core outcome t)
 
 -- what comes back to the message that is out is judged by it, and by what start-ups ask
-abbrev pub came_of : CoreState → Option (List ℕ) → NextMode
-came_of c came = mode_after_reply c.session.configuration c.state came
+abbrev pub received_mode : CoreState → Option (List ℕ) → NextMode
+received_mode c received = mode_after_reply c.session.configuration c.state received
 
 -- in both modes of a start-up
 pub record Rises : Type 0 where
   pub gives :
       (c : CoreState) (g : Ghost) (far far_new : Far) (silence silence_new : ℕ)
-      (came : Option (List ℕ))
+      (received : Option (List ℕ))
       → is_starting c.state ≡ true → BothEndsStand c g far silence → IsSession c.session
-      → HonestExchange far silence (text_out c.state) came far_new silence_new
-      → let outcome : NextMode = came_of c came in
+      → HonestExchange far silence (text_out c.state) received far_new silence_new
+      → let outcome : NextMode = received_mode c received in
       -- the link's own laws, and the session's
       IsRisen (is_reset c.state) outcome silence_new far far_new → NextModeFits outcome
       → SessionFits (next_state outcome) (settled_session outcome c.session)
@@ -132,17 +132,17 @@ pub record Sends : Type 0 where
 pub record Receives : Type 0 where
   pub gives :
       (layouts : Layouts) (out : Sending) (t : SessionState) (exchange : Purpose) (g : Ghost)
-      (far far_new : Far) (silence silence_new : ℕ) (came : Option (List ℕ)) (said : Said)
+      (far far_new : Far) (silence silence_new : ℕ) (received : Option (List ℕ)) (report : Said)
       → let c : CoreState = core_out layouts out t exchange t.current in
       BothEndsStand c g far silence → IsSession c.session
-      → HonestExchange far silence (text_out c.state) came far_new silence_new
+      → HonestExchange far silence (text_out c.state) received far_new silence_new
       → out.tries < most_attempts
-      → let outcome : NextMode = came_of c came in
+      → let outcome : NextMode = received_mode c received in
       let next : CoreState = after_exchange outcome c.session in
       -- the link's own laws
       IsMet outcome silence_new far_new
       → ((link : FarLink) → IsOperating layouts link → IsAccepted layouts far.page link out.message)
       → StandsOn (next_state outcome) next.state → StateFits next.state
       -- the session's own
-      → SessionFits next.state next.session → IsSettledSaid outcome c.session said
-      → CallGives c g far silence said next far_new silence_new
+      → SessionFits next.state next.session → IsSettledReport outcome c.session report
+      → CallGives c g far silence report next far_new silence_new

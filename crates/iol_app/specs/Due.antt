@@ -5,7 +5,7 @@ use Rattle.iol_app.specs.declared.event_work.EventRoom.TheVariants.{Left, Full}
 use Rattle.iol_app.specs.declared.event_work.ReadingProgress.{ReadingProgress}
 use Rattle.iol_app.specs.declared.event_work.ReadingProgress.TheVariants.{Resting, UnderWay, ConfirmDue}
 use Rattle.iol_app.specs.declared.session.Purpose.{Purpose}
-use Rattle.iol_app.specs.declared.session.Purpose.TheVariants.{TellOutput, DropOutput, Abort, ReadEvent, ConfirmEvents, Request, Idle}
+use Rattle.iol_app.specs.declared.session.Purpose.TheVariants.{EnableOutput, DropOutput, Abort, ReadEvent, ConfirmEvents, Request, Idle}
 use Rattle.iol_app.specs.Requests.{aborts}
 use Rattle.iol_mode.specs.declared.configuration.Devices.{Devices}
 use Rattle.iol_mode.specs.declared.configuration.Devices.TheVariants.{Own, Any}
@@ -36,8 +36,8 @@ is_left Full = false
 -- EVT-5, PD-5, REQ-1
 abbrev pub due_of : SessionState → EventRoom → Purpose
 due_of s room = first_due (
-    (is_some s.output.wanted && not s.output.told, TellOutput) ∷
-    (is_none s.output.wanted && s.output.told, DropOutput) ∷
+    (is_some s.output.wanted && not s.output.acknowledged, EnableOutput) ∷
+    (is_none s.output.wanted && s.output.acknowledged, DropOutput) ∷
     (aborts s.current, Abort) ∷
     (is_under_way s.events.reading, ReadEvent) ∷
     (is_confirm_due s.events.reading, ConfirmEvents) ∷
@@ -51,11 +51,11 @@ is_idle other = false
 -- a request may follow: at a port for any device where that surely holds no text
 -- REQ-14
 abbrev pub may_follow : Devices → Bool → Bool
-may_follow Own clear = true
-may_follow Any clear = clear
+may_follow Own idle = true
+may_follow Any idle = idle
 
 -- no message is out, the next one is IDLE 1, and a request may follow
 -- REQ-2
 abbrev pub is_ready : SessionState → EventRoom → Bool
 is_ready s room = is_none s.exchange && is_idle (due_of s room)
-    && may_follow s.configuration.devices s.clear
+    && may_follow s.configuration.devices s.idle

@@ -5,8 +5,8 @@ use Rattle.iol_mseq.specs.declared.reply.Reply.{Reply}
 use Rattle.iol_event.specs.declared.event.Event.{Event}
 use Rattle.iol_event.specs.declared.faults.EventForm.{EventForm}
 use Rattle.iol_event.specs.Reading.{reader_step}
-use Rattle.iol_app.specs.declared.said.Said.{Said}
-use Rattle.iol_app.specs.declared.said.Said.TheVariants.{Reported}
+use Rattle.iol_app.specs.declared.report.Said.{Said}
+use Rattle.iol_app.specs.declared.report.Said.TheVariants.{Reported}
 use Rattle.iol_app.specs.declared.event_work.EventWork.{EventWork}
 use Rattle.iol_app.specs.declared.event_work.ReadingProgress.{ReadingProgress}
 use Rattle.iol_app.specs.declared.event_work.ReadingProgress.TheVariants.{Resting, UnderWay, ConfirmDue, Refused}
@@ -60,9 +60,9 @@ list_read ReadEvent od reading = list_after reading (slice_index od 0)
 list_read any od _ = None
 
 -- what is said once that list is told; where none became whole it stays
-abbrev pub told_list : Option (List Event) → Said → Said
-told_list None said = said
-told_list (Some list) said = Reported list
+abbrev pub reported_list : Option (List Event) → Said → Said
+reported_list None report = report
+reported_list (Some list) report = Reported list
 
 -- the event work after that reply
 abbrev pub event_work_after : Purpose → Reply → EventWork → EventWork

@@ -8,7 +8,7 @@ use Rattle.iol_isdu.specs.declared.values.Cause.TheVariants.{BusyTooLong, Protoc
 use Rattle.iol_isdu.specs.Answers.{is_read, BeginsWithAnswer}
 use Rattle.iol_segment.specs.TextLaws.{segments_up_to}
 use Rattle.iol_far.specs.Isdu.{answer_text_to, fits}
-use Rattle.iol_far.specs.Level.{Progress, Had as IsHad, Move, Ask, Next}
+use Rattle.iol_far.specs.Level.{Progress, Received as IsReceived, Move, Ask, Next}
 use Rattle.iol_app.specs.Abstract.Steps.{ImageOctets}
 use Rattle.iol_app.specs.Abstract.OfDevice.{Hidden, open_request}
 use Rattle.iol_app.specs.BothEnds.{ReadingState, Resting, Flagged, Under, Due}
@@ -18,12 +18,12 @@ use Rattle.iol_app.specs.BothEnds.{ReadingState, Resting, Flagged, Under, Due}
 abbrev pub output_due : Option ImageOctets → Bool → Option Bool
 output_due (Some image) false = Some true
 output_due None true = Some false
-output_due wanted told = None
+output_due wanted acknowledged = None
 
 -- the image that it brings: none where the layout has no process data in, or where
 -- it says that it is invalid
-abbrev pub image_had : ℕ → Reply → Option ImageOctets
-image_had size reply =
+abbrev pub image_received : ℕ → Reply → Option ImageOctets
+image_received size reply =
     if size == 0 then None else if reply.invalid then None else Some reply.input.items
 
 abbrev pub reading_flagged : Bool → ReadingState
@@ -31,19 +31,19 @@ reading_flagged true = Flagged
 reading_flagged false = Resting
 
 -- what is under way goes on
-abbrev pub reading_kept : ReadingState → Bool → ReadingState
-reading_kept (Under octets) event = Under octets
-reading_kept (Due first rest) event = Due first rest
-reading_kept _ event = reading_flagged event
+abbrev pub reading_continued : ReadingState → Bool → ReadingState
+reading_continued (Under octets) event = Under octets
+reading_continued (Due first rest) event = Due first rest
+reading_continued _ event = reading_flagged event
 
 -- an output command says whether one is told
-abbrev pub is_output_told : Option Bool → Bool → Bool
-is_output_told None told = told
-is_output_told (Some valid) told = valid
+abbrev pub acknowledged_by : Option Bool → Bool → Bool
+acknowledged_by None acknowledged = acknowledged
+acknowledged_by (Some valid) acknowledged = valid
 
 -- the text had is an answer's, and of no other
 abbrev pub IsAnswerOf : ℕ → Progress → Answer → Type 0
-IsAnswerOf size (IsHad request i text) answer = (other : Answer) → IsTrue (fits request other)
+IsAnswerOf size (IsReceived request i text) answer = (other : Answer) → IsTrue (fits request other)
     → text ≡ segments_up_to size (answer_text_to request other) i → other ≡ answer
 IsAnswerOf size progress answer = ⊥
 
@@ -53,7 +53,7 @@ abbrev pub TextNamesAnswer : Type 0
 TextNamesAnswer =
     (size : ℕ) (request : Request) (i : ℕ) (octets : List ℕ) (answer : Answer)
     → BeginsWithAnswer (is_read request) octets answer
-    → IsAnswerOf size (IsHad request i octets) answer
+    → IsAnswerOf size (IsReceived request i octets) answer
 
 -- a read of the answer: START or COUNT
 abbrev pub ReadsAnswer : Move → Type 0

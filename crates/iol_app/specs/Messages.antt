@@ -18,7 +18,7 @@ use Rattle.iol_app.specs.declared.request.Current.{Current}
 use Rattle.iol_app.specs.declared.request.RequestProgress.{RequestProgress}
 use Rattle.iol_app.specs.declared.request.RequestProgress.TheVariants.{Sending, Doubting, Asking, Receiving, Refused}
 use Rattle.iol_app.specs.declared.session.Purpose.{Purpose}
-use Rattle.iol_app.specs.declared.session.Purpose.TheVariants.{TellOutput, DropOutput, Abort, ReadEvent, ConfirmEvents, CheckEvents, Request, Idle}
+use Rattle.iol_app.specs.declared.session.Purpose.TheVariants.{EnableOutput, DropOutput, Abort, ReadEvent, ConfirmEvents, CheckEvents, Request, Idle}
 use Rattle.iol_app.specs.EventReading.{reader_of}
 
 -- nothing is said yet
@@ -50,7 +50,7 @@ abbrev pub progress_head : RequestProgress → Head
 progress_head (Sending flow segment) = write_of Isdu (flow_address flow)
 progress_head Doubting = ask_of Start
 progress_head (Asking busy) = ask_of Start
-progress_head (Receiving joining had) = ask_of (Count (segment_number (had + 1)))
+progress_head (Receiving joining last) = ask_of (Count (segment_number (last + 1)))
 progress_head Refused = ask_of Idle1
 
 abbrev pub progress_data : RequestProgress → List ℕ
@@ -67,7 +67,7 @@ request_data (Some current) = progress_data current.progress
 
 -- a new message for this
 abbrev pub head_for : Purpose → ReadingProgress → Option Current → Head
-head_for TellOutput _ current = write_of Page 0
+head_for EnableOutput _ current = write_of Page 0
 head_for DropOutput _ current = write_of Page 0
 head_for Abort _ current = ask_of AbortFlow
 head_for ReadEvent reading current = read_head Diagnosis (next_address (reader_of reading))
@@ -78,7 +78,7 @@ head_for Idle _ current = ask_of Idle1
 
 -- and its on-request data, of this size in a write
 abbrev pub data_for : Purpose → ℕ → Option Current → List ℕ
-data_for TellOutput size current = first_of_zeros size (command_octet ProcessDataOutputOperate)
+data_for EnableOutput size current = first_of_zeros size (command_octet ProcessDataOutputOperate)
 data_for DropOutput size current = first_of_zeros size (command_octet DeviceOperate)
 data_for ConfirmEvents size current = first_of_zeros size 0
 data_for Request size current = request_data current

@@ -16,25 +16,25 @@ use Rattle.iol_mode.specs.declared.states.State.TheVariants.{Operate as AtOperat
 use Rattle.iol_mode.specs.Exchanges.{IsSending, AreFew, ExchangeGives, StandsOn, WakeStands, text_out, layout_out}
 use Rattle.iol_mode.specs.Messages.{new_sending}
 use Rattle.iol_mode.specs.States.{IsDown, StateFits, NextModeFits, next_state}
-use Rattle.iol_app.specs.declared.said.Said.{Said}
-use Rattle.iol_app.specs.declared.said.Said.TheVariants.{Idle}
+use Rattle.iol_app.specs.declared.report.Said.{Said}
+use Rattle.iol_app.specs.declared.report.Said.TheVariants.{Idle}
 use Rattle.iol_app.specs.declared.asked.Asked.{Asked}
 use Rattle.iol_app.specs.declared.asked.Asked.TheVariants.{Wake, Exchange}
-use Rattle.iol_app.specs.declared.brought.WireResult.{WireResult}
+use Rattle.iol_app.specs.declared.wire_result.WireResult.{WireResult}
 use Rattle.iol_app.specs.declared.event_work.EventRoom.{EventRoom}
 use Rattle.iol_app.specs.declared.event_work.EventRoom.TheVariants.{Left, Full}
 use Rattle.iol_app.specs.Asking.{outgoing_of, asked_in, IsCall}
-use Rattle.iol_app.specs.Brought.{brought_in, woken_by}
+use Rattle.iol_app.specs.WireResults.{wire_result_in, woken_by}
 use Rattle.iol_app.specs.Due.{due_of}
 use Rattle.iol_app.specs.Outputs.{output_to_carry}
-use Rattle.iol_app.specs.Reports.{has_begun_reading, SaidFits}
+use Rattle.iol_app.specs.Reports.{has_begun_reading, ReportFits}
 use Rattle.iol_app.specs.Requests.{request_under_way, request_after}
 use Rattle.iol_app.specs.State.{SessionState, IsSession, session_sending, IsMessageFor}
-use Rattle.iol_app.specs.StationState.{SessionFits, IsSettledSaid, settled_session}
+use Rattle.iol_app.specs.StationState.{SessionFits, IsSettledReport, settled_session}
 use Rattle.iol_app.specs.Core.{CoreState, Ghost}
 use Rattle.iol_app.specs.CoreStands.{BothEndsStand, IsAttempted}
 use Rattle.iol_app.specs.CoreGives.{CallGives, ordered_output}
-use Rattle.iol_app.specs.CoreTurns.{SendGives, after_exchange, after_wake, came_of, core_out, made_ghost}
+use Rattle.iol_app.specs.CoreTurns.{SendGives, after_exchange, after_wake, received_mode, core_out, made_ghost}
 
 -- What is out
 
@@ -83,8 +83,8 @@ ReadsOn room old new =
     has_begun_reading new.session ≡ true → (has_begun_reading old.session ≡ true) ⊎ (room ≡ Left)
 
 -- What came back is judged by the message that is out
-pub record IsSettledBy (old : CoreState) (came : Option (List ℕ)) (said : Said)
-    (brought : WireResult) :
+pub record IsSettledBy (old : CoreState) (received : Option (List ℕ)) (report : Said)
+    (wire_result : WireResult) :
     Type 0 where
   -- it was sent less than three times
   pub few : AreFew old.state
@@ -92,39 +92,40 @@ pub record IsSettledBy (old : CoreState) (came : Option (List ℕ)) (said : Said
   pub valid : IsSession old.session
   pub joined : SessionFits old.state old.session
   -- the mode that it comes to, by itself, and over an honest wire to the far end
-  pub fits : NextModeFits (came_of old came)
-  pub gives : ExchangeGives old.state came (came_of old came)
+  pub fits : NextModeFits (received_mode old received)
+  pub gives : ExchangeGives old.state received (received_mode old received)
   -- what is said of it
-  pub said_is : IsSettledSaid (came_of old came) old.session said
+  pub report_is : IsSettledReport (received_mode old received) old.session report
   -- an answer and a cut end the request under way
-  pub request : request_under_way (settled_session (came_of old came) old.session).current
-      ≡ request_after (request_under_way old.session.current) said
+  pub request : request_under_way (settled_session (received_mode old received) old.session).current
+      ≡ request_after (request_under_way old.session.current) report
   -- what the exchange brought
-  pub brought_is : brought ≡ brought_in old.state came
+  pub wire_result_is : wire_result ≡ wire_result_in old.state received
 
 -- and is taken up
-pub record IsTakenUp (old : CoreState) (came : Option (List ℕ)) (said : Said) (brought : WireResult)
+pub record IsTakenUp (old : CoreState) (received : Option (List ℕ)) (report : Said)
+    (wire_result : WireResult)
     (new : CoreState) : Type 0 where
-  pub settled : IsSettledBy old came said brought
+  pub settled : IsSettledBy old received report wire_result
   -- a message without a good reply goes out again, or a question in its place
-  pub is : new ≡ after_exchange (came_of old came) old.session
+  pub is : new ≡ after_exchange (received_mode old received) old.session
   -- and the mode stands to each far end as that which was settled
-  pub on : StandsOn (next_state (came_of old came)) new.state
+  pub on : StandsOn (next_state (received_mode old received)) new.state
 
 -- The message that is out went out over the wire, and what came back was taken up
 pub record IsPassed {W : Type 0} (facts : WireFacts W) (wire wire_new : W) (old : CoreState)
-    (said : Said) (brought : WireResult) (new : CoreState) : Type 0 where
-  pub came : Option (ArrayVec ℕ)
-  pub called : facts.exchange_gives wire (text_out old.state) came wire_new
-  pub passes : Passes facts wire (text_out old.state) came wire_new
+    (report : Said) (wire_result : WireResult) (new : CoreState) : Type 0 where
+  pub received : Option (ArrayVec ℕ)
+  pub called : facts.exchange_gives wire (text_out old.state) received wire_new
+  pub passes : Passes facts wire (text_out old.state) received wire_new
   pub honesty : facts.honest wire_new ≡ facts.honest wire
-  pub taken : IsTakenUp old (octets_in came) said brought new
+  pub taken : IsTakenUp old (octets_in received) report wire_result new
 
 -- Over an honest wire
 
 -- what went out before goes out again: it asks for what is wanted, where it was sent and the
 -- far end isn't silent
-pub record SendsAgain (old new : CoreState) (silence : ℕ) : Type 0 where
+pub record Resends (old new : CoreState) (silence : ℕ) : Type 0 where
   pub same : new ≡ old
   pub asks : IsAttempted old.state → silence ≡ 0
       → ordered_output old.state old.session ≡ old.session.output.wanted
@@ -133,7 +134,7 @@ pub record SendsAgain (old new : CoreState) (silence : ℕ) : Type 0 where
 unfoldable pub SendSteps : CoreState → CoreState → Type 0
 SendSteps old new =
     (g : Ghost) (far : Far) (silence : ℕ) → BothEndsStand old g far silence
-    → SendsAgain old new silence ⊎ SendGives old new g (made_ghost old.session g) far silence
+    → Resends old new silence ⊎ SendGives old new g (made_ghost old.session g) far silence
 
 -- all that a sending makes of the core
 pub record PutsOut (room : EventRoom) (old new : CoreState) : Type 0 where
@@ -147,10 +148,10 @@ pub record PutsOut (room : EventRoom) (old new : CoreState) : Type 0 where
   pub steps : SendSteps old new
 
 -- what comes back is taken up: a message that is out afterwards was sent
-pub record TakeUpGives (old : CoreState) (g : Ghost) (far : Far) (silence : ℕ) (said : Said)
+pub record TakeUpGives (old : CoreState) (g : Ghost) (far : Far) (silence : ℕ) (report : Said)
     (new : CoreState)
     (far_new : Far) (silence_new : ℕ) : Type 0 where
-  pub given : CallGives old g far silence said new far_new silence_new
+  pub gives : CallGives old g far silence report new far_new silence_new
   pub attempted : IsAttempted new.state
 
 -- this came of a wake
@@ -161,14 +162,14 @@ WakeSteps old answered new =
 
 -- this came back to the message that is out
 unfoldable pub ReceiveSteps : CoreState → Option (List ℕ) → Said → CoreState → Type 0
-ReceiveSteps old came said new =
+ReceiveSteps old received report new =
     (g : Ghost) (far far_new : Far) (silence silence_new : ℕ) → BothEndsStand old g far silence
-    → HonestExchange far silence (text_out old.state) came far_new silence_new
-    → TakeUpGives old g far silence said new far_new silence_new
+    → HonestExchange far silence (text_out old.state) received far_new silence_new
+    → TakeUpGives old g far silence report new far_new silence_new
 
 -- A wake went out over the wire, and what it brought was taken up
 pub record IsWoken {W : Type 0} (facts : WireFacts W) (wire wire_new : W) (old : CoreState)
-    (said : Said) (brought : WireResult) (new : CoreState) : Type 0 where
+    (report : Said) (wire_result : WireResult) (new : CoreState) : Type 0 where
   pub answer : Option Rate
   pub called : facts.wake_gives wire answer wire_new
   pub passes : Wakes facts wire answer wire_new
@@ -177,31 +178,32 @@ pub record IsWoken {W : Type 0} (facts : WireFacts W) (wire wire_new : W) (old :
   -- the session was still, and a start-up begins where the wake was answered
   pub still : SessionFits old.state old.session
   pub stands : WakeStands old.session.configuration.devices (is_some answer)
-  pub idle : said ≡ Idle
+  pub idle : report ≡ Idle
   pub is : new ≡ after_wake (is_some answer) old.session
-  pub brought_is : brought ≡ woken_by (is_some answer)
+  pub wire_result_is : wire_result ≡ woken_by (is_some answer)
 
 -- The one call of the wire between the two pieces of a turn is the one asked for; what it brought
 -- was taken up
 abbrev pub IsMade : {W : Type 0} → WireFacts W → W → W → Asked → CoreState → Said → WireResult
     → CoreState → Type 0
-IsMade facts wire wire_new asked mid said brought new =
-    (IsOutAsAsked true asked mid.state × IsPassed facts wire wire_new mid said brought new)
-    ⊎ (IsOutAsAsked false asked mid.state × IsWoken facts wire wire_new mid said brought new)
+IsMade facts wire wire_new asked mid report wire_result new =
+    (IsOutAsAsked true asked mid.state × IsPassed facts wire wire_new mid report wire_result new)
+    ⊎ (IsOutAsAsked false asked mid.state × IsWoken facts wire wire_new mid report wire_result new)
 
 -- A turn over this wire, where there is room for events or not: what goes out, one call of the
 -- wire, and what is made of what came back
 pub record IsWholeTurn {W : Type 0} (facts : WireFacts W) (room : EventRoom) (wire wire_new : W)
-    (old : CoreState) (said : Said) (brought : WireResult) (new : CoreState) : Type 0 where
+    (old : CoreState) (report : Said) (wire_result : WireResult) (new : CoreState) : Type 0 where
   pub fits : StateFits old.state
   pub mid : CoreState
   pub puts : PutsOut room old mid
-  pub made : IsMade facts wire wire_new (asked_in old.state old.session room) mid said brought new
+  pub made : IsMade facts wire wire_new (asked_in old.state old.session room) mid report
+      wire_result new
   pub asked : IsCall facts (asked_in old.state old.session room) wire wire_new
   -- what is said of it
-  pub told : SaidFits Full mid.session said new.session
+  pub report_fits : ReportFits Full mid.session report new.session
   -- where the wire is honest, both ends stand on
   pub takes : IsTrue (facts.honest wire) → (g : Ghost)
       → BothEndsStand mid g (facts.far wire) (facts.silence wire)
-      → TakeUpGives mid g (facts.far wire) (facts.silence wire) said new (facts.far wire_new)
+      → TakeUpGives mid g (facts.far wire) (facts.silence wire) report new (facts.far wire_new)
       (facts.silence wire_new)

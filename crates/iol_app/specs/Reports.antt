@@ -1,7 +1,7 @@
 -- What may be said of a request and of a reading of events, over every wire.
 use Rattle.std.specs.Prelude.{◌≡◌, ◌⊎◌, Bool, true, false, ◌||◌, Option, Some}
-use Rattle.iol_app.specs.declared.said.Said.{Said}
-use Rattle.iol_app.specs.declared.said.Said.TheVariants.{Reported}
+use Rattle.iol_app.specs.declared.report.Said.{Said}
+use Rattle.iol_app.specs.declared.report.Said.TheVariants.{Reported}
 use Rattle.iol_app.specs.declared.event_work.EventRoom.{EventRoom}
 use Rattle.iol_app.specs.declared.event_work.EventRoom.TheVariants.{Left}
 use Rattle.iol_app.specs.declared.session.Purpose.{Purpose}
@@ -21,14 +21,14 @@ has_begun_reading s = is_read_out s.exchange || is_under_way s.events.reading
 -- a report ends a reading that was begun before; and one begins only where there is room
 abbrev pub ReadingAfter : EventRoom → Bool → Said → Bool → Type 0
 ReadingAfter room before (Reported events) after = (before ≡ true) × (after ≡ false)
-ReadingAfter room before said after = after ≡ true → (before ≡ true) ⊎ (room ≡ Left)
+ReadingAfter room before report after = after ≡ true → (before ≡ true) ⊎ (room ≡ Left)
 
 -- what is said fits what became of the session
-pub record SaidFits (room : EventRoom) (old : SessionState) (said : Said) (new : SessionState) :
+pub record ReportFits (room : EventRoom) (old : SessionState) (report : Said) (new : SessionState) :
     Type 0 where
   -- an answer and a cut end the request under way
-  pub request : request_under_way new.current ≡ request_after (request_under_way old.current) said
+  pub request : request_under_way new.current ≡ request_after (request_under_way old.current) report
   -- both are said only of one
-  pub ends : EndsRequest said (request_under_way old.current)
+  pub ends : EndsRequest report (request_under_way old.current)
   -- a report ends a reading that was begun, and `room` says whether one may begin
-  pub reading : ReadingAfter room (has_begun_reading old) said (has_begun_reading new)
+  pub reading : ReadingAfter room (has_begun_reading old) report (has_begun_reading new)

@@ -10,21 +10,21 @@ ghost use Rattle.iol_app.specs.EventReading.{is_refused};
 ghost use Rattle.iol_app.specs.State.{aborted_in, session_after_begin, session_expecting, session_with_cycle, output_refusal};
 ghost use Rattle.iol_app.specs.Requests.{request_under_way, request_after};
 ghost use Rattle.iol_app.specs.Due.{is_ready};
-ghost use Rattle.iol_app.specs.Reports.{SaidFits};
-ghost use Rattle.iol_app.specs.StationState.{mode_in, why_in, page_in, operates, settled_session, NextFits, IsSettledSaid, SessionFits};
+ghost use Rattle.iol_app.specs.Reports.{ReportFits};
+ghost use Rattle.iol_app.specs.StationState.{mode_in, why_in, page_in, operates, settled_session, NextFits, IsSettledReport, SessionFits};
 ghost use Rattle.iol_app.specs.Asking.{asked_in, beginning_in, outgoing_of};
 ghost use Rattle.iol_app.specs.CoreCalls.{opened_core, restarted_core, wanting_core};
-ghost use Rattle.iol_app.specs.CoreTurns.{after_missed, settled_core, after_wake, came_of, IsRight};
+ghost use Rattle.iol_app.specs.CoreTurns.{after_missed, settled_core, after_wake, received_mode, IsRight};
 ghost use Rattle.iol_app.specs.Pieces.{IsAskedOut, IsOutAsAsked, IsSettledBy, IsTakenUp, IsPassed, IsWholeTurn, PutsOut, WakeSteps, ReceiveSteps};
-ghost use Rattle.iol_app.specs.Seen.{NewSteps, BeginSteps, DenySteps, AbortSteps, CancelSteps, WantSteps, RestartSteps, LinkStands};
+ghost use Rattle.iol_app.specs.CallSteps.{NewSteps, BeginSteps, DenySteps, AbortSteps, CancelSteps, WantSteps, RestartSteps, LinkStands};
 
 use crate::asked::{Asked, Outgoing};
-use crate::brought::{Out, WireResult};
 use crate::event_work::EventRoom;
 use crate::laws::station_laws;
 use crate::message::blank;
 use crate::output::OutputFault;
 use crate::session::PortSession;
+use crate::wire_result::{Out, WireResult};
 use crate::{Mode, Said};
 use iol_far::page_and_room_stay;
 use iol_image::Image;
@@ -320,7 +320,8 @@ impl Core {
     pub fn receive_wake(&mut self, rate: Option<Rate>)
         requires { IsDown self.old.state }
         ensures core { self.new ≡ after_wake (is_some rate) self.old.session }
-        ensures told { SaidFits EventRoom.Full self.old.session Said.Idle self.new.session }
+        ensures report_fits { ReportFits EventRoom.Full self.old.session Said.Idle
+            self.new.session }
         ensures steps { WakeSteps self.old (is_some rate) self.new }
     {
         station_laws();
@@ -348,39 +349,40 @@ impl Core {
     /// question in its place, and the third attempt in a row has lost the link.
     ///
     /// It says `Reported`, `Answered` or `Cut` where that happened, else `Busy` where a request
-    /// is under way afterwards, else `Idle`, whatever `said` held. It answers what the exchange
+    /// is under way afterwards, else `Idle`, whatever `report` held. It answers what the exchange
     /// brought.
-    pub fn receive(&mut self, came: &Option<Message>, said: &mut Said) -> WireResult
+    pub fn receive(&mut self, received: &Option<Message>, report: &mut Said) -> WireResult
         requires { IsSending self.old.state }
-        ensures taken { IsTakenUp self.old (octets_in came.now) said.new result self.new }
-        ensures told { SaidFits EventRoom.Full self.old.session said.new self.new.session }
-        ensures steps { ReceiveSteps self.old (octets_in came.now) said.new self.new }
+        ensures taken { IsTakenUp self.old (octets_in received.now) report.new result self.new }
+        ensures report_fits { ReportFits EventRoom.Full self.old.session report.new
+            self.new.session }
+        ensures steps { ReceiveSteps self.old (octets_in received.now) report.new self.new }
     {
         station_laws();
-        self.take(came, said)
+        self.take(received, report)
     }
 
-    fn take(&mut self, came: &Option<Message>, said: &mut Said) -> WireResult
+    fn take(&mut self, received: &Option<Message>, report: &mut Said) -> WireResult
         requires { IsSending self.old.state }
-        ensures { IsTakenUp self.old (octets_in came.now) said.new result self.new }
+        ensures { IsTakenUp self.old (octets_in received.now) report.new result self.new }
     {
-        let brought = self.settle(came, said);
+        let wire_result = self.settle(received, report);
         self.miss();
-        brought
+        wire_result
     }
 
     /// The same, but that a message that has to go out again stays as it is.
-    fn settle(&mut self, came: &Option<Message>, said: &mut Said) -> WireResult
+    fn settle(&mut self, received: &Option<Message>, report: &mut Said) -> WireResult
         requires { IsSending self.old.state }
         ensures core { self.new
-            ≡ settled_core (came_of self.old (octets_in came.now)) self.old.session }
-        ensures settled { IsSettledBy self.old (octets_in came.now) said.new result }
+            ≡ settled_core (received_mode self.old (octets_in received.now)) self.old.session }
+        ensures settled { IsSettledBy self.old (octets_in received.now) report.new result }
     {
         self.session.is_valid();
         let out = Out::of(&self.state);
-        let attempt = self.state.receives(came, self.session.configuration());
-        settled(&self.state, &attempt, &mut self.session, said);
-        out.brought(&attempt, came)
+        let attempt = self.state.receives(received, self.session.configuration());
+        settled(&self.state, &attempt, &mut self.session, report);
+        out.wire_result(&attempt, received)
     }
 
     /// In OPERATE a message that is out after an exchange goes out again; at a port for any device
@@ -410,9 +412,9 @@ impl Core {
     /// back: by one list of steps, each allowed where it is taken.
     ///
     /// Rules LINK-1, PD-7.
-    pub fn turn<W: Wire>(&mut self, wire: &mut W, room: EventRoom, said: &mut Said) -> WireResult
+    pub fn turn<W: Wire>(&mut self, wire: &mut W, room: EventRoom, report: &mut Said) -> WireResult
         requires { LinkStands W.facts wire.old self.old }
-        ensures turn { IsWholeTurn W.facts room wire.old wire.new self.old said.new result
+        ensures turn { IsWholeTurn W.facts room wire.old wire.new self.old report.new result
             self.new }
         ensures honest { W.facts.honest wire.new ≡ W.facts.honest wire.old }
         ensures stands { LinkStands W.facts wire.new self.new }
@@ -421,24 +423,24 @@ impl Core {
         page_and_room_stay();
         self.session.is_valid();
         if self.put_next(room) {
-            self.exchange(wire, said)
+            self.exchange(wire, report)
         } else {
             let rate = wire.wake();
             self.take_wake(rate);
-            said.set_idle();
+            report.set_idle();
             WireResult::of_wake(rate)
         }
     }
 
     /// The message that is out goes out over this wire, and what comes back is taken.
-    fn exchange<W: Wire>(&mut self, wire: &mut W, said: &mut Said) -> WireResult
+    fn exchange<W: Wire>(&mut self, wire: &mut W, report: &mut Said) -> WireResult
         requires { IsSending self.old.state }
-        ensures { IsPassed W.facts wire.old wire.new self.old said.new result self.new }
+        ensures { IsPassed W.facts wire.old wire.new self.old report.new result self.new }
     {
         let mut sent = Message::new();
         self.state.write(&mut sent);
-        let came = wire.exchange(sent.as_slice());
-        self.take(&came, said)
+        let received = wire.exchange(sent.as_slice());
+        self.take(&received, report)
     }
 }
 
@@ -450,27 +452,27 @@ fn goes_out(layout: Layout, octets: Message) -> Asked
 }
 
 /// Takes up the mode after an exchange, in OPERATE with the good reply that it brought.
-fn settled(state: &State, attempt: &AttemptView<'_>, session: &mut PortSession, said: &mut Said)
+fn settled(state: &State, attempt: &AttemptView<'_>, session: &mut PortSession, report: &mut Said)
     requires { NextFits (outcome_with (attempt_in attempt.now) state.now) session.old }
     ensures session { session.new
         ≡ settled_session (outcome_with (attempt_in attempt.now) state.now) session.old }
-    ensures said { IsSettledSaid (outcome_with (attempt_in attempt.now) state.now) session.old
-        said.new }
+    ensures report { IsSettledReport (outcome_with (attempt_in attempt.now) state.now) session.old
+        report.new }
     ensures request { request_under_way session.new.current
-        ≡ request_after (request_under_way session.old.current) said.new }
+        ≡ request_after (request_under_way session.old.current) report.new }
 {
     match state {
-        State::Down(_) => session.lose(said),
+        State::Down(_) => session.lose(report),
         State::Startup(startup) => {
             if let Some(read) = startup.read() {
                 session.take_page(read);
             }
-            said.set_idle();
+            report.set_idle();
         }
-        State::Preoperate(_) => said.set_idle(),
+        State::Preoperate(_) => report.set_idle(),
         State::Operate(_) => match attempt {
-            AttemptView::Got(first) => session.hear(first, said),
-            AttemptView::Again | AttemptView::Lost => session.quiet(said),
+            AttemptView::Got(first) => session.hear(first, report),
+            AttemptView::Retry | AttemptView::Lost => session.quiet(report),
         },
     }
 }

@@ -1,7 +1,7 @@
 //! The reading of events: octet by octet, then the confirm (IEC 61131-9, 7.3.8).
 ghost use Rattle.std.specs.Prelude.{◌≡◌, ◌≤◌, is_some};
 ghost use Rattle.iol_event.specs.Reading.{next_address};
-ghost use Rattle.iol_app.specs.EventReading.{new_event_work, reader_of, event_work_after, list_read, told_list, reading_after_octet, list_after};
+ghost use Rattle.iol_app.specs.EventReading.{new_event_work, reader_of, event_work_after, list_read, reported_list, reading_after_octet, list_after};
 
 use crate::Said;
 use crate::session::Purpose;
@@ -76,17 +76,17 @@ impl EventWork {
         &mut self,
         exchange: Purpose,
         reply: &ReplyView<'_>,
-        said: &mut Said,
+        report: &mut Said,
     ) -> bool
         ensures tells { result
             ≡ is_some (list_read exchange reply.now.od.items self.old.reading) }
         ensures events { self.new ≡ event_work_after exchange reply.now self.old }
-        ensures list { said.new
-            ≡ told_list (list_read exchange reply.now.od.items self.old.reading) said.old }
+        ensures list { report.new
+            ≡ reported_list (list_read exchange reply.now.od.items self.old.reading) report.old }
     {
         self.flag = reply.event();
         match exchange {
-            Purpose::ReadEvent => self.take(first(reply.od()), said),
+            Purpose::ReadEvent => self.take(first(reply.od()), report),
             Purpose::ConfirmEvents => {
                 self.reading = ReadingProgress::Resting;
                 false
@@ -100,11 +100,11 @@ impl EventWork {
     ///
     /// Rule EVT-7.
     #[inline(never)]
-    fn take(&mut self, octet: u8, said: &mut Said) -> bool
+    fn take(&mut self, octet: u8, report: &mut Said) -> bool
         ensures tells { result ≡ is_some (list_after self.old.reading octet) }
         ensures events { self.new
             ≡ record self.old { reading = reading_after_octet self.old.reading octet } }
-        ensures list { said.new ≡ told_list (list_after self.old.reading octet) said.old }
+        ensures list { report.new ≡ reported_list (list_after self.old.reading octet) report.old }
     {
         let mut reader = match replace(&mut self.reading, ReadingProgress::Resting) {
             ReadingProgress::UnderWay(reader) => reader,
@@ -114,7 +114,7 @@ impl EventWork {
             Ok(None) => self.reading = ReadingProgress::UnderWay(reader),
             Ok(Some(list)) => {
                 self.reading = ReadingProgress::ConfirmDue;
-                *said = Said::Reported(list);
+                *report = Said::Reported(list);
                 return true;
             }
             Err(_) => self.reading = ReadingProgress::Refused,

@@ -58,7 +58,7 @@ pub(crate) fn body_for(
     ensures od { od.new.items ≡ data_for exchange size current.now }
 {
     match exchange {
-        Purpose::TellOutput => command(size, MasterCommand::ProcessDataOutputOperate, od),
+        Purpose::EnableOutput => command(size, MasterCommand::ProcessDataOutputOperate, od),
         Purpose::DropOutput => command(size, MasterCommand::DeviceOperate, od),
         Purpose::Abort => ask(Flow::Abort),
         Purpose::ReadEvent => read(Channel::Diagnosis, events.address()),
@@ -88,7 +88,7 @@ fn request_body(current: &Option<Current>, od: &mut Part) -> Mc
             write(Channel::Isdu, flow.address())
         }
         RequestProgress::Doubting | RequestProgress::Asking(_) => ask(Flow::Start),
-        RequestProgress::Receiving(_, had) => ask(Flow::Count(segment_number(*had as usize + 1))),
+        RequestProgress::Receiving(_, last) => ask(Flow::Count(segment_number(*last as usize + 1))),
         RequestProgress::Refused => ask(Flow::Idle1),
     }
 }

@@ -1,6 +1,6 @@
 //! Ports over simulated wires, each with a device of its own.
 ghost use Rattle.std.specs.Prelude.{IfOk, IsOk};
-ghost use Rattle.iol_master.specs.Tickets.{HasGiven};
+ghost use Rattle.iol_master.specs.Tickets.{HasIssued};
 ghost use Rattle.iol_page.specs.Page.{layouts_of};
 
 use crate::check_word::CheckWord;
@@ -48,7 +48,7 @@ pub(crate) fn opened(
     steps: Vec<Step>,
 ) -> Result<Port<Sim<Params>>, BenchFault>
     requires { IsOk (layouts_of page) }
-    ensures { IfOk result (λ p. HasGiven p 0) }
+    ensures { IfOk result (λ p. HasIssued p 0) }
 {
     let wire = wire_to(alloc, page, value, steps)?;
     match Port::open(alloc, wire, &limits()) {

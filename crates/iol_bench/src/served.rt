@@ -1,6 +1,6 @@
 //! Several ports, each served by a worker of its own.
 ghost use Rattle.std.specs.Prelude.{◌≡◌, ◌≤◌, ◌<◌, All, IfOk, vec_len};
-ghost use Rattle.iol_master.specs.Tickets.{HasGiven};
+ghost use Rattle.iol_master.specs.Tickets.{HasIssued};
 ghost use Rattle.iol_master.specs.Ledgers.{IsBlankFor};
 
 use crate::check_word::CheckWord;
@@ -76,7 +76,7 @@ fn with_ledgers<L: Ledger + Sync, K: Ledger + Sync, R: Threads + Wait + Sync>(
 /// So many ports, which gave no ticket yet.
 fn opened_ports(alloc: Global, count: u32) -> Result<Vec<Port<Sim<Params>>>, BenchFault>
     ensures count { IfOk result (λ v. vec_len v ≡ count) }
-    ensures fresh { IfOk result (λ v. All (λ p. HasGiven p 0) v.items) }
+    ensures fresh { IfOk result (λ v. All (λ p. HasIssued p 0) v.items) }
 {
     let mut ports = Vec::new(alloc);
     for _ in 0..count {

@@ -13,7 +13,7 @@ use Rattle.iol_book.specs.Replay.{Standing, standing_after, same_ticket, is_amon
 use Rattle.iol_book.specs.BookModel.{BookState, book_with_entry, waits, is_awaited, has_outcome, abandon_refusal, book_after_post}
 use Rattle.iol_book.specs.Drained.{last_taken}
 use Rattle.iol_book.specs.Numbers.{times_in, IsNumbered}
-use Rattle.iol_book.specs.Abandoning.{IsUnknown, IsToldAlike, AbandonLeaves, AbandonsHold}
+use Rattle.iol_book.specs.Abandoning.{IsUnknown, IsReportedAlike, AbandonLeaves, AbandonsHold}
 use Rattle.iol_book.proofs.LineLemmas.{remove-absent}
 use Rattle.iol_book.proofs.SoundLemmas.{times_in-removed, lookup-none, waiting-alone}
 
@@ -55,8 +55,8 @@ module _ (t k : Ticket) (apart : same_ticket t k ≡ false) where
       by None = refl
       by (Some p) = grind (arith, common_steps)
 
-  told-other : (s : Standing) → IsToldAlike s (standing_after s (Abandoned t)) k
-  told-other s =
+  reported-other : (s : Standing) → IsReportedAlike s (standing_after s (Abandoned t)) k
+  reported-other s =
       let urgent = among-other s.urgent in
       let waiting = among-others s.urgent s.waiting in
       let awaited = awaited-other s in
@@ -115,13 +115,13 @@ last-push t before (_ ∷ es) = last-push t before es
 dropped : (b : BookState) (o : Outcome) → b.standing.abandoned ≡ true
     → is_some b.standing.taken ≡ true
     → (book_after_post b o).standing ≡ record b.standing { taken = None; abandoned = false }
-dropped b o given_up found = by b.standing.taken found
+dropped b o is_abandoned found = by b.standing.taken found
   where
     by : (taken : Option (Ticket × Request)) → is_some taken ≡ true
         → (book_after_post (record b { standing = record b.standing { taken = taken } }) o).standing
         ≡ record b.standing { taken = None; abandoned = false }
     by None found = absurd (cc)
-    by (Some p) found = rw given_up refl
+    by (Some p) found = rw is_abandoned refl
 
 taken-some : (s : Standing) (t : Ticket) → is_taken s t ≡ true → is_some s.taken ≡ true
 taken-some s t found = grind (arith, common_steps)
@@ -150,5 +150,5 @@ abandons_hold last b t h = by (is_some (abandon_refusal b.standing t)) refl
           (rw found (elim s.abandoned as (λ a. (a || true) ≡ true) [ true ↦ refl | false ↦ refl ]))
           (taken-some s t found);
       doubt = rw (last-push t None b.journal) refl;
-      others = λ other apart. told-other t other apart s;
+      others = λ other apart. reported-other t other apart s;
     }

@@ -22,8 +22,8 @@ use Rattle.iol_book.specs.Limits.{has_journal}
 use Rattle.iol_book.specs.JournalModel.{octet_sum}
 use Rattle.iol_book.proofs.JournalLemmas.{filter-fewer, filter-less}
 use Rattle.iol_book.proofs.LineLemmas.{Says, among-values, request-own}
-use Rattle.iol_book.proofs.RestatedLemmas.{kept_pairs, kept_entries, kept_standing, kept_taken, kept_abandoned, kept-all, kept-replay, LeadsTo, leads-where, same-filter}
-use Rattle.iol_book.proofs.SoundLemmas.{none_abandoned, whole-kept}
+use Rattle.iol_book.proofs.RestatedLemmas.{retained_pairs, retained_entries, retained_standing, retained_taken, retained_abandoned, retained-all, retained-replay, LeadsTo, leads-where, same-filter}
+use Rattle.iol_book.proofs.SoundLemmas.{none_abandoned, whole-retained}
 use Rattle.iol_book.proofs.NumberLemmas.{says-after, taken-after, open-numbers}
 
 -- the line of the one that is taken is its ticket's
@@ -34,21 +34,21 @@ taken-own entries t None = refl
 taken-own entries t (Some line) = refl
 
 -- it is kept where its ticket is
-taken-kept : (k : ℕ → Bool) (entries : List Entry) (taken : Option (Ticket × ℕ))
+taken-retained : (k : ℕ → Bool) (entries : List Entry) (taken : Option (Ticket × ℕ))
     → ((t : Ticket) → option_map_or (λ own. same_ticket t own.0) taken false ≡ true
-    → k t.0 ≡ true) → kept_taken k (taken_at entries taken) ≡ taken_at entries taken
-taken-kept k entries None held = refl
-taken-kept k entries (Some line) held =
+    → k t.0 ≡ true) → retained_taken k (taken_at entries taken) ≡ taken_at entries taken
+taken-retained k entries None held = refl
+taken-retained k entries (Some line) held =
     rw (held line.0 (eq-eqb line.0.0 line.0.0 refl)) refl
 
 -- and so is that it was abandoned
-abandoned-kept : (k : ℕ → Bool) (entries : List Entry) (taken : Option (Ticket × ℕ))
+abandoned-retained : (k : ℕ → Bool) (entries : List Entry) (taken : Option (Ticket × ℕ))
     (abandoned : Bool)
     → ((t : Ticket) → option_map_or (λ own. same_ticket t own.0) taken false ≡ true
     → k t.0 ≡ true) → (taken_at entries taken ≡ None → abandoned ≡ false)
-    → kept_abandoned k (taken_at entries taken) abandoned ≡ abandoned
-abandoned-kept k entries None abandoned held free = sym (free refl)
-abandoned-kept k entries (Some line) abandoned held free =
+    → retained_abandoned k (taken_at entries taken) abandoned ≡ abandoned
+abandoned-retained k entries None abandoned held free = sym (free refl)
+abandoned-retained k entries (Some line) abandoned held free =
     rw (held line.0 (eq-eqb line.0.0 line.0.0 refl)) refl
 
 -- what is the same part by part is the same
@@ -67,8 +67,8 @@ same-state a b journal restated last standing unsure limit queue serve = λ i. r
 }
 
 -- a journal is kept or not
-kept-unkept : (limit : ℕ) → IsTrue (has_journal limit) → IsFalse (has_journal limit) → ⊥
-kept-unkept limit kept unkept = absurd (cc)
+retained-unretained : (limit : ℕ) → IsTrue (has_journal limit) → IsFalse (has_journal limit) → ⊥
+retained-unretained limit retained unretained = absurd (cc)
 
 -- fewer entries, or octets, have room where more had it
 fewer-fit : (fewer more owed room same : ℕ) → fewer ≤ more → more + owed ≤ room → same ≡ room
@@ -77,39 +77,42 @@ fewer-fit fewer more owed room same h fits is = grind (arith)
 
 module _ {A : Type 0} {old : Inside A} (sound : IsSoundBook old) (doubt : Option Ticket) where
   -- whether a ticket of this number is outstanding or in doubt
-  abbrev pub is_kept : ℕ → Bool
-  is_kept n = is_still_open_by doubt old.urgent.items old.waiting.items old.taken old.outcomes.items
+  abbrev pub is_retained : ℕ → Bool
+  is_retained n = is_still_open_by doubt old.urgent.items old.waiting.items old.taken
+      old.outcomes.items
       (record { 0 = n })
 
-  urgent-held : (t : Ticket) → is_among t old.urgent.items ≡ true → is_kept t.0 ≡ true
+  urgent-held : (t : Ticket) → is_among t old.urgent.items ≡ true → is_retained t.0 ≡ true
   urgent-held t found = rw found refl
 
-  waiting-held : (t : Ticket) → is_among t old.waiting.items ≡ true → is_kept t.0 ≡ true
+  waiting-held : (t : Ticket) → is_among t old.waiting.items ≡ true → is_retained t.0 ≡ true
   waiting-held t found = grind (arith, common_steps)
 
   taken-held : (t : Ticket) → option_map_or (λ own. same_ticket t own.0) old.taken false ≡ true
-      → is_kept t.0 ≡ true
+      → is_retained t.0 ≡ true
   taken-held t found = rw found (grind (arith, common_steps))
 
-  outcome-held : (t : Ticket) → is_among t old.outcomes.items ≡ true → is_kept t.0 ≡ true
+  outcome-held : (t : Ticket) → is_among t old.outcomes.items ≡ true → is_retained t.0 ≡ true
   outcome-held t found = grind (arith, common_steps)
 
   -- so all that is outstanding is kept
-  all-kept : kept_standing is_kept (standing_of old) ≡ standing_of old
-  all-kept =
-      let urgent : kept_pairs is_kept (standing_of old).urgent ≡ (standing_of old).urgent =
-      kept-all is_kept (standing_of old).urgent (λ t found. urgent-held t
+  all-retained : retained_standing is_retained (standing_of old) ≡ standing_of old
+  all-retained =
+      let urgent : retained_pairs is_retained (standing_of old).urgent ≡ (standing_of old).urgent =
+      retained-all is_retained (standing_of old).urgent (λ t found. urgent-held t
       (rw (among-values entry_request old.journal.items t old.urgent.items) at found)) in
-      let waiting : kept_pairs is_kept (standing_of old).waiting ≡ (standing_of old).waiting =
-      kept-all is_kept (standing_of old).waiting (λ t found. waiting-held t
+      let waiting : retained_pairs is_retained (standing_of old).waiting
+      ≡ (standing_of old).waiting =
+      retained-all is_retained (standing_of old).waiting (λ t found. waiting-held t
       (rw (among-values entry_request old.journal.items t old.waiting.items) at found)) in
-      let outcomes : kept_pairs is_kept (standing_of old).outcomes ≡ (standing_of old).outcomes =
-      kept-all is_kept (standing_of old).outcomes (λ t found. outcome-held t
+      let outcomes : retained_pairs is_retained (standing_of old).outcomes
+      ≡ (standing_of old).outcomes =
+      retained-all is_retained (standing_of old).outcomes (λ t found. outcome-held t
       (rw (among-values outcome_in old.journal.items t old.outcomes.items) at found)) in
-      let taken : kept_taken is_kept (standing_of old).taken ≡ (standing_of old).taken =
-      taken-kept is_kept old.journal.items old.taken taken-held in
-      let abandoned : kept_abandoned is_kept (standing_of old).taken old.abandoned
-      ≡ old.abandoned = abandoned-kept is_kept old.journal.items old.taken old.abandoned
+      let taken : retained_taken is_retained (standing_of old).taken ≡ (standing_of old).taken =
+      taken-retained is_retained old.journal.items old.taken taken-held in
+      let abandoned : retained_abandoned is_retained (standing_of old).taken old.abandoned
+      ≡ old.abandoned = abandoned-retained is_retained old.journal.items old.taken old.abandoned
       taken-held (none_abandoned sound) in
       λ i. record {
         urgent = urgent i;
@@ -120,22 +123,23 @@ module _ {A : Type 0} {old : Inside A} (sound : IsSoundBook old) (doubt : Option
       }
 
   -- the entries that are left come where they may, and say the same
-  leads : LeadsTo nothing (kept_entries is_kept old.journal.items) (standing_of old)
-  leads = leads-where (ap (λ s. kept_standing is_kept s) (sym sound.replayed) ∙ all-kept)
-      (kept-replay is_kept nothing old.journal.items sound.in_turn)
+  leads : LeadsTo nothing (retained_entries is_retained old.journal.items) (standing_of old)
+  leads = leads-where (ap (λ s. retained_standing is_retained s) (sym sound.replayed)
+      ∙ all-retained)
+      (retained-replay is_retained nothing old.journal.items sound.in_turn)
 
   -- the entries that are left, by the lines with their numbers of after
   pub entries-left : (us ws os : TicketLines) (taken : Option (Ticket × ℕ)) (entries : List Entry)
-      → us ≡ lines_after (λ t. is_kept t.0) old.journal.items old.urgent.items
-      → ws ≡ lines_after (λ t. is_kept t.0) old.journal.items old.waiting.items
+      → us ≡ lines_after (λ t. is_retained t.0) old.journal.items old.urgent.items
+      → ws ≡ lines_after (λ t. is_retained t.0) old.journal.items old.waiting.items
       → option_to_list taken
-      ≡ lines_after (λ t. is_kept t.0) old.journal.items (option_to_list old.taken)
-      → os ≡ lines_after (λ t. is_kept t.0) old.journal.items old.outcomes.items
+      ≡ lines_after (λ t. is_retained t.0) old.journal.items (option_to_list old.taken)
+      → os ≡ lines_after (λ t. is_retained t.0) old.journal.items old.outcomes.items
       → entries ≡ filter (λ e. is_still_open_by doubt us ws taken os (entry_ticket e))
-      old.journal.items → entries ≡ kept_entries is_kept old.journal.items
+      old.journal.items → entries ≡ retained_entries is_retained old.journal.items
   entries-left us ws os taken entries u w t o left = left ∙ same-filter
       (λ e. open-numbers (entry_ticket e)
-      (line_number_after (λ t. is_kept t.0) 0 0 old.journal.items) doubt old.urgent.items
+      (line_number_after (λ t. is_retained t.0) 0 0 old.journal.items) doubt old.urgent.items
       old.waiting.items old.outcomes.items us ws os old.taken taken u w t o) old.journal.items
 
   -- of a journal that is kept nothing is forgotten
@@ -144,17 +148,17 @@ module _ {A : Type 0} {old : Inside A} (sound : IsSoundBook old) (doubt : Option
         restated = new.restated;
         in_memory = new.journal.items;
       } → IsForgotten (journal_parts new)
-  forgotten-none new kept parts = let none = sound.forgotten.kept kept in
+  forgotten-none new retained parts = let none = sound.forgotten.retained retained in
       subst (λ p. IsForgotten p) (sym parts) (record {
         overlap = rw none.1 (grind (arith));
         stands = rw (none.0, none.1) refl;
-        kept = λ _. none;
-        unkept = λ un. absurd (kept-unkept old.limit kept un);
+        retained = λ _. none;
+        unretained = λ un. absurd (retained-unretained old.limit retained un);
       })
 
   -- of another one what isn't kept is
   pub record Forgets (new : Inside A) : Type 0 where
-    pub unkept : IsFalse (has_journal old.limit)
+    pub unretained : IsFalse (has_journal old.limit)
     pub entries : new.forgotten.entries ≡ all_entries (journal_parts old)
     pub overlap : new.overlap ≡ length new.journal.items
     pub restated : new.restated ≡ old.restated
@@ -169,29 +173,31 @@ module _ {A : Type 0} {old : Inside A} (sound : IsSoundBook old) (doubt : Option
     append-nil (all_entries (journal_parts old)),
   ) refl
 
-  pub forgotten-more : {new : Inside A} → new.journal.items ≡ kept_entries is_kept old.journal.items
+  pub forgotten-more : {new : Inside A}
+      → new.journal.items ≡ retained_entries is_retained old.journal.items
       → Forgets new → IsForgotten (journal_parts new)
   forgotten-more {new} left forgets = record {
     overlap = rw forgets.overlap (grind (arith));
     stands = ap (λ es. replay es) (all-forgotten forgets) ∙ (sound.forgotten.stands
         ∙ (sym sound.replayed ∙ rw left (sym leads.stands)));
-    kept = λ kept. absurd (kept-unkept old.limit (rw forgets.limit at kept) forgets.unkept);
-    unkept = λ un. forgets.restated ∙ sound.forgotten.unkept forgets.unkept;
+    retained = λ retained. absurd (retained-unretained old.limit (rw forgets.limit at retained)
+        forgets.unretained);
+    unretained = λ un. forgets.restated ∙ sound.forgotten.unretained forgets.unretained;
   }
 
   -- what a drain does to the fields
   pub record Drains (new : Inside A) : Type 0 where
-    pub journal : new.journal.items ≡ kept_entries is_kept old.journal.items
+    pub journal : new.journal.items ≡ retained_entries is_retained old.journal.items
     pub head : new.restated ≤ length new.journal.items
     pub forgotten : IsForgotten (journal_parts new)
-    pub urgent : new.urgent.items ≡ lines_after (λ t. is_kept t.0) old.journal.items
+    pub urgent : new.urgent.items ≡ lines_after (λ t. is_retained t.0) old.journal.items
         old.urgent.items
-    pub waiting : new.waiting.items ≡ lines_after (λ t. is_kept t.0) old.journal.items
+    pub waiting : new.waiting.items ≡ lines_after (λ t. is_retained t.0) old.journal.items
         old.waiting.items
-    pub taken : option_to_list new.taken ≡ lines_after (λ t. is_kept t.0) old.journal.items
+    pub taken : option_to_list new.taken ≡ lines_after (λ t. is_retained t.0) old.journal.items
         (option_to_list old.taken)
     pub abandoned : new.abandoned ≡ old.abandoned
-    pub outcomes : new.outcomes.items ≡ lines_after (λ t. is_kept t.0) old.journal.items
+    pub outcomes : new.outcomes.items ≡ lines_after (λ t. is_retained t.0) old.journal.items
         old.outcomes.items
     pub places : new.journal.places ≡ old.journal.places
     pub octet_places : new.journal.octet_places ≡ old.journal.octet_places
@@ -205,39 +211,42 @@ module _ {A : Type 0} {old : Inside A} (sound : IsSoundBook old) (doubt : Option
     pub serve : new.serve ≡ old.serve
 
   module _ {new : Inside A} (does : Drains new) where
-    urgent-says : Says has_request_of entry_request (kept_entries is_kept old.journal.items)
-        (lines_after (λ t. is_kept t.0) old.journal.items old.urgent.items)
+    urgent-says : Says has_request_of entry_request (retained_entries is_retained old.journal.items)
+        (lines_after (λ t. is_retained t.0) old.journal.items old.urgent.items)
         (standing_of old).urgent
-    urgent-says = says-after is_kept request-own old.journal.items old.urgent.items urgent-held
+    urgent-says = says-after is_retained request-own old.journal.items old.urgent.items urgent-held
         sound.lines.urgent_requests
 
-    waiting-says : Says has_request_of entry_request (kept_entries is_kept old.journal.items)
-        (lines_after (λ t. is_kept t.0) old.journal.items old.waiting.items)
+    waiting-says : Says has_request_of entry_request
+        (retained_entries is_retained old.journal.items)
+        (lines_after (λ t. is_retained t.0) old.journal.items old.waiting.items)
         (standing_of old).waiting
-    waiting-says = says-after is_kept request-own old.journal.items old.waiting.items waiting-held
+    waiting-says = says-after is_retained request-own old.journal.items old.waiting.items
+        waiting-held
         sound.lines.waiting_requests
 
-    outcomes-say : Says is_of outcome_in (kept_entries is_kept old.journal.items)
-        (lines_after (λ t. is_kept t.0) old.journal.items old.outcomes.items)
+    outcomes-say : Says is_of outcome_in (retained_entries is_retained old.journal.items)
+        (lines_after (λ t. is_retained t.0) old.journal.items old.outcomes.items)
         (standing_of old).outcomes
-    outcomes-say = says-after is_kept (λ t found h. h) old.journal.items old.outcomes.items
+    outcomes-say = says-after is_retained (λ t found h. h) old.journal.items old.outcomes.items
         outcome-held sound.lines.outcomes_within
 
-    taken-says : AllPass is_of (kept_entries is_kept old.journal.items) (option_to_list new.taken)
-        × (taken_at (kept_entries is_kept old.journal.items) new.taken
+    taken-says : AllPass is_of (retained_entries is_retained old.journal.items)
+        (option_to_list new.taken)
+        × (taken_at (retained_entries is_retained old.journal.items) new.taken
         ≡ taken_at old.journal.items old.taken)
-    taken-says = taken-after is_kept old.journal.items old.taken new.taken does.taken taken-held
+    taken-says = taken-after is_retained old.journal.items old.taken new.taken does.taken taken-held
         sound.lines.taken_within
 
     -- the book stands as it stood
     pub drained-stands : standing_of new ≡ standing_of old
     drained-stands =
         let urgent : values_at entry_request new.journal.items new.urgent.items
-        ≡ (standing_of old).urgent = rw (does.journal, does.urgent) urgent-says.said in
+        ≡ (standing_of old).urgent = rw (does.journal, does.urgent) urgent-says.values_are in
         let waiting : values_at entry_request new.journal.items new.waiting.items
-        ≡ (standing_of old).waiting = rw (does.journal, does.waiting) waiting-says.said in
+        ≡ (standing_of old).waiting = rw (does.journal, does.waiting) waiting-says.values_are in
         let outcomes : values_at outcome_in new.journal.items new.outcomes.items
-        ≡ (standing_of old).outcomes = rw (does.journal, does.outcomes) outcomes-say.said in
+        ≡ (standing_of old).outcomes = rw (does.journal, does.outcomes) outcomes-say.values_are in
         let taken : taken_at new.journal.items new.taken ≡ (standing_of old).taken =
         rw does.journal taken-says.1 in
         λ i. record {
@@ -288,7 +297,7 @@ module _ {A : Type 0} {old : Inside A} (sound : IsSoundBook old) (doubt : Option
     }
 
     -- by the lines it is known which tickets are outstanding
-    open-same : (t : Ticket) → is_kept t.0 ≡ is_still_open (standing_of old) doubt t
+    open-same : (t : Ticket) → is_retained t.0 ≡ is_still_open (standing_of old) doubt t
     open-same t = rw (
       among-values entry_request old.journal.items t old.urgent.items,
       among-values entry_request old.journal.items t old.waiting.items,
@@ -297,7 +306,8 @@ module _ {A : Type 0} {old : Inside A} (sound : IsSoundBook old) (doubt : Option
     ) refl
 
     entries-same : doubt ≡ in_doubt old.unsure old.journal.items
-        → kept_entries is_kept old.journal.items ≡ restated_entries old.unsure old.journal.items
+        → retained_entries is_retained old.journal.items
+        ≡ restated_entries old.unsure old.journal.items
     entries-same is = same-filter (λ e. open-same (entry_ticket e)
         ∙ (ap (λ s. is_still_open s doubt (entry_ticket e)) sound.replayed
         ∙ ap (λ d. is_still_open (replay old.journal.items) d (entry_ticket e)) is))
@@ -318,9 +328,9 @@ module _ {A : Type 0} {old : Inside A} (sound : IsSoundBook old) (doubt : Option
       → doubt ≡ in_doubt old.unsure old.journal.items
       → new.restated ≡ length new.journal.items → IsTrue (has_journal old.limit)
       → whole_state new ≡ book_after_drain (whole_state old)
-  drained-state next does is head kept = rw (
-    whole-kept sound kept,
-    whole-kept next (rw does.limit kept),
+  drained-state next does is head retained = rw (
+    whole-retained sound retained,
+    whole-retained next (rw does.limit retained),
   ) (drains-state does is head)
 
   -- and of another one nothing is seen

@@ -295,9 +295,10 @@ octets-next es rest left e n fits is =
     grind (arith)
 
 -- an entry that is kept, or not, of the rest
-pub filter-kept : (p : Entry → Bool) (es rest left : List Entry) (e : Entry) → rest ≡ e ∷ left
+pub filter-retained : (p : Entry → Bool) (es rest left : List Entry) (e : Entry) → rest ≡ e ∷ left
     → p e ≡ true → (es ++ e ∷ []) ++ filter p left ≡ es ++ filter p rest
-filter-kept p es rest left e is kept = rw (is, kept) (append_assoc es (e ∷ []) (filter p left))
+filter-retained p es rest left e is retained =
+    rw (is, retained) (append_assoc es (e ∷ []) (filter p left))
 
 pub filter-skipped : (p : Entry → Bool) (es rest left : List Entry) (e : Entry) → rest ≡ e ∷ left
     → p e ≡ false → es ++ filter p left ≡ es ++ filter p rest

@@ -66,20 +66,21 @@ get-more test none e (x ∷ es) (suc i) passes = get-more test none e es i passe
 pub record Says {X : Type 0} (test : Ticket → Option Entry → Bool) (value : Option Entry → X)
     (es : List Entry) (ls : TicketLines) (xs : List (Ticket × X)) : Type 0 where
   pub pass : AllPass test es ls
-  pub said : values_at value es ls ≡ xs
+  pub values_are : values_at value es ls ≡ xs
 
 module _ {X : Type 0} {test : Ticket → Option Entry → Bool} {value : Option Entry → X} where
   pub says-cons : {es : List Entry} {ls : TicketLines} {xs : List (Ticket × X)} (l : Ticket × ℕ)
       {x : X}
       → test l.0 (slice_get es l.1) ≡ true → value (slice_get es l.1) ≡ x
       → Says test value es ls xs → Says test value es (l ∷ ls) ((l.0, x) ∷ xs)
-  says-cons l passes is h = record { pass = (passes, h.pass); said = rw (is, h.said) refl }
+  says-cons l passes is h = record
+      { pass = (passes, h.pass); values_are = rw (is, h.values_are) refl }
 
   -- after one more entry the lines say what they said
   pub says-more : (es : List Entry) (e : Entry) (ls : TicketLines)
       → ((t : Ticket) → test t None ≡ false)
       → AllPass test es ls → Says test value (es ++ e ∷ []) ls (values_at value es ls)
-  says-more es e [] none h = record { pass = tt; said = refl }
+  says-more es e [] none h = record { pass = tt; values_are = refl }
   says-more es e (l ∷ ls) none h = let same = get-more (test l.0) (none l.0) e es l.1 h.0 in
       says-cons l (rw same h.0) (ap value same) (says-more es e ls none h.1)
 
@@ -89,7 +90,8 @@ module _ {X : Type 0} {test : Ticket → Option Entry → Bool} {value : Option 
       → Says test value (es ++ e ∷ []) (ls ++ (t, length es) ∷ [])
       (values_at value es ls ++ (t, value (Some e)) ∷ [])
   says-new es e [] t none new h = let same = get-new es e in
-      says-cons (t, length es) (rw same new) (ap value same) (record { pass = tt; said = refl })
+      says-cons (t, length es) (rw same new) (ap value same)
+      (record { pass = tt; values_are = refl })
   says-new es e (l ∷ ls) t none new h = let same = get-more (test l.0) (none l.0) e es l.1 h.0 in
       says-cons l (rw same h.0) (ap value same) (says-new es e ls t none new h.1)
 
@@ -99,11 +101,11 @@ module _ {X : Type 0} {test : Ticket → Option Entry → Bool} {value : Option 
   pub says-without : {ls : TicketLines} {xs : List (Ticket × X)} (t : Ticket)
       → Says test value es ls xs
       → Says test value es (without t ls) (without t xs)
-  says-without {ls = []} t h = rw (← h.said) (record { pass = tt; said = refl })
+  says-without {ls = []} t h = rw (← h.values_are) (record { pass = tt; values_are = refl })
   says-without {ls = l ∷ ls} t h =
       let rest : Says test value es ls (values_at value es ls) =
-      record { pass = h.pass.1; said = refl } in
-      rw (← h.said) (elim (same_ticket t l.0) as (λ b.
+      record { pass = h.pass.1; values_are = refl } in
+      rw (← h.values_are) (elim (same_ticket t l.0) as (λ b.
       Says test value es (cond b ls (l ∷ without t ls))
       (cond b (values_at value es ls)
       ((l.0, value (slice_get es l.1)) ∷ without t (values_at value es ls))))
@@ -137,7 +139,8 @@ pub says-others : {X : Type 0} {test : Ticket → Option Entry → Bool} {value 
     {es : List Entry} {us ws : TicketLines} {ys xs : List (Ticket × X)} (t : Ticket)
     → Says test value es us ys → Says test value es ws xs
     → Says test value es (others_without t us ws) (others_without t ys xs)
-says-others {test} {value} {es} {us} {ws} {xs} t u h = rw (← u.said, among-values value es t us)
+says-others {test} {value} {es} {us} {ws} {xs} t u h =
+    rw (← u.values_are, among-values value es t us)
     (elim (is_among t us) as (λ b. Says test value es (cond b ws (without t ws))
     (cond b xs (without t xs)))
     [ true ↦ h | false ↦ says-without t h ])

@@ -91,7 +91,7 @@ pub numbered-fewer : {last : ℕ} {s next : Standing} → ((n : ℕ) → times n
     → IsNumbered last s → IsNumbered last next
 numbered-fewer fewer h = record {
   once = λ n. omega (arith, fewer n, h.once n);
-  given = λ n above. omega (arith, fewer n, h.given n above);
+  issued = λ n above. omega (arith, fewer n, h.issued n above);
 }
 
 -- and so is one in which the next number stands as well
@@ -99,8 +99,8 @@ pub numbered-more : {last : ℕ} {s next : Standing}
     → ((n : ℕ) → times n next ≡ times n s + one_if (nat_eq n (last + 1)))
     → IsNumbered last s → IsNumbered (last + 1) next
 numbered-more more h = record {
-  once = λ n. grind (arith, common_steps, more n, h.once n, h.given n);
-  given = λ n above. grind (arith, common_steps, more n, h.given n);
+  once = λ n. grind (arith, common_steps, more n, h.once n, h.issued n);
+  issued = λ n above. grind (arith, common_steps, more n, h.issued n);
 }
 
 -- one that is found is there
@@ -345,8 +345,8 @@ forgotten-push parts e h = record {
     replay-push (all_entries parts) e,
     replay-push parts.in_memory e,
   ) (ap (λ s. standing_after s e) h.stands);
-  kept = h.kept;
-  unkept = h.unkept;
+  retained = h.retained;
+  unretained = h.unretained;
 }
 
 -- but for the entries in memory the parts of the journal are what they were
@@ -367,9 +367,9 @@ module _ {A : Type 0} {fields : Inside A} (sound : IsSoundBook fields) where
       sound.forgotten.overlap
 
   -- and where the journal is kept, all are in memory
-  pub whole-kept : IsTrue (has_journal fields.limit)
+  pub whole-retained : IsTrue (has_journal fields.limit)
       → all_entries (journal_parts fields) ≡ fields.journal.items
-  whole-kept h = let none = sound.forgotten.kept h in rw (none.0, none.1) refl
+  whole-retained h = let none = sound.forgotten.retained h in rw (none.0, none.1) refl
 
 -- it is sound where it has room, which each call shows by itself
 abbrev IsSoundWithRoom : {A : Type 0} → Inside A → Type 0
@@ -414,16 +414,16 @@ module _ {A : Type 0} {old : Inside A} (sound : IsSoundBook old) where
       where
         stands : standing_of new ≡ next
         stands = rw (
-          tells.urgent.said,
-          tells.waiting.said,
+          tells.urgent.values_are,
+          tells.waiting.values_are,
           tells.taken.1,
           tells.abandoned,
-          tells.outcomes.said,
+          tells.outcomes.values_are,
         ) refl
 
     -- after one more entry the lines say what they said
-    kept : Tells entries old (standing_of old)
-    kept = rw n (record {
+    retained : Tells entries old (standing_of old)
+    retained = rw n (record {
       urgent = says-more _ e _ (λ _. refl) sound.lines.urgent_requests;
       waiting = says-more _ e _ (λ _. refl) sound.lines.waiting_requests;
       taken = taken-more e _ old.taken sound.lines.taken_within;
@@ -446,7 +446,7 @@ module _ {A : Type 0} {old : Inside A} (sound : IsSoundBook old) where
       → waiting.items ≡ old.waiting.items ++ (t, length old.journal.items) ∷ []
       → IsSoundWithRoom (record old { journal = journal; last = last; waiting = waiting })
   sound-submitted journal last waiting t r n later number w room =
-      let same = kept (Submitted t r) n in
+      let same = retained (Submitted t r) n in
       sound-entered (Submitted t r) n _ _ refl refl tt refl (rw later (numbered-more
       (λ i. rw (← number) (times-submitted i (standing_of old) t r)) sound.numbered)) room (record {
         urgent = same.urgent;
@@ -463,7 +463,7 @@ module _ {A : Type 0} {old : Inside A} (sound : IsSoundBook old) where
       → urgent.items ≡ old.urgent.items ++ (t, length old.journal.items) ∷ []
       → IsSoundWithRoom (record old { journal = journal; last = last; urgent = urgent })
   sound-urgent journal last urgent t r n later number u room =
-      let same = kept (Urgent t r) n in
+      let same = retained (Urgent t r) n in
       sound-entered (Urgent t r) n _ _ refl refl tt refl (rw later (numbered-more
       (λ i. rw (← number) (times-urgent i (standing_of old) t r)) sound.numbered)) room (record {
         urgent = rw (n, u) (says-new _ (Urgent t r) _ t (λ _. refl) (own-entry (Urgent t r))
@@ -478,7 +478,7 @@ module _ {A : Type 0} {old : Inside A} (sound : IsSoundBook old) where
       → journal.items ≡ old.journal.items ++ Collected t ∷ []
       → outcomes.items ≡ without t old.outcomes.items
       → IsSoundWithRoom (record old { journal = journal; outcomes = outcomes })
-  sound-collected journal outcomes t n o room = let same = kept (Collected t) n in
+  sound-collected journal outcomes t n o room = let same = retained (Collected t) n in
       sound-entered (Collected t) n _ _ refl refl tt refl
       (numbered-fewer (λ i. times-collected i (standing_of old) t) sound.numbered) room (record {
         urgent = same.urgent;
@@ -497,7 +497,7 @@ module _ {A : Type 0} {old : Inside A} (sound : IsSoundBook old) where
       (cond old.abandoned (standing_of old).outcomes
       (insert_entry same_ticket (standing_of old).outcomes p.0 o)) → IsSoundWithRoom new
   posted-tells new p o n held none free us ws parts last outcomes room =
-      let same = kept (Answered p.0 o) n in
+      let same = retained (Answered p.0 o) n in
       let was = ap (λ found. taken_at old.journal.items found) held in
       sound-entered (Answered p.0 o) n new _ refl parts (posted-turn (standing_of old) o p.0 _ was)
       (posted-step (standing_of old) _ o was sound.numbered)
@@ -541,9 +541,9 @@ module _ {A : Type 0} {old : Inside A} (sound : IsSoundBook old) where
         abandoned = abandoned;
         unsure = unsure;
       })
-  sound-dropped journal taken abandoned unsure p o given_up n held none free room =
+  sound-dropped journal taken abandoned unsure p o is_abandoned n held none free room =
       posted-tells _ p o n held none free refl refl refl refl
-      (rw given_up (kept (Answered p.0 o) n).outcomes) room
+      (rw is_abandoned (retained (Answered p.0 o) n).outcomes) room
 
   -- the first that is served leaves its queue
   pub sound-taken : (journal : Journal A) (urgent waiting : VecDeque (Ticket × ℕ) A)
@@ -559,7 +559,7 @@ module _ {A : Type 0} {old : Inside A} (sound : IsSoundBook old) where
         abandoned = false;
       })
   sound-taken journal urgent waiting {p} found none u w n room =
-      let same = kept (Taken p.0) n in
+      let same = retained (Taken p.0) n in
       let waits = next-waits old found in
       let within : AllPass is_of old.journal.items (p ∷ []) = (
         request-own p.0 _ (found-passes old.serve has_request_of old.journal.items
@@ -588,7 +588,8 @@ module _ {A : Type 0} {old : Inside A} (sound : IsSoundBook old) where
       → new.outcomes.items ≡ without t old.outcomes.items → new.taken ≡ old.taken
       → new.abandoned ≡ (old.abandoned || is_taken (standing_of old) t)
       → HasPartsOf old new → new.last ≡ old.last → IsSoundWithRoom new
-  sound-abandoned new t n u w o taken abandoned parts last room = let same = kept (Abandoned t) n in
+  sound-abandoned new t n u w o taken abandoned parts last room = let same =
+      retained (Abandoned t) n in
       sound-entered (Abandoned t) n new _ refl parts tt refl
       (rw last (numbered-fewer (λ i. times-abandoned i (standing_of old) t) sound.numbered)) room
       (record {
@@ -675,7 +676,7 @@ module _ {A : Type 0} {old : Inside A} (sound : IsSoundBook old) where
         outcomes = outcomes;
       })
   sound-left journal urgent waiting outcomes e t n own turn found is u w o room =
-      let same = kept e n in
+      let same = retained e n in
       let waited : waits (standing_of old) t ≡ true = rw (
         among-values entry_request old.journal.items t old.urgent.items,
         among-values entry_request old.journal.items t old.waiting.items,
@@ -699,7 +700,7 @@ module _ {A : Type 0} {old : Inside A} (sound : IsSoundBook old) where
       → IsSoundBook (record old { journal = journal; restated = 0 })
   sound-archived journal blank us ws free os there =
       let awaited = none_abandoned sound (rw free refl) in
-      let forgotten = sound.forgotten.kept there in
+      let forgotten = sound.forgotten.retained there in
       let next = standing_of (record old { journal = journal; restated = 0 }) in record {
         lines = rw (blank, us, ws, free, os) (record {
           urgent_requests = tt;
@@ -712,13 +713,13 @@ module _ {A : Type 0} {old : Inside A} (sound : IsSoundBook old) where
         head = grind (arith);
         numbered = rw (blank, us, ws, free, os) (record {
           once = λ n. grind (arith, common_steps);
-          given = λ n above. refl;
+          issued = λ n above. refl;
         });
         forgotten = record {
           overlap = rw forgotten.1 (grind (arith));
           stands = rw (forgotten.0, forgotten.1) refl;
-          kept = sound.forgotten.kept;
-          unkept = λ unkept. refl;
+          retained = sound.forgotten.retained;
+          unretained = λ unretained. refl;
         };
         room = record {
           urgent_room = sound.room.urgent_room;

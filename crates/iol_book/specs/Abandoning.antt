@@ -16,7 +16,7 @@ pub record IsUnknown (standing : Standing) (ticket : Ticket) : Type 0 where
   pub abandon : abandon_refusal standing ticket ≡ Some UnknownTicket
 
 -- what is told of a ticket is the same
-pub record IsToldAlike (before after : Standing) (ticket : Ticket) : Type 0 where
+pub record IsReportedAlike (before after : Standing) (ticket : Ticket) : Type 0 where
   pub collect : collect_answer after ticket ≡ collect_answer before ticket
   pub withdraw : withdraw_refusal after ticket ≡ withdraw_refusal before ticket
   pub cancel : flight_refusal after ticket ≡ flight_refusal before ticket
@@ -34,7 +34,7 @@ pub record AbandonLeaves (book : BookState) (ticket : Ticket) (next : BookState)
   pub doubt : in_doubt next.unsure next.journal ≡ in_doubt book.unsure book.journal
   -- and of each other ticket is told what was
   pub others : (other : Ticket) → same_ticket ticket other ≡ false
-      → IsToldAlike book.standing next.standing other
+      → IsReportedAlike book.standing next.standing other
 
 -- so it is in any book in which each ticket names one request
 -- BOOK-14

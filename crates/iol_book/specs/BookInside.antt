@@ -36,9 +36,9 @@ pub record IsForgotten (parts : JournalParts) : Type 0 where
   -- the entries in memory say what all of them say
   pub stands : replay (all_entries parts) ≡ replay parts.in_memory
   -- of a journal that is kept nothing is
-  pub kept : IsTrue (has_journal parts.limit) → (parts.forgotten ≡ []) × (parts.overlap ≡ 0)
+  pub retained : IsTrue (has_journal parts.limit) → (parts.forgotten ≡ []) × (parts.overlap ≡ 0)
   -- and of another one nothing was ever handed out
-  pub unkept : IsFalse (has_journal parts.limit) → parts.restated ≡ 0
+  pub unretained : IsFalse (has_journal parts.limit) → parts.restated ≡ 0
 
 module _ {A : Type 0} where
   -- what the queues, the request that is taken and the list of outcomes hold

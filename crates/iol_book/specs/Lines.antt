@@ -109,10 +109,10 @@ moved_number from to number = if nat_eq number from then to else number
 -- The number of a line once only the entries of open tickets are left: of these entries, of which
 -- the first has the number `from`, and gets the number `to` if it stays
 abbrev pub line_number_after : (Ticket → Bool) → ℕ → ℕ → List Entry → ℕ → ℕ
-line_number_after is_kept from to [] number = number
-line_number_after is_kept from to (entry ∷ entries) number = if is_kept (entry_ticket entry)
-    then line_number_after is_kept (from + 1) (to + 1) entries (moved_number from to number)
-    else line_number_after is_kept (from + 1) to entries number
+line_number_after is_retained from to [] number = number
+line_number_after is_retained from to (entry ∷ entries) number = if is_retained (entry_ticket entry)
+    then line_number_after is_retained (from + 1) (to + 1) entries (moved_number from to number)
+    else line_number_after is_retained (from + 1) to entries number
 
 -- these lines, each with another number
 abbrev pub with_numbers : (ℕ → ℕ) → TicketLines → TicketLines
@@ -120,4 +120,5 @@ with_numbers change lines = map (λ line. (line.0, change line.1)) lines
 
 -- each of these lines, once only the entries of open tickets are left
 abbrev pub lines_after : (Ticket → Bool) → List Entry → TicketLines → TicketLines
-lines_after is_kept entries lines = with_numbers (line_number_after is_kept 0 0 entries) lines
+lines_after is_retained entries lines =
+    with_numbers (line_number_after is_retained 0 0 entries) lines

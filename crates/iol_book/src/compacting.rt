@@ -100,15 +100,15 @@ pub(crate) fn renumber<A: Allocator + Copy>(
     ensures queue_room { deque_capacity waiting.new ≡ deque_capacity waiting.old }
     ensures outcome_room { vec_capacity outcomes.new ≡ vec_capacity outcomes.old }
 {
-    let mut kept = 0;
+    let mut retained = 0;
     for line in 0..journal.len() {
         let ticket = journal.ticket_at(line);
         if is_still_open(ticket, doubt, urgent, waiting, *taken, outcomes) {
-            move_queue(urgent, line, kept);
-            move_queue(waiting, line, kept);
-            move_taken(taken, line, kept);
-            move_outcomes(outcomes, line, kept);
-            kept += 1;
+            move_queue(urgent, line, retained);
+            move_queue(waiting, line, retained);
+            move_taken(taken, line, retained);
+            move_outcomes(outcomes, line, retained);
+            retained += 1;
         }
     }
 }

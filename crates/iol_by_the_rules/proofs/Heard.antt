@@ -14,7 +14,7 @@ use Rattle.iol_link.specs.Attempts.{Sending}
 use Rattle.iol_judge.specs.declared.master_phase.MasterPhase.TheVariants.{Operate}
 use Rattle.iol_judge.specs.declared.master.MasterState.{MasterState}
 use Rattle.iol_judge.specs.declared.master_reading.Reading.{Reading}
-use Rattle.iol_judge.specs.declared.master_reading.Reading.TheVariants as seen
+use Rattle.iol_judge.specs.declared.master_reading.Reading.TheVariants as readings
 use Rattle.iol_judge.specs.declared.master_transfer.MasterTransfer.{MasterTransfer}
 use Rattle.iol_judge.specs.MasterReadings.{read_on, reading_after_reply}
 use Rattle.iol_judge.specs.MasterTransfers.{transfer_after_reply}
@@ -32,7 +32,7 @@ use Rattle.iol_app.specs.Outputs.{output_after}
 use Rattle.iol_app.specs.Requests.{ReplyEffect, GoesOn, HasText, current_after, current_of_effect, effect_of_reply}
 use Rattle.iol_app.specs.State.{SessionState, session_after_exchange}
 use Rattle.iol_by_the_rules.proofs.Requests.{EffectStands, RequestStands, request_heard, reply_stands}
-use Rattle.iol_by_the_rules.proofs.Ties.{OperateOut, OperateRests, valid_out, reading_seen, reading_out, reads_well, TransferOut}
+use Rattle.iol_by_the_rules.proofs.Ties.{OperateOut, OperateRests, valid_out, watched_reading, reading_out, reads_well, TransferOut}
 
 -- What the watch makes of it
 
@@ -63,7 +63,7 @@ module _ (m : MasterState) (message : MasterMsg) (reply : Reply) where
   event_heard read channel = rw (read, channel) refl
 
   confirm_heard : message.mc.read ≡ false → message.mc.channel ≡ Diagnosis
-      → Hears seen.Resting m.transfer
+      → Hears readings.Resting m.transfer
   confirm_heard read channel = rw (read, channel) refl
 
   answer_heard : message.mc.read ≡ true → message.mc.channel ≡ Isdu
@@ -82,7 +82,7 @@ module _ (m : MasterState) (message : MasterMsg) (reply : Reply) where
       answer_heard (ap (λ (h : Head). h.read) head) (ap (λ (h : Head). h.channel) head)
   request_heard_is (Asking busy) head =
       answer_heard (ap (λ (h : Head). h.read) head) (ap (λ (h : Head). h.channel) head)
-  request_heard_is (Receiving joining had) head =
+  request_heard_is (Receiving joining received) head =
       answer_heard (ap (λ (h : Head). h.read) head) (ap (λ (h : Head). h.channel) head)
   request_heard_is Refused head =
       answer_heard (ap (λ (h : Head). h.read) head) (ap (λ (h : Head). h.channel) head)
@@ -91,29 +91,30 @@ module _ (m : MasterState) (message : MasterMsg) (reply : Reply) where
 
 read_by : (answer : Result (Option (List Event)) EventForm) (reader : List ℕ)
     → elim answer [
-      | Ok None ↦ seen.UnderWay reader
-      | Ok (Some list) ↦ seen.ConfirmDue
-      | Err form ↦ seen.Refused
-    ] ≡ reading_seen (reading_by answer reader)
+      | Ok None ↦ readings.UnderWay reader
+      | Ok (Some list) ↦ readings.ConfirmDue
+      | Err form ↦ readings.Refused
+    ] ≡ watched_reading (reading_by answer reader)
 read_by (Ok None) reader = refl
 read_by (Ok (Some list)) reader = refl
 read_by (Err form) reader = refl
 
 read_is : (reader : List ℕ) (octet : ℕ)
     → read_on reader octet
-    ≡ reading_seen (reading_by (reader_step reader octet).answer (reader_step reader octet).reader)
+    ≡ watched_reading (reading_by (reader_step reader octet).answer
+    (reader_step reader octet).reader)
 read_is reader octet = read_by (reader_step reader octet).answer (reader_step reader octet).reader
 
 reading_is : (so_far : ReadingProgress) (od : List ℕ) → reads_well for.ReadEvent so_far ≡ true
-    → reading_after_reply true (slice_index od 0) (reading_seen so_far)
-    ≡ reading_seen (reading_after_exchange for.ReadEvent od so_far)
+    → reading_after_reply true (slice_index od 0) (watched_reading so_far)
+    ≡ watched_reading (reading_after_exchange for.ReadEvent od so_far)
 reading_is app.Resting od well = read_is [] (slice_index od 0)
 reading_is (app.UnderWay reader) od well = read_is reader (slice_index od 0)
 reading_is app.ConfirmDue od well = grind (arith, well)
 reading_is app.Refused od well = grind (arith, well)
 
 check_is : (so_far : ReadingProgress) (octet : ℕ) → reads_well for.CheckEvents so_far ≡ true
-    → reading_after_reply true octet seen.ConfirmDue ≡ reading_seen so_far
+    → reading_after_reply true octet readings.ConfirmDue ≡ watched_reading so_far
 check_is so_far octet well = grind (arith, well)
 
 -- The request
@@ -124,30 +125,30 @@ effect_heard (GoesOn next) transfer stands = stands
 effect_heard (HasText text) transfer stands = stands
 
 module _ (limit : ℕ) (od : List ℕ) where
-  abbrev Kept : Purpose → Type 0
-  Kept exchange = (current : Option Current) (transfer : MasterTransfer)
+  abbrev Preserved : Purpose → Type 0
+  Preserved exchange = (current : Option Current) (transfer : MasterTransfer)
       → RequestStands current transfer
       → RequestStands (current_after exchange limit od current) transfer
 
-  tell_kept : Kept for.TellOutput
-  tell_kept None transfer stands = stands
-  tell_kept (Some current) transfer stands = stands
+  enable_preserved : Preserved for.EnableOutput
+  enable_preserved None transfer stands = stands
+  enable_preserved (Some current) transfer stands = stands
 
-  drop_kept : Kept for.DropOutput
-  drop_kept None transfer stands = stands
-  drop_kept (Some current) transfer stands = stands
+  drop_preserved : Preserved for.DropOutput
+  drop_preserved None transfer stands = stands
+  drop_preserved (Some current) transfer stands = stands
 
-  read_kept : Kept for.ReadEvent
-  read_kept None transfer stands = stands
-  read_kept (Some current) transfer stands = stands
+  read_preserved : Preserved for.ReadEvent
+  read_preserved None transfer stands = stands
+  read_preserved (Some current) transfer stands = stands
 
-  confirm_kept : Kept for.ConfirmEvents
-  confirm_kept None transfer stands = stands
-  confirm_kept (Some current) transfer stands = stands
+  confirm_preserved : Preserved for.ConfirmEvents
+  confirm_preserved None transfer stands = stands
+  confirm_preserved (Some current) transfer stands = stands
 
-  check_kept : Kept for.CheckEvents
-  check_kept None transfer stands = stands
-  check_kept (Some current) transfer stands = stands
+  check_preserved : Preserved for.CheckEvents
+  check_preserved None transfer stands = stands
+  check_preserved (Some current) transfer stands = stands
 
   abort_left : (current : Option Current) → current_after for.Abort limit od current ≡ None
   abort_left None = refl
@@ -161,20 +162,20 @@ module _ (layouts : Layouts) (limit : ℕ) (m : MasterState) (message : MasterMs
     abbrev HeardFor : Purpose → Option Current → Type 0
     HeardFor exchange current = (reads : Reading) × (transfer : MasterTransfer)
         × Hears m message reply reads transfer
-        × (reads ≡ reading_seen (reading_after_exchange exchange reply.od.items so_far))
+        × (reads ≡ watched_reading (reading_after_exchange exchange reply.od.items so_far))
         × RequestStands (current_after exchange limit reply.od.items current) transfer
 
     heard_for : (exchange : Purpose) (current : Option Current) → m.phase ≡ Operate layouts
         → m.events.reading ≡ reading_out exchange so_far → reads_well exchange so_far ≡ true
         → head_of message.mc ≡ head_for exchange so_far current
         → TransferOut exchange current m.transfer → HeardFor exchange current
-    heard_for for.TellOutput current phase is well head out = (
+    heard_for for.EnableOutput current phase is well head out = (
       m.events.reading,
       m.transfer,
       page_heard m message reply layouts phase (ap (λ (h : Head). h.read) head)
           (ap (λ (h : Head). h.channel) head),
       is,
-      tell_kept limit reply.od.items current m.transfer out,
+      enable_preserved limit reply.od.items current m.transfer out,
     )
     heard_for for.DropOutput current phase is well head out = (
       m.events.reading,
@@ -182,7 +183,7 @@ module _ (layouts : Layouts) (limit : ℕ) (m : MasterState) (message : MasterMs
       page_heard m message reply layouts phase (ap (λ (h : Head). h.read) head)
           (ap (λ (h : Head). h.channel) head),
       is,
-      drop_kept limit reply.od.items current m.transfer out,
+      drop_preserved limit reply.od.items current m.transfer out,
     )
     heard_for for.Abort current phase is well head out = (
       m.events.reading,
@@ -199,15 +200,15 @@ module _ (layouts : Layouts) (limit : ℕ) (m : MasterState) (message : MasterMs
           (ap (λ (h : Head). h.channel) head),
       ap (reading_after_reply true (slice_index reply.od.items 0)) is
           ∙ reading_is so_far reply.od.items well,
-      read_kept limit reply.od.items current m.transfer out,
+      read_preserved limit reply.od.items current m.transfer out,
     )
     heard_for for.ConfirmEvents current phase is well head out = (
-      seen.Resting,
+      readings.Resting,
       m.transfer,
       confirm_heard m message reply (ap (λ (h : Head). h.read) head)
           (ap (λ (h : Head). h.channel) head),
       refl,
-      confirm_kept limit reply.od.items current m.transfer out,
+      confirm_preserved limit reply.od.items current m.transfer out,
     )
     heard_for for.CheckEvents current phase is well head out = (
       reading_after_reply true (slice_index reply.od.items 0) m.events.reading,
@@ -216,7 +217,7 @@ module _ (layouts : Layouts) (limit : ℕ) (m : MasterState) (message : MasterMs
           (ap (λ (h : Head). h.channel) head),
       ap (reading_after_reply true (slice_index reply.od.items 0)) is
           ∙ check_is so_far (slice_index reply.od.items 0) well,
-      check_kept limit reply.od.items current m.transfer out,
+      check_preserved limit reply.od.items current m.transfer out,
     )
     heard_for for.Request None phase is well head out = absurd out
     heard_for for.Request (Some current) phase is well head out = (
@@ -239,9 +240,10 @@ module _ (layouts : Layouts) (limit : ℕ) (m : MasterState) (message : MasterMs
 
 -- The whole reply
 
-told_after : (exchange : Purpose) (told : Bool) (s : SessionState) → s.output.told ≡ told
-    → (output_after exchange s.output).told ≡ valid_out exchange told
-told_after exchange told s is = grind (arith, is)
+acknowledged_after : (exchange : Purpose) (acknowledged : Bool) (s : SessionState)
+    → s.output.acknowledged ≡ acknowledged
+    → (output_after exchange s.output).acknowledged ≡ valid_out exchange acknowledged
+acknowledged_after exchange acknowledged s is = grind (arith, is)
 
 carried_after : (exchange : Purpose) (s : SessionState)
     → (output_after exchange s.output).carried ≡ s.output.carried
@@ -277,7 +279,8 @@ reply_rests layouts sent exchange s m reply out =
       free = refl;
       output = record {
         allowed = rw (carried_after exchange s) out.output.allowed;
-        valid_is = out.output.valid_is ∙ sym (told_after exchange s.output.told s refl);
+        valid_is = out.output.valid_is
+            ∙ sym (acknowledged_after exchange s.output.acknowledged s refl);
       };
       flag = refl;
       reading = heard.3;

@@ -1,5 +1,5 @@
 -- The files of lemmas that the proofs of iol_by_the_rules cite.
-pub mod Telling
+pub mod Accepted
 pub mod Segments
 pub mod Requests
 pub mod Ties

@@ -12,7 +12,7 @@ use Rattle.iol_page.specs.declared.page.Layouts.{Layouts}
 use Rattle.iol_segment.specs.TextLaws.{TextLaws}
 use Rattle.iol_far.specs.Linked.{TextsAreHeard}
 use Rattle.iol_link.specs.Attempts.{Sending, attempt_of, good_reply}
-use Rattle.iol_link.specs.declared.handler.Attempt.TheVariants.{Again, Lost}
+use Rattle.iol_link.specs.declared.handler.Attempt.TheVariants.{Retry, Lost}
 use Rattle.iol_mode.specs.Exchanges.{text_out}
 use Rattle.iol_mode.specs.Next.{step_layouts}
 use Rattle.iol_mode.specs.declared.configuration.Devices.{Devices}
@@ -33,7 +33,7 @@ use Rattle.iol_judge.specs.Watched.{WatchState, watch_after_exchange, watch_afte
 use Rattle.iol_app.specs.declared.output.OutputState.{OutputState}
 use Rattle.iol_app.specs.declared.session.Purpose.{Purpose}
 use Rattle.iol_app.specs.Core.{CoreState}
-use Rattle.iol_app.specs.CoreTurns.{after_exchange, after_wake, came_of}
+use Rattle.iol_app.specs.CoreTurns.{after_exchange, after_wake, received_mode}
 use Rattle.iol_app.specs.State.{SessionState, checking_in, checks, missed_by, missed_in, new_session, session_after_exchange, session_after_reply, session_after_reply_to, session_at_startup}
 use Rattle.iol_app.specs.StationState.{missed_session, missed_state, settled_session}
 use Rattle.iol_port.specs.declared.awaited.AwaitedAnswer.TheVariants as awaits
@@ -41,10 +41,10 @@ use Rattle.iol_port.specs.Asks.{event_room}
 use Rattle.iol_port.specs.CorePort.{PortReceiveGives, WakeGives, awaited_answer, awaited_in}
 use Rattle.iol_port.specs.EveryWire.{core_begun}
 use Rattle.iol_port.specs.View.{PortParts}
-use Rattle.iol_by_the_rules.specs.Line.{Deed, Sends, Receives, Wakes, Calls, DeedGives, watch_after_deed, wake_seen, blames, IsWatchedRun, PortsAreByTheRules}
+use Rattle.iol_by_the_rules.specs.Line.{Deed, Sends, Receives, Wakes, Calls, DeedGives, watch_after_deed, wake_observed, blames, IsWatchedRun, PortsAreByTheRules}
 use Rattle.iol_by_the_rules.proofs.Calls.{CallLeaves, call_leaves, down_of}
-use Rattle.iol_by_the_rules.proofs.Telling.{told_reply}
-use Rattle.iol_by_the_rules.proofs.StartUps.{startup_answer, preoperate_answer, step_came, pre_came, woken_fair}
+use Rattle.iol_by_the_rules.proofs.Accepted.{reply_accepted}
+use Rattle.iol_by_the_rules.proofs.StartUps.{startup_answer, preoperate_answer, step_received, pre_received, woken_fair}
 use Rattle.iol_by_the_rules.proofs.Ties.{OperateOut, OperateRests, valid_out}
 use Rattle.iol_by_the_rules.proofs.Made.{send_in, sent_state}
 use Rattle.iol_by_the_rules.proofs.Heard.{reply_rests}
@@ -53,29 +53,30 @@ use Rattle.iol_by_the_rules.proofs.Standing.{DownFair, Judges, OperateFair, Stan
 use Rattle.iol_by_the_rules.proofs.Rising.{heard_output, preoperate_rises, risen, startup_rises}
 
 record LineFair (p : PortParts) (w : WatchState) : Type 0 where
-  places : length w.told ≡ 10
+  places : length w.preset ≡ 10
   unblamed : blames w.verdict ≡ false
   judges : Judges p.core.state w.verdict
   stands : StandsIn p.sent p.core.state p.core.session w.master
 
 -- the watch that is told an exchange in which it has nothing against the message
-module _ (w : WatchState) (text : List ℕ) (came : Option (List ℕ)) (next : MasterState)
+module _ (w : WatchState) (text : List ℕ) (received : Option (List ℕ)) (next : MasterState)
     (judged : w.verdict ≡ ByTheRules) (sent : master_after_sending w.master text ≡ Ok next)
   where
-    told_verdict : (watch_after_exchange w text came).verdict ≡ ByTheRules
-    told_verdict = grind (arith, judged, sent)
+    accepted_verdict : (watch_after_exchange w text received).verdict ≡ ByTheRules
+    accepted_verdict = grind (arith, judged, sent)
 
-    told_master : (watch_after_exchange w text came).master ≡ master_after_answer next text came
-    told_master = grind (arith, judged, sent)
+    accepted_master : (watch_after_exchange w text received).master
+        ≡ master_after_answer next text received
+    accepted_master = grind (arith, judged, sent)
 
-    told_places : (watch_after_exchange w text came).told ≡ w.told
-    told_places = grind (arith, judged, sent)
+    accepted_places : (watch_after_exchange w text received).preset ≡ w.preset
+    accepted_places = grind (arith, judged, sent)
 
 -- a wake-up request is never blamed
 woken_watch : (verdict : MasterVerdict) (w : WatchState) (wake : Wake) → w.verdict ≡ verdict
     → blames w.verdict ≡ false
     → watch_after_wake w wake
-    ≡ record w { master = master_after_wake w.master w.told wake; verdict = ByTheRules }
+    ≡ record w { master = master_after_wake w.master w.preset wake; verdict = ByTheRules }
 woken_watch verdict w wake is unblamed = grind arith
 
 judges_any : (state : State) (verdict : MasterVerdict) → verdict ≡ ByTheRules
@@ -151,7 +152,7 @@ module _ (heard : TextsAreHeard) (layouts : Layouts) (sent : Sending) (exchange 
     lost_by : (lost : Bool) → (sent.tries == 2) ≡ lost
         → let outcome : NextMode = operate_by
         (record { message = sent.message; tries = if lost then 0 else sent.tries + 1 }) layouts
-        (if lost then Lost else Again) in
+        (if lost then Lost else Retry) in
         StandsIn false (missed_state (next_state outcome) (settled_session outcome s))
         (missed_session (next_state outcome) (settled_session outcome s))
         (master_without_reply m text)
@@ -160,128 +161,131 @@ module _ (heard : TextsAreHeard) (layouts : Layouts) (sent : Sending) (exchange 
       exchange = refl;
       carry = ap (λ (o : Output). allows_octets (aged_output o.carried) s.output.carried.items)
           (heard_output m text sent.message None)
-          ∙ may_carry (valid_out exchange s.output.told) m.output s.output out.output;
+          ∙ may_carry (valid_out exchange s.output.acknowledged) m.output s.output out.output;
     }
     lost_by false is =
         let few : sent.tries < 2 = grind (arith, nat_tests, is, out.few) in
         let missed = missed_fair layouts sent exchange s m out few heard in record {
           exchange = missed.0;
           next = missed.1;
-          told = missed.2;
+          accepted = missed.2;
           stands = missed.3;
           carry = λ idle. ap (λ (t : OutputState). allows_octets
               (aged_output (master_without_reply m text).output.carried) t.carried.items)
               (carried_missed s)
               ∙ ap (λ (o : Output). allows_octets (aged_output o.carried) s.output.carried.items)
               (heard_output m text sent.message None)
-              ∙ may_carry (valid_out exchange s.output.told) m.output s.output out.output;
+              ∙ may_carry (valid_out exchange s.output.acknowledged) m.output s.output out.output;
         }
 
-    operate_came : (r : Option Reply)
+    operate_received : (r : Option Reply)
         → let outcome : NextMode = operate_by (sending_after_try sent r) layouts
         (attempt_of sent.tries r) in
         StandsIn false (missed_state (next_state outcome) (settled_session outcome s))
         (missed_session (next_state outcome) (settled_session outcome s))
         (heard_reply m text sent.message r)
-    operate_came (Some reply) = (
+    operate_received (Some reply) = (
       refl,
       operate_after layouts s reply
           (master_after_reply m sent.message reply) exchange out.busy
           (reply_rests layouts sent exchange s m reply out),
     )
-    operate_came None = lost_by (sent.tries == 2) refl
+    operate_received None = lost_by (sent.tries == 2) refl
 
 module _ (heard : TextsAreHeard) (asks : PagesAskForLayouts) where
   -- what stands once the message that is out was told with what came
-  abbrev CameTo : CoreState → MasterState → Option (List ℕ) → Type 0
-  CameTo c m came = (next : MasterState) × (master_after_sending m (text_out c.state) ≡ Ok next)
-      × StandsIn false (after_exchange (came_of c came) c.session).state
-      (after_exchange (came_of c came) c.session).session
-      (master_after_answer next (text_out c.state) came)
+  abbrev StandsAfter : CoreState → MasterState → Option (List ℕ) → Type 0
+  StandsAfter c m received = (next : MasterState)
+      × (master_after_sending m (text_out c.state) ≡ Ok next)
+      × StandsIn false (after_exchange (received_mode c received) c.session).state
+      (after_exchange (received_mode c received) c.session).session
+      (master_after_answer next (text_out c.state) received)
 
-  came_operate : (out : Option Sending) (layouts : Layouts) (s : SessionState) (m : MasterState)
-      (came : Option (List ℕ)) → OperateFair true out layouts s m
-      → CameTo (record {
+  received_operate : (out : Option Sending) (layouts : Layouts) (s : SessionState) (m : MasterState)
+      (received : Option (List ℕ)) → OperateFair true out layouts s m
+      → StandsAfter (record {
         state = AtOperate (record { out = out; layouts = layouts });
         session = s;
-      }) m came
-  came_operate None layouts s m came fair = grind (arith, fair.0)
-  came_operate (Some out) layouts s m came fair = (
+      }) m received
+  received_operate None layouts s m received fair = grind (arith, fair.0)
+  received_operate (Some out) layouts s m received fair = (
     fair.next,
-    fair.told,
+    fair.accepted,
     subst (StandsIn false (after_exchange outcome s).state (after_exchange outcome s).session)
-        (sym (told_reply heard layouts.run fair.next (ap phase_layout fair.stands.phase)
-        out.message fair.stands.parts came))
-        (operate_came heard layouts out fair.exchange s fair.next fair.stands
-        (good_reply layouts.run out.message came)),
+        (sym (reply_accepted heard layouts.run fair.next (ap phase_layout fair.stands.phase)
+        out.message fair.stands.parts received))
+        (operate_received heard layouts out fair.exchange s fair.next fair.stands
+        (good_reply layouts.run out.message received)),
   )
     where
       outcome : NextMode
-      outcome = operate_by (sending_after_try out (good_reply layouts.run out.message came))
-          layouts (attempt_of out.tries (good_reply layouts.run out.message came))
+      outcome = operate_by (sending_after_try out (good_reply layouts.run out.message received))
+          layouts (attempt_of out.tries (good_reply layouts.run out.message received))
 
-  came_to : (state : State) (s : SessionState) (m : MasterState) (came : Option (List ℕ))
+  received_in : (state : State) (s : SessionState) (m : MasterState) (received : Option (List ℕ))
       → awaited_in state ≡ awaits.Reply → StandsIn true state s m
-      → CameTo (record { state = state; session = s }) m came
-  came_to (AtDown d) s m came waits fair = grind (arith, waits)
-  came_to (AtStartup d) s m came waits fair =
+      → StandsAfter (record { state = state; session = s }) m received
+  received_in (AtDown d) s m received waits fair = grind (arith, waits)
+  received_in (AtStartup d) s m received waits fair =
       let o : Output = fair.0 in
-      let told = fair.1.2 in
-      let r : Option Reply = good_reply startup_shape d.sent.message came in
+      let accepted = fair.1.2 in
+      let r : Option Reply = good_reply startup_shape d.sent.message received in
       let text : List ℕ = master_text startup_shape d.sent.message in
       let after : MasterState = heard_reply fair.1.0 text d.sent.message r in
       let outcome : NextMode = startup_turned s.configuration d r in (
         fair.1.0,
         fair.1.1,
         subst (StandsIn false (after_exchange outcome s).state (after_exchange outcome s).session)
-            (sym (startup_answer heard asks o s.configuration d fair.1.0 came told))
+            (sym (startup_answer heard asks o s.configuration d fair.1.0 received accepted))
             (risen o (step_layouts d.step) s m after fair.2
-            (heard_output fair.1.0 text d.sent.message r ∙ told.still.0) outcome
+            (heard_output fair.1.0 text d.sent.message r ∙ accepted.still.0) outcome
             (startup_rises s.configuration d fair.1.0 text r)
-            (step_came heard asks o s.configuration r d fair.1.0 told)),
+            (step_received heard asks o s.configuration r d fair.1.0 accepted)),
       )
-  came_to (AtPreoperate d) s m came waits fair =
+  received_in (AtPreoperate d) s m received waits fair =
       let o : Output = fair.0 in
-      let told = fair.1.2 in
-      let r : Option Reply = good_reply d.pre d.sent.message came in
+      let accepted = fair.1.2 in
+      let r : Option Reply = good_reply d.pre d.sent.message received in
       let text : List ℕ = master_text d.pre d.sent.message in
       let after : MasterState = heard_reply fair.1.0 text d.sent.message r in
       let outcome : NextMode = preoperate_turned d r in (
         fair.1.0,
         fair.1.1,
         subst (StandsIn false (after_exchange outcome s).state (after_exchange outcome s).session)
-            (sym (preoperate_answer heard asks o s.configuration d fair.1.0 came told))
+            (sym (preoperate_answer heard asks o s.configuration d fair.1.0 received accepted))
             (risen o (Some d.layouts) s m after fair.2
-            (heard_output fair.1.0 text d.sent.message r ∙ told.still.0) outcome
+            (heard_output fair.1.0 text d.sent.message r ∙ accepted.still.0) outcome
             (preoperate_rises d fair.1.0 text r)
-            (pre_came heard asks o s.configuration r d fair.1.0 told)),
+            (pre_received heard asks o s.configuration r d fair.1.0 accepted)),
       )
-  came_to (AtOperate d) s m came waits fair = came_operate d.out d.layouts s m came fair
+  received_in (AtOperate d) s m received waits fair =
+      received_operate d.out d.layouts s m received fair
 
-  received : (p next : PortParts) (w : WatchState) (came : Option (List ℕ))
-      → awaited_answer p ≡ awaits.Reply → PortReceiveGives p came next → LineFair p w
-      → LineFair next (watch_after_exchange w (text_out p.core.state) came)
-  received p next w came waits gives fair =
+  receive_fair : (p next : PortParts) (w : WatchState) (received : Option (List ℕ))
+      → awaited_answer p ≡ awaits.Reply → PortReceiveGives p received next → LineFair p w
+      → LineFair next (watch_after_exchange w (text_out p.core.state) received)
+  receive_fair p next w received waits gives fair =
       let text : List ℕ = text_out p.core.state in
-      let v : WatchState = watch_after_exchange w text came in
+      let v : WatchState = watch_after_exchange w text received in
       let sent = sent_reply p.sent p.core.state waits in
       let judged : w.verdict ≡ ByTheRules = up_judges p.core.state w.verdict sent.1 fair.judges in
-      let after : CameTo p.core w.master came =
-      came_to p.core.state p.core.session w.master came sent.1
+      let after : StandsAfter p.core w.master received =
+      received_in p.core.state p.core.session w.master received sent.1
       (subst (λ b. StandsIn b p.core.state p.core.session w.master) sent.0 fair.stands) in
       let verdict : v.verdict ≡ ByTheRules =
-      told_verdict w text came after.0 judged after.1 in
+      accepted_verdict w text received after.0 judged after.1 in
       record {
-        places = ap length (told_places w text came after.0 judged after.1) ∙ fair.places;
+        places = ap length (accepted_places w text received after.0 judged after.1) ∙ fair.places;
         unblamed = ap blames verdict;
         judges = judges_any next.core.state v.verdict verdict;
         stands = subst (λ b. StandsIn b next.core.state next.core.session v.master)
             (sym gives.sent)
             (subst (λ (c : CoreState). StandsIn false c.state c.session v.master)
             (sym gives.core)
-            (subst (StandsIn false (after_exchange (came_of p.core came) p.core.session).state
-            (after_exchange (came_of p.core came) p.core.session).session)
-            (sym (told_master w text came after.0 judged after.1)) after.2));
+            (subst (StandsIn false (after_exchange (received_mode p.core received)
+            p.core.session).state
+            (after_exchange (received_mode p.core received) p.core.session).session)
+            (sym (accepted_master w text received after.0 judged after.1)) after.2));
       }
 
   -- A wake-up request
@@ -289,13 +293,13 @@ module _ (heard : TextsAreHeard) (asks : PagesAskForLayouts) where
   aged_twice : (o : Output) → aged_output (aged_output o.carried) ≡ aged_output o.carried
   aged_twice o = grind arith
 
-  woken_session : (s : SessionState) (m : MasterState) (seen : List (Option ℕ)) → DownFair s m
+  woken_session : (s : SessionState) (m : MasterState) (observed : List (Option ℕ)) → DownFair s m
       → StartSession (woken_output m.output) None (session_at_startup s)
-      (master_after_wake m seen WakeAnswered)
-  woken_session s m seen fair = record {
+      (master_after_wake m observed WakeAnswered)
+  woken_session s m observed fair = record {
     current = fair.current;
     exchange = fair.exchange;
-    untold = refl;
+    unacknowledged = refl;
     reading = refl;
     page = tt;
     aged = aged_twice m.output;
@@ -304,47 +308,47 @@ module _ (heard : TextsAreHeard) (asks : PagesAskForLayouts) where
     watched = refl;
   }
 
-  woken_by : (devices : Devices) (s : SessionState) (m : MasterState) (seen : List (Option ℕ))
-      → length seen ≡ 10 → DownFair s m
+  woken_by : (devices : Devices) (s : SessionState) (m : MasterState) (observed : List (Option ℕ))
+      → length observed ≡ 10 → DownFair s m
       → StandsIn false (next_state (mode_after_wake devices true))
       (settled_session (mode_after_wake devices true) (session_at_startup s))
-      (master_after_wake m seen WakeAnswered)
-  woken_by Own s m seen places fair = (
+      (master_after_wake m observed WakeAnswered)
+  woken_by Own s m observed places fair = (
     woken_output m.output,
-    woken_fair heard asks (woken_output m.output) s.configuration Own m seen places refl,
-    woken_session s m seen fair,
+    woken_fair heard asks (woken_output m.output) s.configuration Own m observed places refl,
+    woken_session s m observed fair,
   )
-  woken_by Any s m seen places fair = (
+  woken_by Any s m observed places fair = (
     woken_output m.output,
-    woken_fair heard asks (woken_output m.output) s.configuration Any m seen places refl,
-    woken_session s m seen fair,
+    woken_fair heard asks (woken_output m.output) s.configuration Any m observed places refl,
+    woken_session s m observed fair,
   )
 
-  woken_stands : (answered : Bool) (s : SessionState) (m : MasterState) (seen : List (Option ℕ))
-      → length seen ≡ 10 → DownFair s m
+  woken_stands : (answered : Bool) (s : SessionState) (m : MasterState) (observed : List (Option ℕ))
+      → length observed ≡ 10 → DownFair s m
       → StandsIn false (after_wake answered s).state (after_wake answered s).session
-      (master_after_wake m seen (wake_seen answered))
-  woken_stands false s m seen places fair = record {
+      (master_after_wake m observed (wake_observed answered))
+  woken_stands false s m observed places fair = record {
     current = refl;
     exchange = refl;
     carry = ap (λ (c : CarriedOutput). allows_octets c s.output.carried.items)
         (aged_twice m.output) ∙ fair.carry;
   }
-  woken_stands true s m seen places fair =
-      woken_by s.configuration.devices s m seen places fair
+  woken_stands true s m observed places fair =
+      woken_by s.configuration.devices s m observed places fair
 
   woken : (p next : PortParts) (w : WatchState) (answered : Bool)
       → awaited_answer p ≡ awaits.Wake → WakeGives p answered next → LineFair p w
-      → LineFair next (watch_after_wake w (wake_seen answered))
+      → LineFair next (watch_after_wake w (wake_observed answered))
   woken p next w answered waits gives fair =
       let v : WatchState = record w {
-        master = master_after_wake w.master w.told (wake_seen answered);
+        master = master_after_wake w.master w.preset (wake_observed answered);
         verdict = ByTheRules;
       } in
       let down : DownFair p.core.session w.master =
       wake_down p.sent p.core.state p.core.session w.master waits fair.stands in
       subst (LineFair next)
-      (sym (woken_watch w.verdict w (wake_seen answered) refl fair.unblamed)) (record {
+      (sym (woken_watch w.verdict w (wake_observed answered) refl fair.unblamed)) (record {
         places = fair.places;
         unblamed = refl;
         judges = judges_any next.core.state ByTheRules refl;
@@ -352,7 +356,7 @@ module _ (heard : TextsAreHeard) (asks : PagesAskForLayouts) where
             (sym gives.sent)
             (subst (λ (c : CoreState). StandsIn false c.state c.session v.master)
             (sym gives.core)
-            (woken_stands answered p.core.session w.master w.told fair.places down));
+            (woken_stands answered p.core.session w.master w.preset fair.places down));
       })
 
   -- A call
@@ -387,7 +391,7 @@ module _ (heard : TextsAreHeard) (asks : PagesAskForLayouts) where
     send_fair false p next w is sends fair = record {
       places = fair.places;
       unblamed = fair.unblamed;
-      judges = sent_state p.core.state (event_room p.kept) (core_begun p) next.core refl
+      judges = sent_state p.core.state (event_room p.queued) (core_begun p) next.core refl
           (sends.1.core is) w.verdict fair.judges;
       stands = subst (λ b. StandsIn b next.core.state next.core.session w.master)
           (sym sends.1.sent)
@@ -399,8 +403,8 @@ module _ (heard : TextsAreHeard) (asks : PagesAskForLayouts) where
     deed_fair : (it : Deed) (p next : PortParts) (w : WatchState) → DeedGives p it next
         → LineFair p w → LineFair next (watch_after_deed w p it)
     deed_fair Sends p next w gives fair = send_fair p.sent p next w refl gives fair
-    deed_fair (Receives came) p next w gives fair =
-        received p next w came gives.0 gives.1 fair
+    deed_fair (Receives received) p next w gives fair =
+        receive_fair p next w received gives.0 gives.1 fair
     deed_fair (Wakes answered) p next w gives fair =
         woken p next w answered gives.0 gives.1 fair
     deed_fair (Calls call reply) p next w gives fair =

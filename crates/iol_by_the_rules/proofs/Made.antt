@@ -33,7 +33,7 @@ use Rattle.iol_port.specs.View.{PortParts}
 use Rattle.iol_by_the_rules.proofs.StartUps.{od_some}
 use Rattle.iol_by_the_rules.proofs.Segments.{is_free}
 use Rattle.iol_by_the_rules.proofs.Requests.{IsDueNext, ProgressGoes, RequestStands, begun_goes}
-use Rattle.iol_by_the_rules.proofs.Ties.{OperateRests, OutputStands, PageStands, reading_seen}
+use Rattle.iol_by_the_rules.proofs.Ties.{OperateRests, OutputStands, PageStands, watched_reading}
 use Rattle.iol_by_the_rules.proofs.Outgoing.{NewFair, TransferDue, due_transfer, new_fair}
 use Rattle.iol_by_the_rules.proofs.Standing.{Judges, OperateFair, OutFair, StandsIn}
 
@@ -76,8 +76,8 @@ module _ (heard : TextsAreHeard) (laws : (size : ℕ) → 1 ≤ size → TextLaw
     where
       -- what stands of a session in which a request may be begun
       abbrev IsBeginning : SessionState → Type 0
-      IsBeginning t = PageStands layouts t × OutputStands t.output.told m.output t.output
-          × (m.events.flag ≡ t.events.flag) × (m.events.reading ≡ reading_seen t.events.reading)
+      IsBeginning t = PageStands layouts t × OutputStands t.output.acknowledged m.output t.output
+          × (m.events.flag ≡ t.events.flag) × (m.events.reading ≡ watched_reading t.events.reading)
           × TransferDue (due_of t room) t.current m.transfer
           × IfSome t.current (λ c. is_doubting c.progress ≡ false)
 
@@ -141,25 +141,25 @@ module _ (heard : TextsAreHeard) (laws : (size : ℕ) → 1 ≤ size → TextLaw
           subst (λ (c : CoreState). StandsIn true c.state c.session m) (sym out.is) (record {
             exchange = due_of t room;
             next = fair.0;
-            told = fair.1;
+            accepted = fair.1;
             stands = fair.2;
             carry = λ sent. grind (arith, sent);
           })
 
       send_rests : (p : PortParts) (new : CoreState) → p.sent ≡ false
           → p.core.state ≡ AtOperate (record { out = None; layouts = layouts })
-          → p.core.session ≡ s → event_room p.kept ≡ room
+          → p.core.session ≡ s → event_room p.queued ≡ room
           → (IsTrue (takes_next p) → IfSome (begun_next p) IsRequest)
           → NewOut layouts (core_begun p).session room new → StandsIn true new.state new.session m
-      send_rests p new idle state session kept begins out =
+      send_rests p new idle state session queued begins out =
           let same : (core_begun p).session
           ≡ begin_where (is_ready s room && takes_requests s) (begun_next p) s =
-          ap (λ (r : EventRoom). beginning_in (begun_next p) p.core.state p.core.session r) kept
+          ap (λ (r : EventRoom). beginning_in (begun_next p) p.core.state p.core.session r) queued
           ∙ ap (λ (x : State). beginning_in (begun_next p) x p.core.session room) state
           ∙ ap (λ (x : SessionState). begin_where (is_ready x room && takes_requests x)
           (begun_next p) x) session in
           let taken : IsTrue (is_ready s room) → IsTrue (takes_next p) = λ ready.
-          ap (λ (r : EventRoom). operates p.core.state && is_ready p.core.session r) kept
+          ap (λ (r : EventRoom). operates p.core.state && is_ready p.core.session r) queued
           ∙ ap (λ (x : State). operates x && is_ready p.core.session room) state
           ∙ ap (λ (x : SessionState). is_ready x room) session ∙ ready in
           new_out (core_begun p).session new
@@ -182,20 +182,20 @@ module _ (heard : TextsAreHeard) (laws : (size : ℕ) → 1 ≤ size → TextLaw
       (m : MasterState) → p.sent ≡ false
       → p.core.state ≡ AtOperate (record { out = out; layouts = layouts })
       → (IsTrue (takes_next p) → IfSome (begun_next p) IsRequest)
-      → OutAfter out layouts (core_begun p).session (event_room p.kept) (core_begun p) new
+      → OutAfter out layouts (core_begun p).session (event_room p.queued) (core_begun p) new
       → OperateFair false out layouts p.core.session m → StandsIn true new.state new.session m
   send_operate None layouts p new m idle state begins sends fair =
-      send_rests layouts p.core.session (event_room p.kept) m fair.1 p new idle state refl refl
+      send_rests layouts p.core.session (event_room p.queued) m fair.1 p new idle state refl refl
       begins sends
   send_operate (Some out) layouts p new m idle state begins sends fair =
       let same : (core_begun p).session ≡ p.core.session =
-      ap (λ (x : State). beginning_in (begun_next p) x p.core.session (event_room p.kept)) state
-      ∙ out_session p.core.session fair.exchange (begun_next p) (event_room p.kept)
+      ap (λ (x : State). beginning_in (begun_next p) x p.core.session (event_room p.queued)) state
+      ∙ out_session p.core.session fair.exchange (begun_next p) (event_room p.queued)
       fair.stands.busy in
       let after : OutFair true layouts out p.core.session m = record {
         exchange = fair.exchange;
         next = fair.next;
-        told = fair.told;
+        accepted = fair.accepted;
         stands = fair.stands;
         carry = λ sent. grind (arith, sent);
       } in
@@ -208,7 +208,7 @@ module _ (heard : TextsAreHeard) (laws : (size : ℕ) → 1 ≤ size → TextLaw
       → StandsIn true new.state new.session m
   send_low p new m sends low fair =
       let same : (core_begun p).session ≡ p.core.session =
-      ap (λ b. begin_where (b && is_ready p.core.session (event_room p.kept)
+      ap (λ b. begin_where (b && is_ready p.core.session (event_room p.queued)
       && takes_requests p.core.session) (begun_next p) p.core.session) low
       ∙ begin_none (begun_next p) p.core.session in
       subst (λ (c : CoreState). StandsIn true c.state c.session m) (sym sends)
@@ -217,7 +217,7 @@ module _ (heard : TextsAreHeard) (laws : (size : ℕ) → 1 ≤ size → TextLaw
   pub send_in : (state : State) (p : PortParts) (new : CoreState) (m : MasterState)
       → p.core.state ≡ state → p.sent ≡ false
       → (IsTrue (takes_next p) → IfSome (begun_next p) IsRequest)
-      → SentBy state (event_room p.kept) (core_begun p) new
+      → SentBy state (event_room p.queued) (core_begun p) new
       → StandsIn false state p.core.session m → StandsIn true new.state new.session m
   send_in (AtDown d) p new m is idle begins sends fair = send_low p new m sends
       (ap operates is) (subst (λ (x : State). StandsIn true x p.core.session m) (sym is) fair)

@@ -23,7 +23,7 @@ use Rattle.iol_judge.specs.declared.master_phase.MasterPhase.TheVariants.{Operat
 use Rattle.iol_judge.specs.declared.master.MasterState.{MasterState}
 use Rattle.iol_judge.specs.declared.master_output.CarriedOutput.TheVariants.{Last}
 use Rattle.iol_judge.specs.declared.master_output.Output.{Output}
-use Rattle.iol_judge.specs.declared.master_reading.Reading.TheVariants as seen
+use Rattle.iol_judge.specs.declared.master_reading.Reading.TheVariants as readings
 use Rattle.iol_judge.specs.declared.master_reading.MasterEvents.{MasterEvents}
 use Rattle.iol_judge.specs.declared.master_transfer.MasterTransfer.{MasterTransfer}
 use Rattle.iol_judge.specs.declared.master_transfer.MasterTransfer.TheVariants.{Asked, Doubted}
@@ -40,11 +40,11 @@ use Rattle.iol_app.specs.declared.session.Purpose.{Purpose}
 use Rattle.iol_app.specs.declared.session.Purpose.TheVariants as for
 use Rattle.iol_app.specs.Messages.{Head, head_for, progress_head, write_of, question, check}
 use Rattle.iol_app.specs.Requests.{is_doubting, is_whole_out}
-use Rattle.iol_app.specs.State.{SessionState, checks_by, doubts_by, message_again, missed_by, missed_in, checking_in}
-use Rattle.iol_by_the_rules.proofs.Telling.{missed_of, is_down, bytes_themselves, told_again, left_out_of}
-use Rattle.iol_by_the_rules.proofs.Requests.{RequestOut, repeat_stands, again_out, still_out, doubted_out}
+use Rattle.iol_app.specs.State.{SessionState, checks_by, doubts_by, message_repeated, missed_by, missed_in, checking_in}
+use Rattle.iol_by_the_rules.proofs.Accepted.{missed_of, is_down, bytes_themselves, repeat_accepted, left_out_of}
+use Rattle.iol_by_the_rules.proofs.Requests.{RequestOut, repeat_stands, noted_out, still_out, doubted_out}
 use Rattle.iol_by_the_rules.proofs.Outgoing.{sent_there}
-use Rattle.iol_by_the_rules.proofs.Ties.{OperateOut, OutputStands, MayCarry, valid_out, reading_seen, reading_out, reads_well, TransferOut}
+use Rattle.iol_by_the_rules.proofs.Ties.{OperateOut, OutputStands, MayCarry, valid_out, watched_reading, reading_out, reads_well, TransferOut}
 
 -- The octets of two messages differ where their first ones do
 
@@ -70,10 +70,10 @@ missed_is (suc tries) text = refl
 
 -- The same output goes out again
 
-again_carried : (valid : Bool) (output : Output) (s : OutputState) → OutputStands valid output s
+repeat_carried : (valid : Bool) (output : Output) (s : OutputState) → OutputStands valid output s
     → output_after_message output None s.carried.items
     ≡ Ok (record { carried = Last (record { items = s.carried.items }); valid = valid })
-again_carried valid output s stands = grind (arith, stands.allowed, stands.valid_is)
+repeat_carried valid output s stands = grind (arith, stands.allowed, stands.valid_is)
 
 pub may_carry : (valid : Bool) (output : Output) (s : OutputState) → OutputStands valid output s
     → MayCarry output s
@@ -95,7 +95,7 @@ module _ (left after : MasterState) (text octets : List ℕ) (twice : Bool)
         → checks_instead left.events text octets ≡ true
         → sent_new (checking left) octets ≡ Ok after
         → master_after_sending left octets ≡ Ok (record (left_out after octets twice) {
-          events = record after.events { reading = seen.ConfirmDue };
+          events = record after.events { reading = readings.ConfirmDue };
         })
     checked_after asks instead sent = grind (arith, up, out, other, asks, instead, sent)
 
@@ -104,13 +104,13 @@ module _ (heard : TextsAreHeard) (layouts : Layouts) (m : MasterState)
     (size : length items ≡ layouts.run.pd_out) (valid : Bool) (s : OutputState)
     (is : s.carried.items ≡ items) (stands : OutputStands valid m.output s)
   where
-    abbrev carried_again : Output
-    carried_again = record { carried = Last (record { items = items }); valid = valid }
+    abbrev carried_repeat : Output
+    carried_repeat = record { carried = Last (record { items = items }); valid = valid }
 
-    may_carry_again : output_after_message m.output None items ≡ Ok carried_again
-    may_carry_again = subst (λ (o : List ℕ). output_after_message m.output None o
+    may_carry_repeat : output_after_message m.output None items ≡ Ok carried_repeat
+    may_carry_repeat = subst (λ (o : List ℕ). output_after_message m.output None o
         ≡ Ok (record { carried = Last (record { items = o }); valid = valid })) is
-        (again_carried valid m.output s stands)
+        (repeat_carried valid m.output s stands)
 
     new_of : (message : MasterMsg) → HasMasterParts layouts.run message
         → sent_new m (master_text layouts.run message) ≡ sent_at m.phase m message
@@ -118,22 +118,22 @@ module _ (heard : TextsAreHeard) (layouts : Layouts) (m : MasterState)
 
     question_new : (read : Bool) → m.transfer ≡ Asked read
         → sent_new m (master_text layouts.run (question items))
-        ≡ Ok (record m { output = carried_again })
+        ≡ Ok (record m { output = carried_repeat })
     unfolding control_of flow_of
     question_new read asked =
         new_of (question items) (record { out = size; od = refl })
-        ∙ sent_there m layouts (question items) phase carried_again
-        (Ok (record m { output = carried_again })) may_carry_again
+        ∙ sent_there m layouts (question items) phase carried_repeat
+        (Ok (record m { output = carried_repeat })) may_carry_repeat
         (rw asked refl)
 
     check_new : m.events ≡ flagged_events
         → sent_new m (master_text layouts.run (check items))
-        ≡ Ok (record m { output = carried_again })
+        ≡ Ok (record m { output = carried_repeat })
     unfolding control_of
     check_new due =
         new_of (check items) (record { out = size; od = refl })
-        ∙ sent_there m layouts (check items) phase carried_again
-        (Ok (record m { output = carried_again })) may_carry_again
+        ∙ sent_there m layouts (check items) phase carried_repeat
+        (Ok (record m { output = carried_repeat })) may_carry_repeat
         (rw due refl)
 
 -- Which message goes out in its place
@@ -150,13 +150,13 @@ not_asked : (transfer : MasterTransfer) (text octets : List ℕ) (first : ℕ)
     → asks_instead transfer text octets ≡ false
 not_asked transfer text octets first is other = grind (arith, nat_tests, is, other)
 
-checks_due : (events : MasterEvents) (text octets : List ℕ) → events.reading ≡ seen.ConfirmDue
+checks_due : (events : MasterEvents) (text octets : List ℕ) → events.reading ≡ readings.ConfirmDue
     → slice_index text 0 ≡ 0x40 → slice_index octets 0 ≡ 0xC0
     → checks_instead events text octets ≡ true
 checks_due events text octets due first second = grind (arith, nat_tests, due, first, second)
 
 confirm_is : (so_far : ReadingProgress) → reads_well for.ConfirmEvents so_far ≡ true
-    → reading_seen so_far ≡ seen.ConfirmDue
+    → watched_reading so_far ≡ readings.ConfirmDue
 confirm_is so_far well = grind (arith, well)
 
 checks_for : (devices : Devices) (exchange : Purpose) → checks_by devices (Some exchange) ≡ true
@@ -168,7 +168,7 @@ doubts_for : (devices : Devices) (exchange : Purpose) (current : Option Current)
     → (c : Current) × (current ≡ Some c) × (exchange ≡ for.Request)
     × ((is_whole_out c.cutter c.progress ≡ true) × (devices ≡ Any))
     × (missed_by devices (Some exchange) current
-    ≡ Some (record c { progress = Doubting; again = false }))
+    ≡ Some (record c { progress = Doubting; repeat = false }))
 doubts_for Any for.Request (Some c) is = (c, refl, refl, (is, refl), rw is refl)
 doubts_for devices exchange current is = absurd (grind (arith, is))
 
@@ -178,8 +178,8 @@ abbrev text_of_out : Layouts → Sending → List ℕ
 text_of_out layouts sent = master_text layouts.run sent.message
 
 -- it was sent once more
-abbrev pub tried_again : Sending → MasterMsg → Sending
-tried_again sent message = record { message = message; tries = sent.tries + 1 }
+abbrev pub retried : Sending → MasterMsg → Sending
+retried sent message = record { message = message; tries = sent.tries + 1 }
 
 abbrev pub MissedFair : Layouts → Sending → SessionState → MasterState → Type 0
 MissedFair layouts sent s m = (exchange : Purpose) × (next : MasterState)
@@ -205,8 +205,8 @@ missed_transfer : (devices : Devices) (exchange : Purpose) (current : Option Cur
     → doubts_by devices (Some exchange) current ≡ false → TransferOut exchange current transfer
     → TransferOut exchange (missed_by devices (Some exchange) current)
     (transfer_after_repeat transfer)
-missed_transfer devices for.TellOutput current transfer sure whole out =
-    rw (missed_other devices for.TellOutput current refl)
+missed_transfer devices for.EnableOutput current transfer sure whole out =
+    rw (missed_other devices for.EnableOutput current refl)
     (repeat_stands current transfer out)
 missed_transfer devices for.DropOutput current transfer sure whole out =
     rw (missed_other devices for.DropOutput current refl)
@@ -225,7 +225,7 @@ missed_transfer devices for.Request None transfer sure whole out = absurd out
 missed_transfer Own for.Request (Some current) transfer sure whole out =
     still_out current transfer (sure refl) out
 missed_transfer Any for.Request (Some current) transfer sure whole out =
-    rw whole (again_out current transfer out)
+    rw whole (noted_out current transfer out)
 missed_transfer devices for.Idle current transfer sure whole out =
     rw (missed_other devices for.Idle current refl, out.0) (refl, out.1)
 
@@ -268,13 +268,13 @@ module _ (layouts : Layouts) (sent : Sending) (exchange : Purpose) (s : SessionS
     left_is = left_out_of m (text_of_out layouts sent) sent.tries few out.out
 
     -- it goes out as it was
-    same_again : doubts_by s.configuration.devices (Some exchange) s.current ≡ false
-        → MissedFair layouts (tried_again sent sent.message)
+    same_repeated : doubts_by s.configuration.devices (Some exchange) s.current ≡ false
+        → MissedFair layouts (retried sent sent.message)
         (record s { current = missed_by s.configuration.devices (Some exchange) s.current }) left
-    same_again whole = (
+    same_repeated whole = (
       exchange,
       master_after_repeat left,
-      told_again left sent.tries (text_of_out layouts sent) (ap is_down out.phase) refl,
+      repeat_accepted left sent.tries (text_of_out layouts sent) (ap is_down out.phase) refl,
       record {
         page = record {
           are = out.page.are;
@@ -309,17 +309,17 @@ module _ (layouts : Layouts) (sent : Sending) (exchange : Purpose) (s : SessionS
     abbrev carried_output : Output
     carried_output = record {
       carried = Last (record { items = s.output.carried.items });
-      valid = valid_out exchange s.output.told;
+      valid = valid_out exchange s.output.acknowledged;
     }
 
     -- a question in place of the whole request
-    doubt_again : TextsAreHeard → (current : Current) → s.current ≡ Some current
+    doubt_repeated : TextsAreHeard → (current : Current) → s.current ≡ Some current
         → exchange ≡ for.Request → is_whole_out current.cutter current.progress ≡ true
         → s.configuration.devices ≡ Any
-        → MissedFair layouts (tried_again sent (question s.output.carried.items))
-        (record s { current = Some (record current { progress = Doubting; again = false }) }) left
+        → MissedFair layouts (retried sent (question s.output.carried.items))
+        (record s { current = Some (record current { progress = Doubting; repeat = false }) }) left
     unfolding control_of
-    doubt_again heard current is for_it whole any =
+    doubt_repeated heard current is for_it whole any =
         let request : RequestOut current m.transfer =
         subst (λ (c : Option Current). TransferOut for.Request c m.transfer) is
         (subst (λ (x : Purpose). TransferOut x s.current m.transfer) for_it out.request) in
@@ -336,9 +336,9 @@ module _ (layouts : Layouts) (sent : Sending) (exchange : Purpose) (s : SessionS
         ap (λ (t : MasterTransfer). asks_instead t text octets) doubted.0
         ∙ ap (λ n. (n == 0x70) && true) first in
         let after : MasterState = record left { output = carried_output } in
-        let sent_again : sent_new left octets ≡ Ok after =
+        let resent : sent_new left octets ≡ Ok after =
         question_new heard layouts left out.phase s.output.carried.items size
-        (valid_out exchange s.output.told) s.output refl out.output
+        (valid_out exchange s.output.acknowledged) s.output refl out.output
         (is_read current.cutter.source) doubted.0 in
         let next : MasterState = record (left_out after octets (twice_of sent.tries)) {
           transfer = Doubted (is_read current.cutter.source);
@@ -346,7 +346,7 @@ module _ (layouts : Layouts) (sent : Sending) (exchange : Purpose) (s : SessionS
           for.Request,
           next,
           asked_after left after text octets (twice_of sent.tries) (ap is_down out.phase)
-              (missed_is sent.tries text) other asks sent_again
+              (missed_is sent.tries text) other asks resent
               ∙ ap (λ (t : MasterTransfer). Ok (record (left_out after octets
               (twice_of sent.tries)) { transfer = transfer_in_doubt t })) doubted.0,
           record {
@@ -367,7 +367,7 @@ module _ (layouts : Layouts) (sent : Sending) (exchange : Purpose) (s : SessionS
             carries = refl;
             output = record {
               allowed = bytes_themselves s.output.carried.items;
-              valid_is = ap (λ (x : Purpose). valid_out x s.output.told) for_it;
+              valid_is = ap (λ (x : Purpose). valid_out x s.output.acknowledged) for_it;
             };
             reading = out.reading
                 ∙ ap (λ (x : Purpose). reading_out x s.events.reading) for_it;
@@ -378,10 +378,10 @@ module _ (layouts : Layouts) (sent : Sending) (exchange : Purpose) (s : SessionS
         )
 
     -- a read of the StatusCode in place of a confirm
-    check_again : TextsAreHeard → exchange ≡ for.ConfirmEvents
-        → MissedFair layouts (tried_again sent (check s.output.carried.items)) (checking_in s) left
+    check_repeated : TextsAreHeard → exchange ≡ for.ConfirmEvents
+        → MissedFair layouts (retried sent (check s.output.carried.items)) (checking_in s) left
     unfolding control_of
-    check_again heard for_it =
+    check_repeated heard for_it =
         let octets : List ℕ = master_text layouts.run (check s.output.carried.items) in
         let text : List ℕ = text_of_out layouts sent in
         let first : slice_index text 0 ≡ 0x40 =
@@ -389,7 +389,7 @@ module _ (layouts : Layouts) (sent : Sending) (exchange : Purpose) (s : SessionS
         ∙ ap (λ (x : Purpose). octet_of (head_for x s.events.reading s.current)) for_it in
         let other : bytes_eq text octets ≡ false =
         other_octets text octets 0x40 0xC0 first refl refl in
-        let due : m.events.reading ≡ seen.ConfirmDue =
+        let due : m.events.reading ≡ readings.ConfirmDue =
         out.reading ∙ ap (λ (x : Purpose). reading_out x s.events.reading) for_it
         ∙ confirm_is s.events.reading
         (sym (ap (λ (x : Purpose). reads_well x s.events.reading) for_it) ∙ out.reads) in
@@ -398,17 +398,17 @@ module _ (layouts : Layouts) (sent : Sending) (exchange : Purpose) (s : SessionS
         let instead : checks_instead left.events text octets ≡ true =
         checks_due left.events text octets due first refl in
         let after : MasterState = record (checking left) { output = carried_output } in
-        let sent_again : sent_new (checking left) octets ≡ Ok after =
+        let resent : sent_new (checking left) octets ≡ Ok after =
         check_new heard layouts (checking left) out.phase s.output.carried.items size
-        (valid_out exchange s.output.told) s.output refl out.output refl in
+        (valid_out exchange s.output.acknowledged) s.output refl out.output refl in
         let request : TransferOut for.ConfirmEvents s.current m.transfer =
         subst (λ (x : Purpose). TransferOut x s.current m.transfer) for_it out.request in (
           for.CheckEvents,
           record (left_out after octets (twice_of sent.tries)) {
-            events = record after.events { reading = seen.ConfirmDue };
+            events = record after.events { reading = readings.ConfirmDue };
           },
           checked_after left after text octets (twice_of sent.tries) (ap is_down out.phase)
-              (missed_is sent.tries text) other asks instead sent_again,
+              (missed_is sent.tries text) other asks instead resent,
           record {
             page = record {
               are = out.page.are;
@@ -426,7 +426,7 @@ module _ (layouts : Layouts) (sent : Sending) (exchange : Purpose) (s : SessionS
             carries = refl;
             output = record {
               allowed = bytes_themselves s.output.carried.items;
-              valid_is = ap (λ (x : Purpose). valid_out x s.output.told) for_it;
+              valid_is = ap (λ (x : Purpose). valid_out x s.output.acknowledged) for_it;
             };
             reading = refl;
             reads = refl;
@@ -439,20 +439,20 @@ module _ (layouts : Layouts) (sent : Sending) (exchange : Purpose) (s : SessionS
     missed_by_cases : TextsAreHeard → (checking doubting : Bool)
         → checks_by s.configuration.devices (Some exchange) ≡ checking
         → doubts_by s.configuration.devices (Some exchange) s.current ≡ doubting
-        → MissedFair layouts (tried_again sent (if checking then check s.output.carried.items
+        → MissedFair layouts (retried sent (if checking then check s.output.carried.items
         else if doubting then question s.output.carried.items else sent.message))
         (if checking then checking_in s else record s {
           current = missed_by s.configuration.devices (Some exchange) s.current;
         }) left
     missed_by_cases heard true doubting checks_it doubts_it =
-        check_again heard (checks_for s.configuration.devices exchange checks_it)
+        check_repeated heard (checks_for s.configuration.devices exchange checks_it)
     missed_by_cases heard false true checks_it doubts_it =
         let it = doubts_for s.configuration.devices exchange s.current doubts_it in
         subst (λ (c : Option Current). MissedFair layouts
-        (tried_again sent (question s.output.carried.items)) (record s { current = c }) left)
+        (retried sent (question s.output.carried.items)) (record s { current = c }) left)
         (sym it.4)
-        (doubt_again heard it.0 it.1 it.2 it.3.0 it.3.1)
-    missed_by_cases heard false false checks_it doubts_it = same_again doubts_it
+        (doubt_repeated heard it.0 it.1 it.2 it.3.0 it.3.1)
+    missed_by_cases heard false false checks_it doubts_it = same_repeated doubts_it
 
     missed_in_is : missed_in s
         ≡ (if checks_by s.configuration.devices (Some exchange) then checking_in s else record s {
@@ -462,27 +462,27 @@ module _ (layouts : Layouts) (sent : Sending) (exchange : Purpose) (s : SessionS
         then checking_in s
         else record s { current = missed_by s.configuration.devices e s.current }) out.busy
 
-    message_again_is : message_again s sent.message
+    message_repeated_is : message_repeated s sent.message
         ≡ (if checks_by s.configuration.devices (Some exchange)
         then check s.output.carried.items
         else if doubts_by s.configuration.devices (Some exchange) s.current
         then question s.output.carried.items else sent.message)
-    message_again_is = ap (λ (e : Option Purpose). if checks_by s.configuration.devices e
+    message_repeated_is = ap (λ (e : Option Purpose). if checks_by s.configuration.devices e
         then check s.output.carried.items
         else if doubts_by s.configuration.devices e s.current
         then question s.output.carried.items else sent.message) out.busy
 
     pub missed_fair : TextsAreHeard
-        → MissedFair layouts (tried_again sent (message_again s sent.message)) (missed_in s)
+        → MissedFair layouts (retried sent (message_repeated s sent.message)) (missed_in s)
         (master_without_reply m (text_of_out layouts sent))
     missed_fair heard =
-        subst (MissedFair layouts (tried_again sent (message_again s sent.message)) (missed_in s))
+        subst (MissedFair layouts (retried sent (message_repeated s sent.message)) (missed_in s))
         (sym left_is)
         (subst (λ (t : SessionState). MissedFair layouts
-        (tried_again sent (message_again s sent.message)) t left) (sym missed_in_is)
-        (subst (λ (message : MasterMsg). MissedFair layouts (tried_again sent message)
+        (retried sent (message_repeated s sent.message)) t left) (sym missed_in_is)
+        (subst (λ (message : MasterMsg). MissedFair layouts (retried sent message)
         (if checks_by s.configuration.devices (Some exchange) then checking_in s else record s {
           current = missed_by s.configuration.devices (Some exchange) s.current;
-        }) left) (sym message_again_is)
+        }) left) (sym message_repeated_is)
         (missed_by_cases heard (checks_by s.configuration.devices (Some exchange))
         (doubts_by s.configuration.devices (Some exchange) s.current) refl refl)))

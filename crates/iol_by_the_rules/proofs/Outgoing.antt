@@ -44,10 +44,10 @@ use Rattle.iol_app.specs.Messages.{head_of, head_for, data_for, progress_head, p
 use Rattle.iol_app.specs.Outputs.{output_to_carry}
 use Rattle.iol_app.specs.Requests.{aborts, is_doubting}
 use Rattle.iol_app.specs.State.{SessionState, IsMessageFor, od_size, session_sending}
-use Rattle.iol_by_the_rules.proofs.Telling.{is_down, bytes_themselves, told_new}
+use Rattle.iol_by_the_rules.proofs.Accepted.{is_down, bytes_themselves, new_accepted}
 use Rattle.iol_by_the_rules.proofs.Segments.{is_free, is_silent}
 use Rattle.iol_by_the_rules.proofs.Requests.{ProgressGoes, RequestGoes, RequestStands, IsDueNext, next_due}
-use Rattle.iol_by_the_rules.proofs.Ties.{OperateOut, OutputStands, PageStands, valid_out, reading_seen, reading_out, reads_well, TransferOut}
+use Rattle.iol_by_the_rules.proofs.Ties.{OperateOut, OutputStands, PageStands, valid_out, watched_reading, reading_out, reads_well, TransferOut}
 
 -- What is due, and what that says of each part
 
@@ -70,9 +70,9 @@ reading_due exchange _ flag = true
 
 -- the output may be carried
 abbrev pub output_due : Purpose → Option (List ℕ) → Bool → Bool
-output_due for.TellOutput wanted told = true
-output_due for.DropOutput wanted told = is_none wanted
-output_due exchange wanted told = is_none wanted || told
+output_due for.EnableOutput wanted acknowledged = true
+output_due for.DropOutput wanted acknowledged = is_none wanted
+output_due exchange wanted acknowledged = is_none wanted || acknowledged
 
 goes_next : (current : Current) (transfer : MasterTransfer) → RequestGoes current transfer
     → aborts (Some current) ≡ false → IsDueNext current.progress
@@ -83,14 +83,14 @@ goes_next current transfer goes none = by_progress current.progress goes.at
     by_progress (Sending flow piece) at = tt
     by_progress Doubting at = tt
     by_progress (Asking busies) at = tt
-    by_progress (Receiving joining had) at = tt
+    by_progress (Receiving joining received) at = tt
     by_progress Refused at = grind (arith, at, none)
 
-due_transfer_by : (tell drop abort under confirm flag some : Bool) (current : Option Current)
+due_transfer_by : (enable drop abort under confirm flag some : Bool) (current : Option Current)
     (transfer : MasterTransfer) → aborts current ≡ abort → is_some current ≡ some
     → RequestStands current transfer
     → TransferDue (first_due (
-    (tell, for.TellOutput) ∷ (drop, for.DropOutput) ∷ (abort, for.Abort) ∷
+    (enable, for.EnableOutput) ∷ (drop, for.DropOutput) ∷ (abort, for.Abort) ∷
     (under, for.ReadEvent) ∷ (confirm, for.ConfirmEvents) ∷ (flag, for.ReadEvent) ∷
     (some, for.Request) ∷ [])) current transfer
 due_transfer_by true drop abort under confirm flag some current transfer is has stands = stands
@@ -117,13 +117,13 @@ pub due_reading : (s : SessionState) (room : EventRoom)
 due_reading s room = grind (arith, common_steps)
 
 pub due_output : (s : SessionState) (room : EventRoom)
-    → output_due (due_of s room) s.output.wanted s.output.told ≡ true
+    → output_due (due_of s room) s.output.wanted s.output.acknowledged ≡ true
 due_output s room = grind (arith, common_steps)
 
 -- What the watch makes of it
 
 abbrev pub command_for : Purpose → Option MasterCommand
-command_for for.TellOutput = Some ProcessDataOutputOperate
+command_for for.EnableOutput = Some ProcessDataOutputOperate
 command_for for.DropOutput = Some DeviceOperate
 command_for exchange = None
 
@@ -134,10 +134,13 @@ pub command_is : (exchange : Purpose) (reading : ReadingProgress) (current : Opt
 command_is exchange so_far current size message head od = grind (arith, common_steps)
 
 pub output_sent : (exchange : Purpose) (output : Output) (s : OutputState) (octets : List ℕ)
-    → OutputStands s.told output s → output_due exchange s.wanted s.told ≡ true
+    → OutputStands s.acknowledged output s → output_due exchange s.wanted s.acknowledged ≡ true
     → octets ≡ output_to_carry s
     → output_after_message output (command_for exchange) octets
-    ≡ Ok (record { carried = Last (record { items = octets }); valid = valid_out exchange s.told })
+    ≡ Ok (record {
+      carried = Last (record { items = octets });
+      valid = valid_out exchange s.acknowledged;
+    })
 output_sent exchange output s octets stands due is =
     grind (arith, common_steps, stands.allowed, stands.valid_is)
 
@@ -176,13 +179,13 @@ module _ (m : MasterState) (layouts : Layouts) (message : MasterMsg)
 
 -- a read of events is due
 event_due : (m : MasterState) (reading : ReadingProgress) (flag : Bool)
-    → m.events.reading ≡ reading_seen reading → m.events.flag ≡ flag
+    → m.events.reading ≡ watched_reading reading → m.events.flag ≡ flag
     → reading_due for.ReadEvent reading flag ≡ true
     → is_due m.events true (next_address (reader_of reading)) ≡ true
 event_due m so_far flag is same due = grind (arith, nat_tests, is, same, due)
 
 confirm_due : (m : MasterState) (reading : ReadingProgress) (flag : Bool)
-    → m.events.reading ≡ reading_seen reading → reading_due for.ConfirmEvents reading flag ≡ true
+    → m.events.reading ≡ watched_reading reading → reading_due for.ConfirmEvents reading flag ≡ true
     → is_due m.events false 0 ≡ true
 confirm_due m so_far flag is due = grind (arith, nat_tests, is, due)
 
@@ -207,16 +210,16 @@ module _ (laws : (size : ℕ) → 1 ≤ size → TextLaws size) (layouts : Layou
         × TransferOut exchange current transfer
 
     sent_for : (exchange : Purpose) (current : Option Current) (m : MasterState)
-        → m.phase ≡ Operate layouts → m.events.reading ≡ reading_seen reading
+        → m.phase ≡ Operate layouts → m.events.reading ≡ watched_reading reading
         → m.events.flag ≡ flag → IfSome current (λ c. layouts.isdu ≡ true)
         → head_of message.mc ≡ head_for exchange reading current
         → message.od.items ≡ data_for exchange size current
         → command_in message ≡ command_for exchange
         → reading_due exchange reading flag ≡ true → TransferDue exchange current m.transfer
         → SentFor exchange current m
-    sent_for for.TellOutput current m phase is same knows head od command reads due = (
+    sent_for for.EnableOutput current m phase is same knows head od command reads due = (
       m.transfer,
-      page_sent m layouts message phase for.TellOutput (ap (λ h. h.channel) head)
+      page_sent m layouts message phase for.EnableOutput (ap (λ h. h.channel) head)
           (ap (λ h. h.read) head) (ap (λ h. h.address) head) command refl,
       due,
     )
@@ -275,7 +278,8 @@ module _ (laws : (size : ℕ) → 1 ≤ size → TextLaws size) (layouts : Layou
 
 reads_due : (exchange : Purpose) (reading : ReadingProgress) (flag : Bool)
     → reading_due exchange reading flag ≡ true
-    → (reads_well exchange reading ≡ true) × (reading_out exchange reading ≡ reading_seen reading)
+    → (reads_well exchange reading ≡ true)
+    × (reading_out exchange reading ≡ watched_reading reading)
 reads_due exchange so_far flag due = (grind (arith, due), grind (arith, due))
 
 module _ (heard : TextsAreHeard) (laws : (size : ℕ) → 1 ≤ size → TextLaws size)
@@ -295,8 +299,8 @@ module _ (heard : TextsAreHeard) (laws : (size : ℕ) → 1 ≤ size → TextLaw
         × OperateOut layouts (new_sending message) due out_session next
 
     pub new_fair : PageStands layouts s → m.phase ≡ Operate layouts → m.out ≡ None
-        → OutputStands s.output.told m.output s.output → m.events.flag ≡ s.events.flag
-        → m.events.reading ≡ reading_seen s.events.reading
+        → OutputStands s.output.acknowledged m.output s.output → m.events.flag ≡ s.events.flag
+        → m.events.reading ≡ watched_reading s.events.reading
         → TransferDue due s.current m.transfer
         → IfSome s.current (λ c. is_doubting c.progress ≡ false)
         → IsMessageFor due out_session message → HasMasterParts layouts.run message
@@ -307,15 +311,15 @@ module _ (heard : TextsAreHeard) (laws : (size : ℕ) → 1 ≤ size → TextLaw
         says.octets in
         let carried : Output = record {
           carried = Last (record { items = message.out.items });
-          valid = valid_out due s.output.told;
+          valid = valid_out due s.output.acknowledged;
         } in
-        let told : MasterState = record m { output = carried } in
+        let carrying : MasterState = record m { output = carried } in
         let sent = sent_for laws layouts message s.events.reading s.events.flag
-        (od_size s.layout) due s.current told phase is flag page.knows says.head says.octets
+        (od_size s.layout) due s.current carrying phase is flag page.knows says.head says.octets
         command (due_reading s room) transfer in
         let reads = reads_due due s.events.reading s.events.flag (due_reading s room) in (
-          record told { transfer = sent.0 },
-          told_new heard layouts.run m (ap phase_layout phase) message parts
+          record carrying { transfer = sent.0 },
+          new_accepted heard layouts.run m (ap phase_layout phase) message parts
               (ap is_down phase) out
               ∙ sent_there m layouts message phase carried _
               (ap (λ c. output_after_message m.output c message.out.items) command

@@ -23,7 +23,7 @@ use Rattle.iol_segment.specs.TextLaws.{TextLaws}
 use Rattle.iol_far.specs.Codec.{flow_of}
 use Rattle.iol_judge.specs.declared.master_transfer.MasterTransfer.{MasterTransfer}
 use Rattle.iol_judge.specs.declared.master_transfer.MasterTransfer.TheVariants as watch
-use Rattle.iol_judge.specs.MasterTransfers.{transfer_after_message, transfer_after_reply, transfer_after_repeat, transfer_in_answer, ended_by_zeros, asked_after_reply, doubted_told}
+use Rattle.iol_judge.specs.MasterTransfers.{transfer_after_message, transfer_after_reply, transfer_after_repeat, transfer_in_answer, ended_by_zeros, asked_after_reply, doubted_updated}
 use Rattle.iol_app.specs.declared.request.Current.{Current}
 use Rattle.iol_app.specs.declared.request.RequestProgress.{RequestProgress}
 use Rattle.iol_app.specs.declared.request.RequestProgress.TheVariants.{Sending, Doubting, Asking, Receiving, Refused}
@@ -34,9 +34,9 @@ use Rattle.iol_by_the_rules.proofs.Segments.{is_free, is_silent, sent_up_to, Wai
 -- The answer so far
 
 -- octets of an answer that are no whole text
-pub record Joins (joining : Joining) (had : ℕ) : Type 0 where
+pub record Joins (joining : Joining) (received : ℕ) : Type 0 where
   pub started : joining.started ≡ true
-  pub count : joining.count ≡ count_at had
+  pub count : joining.count ≡ count_at received
   pub open_text : stage joining.text ≡ Open
 
 abbrev pub IsAnswering : Bool → Joining → Option ℕ → MasterTransfer → Type 0
@@ -46,15 +46,15 @@ IsAnswering read joining last transfer =
 
 -- the next segment is asked for: again, unless the message went out once
 abbrev pub IsAsking : Bool → Bool → Joining → Option ℕ → MasterTransfer → Type 0
-IsAsking again read joining last transfer =
-    ((again ≡ false) × (transfer ≡ watch.Answered read (record { items = joining.text }) last))
+IsAsking repeat read joining last transfer =
+    ((repeat ≡ false) × (transfer ≡ watch.Answered read (record { items = joining.text }) last))
     ⊎ (transfer ≡ watch.Repeated read (record { items = joining.text }) last)
 
 -- Which segment was given last
 
-pub record IsGiven (size : ℕ) (r : Request) (given : ℕ) (flow : Flow) (piece : ArrayVec ℕ)
+pub record IsIssued (size : ℕ) (r : Request) (issued : ℕ) (flow : Flow) (piece : ArrayVec ℕ)
     (i : ℕ) : Type 0 where
-  pub given_is : given ≡ suc i
+  pub issued_is : issued ≡ suc i
   pub begins : i * size < length (request_text r)
   pub flow_is : flow ≡ flow_at i
   pub piece_is : piece.items ≡ segment size (request_text r) i
@@ -63,19 +63,19 @@ pub record IsGiven (size : ℕ) (r : Request) (given : ℕ) (flow : Flow) (piece
 
 abbrev pub ProgressGoes : Cutting Request → Option Cause → RequestProgress → MasterTransfer → Type 0
 ProgressGoes cutter abort (Sending flow piece) transfer = (i : ℕ)
-    × IsGiven cutter.size cutter.source cutter.given flow piece i
+    × IsIssued cutter.size cutter.source cutter.issued flow piece i
     × Waits cutter.size cutter.source i transfer
 ProgressGoes cutter abort Doubting transfer = ⊥
 ProgressGoes cutter abort (Asking busy) transfer = transfer ≡ watch.Asked (is_read cutter.source)
-ProgressGoes cutter abort (Receiving joining had) transfer = Joins joining had
-    × IsAnswering (is_read cutter.source) joining (count_at had) transfer
+ProgressGoes cutter abort (Receiving joining received) transfer = Joins joining received
+    × IsAnswering (is_read cutter.source) joining (count_at received) transfer
 ProgressGoes cutter abort Refused transfer = IsSome abort
 
 -- its next message is due, or its ABORT
 pub record RequestGoes (current : Current) (transfer : MasterTransfer) : Type 0 where
   pub request : IsRequest current.cutter.source
   pub some : 1 ≤ current.cutter.size
-  pub again : current.again ≡ false
+  pub repeat : current.repeat ≡ false
   pub at : ProgressGoes current.cutter current.abort current.progress transfer
 
 -- the watch knows of one
@@ -86,23 +86,24 @@ RequestStands (Some current) transfer = RequestGoes current transfer × (is_sile
 -- Once its message was sent
 
 abbrev pub ProgressOut : Cutting Request → Bool → RequestProgress → MasterTransfer → Type 0
-ProgressOut cutter again (Sending flow piece) transfer = (i : ℕ)
-    × IsGiven cutter.size cutter.source cutter.given flow piece i
+ProgressOut cutter repeat (Sending flow piece) transfer = (i : ℕ)
+    × IsIssued cutter.size cutter.source cutter.issued flow piece i
     × (transfer ≡ sent_up_to cutter.size cutter.source i)
-ProgressOut cutter again Doubting transfer = (cutter.given ≡ 1)
+ProgressOut cutter repeat Doubting transfer = (cutter.issued ≡ 1)
     × (0 < length (request_text cutter.source))
     × (transfer
-    ≡ (if again then watch.Asked (is_read cutter.source)
+    ≡ (if repeat then watch.Asked (is_read cutter.source)
     else watch.Doubted (is_read cutter.source)))
-ProgressOut cutter again (Asking busy) transfer = transfer ≡ watch.Asked (is_read cutter.source)
-ProgressOut cutter again (Receiving joining had) transfer = Joins joining had
-    × IsAsking again (is_read cutter.source) joining (Some (segment_number (suc had))) transfer
-ProgressOut cutter again Refused transfer = ⊥
+ProgressOut cutter repeat (Asking busy) transfer = transfer ≡ watch.Asked (is_read cutter.source)
+ProgressOut cutter repeat (Receiving joining received) transfer = Joins joining received
+    × IsAsking repeat (is_read cutter.source) joining (Some (segment_number (suc received)))
+    transfer
+ProgressOut cutter repeat Refused transfer = ⊥
 
 pub record RequestOut (current : Current) (transfer : MasterTransfer) : Type 0 where
   pub request : IsRequest current.cutter.source
   pub some : 1 ≤ current.cutter.size
-  pub at : ProgressOut current.cutter current.again current.progress transfer
+  pub at : ProgressOut current.cutter current.repeat current.progress transfer
 
 -- what a reply makes of it
 abbrev pub EffectStands : ReplyEffect → MasterTransfer → Type 0
@@ -118,7 +119,7 @@ abort_goes : (cutter : Cutting Request) (abort : Option Cause) (cause : Cause)
 abort_goes cutter abort cause (Sending flow piece) transfer h = h
 abort_goes cutter abort cause Doubting transfer h = h
 abort_goes cutter abort cause (Asking busy) transfer h = h
-abort_goes cutter abort cause (Receiving joining had) transfer h = h
+abort_goes cutter abort cause (Receiving joining received) transfer h = h
 abort_goes cutter abort cause Refused transfer h = refl
 
 pub cancel_stands : (cause : Cause) (current : Current) (transfer : MasterTransfer)
@@ -128,7 +129,7 @@ cancel_stands cause current transfer (goes, known) = (
   record {
     request = goes.request;
     some = goes.some;
-    again = goes.again;
+    repeat = goes.repeat;
     at = abort_goes current.cutter current.abort cause current.progress transfer goes.at;
   },
   known,
@@ -155,11 +156,11 @@ module _ (size : ℕ) (r : Request) (some : 1 ≤ size) (fits : IsRequest r)
         record {
           request = fits;
           some = some;
-          again = refl;
+          repeat = refl;
           at = rw low (
             0,
             record {
-              given_is = refl;
+              issued_is = refl;
               begins = omega (arith, text_some r size fits laws);
               flow_is = refl;
               piece_is = refl;
@@ -171,7 +172,7 @@ module _ (size : ℕ) (r : Request) (some : 1 ≤ size) (fits : IsRequest r)
 -- A good reply
 
 module _ (current : Current) (request : IsRequest current.cutter.source)
-    (some : 1 ≤ current.cutter.size) (once : current.again ≡ false)
+    (some : 1 ≤ current.cutter.size) (once : current.repeat ≡ false)
   where
     abbrev reads : Bool
     reads = is_read current.cutter.source
@@ -179,12 +180,12 @@ module _ (current : Current) (request : IsRequest current.cutter.source)
     refusal_stands : (transfer : MasterTransfer) → is_silent transfer ≡ false
         → RequestStands (Some (current_after_refusal current)) transfer
     refusal_stands transfer known =
-        (record { request = request; some = some; again = once; at = refl }, known)
+        (record { request = request; some = some; repeat = once; at = refl }, known)
 
     busy_stands : (busy limit : ℕ)
         → RequestStands (Some (current_after_busy busy limit current)) (watch.Asked reads)
     busy_stands busy limit =
-        (record { request = request; some = some; again = once; at = refl }, refl)
+        (record { request = request; some = some; repeat = once; at = refl }, refl)
 
     -- a whole text
     text_stands : (text : List ℕ) (fault : Option IsduFault)
@@ -194,31 +195,31 @@ module _ (current : Current) (request : IsRequest current.cutter.source)
     text_stands text (Some fault) = refusal_stands watch.Refused refl
 
     -- a segment was taken
-    taken_stands : (had : ℕ) (octets : List ℕ) (at : Stage) → stage octets ≡ at
-        → let t : JoinStep = stage_step (count_at had) octets at in
-        EffectStands (effect_of_segment had t.took t.joining current)
-        (transfer_in_answer reads octets (count_at had))
-    taken_stands had octets Open is =
+    taken_stands : (received : ℕ) (octets : List ℕ) (at : Stage) → stage octets ≡ at
+        → let t : JoinStep = stage_step (count_at received) octets at in
+        EffectStands (effect_of_segment received t.took t.joining current)
+        (transfer_in_answer reads octets (count_at received))
+    taken_stands received octets Open is =
         let short : length octets ≤ 238 = open_short octets is in
-        let answered : transfer_in_answer reads octets (count_at had)
-        ≡ watch.Answered reads (record { items = octets }) (count_at had) =
+        let answered : transfer_in_answer reads octets (count_at received)
+        ≡ watch.Answered reads (record { items = octets }) (count_at received) =
         grind (arith, nat_tests, is, short) in
         rw answered (
           record {
             request = request;
             some = some;
-            again = once;
+            repeat = once;
             at = (record { started = refl; count = refl; open_text = is }, inl refl);
           },
           refl,
         )
-    taken_stands had octets (Complete text) is =
-        let ended : transfer_in_answer reads octets (count_at had)
+    taken_stands received octets (Complete text) is =
+        let ended : transfer_in_answer reads octets (count_at received)
         ≡ (if is_some (answer_fault reads text) then watch.Refused else watch.Quiet) =
         grind (arith, is) in
         rw ended (text_stands text (answer_fault reads text))
-    taken_stands had octets Wrong is =
-        let refused : transfer_in_answer reads octets (count_at had) ≡ watch.Refused =
+    taken_stands received octets Wrong is =
+        let refused : transfer_in_answer reads octets (count_at received) ≡ watch.Refused =
         grind (arith, is) in
         rw refused (refusal_stands watch.Refused refl)
 
@@ -239,68 +240,68 @@ module _ (current : Current) (request : IsRequest current.cutter.source)
         start_by (slice_index od 0 == 1) (slice_index od 0 == 0) busy limit od refl refl
 
     -- zeros that may be none of it
-    ended_stands : (effect : ReplyEffect) (zeros : Bool) (told : MasterTransfer)
-        → EffectStands effect told
-        → EffectStands effect (if zeros then ended_by_zeros told else told)
-    ended_stands effect false told stands = stands
-    ended_stands (GoesOn next) true told stands = grind (arith, stands.1, stands.0)
-    ended_stands (HasText text) true told stands = grind (arith, stands)
+    ended_stands : (effect : ReplyEffect) (zeros : Bool) (updated : MasterTransfer)
+        → EffectStands effect updated
+        → EffectStands effect (if zeros then ended_by_zeros updated else updated)
+    ended_stands effect false updated stands = stands
+    ended_stands (GoesOn next) true updated stands = grind (arith, stands.1, stands.0)
+    ended_stands (HasText text) true updated stands = grind (arith, stands)
 
-    ended_known : (told : MasterTransfer) → is_silent (ended_by_zeros told) ≡ false
-    ended_known told = grind arith
+    ended_known : (updated : MasterTransfer) → is_silent (ended_by_zeros updated) ≡ false
+    ended_known updated = grind arith
 
     forgotten_zeros : (took : Result Took JoinFault) (od : List ℕ)
         → forgotten_by took od ≡ true → are_zeros od ≡ true
     forgotten_zeros took od e = grind arith
 
-    next_taken : (had : ℕ) (j : Joining) (od : List ℕ) → Joins j had
-        → join_step j (Count (segment_number (had + 1))) od
-        ≡ stage_step (count_at (suc had)) (j.text ++ od) (stage (j.text ++ od))
-    next_taken had j od h =
+    next_taken : (received : ℕ) (j : Joining) (od : List ℕ) → Joins j received
+        → join_step j (Count (segment_number (received + 1))) od
+        ≡ stage_step (count_at (suc received)) (j.text ++ od) (stage (j.text ++ od))
+    next_taken received j od h =
         grind (arith, nat_tests, common_steps, h.started, h.count, h.open_text)
 
     -- the reply to a COUNT read
-    count_by : (forgot : Bool) (again : Bool) (joining : Joining) (had : ℕ) (od : List ℕ)
-        (told : MasterTransfer) (t : JoinStep) → Joins joining had
-        → t ≡ stage_step (count_at (suc had)) (joining.text ++ od) (stage (joining.text ++ od))
-        → told ≡ transfer_in_answer reads (joining.text ++ od) (count_at (suc had))
-        → (again && forgotten_by t.took od) ≡ forgot
+    count_by : (forgot : Bool) (repeat : Bool) (joining : Joining) (received : ℕ) (od : List ℕ)
+        (updated : MasterTransfer) (t : JoinStep) → Joins joining received
+        → t ≡ stage_step (count_at (suc received)) (joining.text ++ od) (stage (joining.text ++ od))
+        → updated ≡ transfer_in_answer reads (joining.text ++ od) (count_at (suc received))
+        → (repeat && forgotten_by t.took od) ≡ forgot
         → EffectStands (if forgot then GoesOn (current_after_refusal current)
-        else effect_of_segment (had + 1) t.took t.joining current)
-        (if are_zeros od then ended_by_zeros told else told)
-    count_by true again joining had od told t joins is same forgot =
+        else effect_of_segment (received + 1) t.took t.joining current)
+        (if are_zeros od then ended_by_zeros updated else updated)
+    count_by true repeat joining received od updated t joins is same forgot =
         let zeros : are_zeros od ≡ true =
         forgotten_zeros t.took od (grind (arith, forgot)) in
-        rw zeros (refusal_stands (ended_by_zeros told) (ended_known told))
-    count_by false again joining had od told t joins is same forgot =
-        rw (is, same, add-one had)
+        rw zeros (refusal_stands (ended_by_zeros updated) (ended_known updated))
+    count_by false repeat joining received od updated t joins is same forgot =
+        rw (is, same, add-one received)
         (ended_stands _ (are_zeros od) _
-        (taken_stands (suc had) (joining.text ++ od) (stage (joining.text ++ od)) refl))
+        (taken_stands (suc received) (joining.text ++ od) (stage (joining.text ++ od)) refl))
 
-    count_stands : (again : Bool) (joining : Joining) (had : ℕ) (od : List ℕ)
-        (transfer : MasterTransfer) → Joins joining had
-        → IsAsking again reads joining (Some (segment_number (suc had))) transfer
-        → EffectStands (effect_of_count_read again joining (had + 1) od current)
+    count_stands : (repeat : Bool) (joining : Joining) (received : ℕ) (od : List ℕ)
+        (transfer : MasterTransfer) → Joins joining received
+        → IsAsking repeat reads joining (Some (segment_number (suc received))) transfer
+        → EffectStands (effect_of_count_read repeat joining (received + 1) od current)
         (transfer_after_reply transfer od)
-    count_stands again joining had od transfer joins (inl asked) =
-        rw (asked.0, asked.1, next_taken had joining od joins, add-one had)
-        (taken_stands (suc had) (joining.text ++ od) (stage (joining.text ++ od)) refl)
-    count_stands again joining had od transfer joins (inr asked) =
-        let t : JoinStep = join_step joining (Count (segment_number (had + 1))) od in
-        rw asked (count_by (again && forgotten_by t.took od) again joining had od
-        (transfer_in_answer reads (joining.text ++ od) (count_at (suc had))) t joins
-        (next_taken had joining od joins) refl refl)
+    count_stands repeat joining received od transfer joins (inl asked) =
+        rw (asked.0, asked.1, next_taken received joining od joins, add-one received)
+        (taken_stands (suc received) (joining.text ++ od) (stage (joining.text ++ od)) refl)
+    count_stands repeat joining received od transfer joins (inr asked) =
+        let t : JoinStep = join_step joining (Count (segment_number (received + 1))) od in
+        rw asked (count_by (repeat && forgotten_by t.took od) repeat joining received od
+        (transfer_in_answer reads (joining.text ++ od) (count_at (suc received))) t joins
+        (next_taken received joining od joins) refl refl)
 
 -- The next segment was sent
 
-module _ (size : ℕ) (r : Request) (given : ℕ) (request : IsRequest r) (some : 1 ≤ size)
-    (again : Bool) (once : again ≡ false) (abort : Option Cause) (i : ℕ) (is : given ≡ suc i)
+module _ (size : ℕ) (r : Request) (issued : ℕ) (request : IsRequest r) (some : 1 ≤ size)
+    (repeat : Bool) (once : repeat ≡ false) (abort : Option Cause) (i : ℕ) (is : issued ≡ suc i)
   where
     abbrev sent_on : Current
     sent_on = current_after_segment (record {
-      cutter = record { source = r; size = size; given = given };
+      cutter = record { source = r; size = size; issued = issued };
       progress = Asking 0;
-      again = again;
+      repeat = repeat;
       abort = abort;
     })
 
@@ -310,11 +311,11 @@ module _ (size : ℕ) (r : Request) (given : ℕ) (request : IsRequest r) (some 
       record {
         request = request;
         some = some;
-        again = once;
+        repeat = once;
         at = (
           suc i,
           record {
-            given_is = grind arith;
+            issued_is = grind arith;
             begins = grind (arith, nat_tests, e);
             flow_is = refl;
             piece_is = refl;
@@ -325,7 +326,7 @@ module _ (size : ℕ) (r : Request) (given : ℕ) (request : IsRequest r) (some 
       refl,
     )
     sent_by false e =
-        rw (is, e) (record { request = request; some = some; again = once; at = refl }, refl)
+        rw (is, e) (record { request = request; some = some; repeat = once; at = refl }, refl)
 
 -- What the good reply to its message makes of both
 
@@ -334,12 +335,12 @@ request_heard (Sending flow piece) transfer od = transfer
 request_heard progress transfer od = transfer_after_reply transfer od
 
 module _ (current : Current) (request : IsRequest current.cutter.source)
-    (some : 1 ≤ current.cutter.size) (once : current.again ≡ false)
+    (some : 1 ≤ current.cutter.size) (once : current.repeat ≡ false)
   where
     open current use {cutter}
 
     -- the one segment goes out anew
-    anew_stands : cutter.given ≡ 1 → 0 < length (request_text cutter.source)
+    anew_stands : cutter.issued ≡ 1 → 0 < length (request_text cutter.source)
         → RequestStands (Some (sent_anew current)) watch.Undecided
     anew_stands one long =
         let low : nat_lt (0 * cutter.size) (length (request_text cutter.source)) ≡ true =
@@ -348,11 +349,11 @@ module _ (current : Current) (request : IsRequest current.cutter.source)
           record {
             request = request;
             some = some;
-            again = once;
+            repeat = once;
             at = (
               0,
               record {
-                given_is = refl;
+                issued_is = refl;
                 begins = omega (arith, long);
                 flow_is = refl;
                 piece_is = refl;
@@ -364,91 +365,91 @@ module _ (current : Current) (request : IsRequest current.cutter.source)
         )
 
     not_nothing : (od : List ℕ) → (slice_index od 0 == 0) ≡ false
-        → doubted_told (is_read cutter.source) od ≡ asked_after_reply (is_read cutter.source) od
+        → doubted_updated (is_read cutter.source) od ≡ asked_after_reply (is_read cutter.source) od
     not_nothing od is = grind (arith, is)
 
-    nothing_told : (od : List ℕ) → (slice_index od 0 == 0) ≡ true
-        → doubted_told (is_read cutter.source) od ≡ watch.Undecided
-    nothing_told od is = grind (arith, is)
+    nothing_decided : (od : List ℕ) → (slice_index od 0 == 0) ≡ true
+        → doubted_updated (is_read cutter.source) od ≡ watch.Undecided
+    nothing_decided od is = grind (arith, is)
 
-    question_by : (nothing again : Bool) (limit : ℕ) (od : List ℕ)
+    question_by : (nothing repeat : Bool) (limit : ℕ) (od : List ℕ)
         → (slice_index od 0 == 0) ≡ nothing
-        → cutter.given ≡ 1 → 0 < length (request_text cutter.source)
-        → EffectStands (if nothing && not again then GoesOn (sent_anew current)
+        → cutter.issued ≡ 1 → 0 < length (request_text cutter.source)
+        → EffectStands (if nothing && not repeat then GoesOn (sent_anew current)
         else effect_of_start_read 0 limit od current)
-        (transfer_after_reply (if again then watch.Asked (is_read cutter.source)
+        (transfer_after_reply (if repeat then watch.Asked (is_read cutter.source)
         else watch.Doubted (is_read cutter.source)) od)
     question_by true true limit od is one long = start_stands current request some once 0 limit od
     question_by false true limit od is one long = start_stands current request some once 0 limit od
     question_by true false limit od is one long =
-        subst (EffectStands (GoesOn (sent_anew current))) (sym (nothing_told od is))
+        subst (EffectStands (GoesOn (sent_anew current))) (sym (nothing_decided od is))
         (anew_stands one long)
     question_by false false limit od is one long =
         subst (EffectStands (effect_of_start_read 0 limit od current)) (sym (not_nothing od is))
         (start_stands current request some once 0 limit od)
 
-    replied_stands : (progress : RequestProgress) (again : Bool) (limit : ℕ) (od : List ℕ)
-        (transfer : MasterTransfer) → ProgressOut cutter again progress transfer
-        → EffectStands (replied_at progress again limit od current)
+    replied_stands : (progress : RequestProgress) (repeat : Bool) (limit : ℕ) (od : List ℕ)
+        (transfer : MasterTransfer) → ProgressOut cutter repeat progress transfer
+        → EffectStands (replied_at progress repeat limit od current)
         (request_heard progress transfer od)
-    replied_stands (Sending flow piece) again limit od transfer (i, given, is) =
-        rw is (sent_by cutter.size cutter.source cutter.given request some current.again once
+    replied_stands (Sending flow piece) repeat limit od transfer (i, issued, is) =
+        rw is (sent_by cutter.size cutter.source cutter.issued request some current.repeat once
         current.abort i
-        given.given_is (nat_lt (suc i * cutter.size) (length (request_text cutter.source))) refl)
-    replied_stands Doubting again limit od transfer (one, long, is) =
-        rw is (question_by (slice_index od 0 == 0) again limit od refl one long)
-    replied_stands (Asking busy) again limit od transfer is =
+        issued.issued_is (nat_lt (suc i * cutter.size) (length (request_text cutter.source))) refl)
+    replied_stands Doubting repeat limit od transfer (one, long, is) =
+        rw is (question_by (slice_index od 0 == 0) repeat limit od refl one long)
+    replied_stands (Asking busy) repeat limit od transfer is =
         rw is (start_stands current request some once busy limit od)
-    replied_stands (Receiving joining had) again limit od transfer (joins, asked) =
-        count_stands current request some once again joining had od transfer joins asked
-    replied_stands Refused again limit od transfer out = absurd out
+    replied_stands (Receiving joining received) repeat limit od transfer (joins, asked) =
+        count_stands current request some once repeat joining received od transfer joins asked
+    replied_stands Refused repeat limit od transfer out = absurd out
 
 pub reply_stands : (current : Current) (transfer : MasterTransfer) (limit : ℕ) (od : List ℕ)
     → RequestOut current transfer
     → EffectStands (effect_of_reply limit od current)
     (request_heard current.progress transfer od)
 reply_stands current transfer limit od out =
-    replied_stands (record current { again = false }) out.request out.some refl current.progress
-    current.again limit od transfer out.at
+    replied_stands (record current { repeat = false }) out.request out.some refl current.progress
+    current.repeat limit od transfer out.at
 
 -- No good reply: its message goes out again
 
-repeat_out : (cutter : Cutting Request) (again : Bool) (progress : RequestProgress)
-    (transfer : MasterTransfer) → ProgressOut cutter again progress transfer
+repeat_out : (cutter : Cutting Request) (repeat : Bool) (progress : RequestProgress)
+    (transfer : MasterTransfer) → ProgressOut cutter repeat progress transfer
     → ProgressOut cutter true progress (transfer_after_repeat transfer)
-repeat_out cutter again (Sending flow piece) transfer (i, given, is) =
-    (i, given, grind (arith, is))
-repeat_out cutter again Doubting transfer (one, long, is) = (one, long, grind (arith, is))
-repeat_out cutter again (Asking busy) transfer is = rw is refl
-repeat_out cutter again (Receiving joining had) transfer (joins, inl asked) =
+repeat_out cutter repeat (Sending flow piece) transfer (i, issued, is) =
+    (i, issued, grind (arith, is))
+repeat_out cutter repeat Doubting transfer (one, long, is) = (one, long, grind (arith, is))
+repeat_out cutter repeat (Asking busy) transfer is = rw is refl
+repeat_out cutter repeat (Receiving joining received) transfer (joins, inl asked) =
     (joins, inr (rw asked.1 refl))
-repeat_out cutter again (Receiving joining had) transfer (joins, inr asked) =
+repeat_out cutter repeat (Receiving joining received) transfer (joins, inr asked) =
     (joins, inr (rw asked refl))
-repeat_out cutter again Refused transfer out = absurd out
+repeat_out cutter repeat Refused transfer out = absurd out
 
 -- at a port for any device that is noted
-pub again_out : (current : Current) (transfer : MasterTransfer) → RequestOut current transfer
-    → RequestOut (record current { again = true }) (transfer_after_repeat transfer)
-again_out current transfer out = record {
+pub noted_out : (current : Current) (transfer : MasterTransfer) → RequestOut current transfer
+    → RequestOut (record current { repeat = true }) (transfer_after_repeat transfer)
+noted_out current transfer out = record {
   request = out.request;
   some = out.some;
-  at = repeat_out current.cutter current.again current.progress transfer out.at;
+  at = repeat_out current.cutter current.repeat current.progress transfer out.at;
 }
 
 -- and at one for our own it isn't, where nothing is in doubt
-unnoted_out : (cutter : Cutting Request) (again : Bool) (progress : RequestProgress)
+unnoted_out : (cutter : Cutting Request) (repeat : Bool) (progress : RequestProgress)
     (transfer : MasterTransfer) → is_doubting progress ≡ false
-    → ProgressOut cutter again progress transfer
-    → ProgressOut cutter again progress (transfer_after_repeat transfer)
-unnoted_out cutter again (Sending flow piece) transfer sure (i, given, is) =
-    (i, given, grind (arith, is))
-unnoted_out cutter again Doubting transfer sure out = grind (arith, sure)
-unnoted_out cutter again (Asking busy) transfer sure is = rw is refl
-unnoted_out cutter again (Receiving joining had) transfer sure (joins, inl asked) =
+    → ProgressOut cutter repeat progress transfer
+    → ProgressOut cutter repeat progress (transfer_after_repeat transfer)
+unnoted_out cutter repeat (Sending flow piece) transfer sure (i, issued, is) =
+    (i, issued, grind (arith, is))
+unnoted_out cutter repeat Doubting transfer sure out = grind (arith, sure)
+unnoted_out cutter repeat (Asking busy) transfer sure is = rw is refl
+unnoted_out cutter repeat (Receiving joining received) transfer sure (joins, inl asked) =
     (joins, inr (rw asked.1 refl))
-unnoted_out cutter again (Receiving joining had) transfer sure (joins, inr asked) =
+unnoted_out cutter repeat (Receiving joining received) transfer sure (joins, inr asked) =
     (joins, inr (rw asked refl))
-unnoted_out cutter again Refused transfer sure out = absurd out
+unnoted_out cutter repeat Refused transfer sure out = absurd out
 
 pub still_out : (current : Current) (transfer : MasterTransfer)
     → is_doubting current.progress ≡ false → RequestOut current transfer
@@ -456,31 +457,32 @@ pub still_out : (current : Current) (transfer : MasterTransfer)
 still_out current transfer sure out = record {
   request = out.request;
   some = out.some;
-  at = unnoted_out current.cutter current.again current.progress transfer sure out.at;
+  at = unnoted_out current.cutter current.repeat current.progress transfer sure out.at;
 }
 
 -- or a question goes out in place of the whole request
-whole_asked : (cutter : Cutting Request) (again : Bool) (progress : RequestProgress)
+whole_asked : (cutter : Cutting Request) (repeat : Bool) (progress : RequestProgress)
     (transfer : MasterTransfer) → is_whole_out cutter progress ≡ true
-    → ProgressOut cutter again progress transfer
-    → (transfer ≡ watch.Asked (is_read cutter.source)) × (cutter.given ≡ 1)
+    → ProgressOut cutter repeat progress transfer
+    → (transfer ≡ watch.Asked (is_read cutter.source)) × (cutter.issued ≡ 1)
     × (0 < length (request_text cutter.source))
-whole_asked cutter again (Sending Start piece) transfer whole (zero, given, is) = (
-  grind (arith, nat_tests, is, whole, given.given_is),
-  given.given_is,
-  grind (arith, given.begins),
+whole_asked cutter repeat (Sending Start piece) transfer whole (zero, issued, is) = (
+  grind (arith, nat_tests, is, whole, issued.issued_is),
+  issued.issued_is,
+  grind (arith, issued.begins),
 )
-whole_asked cutter again (Sending Start piece) transfer whole (suc i, given, is) =
-    grind (arith, nat_tests, given.flow_is)
-whole_asked cutter again progress transfer whole out = grind (arith, whole)
+whole_asked cutter repeat (Sending Start piece) transfer whole (suc i, issued, is) =
+    grind (arith, nat_tests, issued.flow_is)
+whole_asked cutter repeat progress transfer whole out = grind (arith, whole)
 
 pub doubted_out : (current : Current) (transfer : MasterTransfer)
     → is_whole_out current.cutter current.progress ≡ true → RequestOut current transfer
     → (transfer ≡ watch.Asked (is_read current.cutter.source))
-    × RequestOut (record current { progress = Doubting; again = false })
+    × RequestOut (record current { progress = Doubting; repeat = false })
     (watch.Doubted (is_read current.cutter.source))
 doubted_out current transfer whole out =
-    let asked = whole_asked current.cutter current.again current.progress transfer whole out.at in (
+    let asked = whole_asked current.cutter current.repeat current.progress transfer whole
+    out.at in (
       asked.0,
       record { request = out.request; some = out.some; at = (asked.1, asked.2, refl) },
     )
@@ -499,7 +501,7 @@ repeat_stands (Some current) transfer (goes, known) = (
   record {
     request = goes.request;
     some = goes.some;
-    again = goes.again;
+    repeat = goes.repeat;
     at = repeat_goes current.cutter current.abort current.progress transfer goes.at;
   },
   grind (arith, known),
@@ -508,15 +510,15 @@ repeat_stands (Some current) transfer (goes, known) = (
     repeat_goes : (cutter : Cutting Request) (abort : Option Cause) (progress : RequestProgress)
         (transfer : MasterTransfer) → ProgressGoes cutter abort progress transfer
         → ProgressGoes cutter abort progress (transfer_after_repeat transfer)
-    repeat_goes cutter abort (Sending flow piece) transfer (zero, given, waits) =
-        (zero, given, grind (arith, waits))
-    repeat_goes cutter abort (Sending flow piece) transfer (suc i, given, waits) =
-        (suc i, given, rw waits refl)
+    repeat_goes cutter abort (Sending flow piece) transfer (zero, issued, waits) =
+        (zero, issued, grind (arith, waits))
+    repeat_goes cutter abort (Sending flow piece) transfer (suc i, issued, waits) =
+        (suc i, issued, rw waits refl)
     repeat_goes cutter abort Doubting transfer at = absurd at
     repeat_goes cutter abort (Asking busy) transfer at = rw at refl
-    repeat_goes cutter abort (Receiving joining had) transfer (joins, inl is) =
+    repeat_goes cutter abort (Receiving joining received) transfer (joins, inl is) =
         (joins, inr (rw is refl))
-    repeat_goes cutter abort (Receiving joining had) transfer (joins, inr is) =
+    repeat_goes cutter abort (Receiving joining received) transfer (joins, inr is) =
         (joins, inr (rw is refl))
     repeat_goes cutter abort Refused transfer at = at
 
@@ -536,19 +538,19 @@ SentOn current before after =
 
 module _ (laws : (size : ℕ) → 1 ≤ size → TextLaws size) where
   next_by : (current : Current) (progress : RequestProgress) (before : MasterTransfer)
-      → IsRequest current.cutter.source → 1 ≤ current.cutter.size → current.again ≡ false
+      → IsRequest current.cutter.source → 1 ≤ current.cutter.size → current.repeat ≡ false
       → ProgressGoes current.cutter current.abort progress before → IsDueNext progress
       → (after : MasterTransfer)
       × (transfer_after_message true before (progress_head progress).read
       (flow_of (progress_head progress).address) (progress_data progress) ≡ Ok after)
-      × ProgressOut current.cutter current.again progress after
-  next_by current (Sending flow piece) before request some once (i, given, waits) due =
+      × ProgressOut current.cutter current.repeat progress after
+  next_by current (Sending flow piece) before request some once (i, issued, waits) due =
       let cutter : Cutting Request = current.cutter in (
         sent_up_to cutter.size cutter.source i,
-        rw (given.flow_is, given.piece_is, flow_back (flow_at i) (flow_fits i))
+        rw (issued.flow_is, issued.piece_is, flow_back (flow_at i) (flow_fits i))
             (segment_due cutter.size cutter.source request (laws cutter.size some) i before
-            given.begins waits),
-        (i, given, refl),
+            issued.begins waits),
+        (i, issued, refl),
       )
   next_by current Doubting before request some once at due = absurd at
   next_by current (Asking busy) before request some once at due = (
@@ -556,37 +558,37 @@ module _ (laws : (size : ℕ) → 1 ≤ size → TextLaws size) where
     rw (at, flow_back Start tt) refl,
     refl,
   )
-  next_by current (Receiving joining had) before request some once (joins, answering) due =
+  next_by current (Receiving joining received) before request some once (joins, answering) due =
       let text : ArrayVec ℕ = record { items = joining.text } in
-      let number : ℕ = segment_number (had + 1) in (
+      let number : ℕ = segment_number (received + 1) in (
         watch.Answered (is_read current.cutter.source) text (Some number),
-        rw (flow_back (Count number) (number_fits (had + 1)))
-            (asked_next (is_read current.cutter.source) joining had before answering),
+        rw (flow_back (Count number) (number_fits (received + 1)))
+            (asked_next (is_read current.cutter.source) joining received before answering),
         (
           joins,
           inl (
             once,
             ap (λ n. watch.Answered (is_read current.cutter.source) text
-                (Some (segment_number n))) (add-one had),
+                (Some (segment_number n))) (add-one received),
           ),
         ),
       )
     where
-      asked_next : (read : Bool) (joining : Joining) (had : ℕ) (before : MasterTransfer)
-          → IsAnswering read joining (count_at had) before
-          → transfer_after_message true before true (Count (segment_number (had + 1))) []
+      asked_next : (read : Bool) (joining : Joining) (received : ℕ) (before : MasterTransfer)
+          → IsAnswering read joining (count_at received) before
+          → transfer_after_message true before true (Count (segment_number (received + 1))) []
           ≡ Ok (watch.Answered read (record { items = joining.text })
-          (Some (segment_number (had + 1))))
-      asked_next read joining had before (inl is) =
-          grind (arith, nat_tests, is, counts_on had, add-one had)
-      asked_next read joining had before (inr is) =
-          grind (arith, nat_tests, is, counts_on had, add-one had)
+          (Some (segment_number (received + 1))))
+      asked_next read joining received before (inl is) =
+          grind (arith, nat_tests, is, counts_on received, add-one received)
+      asked_next read joining received before (inr is) =
+          grind (arith, nat_tests, is, counts_on received, add-one received)
   next_by current Refused before request some once at due = absurd due
 
   pub next_due : (current : Current) (before : MasterTransfer) → RequestGoes current before
       → IsDueNext current.progress → (after : MasterTransfer) × SentOn current before after
   next_due current before goes due =
-      let next = next_by current current.progress before goes.request goes.some goes.again goes.at
+      let next = next_by current current.progress before goes.request goes.some goes.repeat goes.at
       due in (
         next.0,
         (next.1, record { request = goes.request; some = goes.some; at = next.2 }),

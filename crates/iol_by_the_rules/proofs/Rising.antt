@@ -11,7 +11,7 @@ use Rattle.iol_page.specs.Page.{layouts_of}
 use Rattle.iol_page.specs.declared.fault.PageFault.{PageFault}
 use Rattle.iol_page.specs.declared.page.Layouts.{Layouts}
 use Rattle.iol_link.specs.Attempts.{Sending}
-use Rattle.iol_link.specs.declared.handler.Attempt.TheVariants.{Again, Lost}
+use Rattle.iol_link.specs.declared.handler.Attempt.TheVariants.{Retry, Lost}
 use Rattle.iol_mode.specs.declared.configuration.Configuration.{Configuration}
 use Rattle.iol_mode.specs.declared.states.PageFacts.{PageFacts}
 use Rattle.iol_mode.specs.declared.states.Preoperate.{Preoperate as PreoperateState}
@@ -28,13 +28,13 @@ use Rattle.iol_judge.specs.Watched.{heard_reply, master_after_reply, master_with
 use Rattle.iol_app.specs.declared.output.OutputState.{OutputState}
 use Rattle.iol_app.specs.declared.request.Current.{Current}
 use Rattle.iol_app.specs.declared.session.Purpose.{Purpose}
-use Rattle.iol_app.specs.Outputs.{told_length}
+use Rattle.iol_app.specs.Outputs.{output_resized}
 use Rattle.iol_app.specs.State.{SessionState, session_after_reply, session_after_reply_to}
-use Rattle.iol_app.specs.StationState.{missed_out, missed_session, missed_state, missed_with, settled_session, told_in}
+use Rattle.iol_app.specs.StationState.{missed_out, missed_session, missed_state, missed_with, settled_session, with_page_read}
 use Rattle.iol_by_the_rules.proofs.StartUps.{ModeFair}
 use Rattle.iol_by_the_rules.proofs.Segments.{is_free, zeros_are}
 use Rattle.iol_by_the_rules.proofs.Requests.{RequestStands}
-use Rattle.iol_by_the_rules.proofs.Ties.{OperateRests, reading_seen}
+use Rattle.iol_by_the_rules.proofs.Ties.{OperateRests, watched_reading}
 use Rattle.iol_by_the_rules.proofs.Standing.{OperateFair, StartSession, StandsIn, start_carries}
 
 -- What no reply changes, and what each does
@@ -106,15 +106,15 @@ step_rises c First reply m flag = tt
 step_rises c (Read octets) reply m flag =
     let page : List ℕ = octets.items ++ slice_index reply.od.items 0 ∷ [] in
     low_rises None (page_after c page) m (page_low (length page == 10) c page)
-step_rises c (Ident told pre) reply m flag = tt
-step_rises c (Leave told pre) reply m flag = refl
-step_rises c (Cycle told) reply m flag = tt
-step_rises c (Enter told) reply m flag = (refl, refl, flag)
+step_rises c (Ident facts pre) reply m flag = tt
+step_rises c (Leave facts pre) reply m flag = refl
+step_rises c (Cycle facts) reply m flag = tt
+step_rises c (Enter facts) reply m flag = (refl, refl, flag)
 
 lost_rises : (lost : Bool) (c : Configuration) (s : StartupState) (m : MasterState)
     → Rises (step_layouts s.step) (startup_by c
     (record { message = s.sent.message; tries = if lost then 0 else s.sent.tries + 1 }) s.step
-    (if lost then Lost else Again)) m
+    (if lost then Lost else Retry)) m
 lost_rises true c s m = tt
 lost_rises false c s m = tt
 
@@ -134,7 +134,7 @@ pre_rises false pre layouts reply m flag = refl
 pre_lost_rises : (lost : Bool) (s : PreoperateState) (m : MasterState)
     → Rises (Some s.layouts) (preoperate_by
     (record { message = s.sent.message; tries = if lost then 0 else s.sent.tries + 1 })
-    s.cycle_written s.pre s.layouts (if lost then Lost else Again)) m
+    s.cycle_written s.pre s.layouts (if lost then Lost else Retry)) m
 pre_lost_rises true s m = tt
 pre_lost_rises false s m = refl
 
@@ -151,10 +151,10 @@ zeros_may : (o : Output) (n : ℕ) → aged_output o.carried ≡ o.carried
     → allows_octets o.carried (replicate n 0) ≡ true
 zeros_may o n aged = grind (arith, common_steps, aged, zeros_are n)
 
-length_told : (o : Output) (s : OutputState) (size : ℕ) → aged_output o.carried ≡ o.carried
+length_allowed : (o : Output) (s : OutputState) (size : ℕ) → aged_output o.carried ≡ o.carried
     → allows_octets o.carried s.carried.items ≡ true
-    → allows_octets o.carried (told_length size s).carried.items ≡ true
-length_told o s size aged carry = by (length s.carried.items == size)
+    → allows_octets o.carried (output_resized size s).carried.items ≡ true
+length_allowed o s size aged carry = by (length s.carried.items == size)
   where
     by : (same : Bool) → allows_octets o.carried (if same then s else record s {
       wanted = None;
@@ -163,13 +163,14 @@ length_told o s size aged carry = by (length s.carried.items == size)
     by true = carry
     by false = zeros_may o size aged
 
-still_untold : (size : ℕ) (s : OutputState) → s.told ≡ false → (told_length size s).told ≡ false
-still_untold size s untold = grind (arith, untold)
+still_unacknowledged : (size : ℕ) (s : OutputState) → s.acknowledged ≡ false
+    → (output_resized size s).acknowledged ≡ false
+still_unacknowledged size s unacknowledged = grind (arith, unacknowledged)
 
-told_session : (o : Output) (known : Option Layouts) (step : StartupStep) (s : SessionState)
+read_session : (o : Output) (known : Option Layouts) (step : StartupStep) (s : SessionState)
     (m after : MasterState) → after.output ≡ o → StartSession o known s m
-    → StartSession o (step_layouts step) (told_in (read_by step) s) after
-told_session o known step s m after output start =
+    → StartSession o (step_layouts step) (with_page_read (read_by step) s) after
+read_session o known step s m after output start =
     by (read_by step) (step_layouts step) (known_is step)
   where
     known_is : (step : StartupStep)
@@ -178,11 +179,11 @@ told_session o known step s m after output start =
 
     by : (read : Option PageFacts) (layouts : Option Layouts)
         → layouts ≡ option_map (λ (t : PageFacts). t.layouts) read
-        → StartSession o layouts (told_in read s) after
+        → StartSession o layouts (with_page_read read s) after
     by None layouts is = record {
       current = start.current;
       exchange = start.exchange;
-      untold = start.untold;
+      unacknowledged = start.unacknowledged;
       reading = start.reading;
       page = rw is tt;
       aged = start.aged;
@@ -190,15 +191,15 @@ told_session o known step s m after output start =
       carry = start.carry;
       watched = output;
     }
-    by (Some told) layouts is = record {
+    by (Some facts) layouts is = record {
       current = start.current;
       exchange = start.exchange;
-      untold = still_untold told.layouts.run.pd_out s.output start.untold;
+      unacknowledged = still_unacknowledged facts.layouts.run.pd_out s.output start.unacknowledged;
       reading = start.reading;
       page = rw is (refl, refl);
       aged = start.aged;
       invalid = start.invalid;
-      carry = length_told o s.output told.layouts.run.pd_out start.aged start.carry;
+      carry = length_allowed o s.output facts.layouts.run.pd_out start.aged start.carry;
       watched = output;
     }
 
@@ -230,10 +231,11 @@ module _ (o : Output) (known : Option Layouts) (s : SessionState) (m after : Mas
           output = record {
             allowed = ap (λ (x : Output). allows_octets x.carried s.output.carried.items) output
                 ∙ start.carry;
-            valid_is = ap (λ (x : Output). x.valid) output ∙ start.invalid ∙ sym start.untold;
+            valid_is = ap (λ (x : Output). x.valid) output ∙ start.invalid
+                ∙ sym start.unacknowledged;
           };
           flag = flag;
-          reading = fair.3.1 ∙ sym (ap reading_seen start.reading);
+          reading = fair.3.1 ∙ sym (ap watched_reading start.reading);
           request = subst (λ (c : Option Current). RequestStands c after.transfer)
               (sym start.current) (ap is_free fair.3.2);
         }
@@ -249,14 +251,14 @@ module _ (o : Output) (known : Option Layouts) (s : SessionState) (m after : Mas
           (output ∙ sym start.watched) ∙ start_carries o known s m start;
     }
     risen (InStartup t) rises fair =
-        (o, fair, told_session o known t.step s m after output start)
+        (o, fair, read_session o known t.step s m after output start)
     risen (InPreoperate t) rises fair = (
       o,
       fair,
       record {
         current = start.current;
         exchange = start.exchange;
-        untold = start.untold;
+        unacknowledged = start.unacknowledged;
         reading = start.reading;
         page = subst (λ (k : Option Layouts). IfSome k (λ l. (s.layout ≡ Some l.run)
             × (s.isdu ≡ Some l.isdu))) rises start.page;

@@ -43,7 +43,7 @@ pub record StartSession (o : Output) (known : Option Layouts) (s : SessionState)
     Type 0 where
   pub current : s.current ≡ None
   pub exchange : s.exchange ≡ None
-  pub untold : s.output.told ≡ false
+  pub unacknowledged : s.output.acknowledged ≡ false
   pub reading : s.events.reading ≡ Resting
   pub page : IfSome known (λ layouts. (s.layout ≡ Some layouts.run)
       × (s.isdu ≡ Some layouts.isdu))
@@ -57,7 +57,7 @@ pub record OutFair (sent : Bool) (layouts : Layouts) (out : Sending) (s : Sessio
     (m : MasterState) : Type 0 where
   pub exchange : Purpose
   pub next : MasterState
-  pub told : master_after_sending m (master_text layouts.run out.message) ≡ Ok next
+  pub accepted : master_after_sending m (master_text layouts.run out.message) ≡ Ok next
   pub stands : OperateOut layouts out exchange s next
   pub carry : sent ≡ false → MayCarry m.output s.output
 
@@ -91,7 +91,8 @@ start_carries o known s m fair =
 
 operate_carries : (out : Option Sending) (layouts : Layouts) (s : SessionState) (m : MasterState)
     → OperateFair false out layouts s m → MayCarry m.output s.output
-operate_carries None layouts s m fair = may_carry s.output.told m.output s.output fair.1.output
+operate_carries None layouts s m fair =
+    may_carry s.output.acknowledged m.output s.output fair.1.output
 operate_carries (Some out) layouts s m fair = fair.carry refl
 
 carries_idle : (state : State) (s : SessionState) (m : MasterState) → StandsIn false state s m
@@ -132,7 +133,7 @@ module _ (Holds : Option Current → Type 0)
 abort_out : (exchange : Purpose) (transfer : MasterTransfer) (cause : Cause) (current : Current)
     → TransferOut exchange (Some current) transfer
     → TransferOut exchange (Some (current_with_abort cause current)) transfer
-abort_out for.TellOutput transfer cause current out = cancel_stands cause current transfer out
+abort_out for.EnableOutput transfer cause current out = cancel_stands cause current transfer out
 abort_out for.DropOutput transfer cause current out = cancel_stands cause current transfer out
 abort_out for.Abort transfer cause current out = out
 abort_out for.ReadEvent transfer cause current out = cancel_stands cause current transfer out
@@ -191,7 +192,7 @@ module _ (s : SessionState) (configuration : Configuration) (wanted : Option (Li
     called_start o known m fair = record {
       current = abort_none s.current current waits fair.current;
       exchange = fair.exchange;
-      untold = fair.untold;
+      unacknowledged = fair.unacknowledged;
       reading = fair.reading;
       page = fair.page;
       aged = fair.aged;
@@ -207,7 +208,7 @@ module _ (s : SessionState) (configuration : Configuration) (wanted : Option (Li
       phase = fair.phase;
       out = fair.out;
       free = fair.free;
-      output = called_output s.output.told m.output fair.output;
+      output = called_output s.output.acknowledged m.output fair.output;
       flag = fair.flag;
       reading = fair.reading;
       request = abort_holds (λ (c : Option Current). RequestStands c m.transfer)
@@ -241,7 +242,7 @@ module _ (s : SessionState) (configuration : Configuration) (wanted : Option (Li
     called_operate sent (Some out) layouts m fair = record {
       exchange = fair.exchange;
       next = fair.next;
-      told = fair.told;
+      accepted = fair.accepted;
       stands = called_out layouts out fair.exchange fair.next fair.stands;
       carry = fair.carry;
     }

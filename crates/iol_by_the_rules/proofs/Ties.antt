@@ -11,7 +11,7 @@ use Rattle.iol_judge.specs.declared.master_phase.MasterPhase.TheVariants.{Operat
 use Rattle.iol_judge.specs.declared.master.MasterState.{MasterState}
 use Rattle.iol_judge.specs.declared.master_output.Output.{Output}
 use Rattle.iol_judge.specs.declared.master_reading.Reading.{Reading}
-use Rattle.iol_judge.specs.declared.master_reading.Reading.TheVariants as seen
+use Rattle.iol_judge.specs.declared.master_reading.Reading.TheVariants as readings
 use Rattle.iol_judge.specs.declared.master_transfer.MasterTransfer.{MasterTransfer}
 use Rattle.iol_judge.specs.declared.master_transfer.MasterTransfer.TheVariants.{Quiet}
 use Rattle.iol_judge.specs.MasterOutputs.{allows_octets, aged_output}
@@ -20,11 +20,11 @@ use Rattle.iol_app.specs.declared.event_work.ReadingProgress.{ReadingProgress}
 use Rattle.iol_app.specs.declared.event_work.ReadingProgress.TheVariants.{Resting, UnderWay, ConfirmDue, Refused}
 use Rattle.iol_app.specs.declared.request.Current.{Current}
 use Rattle.iol_app.specs.declared.session.Purpose.{Purpose}
-use Rattle.iol_app.specs.declared.session.Purpose.TheVariants.{TellOutput, DropOutput, Abort, ReadEvent, ConfirmEvents, CheckEvents, Request, Idle}
+use Rattle.iol_app.specs.declared.session.Purpose.TheVariants.{EnableOutput, DropOutput, Abort, ReadEvent, ConfirmEvents, CheckEvents, Request, Idle}
 use Rattle.iol_app.specs.Messages.{head_of, head_for}
 use Rattle.iol_app.specs.Requests.{is_doubting}
 use Rattle.iol_app.specs.State.{SessionState}
-use Rattle.iol_by_the_rules.proofs.Telling.{missed_of}
+use Rattle.iol_by_the_rules.proofs.Accepted.{missed_of}
 use Rattle.iol_by_the_rules.proofs.Requests.{RequestStands, RequestOut}
 
 -- By part
@@ -40,20 +40,20 @@ MayCarry output s = allows_octets (aged_output output.carried) s.carried.items �
 
 -- whether it is valid once a message for this was sent
 abbrev pub valid_out : Purpose → Bool → Bool
-valid_out TellOutput told = true
-valid_out DropOutput told = false
-valid_out exchange told = told
+valid_out EnableOutput acknowledged = true
+valid_out DropOutput acknowledged = false
+valid_out exchange acknowledged = acknowledged
 
 -- the reading of events
-abbrev pub reading_seen : ReadingProgress → Reading
-reading_seen Resting = seen.Resting
-reading_seen (UnderWay reader) = seen.UnderWay reader
-reading_seen ConfirmDue = seen.ConfirmDue
-reading_seen Refused = seen.Refused
+abbrev pub watched_reading : ReadingProgress → Reading
+watched_reading Resting = readings.Resting
+watched_reading (UnderWay reader) = readings.UnderWay reader
+watched_reading ConfirmDue = readings.ConfirmDue
+watched_reading Refused = readings.Refused
 
 abbrev pub reading_out : Purpose → ReadingProgress → Reading
-reading_out CheckEvents so_far = seen.ConfirmDue
-reading_out exchange so_far = reading_seen so_far
+reading_out CheckEvents so_far = readings.ConfirmDue
+reading_out exchange so_far = watched_reading so_far
 
 -- a message for this fits the reading
 abbrev pub reads_well : Purpose → ReadingProgress → Bool
@@ -89,9 +89,9 @@ pub record OperateRests (layouts : Layouts) (s : SessionState) (m : MasterState)
   pub phase : m.phase ≡ Operate layouts
   pub out : m.out ≡ None
   pub free : s.exchange ≡ None
-  pub output : OutputStands s.output.told m.output s.output
+  pub output : OutputStands s.output.acknowledged m.output s.output
   pub flag : m.events.flag ≡ s.events.flag
-  pub reading : m.events.reading ≡ reading_seen s.events.reading
+  pub reading : m.events.reading ≡ watched_reading s.events.reading
   pub request : RequestStands s.current m.transfer
 
 -- this one is, which the watch was told
@@ -105,7 +105,7 @@ pub record OperateOut (layouts : Layouts) (sent : Sending) (exchange : Purpose) 
   pub parts : HasMasterParts layouts.run sent.message
   pub head : head_of sent.message.mc ≡ head_for exchange s.events.reading s.current
   pub carries : sent.message.out.items ≡ s.output.carried.items
-  pub output : OutputStands (valid_out exchange s.output.told) m.output s.output
+  pub output : OutputStands (valid_out exchange s.output.acknowledged) m.output s.output
   pub reading : m.events.reading ≡ reading_out exchange s.events.reading
   pub reads : reads_well exchange s.events.reading ≡ true
   pub request : TransferOut exchange s.current m.transfer

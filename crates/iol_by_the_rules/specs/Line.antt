@@ -36,20 +36,21 @@ BeginsRequest p = p.sent ≡ false → IsTrue (takes_next p) → IfSome (begun_n
 -- each as the clauses of `PortCore` say it
 abbrev pub DeedGives : PortParts → Deed → PortParts → Type 0
 DeedGives p Sends next = (IsTrue p.sent → next ≡ p) × PortSendGives p next × BeginsRequest p
-DeedGives p (Receives came) next = (awaited_answer p ≡ awaits.Reply) × PortReceiveGives p came next
+DeedGives p (Receives received) next = (awaited_answer p ≡ awaits.Reply)
+    × PortReceiveGives p received next
 DeedGives p (Wakes answered) next = (awaited_answer p ≡ awaits.Wake) × WakeGives p answered next
 DeedGives p (Calls call reply) next = (call ≡ Restart → awaited_answer p ≡ awaits.Nothing)
     × CoreCallGives p call reply next
 
-abbrev pub wake_seen : Bool → Wake
-wake_seen true = WakeAnswered
-wake_seen false = Unanswered
+abbrev pub wake_observed : Bool → Wake
+wake_observed true = WakeAnswered
+wake_observed false = Unanswered
 
 -- what the watch is told of it: each wake-up request, and each message with what came to it. The
 -- octets are those that `send` gave
 abbrev pub watch_after_deed : WatchState → PortParts → Deed → WatchState
-watch_after_deed w p (Receives came) = watch_after_exchange w (text_out p.core.state) came
-watch_after_deed w p (Wakes answered) = watch_after_wake w (wake_seen answered)
+watch_after_deed w p (Receives received) = watch_after_exchange w (text_out p.core.state) received
+watch_after_deed w p (Wakes answered) = watch_after_wake w (wake_observed answered)
 watch_after_deed w p other = w
 
 abbrev pub blames : MasterVerdict → Bool
@@ -67,5 +68,5 @@ IsWatchedRun p w (it ∷ more) q v = (next : PortParts) × DeedGives p it next
 -- places for the page
 abbrev pub PortsAreByTheRules : Type 0
 PortsAreByTheRules = (devices : Devices) (limits : Limits) (p q : PortParts) (w v : WatchState)
-    (all : List Deed) → IsNewFor devices limits p → length w.told ≡ 10
+    (all : List Deed) → IsNewFor devices limits p → length w.preset ≡ 10
     → blames w.verdict ≡ false → IsWatchedRun p w all q v → blames v.verdict ≡ false

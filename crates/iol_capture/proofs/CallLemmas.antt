@@ -9,7 +9,7 @@ use Rattle.iol_capture.specs.declared.fault.LineFault.TheVariants.{BadForm}
 use Rattle.iol_capture.specs.declared.telling.Telling.{Telling}
 use Rattle.iol_capture.specs.declared.telling.Telling.TheVariants.{Trace, Octets}
 use Rattle.iol_capture.specs.declared.timed_call.TimedCall.{TimedCall}
-use Rattle.iol_capture.specs.Capture.{IsOpenLine, ReadPart, ReaderState, calls_of_lines, calls_of_rest, capture_after_line, line_call, line_told, told_before}
+use Rattle.iol_capture.specs.Capture.{IsOpenLine, ReadPart, ReaderState, calls_of_lines, calls_of_rest, capture_after_line, line_call, line_judged, emitted_before}
 use Rattle.iol_capture.proofs.ReadLemmas.{BeginsWith, lines_begun, lines_ended, lines_last, open_both}
 
 -- a line feed ends the line that is open, with these bytes behind it, by a call with this result
@@ -18,27 +18,27 @@ pub ended_calls : (result : Result (Option TimedCall) CaptureFault) (old mid new
     → result_and result (Ok new.reading) ≡ capture_after_line (Ok mid.reading) mid.line
     → result_unwrap_or result None ≡ line_call mid.reading.telling mid.line
     → OnOk result (new.line ≡ []) → (rest : List ℕ)
-    → told_before result (calls_of_rest new rest) ≡ calls_of_rest old (end ++ 10 ∷ rest)
-ended_calls (Ok call) old mid new end same longer h read tells empty rest =
+    → emitted_before result (calls_of_rest new rest) ≡ calls_of_rest old (end ++ 10 ∷ rest)
+ended_calls (Ok call) old mid new end same longer h read emits empty rest =
     grind (arith, lines_ended, append_assoc {A = ℕ})
-ended_calls (Err fault) old mid new end same longer h read tells empty rest =
+ended_calls (Err fault) old mid new end same longer h read emits empty rest =
     grind (arith, lines_ended, append_assoc {A = ℕ})
 
 -- a line of more than 1,024 bytes tells nothing, and is bad
-long_tells_nothing : (telling : Telling) (line : List ℕ) → 1024 < length line
+long_emits_nothing : (telling : Telling) (line : List ℕ) → 1024 < length line
     → line_call telling line ≡ None
-long_tells_nothing (Trace judging) line long = refl
-long_tells_nothing (Octets hearing) line long = grind (arith, nat_tests)
+long_emits_nothing (Trace judging) line long = refl
+long_emits_nothing (Octets hearing) line long = grind (arith, nat_tests)
 
 long_is_bad : (telling : Telling) (line : List ℕ) → 1024 < length line
-    → line_told telling line ≡ Err BadForm
+    → line_judged telling line ≡ Err BadForm
 long_is_bad (Trace judging) line long = grind (arith, nat_tests)
 long_is_bad (Octets hearing) line long = grind (arith, nat_tests)
 
 long_ends : (reading : ReadPart) (line : List ℕ) (others : List (List ℕ)) → 1024 < length line
     → calls_of_lines (Ok reading) (line ∷ others) ≡ []
 long_ends reading line others long =
-    rw (long_tells_nothing reading.telling line long, long_is_bad reading.telling line long) refl
+    rw (long_emits_nothing reading.telling line long, long_is_bad reading.telling line long) refl
 
 -- no room is left for more of a line
 pub overfull_calls : (inside old : ReaderState) (more : List ℕ) → inside ≡ old

@@ -8,8 +8,8 @@ use Rattle.iol_judge.specs.declared.verdict.Wake.TheVariants.{Answered, Unanswer
 use Rattle.iol_judge.specs.Judged.{JudgeState, judge_after_wake}
 use Rattle.iol_judge.specs.Admitted.{AreUnanswered, IsFair, IsHonestRun, IsWake, NeverBlamed, Passing, is_answered, judge_after_passing}
 use Rattle.iol_judge.specs.Admitted as admitted
-use Rattle.iol_capture.specs.FairSplits.{SaysNothing, exchange_passed, items_passed, judge_after_item, unanswered_before}
-use Rattle.iol_capture.specs.Written.{Fails, Item, Lapses, Passes, Reads, Tests, Wakes, items_told}
+use Rattle.iol_capture.specs.FairSplits.{BlamesNothing, exchange_passed, items_passed, judge_after_item, unanswered_before}
+use Rattle.iol_capture.specs.Written.{Fails, Item, Lapses, Passes, Reads, Tests, Wakes, emitted_items}
 
 -- a row of wake-up requests, and what goes over the line behind the last of them
 record Row (count : ℕ) (wake : Wake) (far : Far) (later : List Passing) : Type 0 where
@@ -46,13 +46,13 @@ module _ (never : NeverBlamed) where
   abbrev Unblamed : List Item → Type 0
   Unblamed items = (judged : JudgeState) (far : Far) (silence : ℕ) → IsFair judged far
       → IsHonestRun far silence (items_passed items)
-      → SaysNothing (fold judge_after_item judged (items_told items))
+      → BlamesNothing (fold judge_after_item judged (emitted_items items))
 
   -- of a row the last is told
   row_unblamed : (items : List Item) → Unblamed items → (wake : Wake) (count : ℕ)
       (judged : JudgeState) (far : Far) → IsFair judged far
       → Row count wake far (items_passed items)
-      → SaysNothing (fold judge_after_item (judge_after_wake judged wake) (items_told items))
+      → BlamesNothing (fold judge_after_item (judge_after_wake judged wake) (emitted_items items))
   row_unblamed items rest wake count judged far fair row =
       rest (judge_after_wake judged wake) row.new row.silence
       (never.unseen judged far count row.between wake row.new row.row row.last fair) row.rest

@@ -11,14 +11,14 @@ use Rattle.iol_capture.specs.declared.split_fault.SplitFault.{SplitFault}
 use Rattle.iol_capture.specs.declared.octet_line.OctetLine.{OctetLine}
 use Rattle.iol_capture.specs.declared.octet_line.OctetLine.TheVariants as line
 use Rattle.iol_capture.specs.declared.passed.SplitItem.{SplitItem}
-use Rattle.iol_capture.specs.FairSplits.{OctetsNeverBlamed, SaysNothing, judge_after_item}
+use Rattle.iol_capture.specs.FairSplits.{OctetsNeverBlamed, BlamesNothing, judge_after_item}
 use Rattle.iol_capture.specs.Splitting.{octet_split, wake_split}
 use Rattle.iol_capture.specs.SplitterState.{Splitting, new_splitter}
 use Rattle.iol_capture.specs.SplitSteps.{SplitStep}
 use Rattle.iol_capture.specs.Damage.{damage_split, damaged_before}
 use Rattle.iol_capture.specs.Spacings.{spaced_by}
-use Rattle.iol_capture.specs.Timed.{begun_untold}
-use Rattle.iol_capture.specs.Written.{Fails, Item, Joins, Lapses, Passes, Reads, StreamItem, Tests, TimedOctet, TimedTry, Wakes, all_split, shown_before, stream_of, test_before, tries_before, with_told}
+use Rattle.iol_capture.specs.Timed.{begun_pending}
+use Rattle.iol_capture.specs.Written.{Fails, Item, Joins, Lapses, Passes, Reads, StreamItem, Tests, TimedOctet, TimedTry, Wakes, all_split, shown_before, stream_of, test_before, tries_before, with_emitted}
 use Rattle.iol_capture.specs.declared.telling.Telling.TheVariants.{Octets}
 use Rattle.iol_capture.specs.Judging.{Judging, line_skipped, or_bad_form}
 use Rattle.iol_capture.specs.declared.timed_call.Beginnings.{Beginnings}
@@ -27,13 +27,13 @@ use Rattle.iol_capture.specs.HonestCapture.{OctetTextsNeverBlamed, form_behind, 
 use Rattle.iol_capture.proofs.ReadLemmas.{judged_from, stays_bad}
 
 -- the judge is told what was split
-abbrev split_told : JudgeState → Result (List SplitItem) SplitFault → Result JudgeState SplitFault
-split_told judged = result_map_both (λ what. fold judge_after_item judged what) (λ fault. fault)
+abbrev split_judged : JudgeState → Result (List SplitItem) SplitFault → Result JudgeState SplitFault
+split_judged judged = result_map_both (λ what. fold judge_after_item judged what) (λ fault. fault)
 
 -- What one step tells
 
-abbrev told_of : JudgeState → Option SplitItem → JudgeState
-told_of judged passed = option_map_or (judge_after_item judged) passed judged
+abbrev emitted_of : JudgeState → Option SplitItem → JudgeState
+emitted_of judged passed = option_map_or (judge_after_item judged) passed judged
 
 -- No page stands in front
 
@@ -75,31 +75,33 @@ module _ (judging : Judging) where
   abbrev Later : List (List ℕ) → Type 0
   Later lines = (number : ℕ) (old : Hearing) → NoneJoins (shown_stream old.form lines)
       → judged_from Octets (Ok old) number lines ≡ Ok judging
-      → split_told old.judging.judged (all_split old.splitting (shown_stream old.form lines))
+      → split_judged old.judging.judged (all_split old.splitting (shown_stream old.form lines))
       ≡ Ok judging.judged
 
   -- the judge is told so all that a step tells
   step_splits : (hearing : Hearing) (old : Judging) (new : Option SplitItem → Judging)
       (begun : Option SplitItem → Beginnings)
-      → ((passed : Option SplitItem) → told_of old.judged passed ≡ (new passed).judged)
+      → ((passed : Option SplitItem) → emitted_of old.judged passed ≡ (new passed).judged)
       → (state : Splitting) (result : Result (Option SplitItem) SplitFault) (number : ℕ)
       (lines : List (List ℕ)) → Later lines → NoneJoins (shown_stream hearing.form lines)
-      → judged_from Octets (step_heard hearing new begun (record { state = state; told = result }))
+      → judged_from Octets (step_heard hearing new begun
+      (record { state = state; emitted = result }))
       number lines ≡ Ok judging
-      → split_told old.judged (with_told result (all_split state (shown_stream hearing.form lines)))
+      → split_judged old.judged (with_emitted result
+      (all_split state (shown_stream hearing.form lines)))
       ≡ Ok judging.judged
-  step_splits hearing old new begun told state (Err fault) number lines later none e =
+  step_splits hearing old new begun emitted state (Err fault) number lines later none e =
       absurd (grind (arith, stays_bad))
-  step_splits hearing old new begun told state (Ok passed) number lines later none e =
+  step_splits hearing old new begun emitted state (Ok passed) number lines later none e =
       let next : Hearing =
       record hearing { splitting = state; judging = new passed; begun = begun passed } in
-      grind (arith, told passed, later number next none e)
+      grind (arith, emitted passed, later number next none e)
 
   form_splits : (form : Option OctetLine) (old : Hearing) (number : ℕ) (lines : List (List ℕ))
       → Later lines → NoneJoins (cons_option (option_and_then stream_item_of form)
       (shown_stream (form_behind old.form form) lines))
       → judged_from Octets (or_bad_form (hearing_after_line old) form) number lines ≡ Ok judging
-      → split_told old.judging.judged
+      → split_judged old.judging.judged
       (all_split old.splitting (cons_option (option_and_then stream_item_of form)
       (shown_stream (form_behind old.form form) lines)))
       ≡ Ok judging.judged
@@ -115,24 +117,24 @@ module _ (judging : Judging) where
   form_splits (Some line.Untimed) old number lines later none e = absurd (grind (arith, stays_bad))
   form_splits (Some (line.Damaged time)) old number lines later none e =
       let step : SplitStep = damage_split old.splitting time in
-      step_splits old old.judging (passed_by_octet old.judging) (begun_untold old.begun)
-      (λ passed. grind arith) step.state step.told number lines later none e
+      step_splits old old.judging (passed_by_octet old.judging) (begun_pending old.begun)
+      (λ passed. grind arith) step.state step.emitted number lines later none e
   form_splits (Some line.DamagedBefore) old number lines later none e =
       let step : SplitStep = damaged_before old.splitting in
-      step_splits old old.judging (passed_by_octet old.judging) (begun_untold old.begun)
-      (λ passed. grind arith) step.state step.told number lines later none e
+      step_splits old old.judging (passed_by_octet old.judging) (begun_pending old.begun)
+      (λ passed. grind arith) step.state step.emitted number lines later none e
   form_splits (Some (line.Octet time octet)) old number lines later none e =
       let step : SplitStep = octet_split old.splitting time octet in
       step_splits (record old { spacing = spaced_by old.spacing time }) old.judging
       (passed_by_octet old.judging)
       (begun_by_octet old.begun step.state time) (λ passed. grind arith)
-      step.state step.told number lines later none e
+      step.state step.emitted number lines later none e
   form_splits (Some (line.Wake time)) old number lines later none e =
       let step : SplitStep = wake_split old.splitting time in
       step_splits old old.judging (passed_by_request old.judging)
       (begun_by_request old.begun time)
       (λ passed. grind arith)
-      step.state step.told number lines later none e
+      step.state step.emitted number lines later none e
 
   lines_split : (lines : List (List ℕ)) → Later lines
   lines_split [] number old none e = grind arith
@@ -142,18 +144,20 @@ module _ (judging : Judging) where
 
 -- The law
 
-says_nothing : (old end : JudgeState) (result : Result (List SplitItem) SplitFault)
-    → IfOk result (λ what. SaysNothing (fold judge_after_item old what))
-    → split_told old result ≡ Ok end → SaysNothing end
-says_nothing old end (Ok what) never is =
+blames_nothing : (old end : JudgeState) (result : Result (List SplitItem) SplitFault)
+    → IfOk result (λ what. BlamesNothing (fold judge_after_item old what))
+    → split_judged old result ≡ Ok end → BlamesNothing end
+blames_nothing old end (Ok what) never is =
     let same : fold judge_after_item old what ≡ end = cc in
-    subst SaysNothing same never
-says_nothing old end (Err fault) never is = absurd (cc)
+    subst BlamesNothing same never
+blames_nothing old end (Err fault) never is = absurd (cc)
 
 pub octet_texts : OctetsNeverBlamed → OctetTextsNeverBlamed
 octet_texts law odd rate text judging h =
-    says_nothing (new_judge odd) judging.judged (all_split (new_splitter rate) (stream_of h.items))
+    blames_nothing (new_judge odd) judging.judged
+    (all_split (new_splitter rate) (stream_of h.items))
     (law odd rate h.items h.written h.far h.silence h.honest)
-    (ap (λ stream. split_told (new_judge odd) (all_split (new_splitter rate) stream)) (sym h.shown)
+    (ap (λ stream. split_judged (new_judge odd) (all_split (new_splitter rate) stream))
+    (sym h.shown)
     ∙ lines_split judging (lines_of text) 0 (new_hearing rate odd)
     (subst NoneJoins (sym h.shown) (none_joins h.items)) h.judged)

@@ -93,9 +93,9 @@ uncut text none = list_any_none is_feed text (All-from_get_or (λ x. is_feed x �
 -- what is judged in the end, where the line of this number is told so, and these come behind it
 abbrev pub judged_from : {J : Type 0} → (J → Telling) → Result J LineFault → ℕ
     → List (List ℕ) → Result Judging CaptureFault
-judged_from form told number lines =
+judged_from form emitted number lines =
     judging_at_end (fold capture_after_line
-    (read_as number (result_map_both form (λ fault. fault) told)) lines)
+    (read_as number (result_map_both form (λ fault. fault) emitted)) lines)
 
 -- a bad line stays the first
 pub stays_bad : (fault : CaptureFault) (lines : List (List ℕ))

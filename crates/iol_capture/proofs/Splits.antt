@@ -14,16 +14,16 @@ use Rattle.iol_capture.specs.declared.splitter.Phase.TheVariants.{Asleep, Waking
 use Rattle.iol_capture.specs.Lengths.{meaning_in, reply_length}
 use Rattle.iol_capture.specs.SplitterState.{Splitting, new_splitter}
 use Rattle.iol_capture.specs.SplitSteps.{SplitStep, good_step}
-use Rattle.iol_capture.specs.Splitting.{answered_with, untold_at_end, is_unheard, looked_as, octet_split, line_after_request, wake_split}
+use Rattle.iol_capture.specs.Splitting.{answered_with, pending_at_end, is_unheard, looked_as, octet_split, line_after_request, wake_split}
 use Rattle.iol_capture.specs.Damage.{exchange_of, layout_begun}
 use Rattle.iol_capture.specs.Waking.{is_test_reply, line_in_startup}
-use Rattle.iol_capture.specs.Written.{AreAnswered, AreTried, AreWritten, Fails, Follow, IsAnswerBehind, TestMayBegin, IsBehind, IsBehindPause, IsNoTestReply, IsSentBehind, IsSpeaking, IsTested, IsVainTest, IsWholeMessage, IsWellWritten, Item, Lapses, Means, NoneWaits, Octet, Passes, Reads, StreamItem, TimedTestRead, TimedTry, Tests, TimedOctet, Wakes, TimedExchange, WrittenIsSplit, all_split, answer_behind, exchange_written, line_after_exchange, exchanged_with, items_told, last_of, line_after_tries, line_after_try, line_awaiting_answer, octets_of_timed, phase_in_test, sent_behind, shown_before, stream_of, test_before, line_after_test, tries_before, try_before, with_told}
+use Rattle.iol_capture.specs.Written.{AreAnswered, AreTried, AreWritten, Fails, Follow, IsAnswerBehind, TestMayBegin, IsBehind, IsBehindPause, IsNoTestReply, IsSentBehind, IsSpeaking, IsTested, IsVainTest, IsWholeMessage, IsWellWritten, Item, Lapses, Means, NoneWaits, Octet, Passes, Reads, StreamItem, TimedTestRead, TimedTry, Tests, TimedOctet, Wakes, TimedExchange, WrittenIsSplit, all_split, answer_behind, exchange_written, line_after_exchange, exchanged_with, emitted_items, last_of, line_after_tries, line_after_try, line_awaiting_answer, octets_of_timed, phase_in_test, sent_behind, shown_before, stream_of, test_before, line_after_test, tries_before, try_before, with_emitted}
 use Rattle.iol_capture.specs.declared.passed.SplitItem.TheVariants as passed
 use Rattle.iol_judge.specs.declared.verdict.Wake.TheVariants.{Answered, Unanswered}
 
 -- what is split behind a step
 abbrev behind : SplitStep → List StreamItem → Result (List SplitItem) SplitFault
-behind step later = with_told step.told (all_split step.state later)
+behind step later = with_emitted step.emitted (all_split step.state later)
 
 -- A message
 
@@ -61,7 +61,7 @@ never_one state layout octet ends = grind (arith, nat_tests)
 -- its first octet
 begins : (state : Splitting) (t : TimedOctet) → IsSpeaking state.phase → IsBehindPause state t.time
     → octet_split state t.time t.octet
-    ≡ good_step (sending state (t.octet ∷ []) t.time) (untold_at_end state)
+    ≡ good_step (sending state (t.octet ∷ []) t.time) (pending_at_end state)
 begins state t speaks h = grind (arith, nat_tests)
 
 -- one more, where there is room for it, and what the octets are then
@@ -80,7 +80,7 @@ module _ (base : Splitting) (layout : Shape) (all : List ℕ) (meaning : Meaning
   last_sent : (done : List ℕ) (last : ℕ) (t : TimedOctet) → all ≡ done ++ t.octet ∷ []
       → Follow base.rate 1 last (t ∷ [])
       → all_split (sending base done last) (Octet t ∷ later)
-      ≡ with_told (Ok (what_at meaning)) (all_split (replying base layout all [] t.time) later)
+      ≡ with_emitted (Ok (what_at meaning)) (all_split (replying base layout all [] t.time) later)
   last_sent done last t is follow =
       let room : length done < 66 =
       omega (arith, whole.most, ap length is, length-append {A = ℕ}) in
@@ -91,7 +91,7 @@ module _ (base : Splitting) (layout : Shape) (all : List ℕ) (meaning : Meaning
       → all ≡ done ++ octets_of_timed (t ∷ timed) → 0 < length done
       → Follow base.rate 1 last (t ∷ timed)
       → all_split (sending base done last) (shown_before (t ∷ timed) later)
-      ≡ with_told (Ok (what_at meaning))
+      ≡ with_emitted (Ok (what_at meaning))
       (all_split (replying base layout all [] (last_of t.time timed)) later)
   rest_sent done last t [] is some follow = last_sent done last t is follow
   rest_sent done last t (u ∷ timed) is some follow =
@@ -112,14 +112,14 @@ message_sent : (state : Splitting) (layout : Shape) (timed : List TimedOctet)
     (meaning : Meaning) → IsEnd meaning → IsSpeaking state.phase
     → IsWholeMessage state layout (octets_of_timed timed) meaning → IsSentBehind state timed
     → all_split state (shown_before timed later)
-    ≡ with_told (Ok (untold_at_end state)) (with_told (Ok (what_at meaning))
+    ≡ with_emitted (Ok (pending_at_end state)) (with_emitted (Ok (what_at meaning))
     (all_split (replying state layout (octets_of_timed timed) [] (last_of state.last timed)) later))
 message_sent state layout [] later meaning ends speaks whole times = absurd times
 message_sent state layout (t ∷ []) later meaning ends speaks whole times =
     absurd (never_one state layout t.octet (subst IsEnd (sym whole.whole) ends))
 message_sent state layout (t ∷ u ∷ timed) later meaning ends speaks whole times =
     ap (λ step. behind step (shown_before (u ∷ timed) later)) (begins state t speaks times.0)
-    ∙ ap (with_told (Ok (untold_at_end state)))
+    ∙ ap (with_emitted (Ok (pending_at_end state)))
     (rest_sent state layout (octets_of_timed (t ∷ u ∷ timed)) meaning ends whole later
     (t.octet ∷ [])
     t.time u timed refl (omega arith) times.1)
@@ -128,17 +128,17 @@ message_sent state layout (t ∷ u ∷ timed) later meaning ends speaks whole ti
 
 module _ (base : Splitting) (layout : Shape) (sent : List ℕ) where
   -- the octets behind these come as those of a reply do
-  abbrev Come : List ℕ → ℕ → List TimedOctet → Type 0
-  Come [] last timed = IsAnswerBehind base.rate last timed
-  Come (octet ∷ done) last timed = Follow base.rate 3 last timed
+  abbrev Arrive : List ℕ → ℕ → List TimedOctet → Type 0
+  Arrive [] last timed = IsAnswerBehind base.rate last timed
+  Arrive (octet ∷ done) last timed = Follow base.rate 3 last timed
 
-  come_on : (done : List ℕ) (last : ℕ) (t : TimedOctet) (timed : List TimedOctet)
-      → Come done last (t ∷ timed) → Come (done ++ t.octet ∷ []) t.time timed
-  come_on done last t timed h = grind arith
+  arrive_on : (done : List ℕ) (last : ℕ) (t : TimedOctet) (timed : List TimedOctet)
+      → Arrive done last (t ∷ timed) → Arrive (done ++ t.octet ∷ []) t.time timed
+  arrive_on done last t timed h = grind arith
 
   -- one more octet, where there is room for it
   answered_on : (done : List ℕ) (last : ℕ) (t : TimedOctet) (timed : List TimedOctet)
-      → length done < 66 → Come done last (t ∷ timed)
+      → length done < 66 → Arrive done last (t ∷ timed)
       → octet_split (replying base layout sent done last) t.time t.octet
       ≡ answered_with (replying base layout sent (done ++ t.octet ∷ []) t.time)
   answered_on done last t timed room h = grind (arith, nat_tests)
@@ -153,32 +153,32 @@ module _ (base : Splitting) (layout : Shape) (sent : List ℕ) where
   -- the rest of it
   rest_answered : (all done : List ℕ) (last : ℕ) (timed : List TimedOctet) (later : List StreamItem)
       → all ≡ done ++ octets_of_timed timed → length all ≤ reply_length layout sent
-      → reply_length layout sent ≤ 66 → Come done last timed
+      → reply_length layout sent ≤ 66 → Arrive done last timed
       → behind (answered_with (replying base layout sent done last)) (shown_before timed later)
       ≡ behind (answered_with (replying base layout sent all (last_of last timed))) later
-  rest_answered all done last [] later is most room come =
+  rest_answered all done last [] later is most room arrive =
       ap (λ octets. behind (answered_with (replying base layout sent octets last)) later)
       (sym (is ∙ append-nil done))
-  rest_answered all done last (t ∷ timed) later is most room come =
+  rest_answered all done last (t ∷ timed) later is most room arrive =
       let more : List ℕ = done ++ t.octet ∷ [] in
       let shorter : length done < length all =
       omega (arith, ap length is, length-append {A = ℕ}) in
       answered_part done last (shown_before (t ∷ timed) later) (omega (arith, most, shorter))
       ∙ ap (λ step. behind step (shown_before timed later))
-      (answered_on done last t timed (omega (arith, most, room, shorter)) come)
+      (answered_on done last t timed (omega (arith, most, room, shorter)) arrive)
       ∙ rest_answered all more t.time timed later
       (is ∙ sym (append_assoc done (t.octet ∷ []) (octets_of_timed timed))) most room
-      (come_on done last t timed come)
+      (arrive_on done last t timed arrive)
 
 -- Exchanges
 
 -- what a splitter will tell of an exchange that is over, and is then
-abbrev told_of : SplitItem → List Item → Result (List SplitItem) SplitFault
-told_of passed items = with_told (Ok (Some passed)) (Ok (items_told items))
+abbrev emitted_of : SplitItem → List Item → Result (List SplitItem) SplitFault
+emitted_of passed items = with_emitted (Ok (Some passed)) (Ok (emitted_items items))
 
 abbrev Splits : Splitting → List Item → Type 0
 Splits state items = all_split state (stream_of items)
-    ≡ with_told (Ok (untold_at_end state)) (Ok (items_told items))
+    ≡ with_emitted (Ok (pending_at_end state)) (Ok (emitted_items items))
 
 abbrev AllSplit : List Item → Type 0
 AllSplit items = (state : Splitting) → is_unheard state.phase ≡ false
@@ -187,23 +187,24 @@ AllSplit items = (state : Splitting) → is_unheard state.phase ≡ false
 -- behind the reply to a message, as far as it came
 exchange_split : (over : Splitting) (items : List Item) → is_unheard over.phase ≡ false
     → AllSplit items → AreWritten (exchanged_with over) items
-    → untold_at_end over ≡ Some (exchange_of over)
-    → behind (answered_with over) (stream_of items) ≡ told_of (exchange_of over) items
+    → pending_at_end over ≡ Some (exchange_of over)
+    → behind (answered_with over) (stream_of items) ≡ emitted_of (exchange_of over) items
 exchange_split over items free all written ends = grind (arith, all (exchanged_with over))
 
 -- the exchange of a message, as far as it came
-exchange_told : (state : Splitting) (layout : Shape) (w : TimedExchange) (meaning : Meaning)
+exchange_emitted : (state : Splitting) (layout : Shape) (w : TimedExchange) (meaning : Meaning)
     (items : List Item) → IsEnd meaning → IsWellWritten state layout w meaning → AllSplit items
     → AreWritten (line_after_exchange state layout w) items
     → all_split state (shown_before w.sent (shown_before w.answer (stream_of items)))
-    ≡ with_told (Ok (untold_at_end state)) (with_told (Ok (what_at meaning))
-    (told_of (exchange_written w) items))
-exchange_told state layout w meaning items ends now all later =
+    ≡ with_emitted (Ok (pending_at_end state)) (with_emitted (Ok (what_at meaning))
+    (emitted_of (exchange_written w) items))
+exchange_emitted state layout w meaning items ends now all later =
     let sent : List ℕ = octets_of_timed w.sent in
     let last : ℕ = last_of state.last w.sent in
     let stream : List StreamItem = shown_before w.answer (stream_of items) in
     message_sent state layout w.sent stream meaning ends now.speaks now.message now.sent
-    ∙ ap (λ rest. with_told (Ok (untold_at_end state)) (with_told (Ok (what_at meaning)) rest))
+    ∙ ap (λ rest. with_emitted (Ok (pending_at_end state))
+    (with_emitted (Ok (what_at meaning)) rest))
     (sym (answered_part state layout sent [] last stream (omega arith))
     ∙ rest_answered state layout sent (octets_of_timed w.answer) [] last w.answer
     (stream_of items) refl
@@ -213,10 +214,10 @@ exchange_told state layout w meaning items ends now all later =
 
 -- Test reads
 
-request_told : (state : Splitting) (time : ℕ) → is_unheard state.phase ≡ false
+request_emitted : (state : Splitting) (time : ℕ) → is_unheard state.phase ≡ false
     → state.last ≤ time → wake_split state time
-    ≡ good_step (line_after_request state time) (untold_at_end state)
-request_told state time free h = grind (arith, nat_tests)
+    ≡ good_step (line_after_request state time) (pending_at_end state)
+request_emitted state time free h = grind (arith, nat_tests)
 
 -- a test read is awaited, or the reply to it
 abbrev IsSeeking : Phase → Type 0
@@ -229,8 +230,8 @@ in_test Asleep = tt
 in_test phase = tt
 
 -- what the first octet of one tells
-abbrev told_at_test : Splitting → Option SplitItem
-told_at_test state = elim state.phase [ Waking ↦ None | phase ↦ untold_at_end state ]
+abbrev emitted_at_test : Splitting → Option SplitItem
+emitted_at_test state = elim state.phase [ Waking ↦ None | phase ↦ pending_at_end state ]
 
 module _ (base : Splitting) (phase : Phase) (seeks : IsSeeking phase) where
   abbrev seeking : List ℕ → List ℕ → ℕ → Splitting
@@ -297,13 +298,13 @@ module _ (base : Splitting) (phase : Phase) (seeks : IsSeeking phase) where
   read_answered : (t : TimedTestRead) (items : List Item) → IsTested base.rate t
       → Splits (line_after_test base t) items
       → all_split (seeking test_read [] t.check) (Octet t.value ∷ Octet t.status ∷ stream_of items)
-      ≡ told_of (passed.Wake Answered) items
+      ≡ emitted_of (passed.Wake Answered) items
   read_answered t items h later =
       ap (λ step. behind step (Octet t.status ∷ stream_of items))
       (value_heard t.check t.value h.value)
       ∙ ap (λ step. behind step (stream_of items))
       (status_heard t.value.octet t.value.time t.status h.status h.reply)
-      ∙ ap (with_told (Ok (Some (passed.Wake Answered)))) later
+      ∙ ap (with_emitted (Ok (Some (passed.Wake Answered)))) later
 
   -- what is none
   read_unanswered : (check : ℕ) (answer : List TimedOctet) (later : List StreamItem)
@@ -326,7 +327,7 @@ asks_in : (phase : Phase) (base : Splitting) (control check : ℕ) (later : List
     → all_split (record base { phase = phase })
     (Octet (record { time = control; octet = 0xA2 }) ∷ Octet (record { time = check; octet = 0 })
     ∷ later)
-    ≡ with_told (Ok (told_at_test (record base { phase = phase })))
+    ≡ with_emitted (Ok (emitted_at_test (record base { phase = phase })))
     (all_split (line_awaiting_answer (record base { phase = phase }) check) later)
 asks_in Asleep base control check later asked h =
     test_heard base Asleep tt base.sent base.answer base.last control check later asked h
@@ -337,7 +338,7 @@ asks_in phase base control check later asked h =
     let spoken = asked.2 in
     ap (λ step. behind step (Octet (record { time = check; octet = 0 }) ∷ later))
     (begins state (record { time = control; octet = 0xA2 }) asked.0 asked.1)
-    ∙ ap (with_told (Ok (untold_at_end state)))
+    ∙ ap (with_emitted (Ok (pending_at_end state)))
     (ap (λ step. behind step later)
     (sent_on state (0xA2 ∷ []) control check 0 spoken.layout TestRead (omega arith) h
     spoken.spoken spoken.meant))
@@ -347,54 +348,54 @@ asks : (state : Splitting) (control check : ℕ) (later : List StreamItem)
     → all_split state
     (Octet (record { time = control; octet = 0xA2 }) ∷ Octet (record { time = check; octet = 0 })
     ∷ later)
-    ≡ with_told (Ok (told_at_test state)) (all_split (line_awaiting_answer state check) later)
+    ≡ with_emitted (Ok (emitted_at_test state)) (all_split (line_awaiting_answer state check) later)
 asks state = asks_in state.phase state
 
 -- behind a test read the next one tells nothing
-none_told : (phase : Phase) (base : Splitting)
-    → told_at_test (record base { phase = phase_in_test phase }) ≡ None
-none_told Asleep base = refl
-none_told phase base = refl
+none_emitted : (phase : Phase) (base : Splitting)
+    → emitted_at_test (record base { phase = phase_in_test phase }) ≡ None
+none_emitted Asleep base = refl
+none_emitted phase base = refl
 
 -- one without a good reply
 try_split : (state : Splitting) (t : TimedTry) (later : List StreamItem)
     → TestMayBegin state.phase state t.control → IsVainTest state.rate t
     → all_split state (try_before t later)
-    ≡ with_told (Ok (told_at_test state)) (all_split (line_after_try state t) later)
+    ≡ with_emitted (Ok (emitted_at_test state)) (all_split (line_after_try state t) later)
 try_split state t later asked h =
     asks state t.control t.check (shown_before t.answer later) asked h.check
-    ∙ ap (with_told (Ok (told_at_test state)))
+    ∙ ap (with_emitted (Ok (emitted_at_test state)))
     (read_unanswered state (phase_in_test state.phase) (in_test state.phase) t.check t.answer later
     h.answer h.bad)
 
 tries_split : (tries : List TimedTry) (state : Splitting) (later : List StreamItem)
-    → told_at_test state ≡ None → AreTried state tries
+    → emitted_at_test state ≡ None → AreTried state tries
     → all_split state (tries_before tries later) ≡ all_split (line_after_tries state tries) later
 tries_split [] state later none h = refl
 tries_split (t ∷ tries) state later none (asked, now, rest) =
     try_split state t (tries_before tries later) asked now
-    ∙ ap (λ told. with_told (Ok told)
+    ∙ ap (λ emitted. with_emitted (Ok emitted)
     (all_split (line_after_try state t) (tries_before tries later))) none
     ∙ tries_split tries (line_after_try state t) later
-    (none_told state.phase (line_after_try state t)) rest
+    (none_emitted state.phase (line_after_try state t)) rest
 
 -- in a row of them the last is answered
 row_answered : (tries : List TimedTry) (state : Splitting) (t : TimedTestRead) (items : List Item)
     → AreAnswered state tries t → Splits (line_after_test (line_after_tries state tries) t) items
     → all_split state (tries_before tries (test_before t (stream_of items)))
-    ≡ with_told (Ok (told_at_test state)) (told_of (passed.Wake Answered) items)
+    ≡ with_emitted (Ok (emitted_at_test state)) (emitted_of (passed.Wake Answered) items)
 row_answered [] state t items h later =
     asks state t.control t.check (Octet t.value ∷ Octet t.status ∷ stream_of items) h.begins
     h.tested.check
-    ∙ ap (with_told (Ok (told_at_test state)))
+    ∙ ap (with_emitted (Ok (emitted_at_test state)))
     (read_answered state (phase_in_test state.phase) (in_test state.phase) t items h.tested later)
 row_answered (u ∷ tries) state t items h later =
     try_split state u (tries_before tries (test_before t (stream_of items))) h.before.0 h.before.1
-    ∙ ap (with_told (Ok (told_at_test state)))
+    ∙ ap (with_emitted (Ok (emitted_at_test state)))
     (row_answered tries (line_after_try state u) t items
     (record { before = h.before.2; begins = h.begins; tested = h.tested }) later
-    ∙ ap (λ told. with_told (Ok told) (told_of (passed.Wake Answered) items))
-    (none_told state.phase (line_after_try state u)))
+    ∙ ap (λ emitted. with_emitted (Ok emitted) (emitted_of (passed.Wake Answered) items))
+    (none_emitted state.phase (line_after_try state u)))
 
 -- none is
 stays_waking : (tries : List TimedTry) (state : Splitting) → state.phase ≡ Waking
@@ -405,17 +406,18 @@ stays_waking (t ∷ tries) state is =
 
 row_lapsed : (state : Splitting) (items : List Item) → AllSplit items → state.phase ≡ Waking
     → AreWritten state items
-    → all_split state (stream_of items) ≡ told_of (passed.Wake Unanswered) items
+    → all_split state (stream_of items) ≡ emitted_of (passed.Wake Unanswered) items
 row_lapsed state items all is written =
     all state (ap is_unheard is) written
-    ∙ ap (λ phase. with_told (Ok (untold_at_end (record state { phase = phase })))
-    (Ok (items_told items))) is
+    ∙ ap (λ phase. with_emitted (Ok (pending_at_end (record state { phase = phase })))
+    (Ok (emitted_items items))) is
 
 -- where no request waits, it tells what isn't told yet
-untold_at_test : (phase : Phase) (base : Splitting) → NoneWaits phase
-    → told_at_test (record base { phase = phase }) ≡ untold_at_end (record base { phase = phase })
-untold_at_test Waking base free = absurd free
-untold_at_test phase base free = refl
+pending_at_test : (phase : Phase) (base : Splitting) → NoneWaits phase
+    → emitted_at_test (record base { phase = phase })
+    ≡ pending_at_end (record base { phase = phase })
+pending_at_test Waking base free = absurd free
+pending_at_test phase base free = refl
 
 speaks_free : (phase : Phase) → IsSpeaking phase → NoneWaits phase
 speaks_free Waking speaks = absurd speaks
@@ -430,34 +432,34 @@ speaks_first phase speaks = refl
 all_are_split : (items : List Item) → AllSplit items
 all_are_split [] state free written = refl
 all_are_split (Passes w ∷ items) state free (layout, now, later) =
-    exchange_told state layout w Whole items tt now (all_are_split items) later
+    exchange_emitted state layout w Whole items tt now (all_are_split items) later
 all_are_split (Reads w ∷ items) state free (layout, now, later) =
-    exchange_told state layout w ReadOrTest items tt now (all_are_split items) later
+    exchange_emitted state layout w ReadOrTest items tt now (all_are_split items) later
 all_are_split (Wakes time tries t ∷ items) state free (before, now, later) =
     ap (λ step. behind step (tries_before tries (test_before t (stream_of items))))
-    (request_told state time free before)
-    ∙ ap (with_told (Ok (untold_at_end state)))
+    (request_emitted state time free before)
+    ∙ ap (with_emitted (Ok (pending_at_end state)))
     (row_answered tries (line_after_request state time) t items now
     (all_are_split items _ refl later))
 all_are_split (Fails time tries ∷ items) state free (before, now, later) =
     ap (λ step. behind step (tries_before tries (stream_of items)))
-    (request_told state time free before)
-    ∙ ap (with_told (Ok (untold_at_end state)))
+    (request_emitted state time free before)
+    ∙ ap (with_emitted (Ok (pending_at_end state)))
     (tries_split tries (line_after_request state time) (stream_of items) refl now
     ∙ row_lapsed _ items (all_are_split items)
     (stays_waking tries (line_after_request state time) refl) later)
-all_are_split (Tests tries t ∷ items) state free (untold, now, later) =
+all_are_split (Tests tries t ∷ items) state free (pending, now, later) =
     row_answered tries state t items now (all_are_split items _ refl later)
-    ∙ ap (λ told. with_told (Ok told) (told_of (passed.Wake Answered) items))
-    (untold_at_test state.phase state untold)
+    ∙ ap (λ emitted. with_emitted (Ok emitted) (emitted_of (passed.Wake Answered) items))
+    (pending_at_test state.phase state pending)
 all_are_split (Lapses t tries ∷ items) state free (speaks, now, later) =
     try_split state t (tries_before tries (stream_of items)) now.0 now.1
-    ∙ ap (λ told. with_told (Ok told)
+    ∙ ap (λ emitted. with_emitted (Ok emitted)
     (all_split (line_after_try state t) (tries_before tries (stream_of items))))
-    (untold_at_test state.phase state (speaks_free state.phase speaks))
-    ∙ ap (with_told (Ok (untold_at_end state)))
+    (pending_at_test state.phase state (speaks_free state.phase speaks))
+    ∙ ap (with_emitted (Ok (pending_at_end state)))
     (tries_split tries (line_after_try state t) (stream_of items)
-    (none_told state.phase (line_after_try state t)) now.2
+    (none_emitted state.phase (line_after_try state t)) now.2
     ∙ row_lapsed _ items (all_are_split items)
     (stays_waking tries (line_after_try state t) (speaks_first state.phase speaks)) later)
 

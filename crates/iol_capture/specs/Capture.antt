@@ -8,7 +8,7 @@ use Rattle.iol_script.specs.Text.{lines_of}
 use Rattle.iol_capture.specs.declared.fault.LineFault.{LineFault}
 use Rattle.iol_capture.specs.declared.fault.LineFault.TheVariants.{ReplyMissing}
 use Rattle.iol_capture.specs.declared.fault.CaptureFault.{CaptureFault}
-use Rattle.iol_capture.specs.declared.fault.CaptureFault.TheVariants.{Line, NothingTold}
+use Rattle.iol_capture.specs.declared.fault.CaptureFault.TheVariants.{Line, NoCall}
 use Rattle.iol_capture.specs.declared.telling.CaptureForm.{CaptureForm}
 use Rattle.iol_capture.specs.declared.telling.CaptureForm.TheVariants as form
 use Rattle.iol_capture.specs.declared.telling.Telling.{Telling}
@@ -25,11 +25,11 @@ new_telling form.Trace odd = Trace (new_judging odd)
 new_telling (form.Octets rate) odd = Octets (new_hearing rate odd)
 
 -- one more line
-abbrev pub line_told : Telling → List ℕ → Result Telling LineFault
-line_told (Trace judging) line =
+abbrev pub line_judged : Telling → List ℕ → Result Telling LineFault
+line_judged (Trace judging) line =
     result_map_both Trace (λ fault. fault)
     (or_bad_form (judging_after_line judging) (trace_form line))
-line_told (Octets hearing) line =
+line_judged (Octets hearing) line =
     result_map_both Octets (λ fault. fault)
     (or_bad_form (hearing_after_line hearing) (octet_line_form hearing.form line))
 
@@ -47,26 +47,26 @@ pub record ReadPart : Type 0 where
 
 -- the line of this number was told
 abbrev pub read_as : ℕ → Result Telling LineFault → Result ReadPart CaptureFault
-read_as number told =
-    result_map_both (λ telling. record { lines = number; telling = telling }) (Line number) told
+read_as number emitted =
+    result_map_both (λ telling. record { lines = number; telling = telling }) (Line number) emitted
 
 -- the capture after one more line, or the first bad line
 abbrev pub capture_after_line : Result ReadPart CaptureFault → List ℕ → Result ReadPart CaptureFault
 capture_after_line (Ok reading) line =
-    read_as (one_more reading.lines) (line_told reading.telling line)
+    read_as (one_more reading.lines) (line_judged reading.telling line)
 capture_after_line (Err fault) line = Err fault
 
 -- A text
 
 -- a trace told no call
-abbrev pub is_untold : Telling → Bool
-is_untold (Trace judging) = judging.call == 0
-is_untold (Octets hearing) = false
+abbrev pub has_no_call : Telling → Bool
+has_no_call (Trace judging) = judging.call == 0
+has_no_call (Octets hearing) = false
 
 -- the end stands for a line
 abbrev pub judging_at_end : Result ReadPart CaptureFault → Result Judging CaptureFault
 judging_at_end (Ok reading) =
-    if is_untold reading.telling then Err (NothingTold reading.lines) else result_map_both
+    if has_no_call reading.telling then Err (NoCall reading.lines) else result_map_both
     (λ judging. judging) (Line (one_more reading.lines))
     (judging_if_whole reading.telling)
 judging_at_end (Err fault) = Err fault
@@ -123,7 +123,7 @@ abbrev pub calls_of_capture : CaptureForm → Odd → List ℕ → List TimedCal
 calls_of_capture form odd text = calls_of_rest (new_opened form odd) text
 
 -- what a call tells that reads on, in front of what is told later; behind a bad line nothing is
-abbrev pub told_before : {F : Type 0} → Result (Option TimedCall) F → List TimedCall
+abbrev pub emitted_before : {F : Type 0} → Result (Option TimedCall) F → List TimedCall
     → List TimedCall
-told_before (Ok call) later = cons_option call later
-told_before (Err fault) later = []
+emitted_before (Ok call) later = cons_option call later
+emitted_before (Err fault) later = []

@@ -3,7 +3,7 @@ use Rattle.std.specs.Prelude.{ℕ, ◌+◌, ◌-◌, ◌^◌, min, Bool, true, f
 use Rattle.iol_mseq.specs.Shape.{Shape}
 use Rattle.iol_mseq.specs.Master.{master_in}
 use Rattle.iol_judge.specs.declared.open.Open.{Open}
-use Rattle.iol_judge.specs.Seen.{layouts_seen, whole_page}
+use Rattle.iol_judge.specs.Observed.{layouts_observed, whole_page}
 use Rattle.iol_judge.specs.Taking.{mode_layout}
 use Rattle.iol_capture.specs.declared.split_fault.SplitFault.TheVariants as fault
 use Rattle.iol_capture.specs.declared.gap.Gap.{Gap}
@@ -44,7 +44,8 @@ line_awaiting_reply state layout = record state { layout = layout; phase = Reply
 
 -- the layout of a message that begins with these octets, where it is known
 abbrev pub layout_begun : Splitting → Result Shape Open
-layout_begun state = mode_layout (layouts_seen state.seen) (mode_begun state.link state.sent)
+layout_begun state = mode_layout (layouts_observed state.observed)
+    (mode_begun state.link state.sent)
 
 -- Octets that are passed over
 
@@ -101,7 +102,7 @@ is_at_begin phase = false
 -- a device with this page is in OPERATE, where nothing was told before
 abbrev pub joined_line : Splitting → List ℕ → Splitting
 joined_line state octets = record (cleared_line state) {
-  seen = whole_page octets;
+  observed = whole_page octets;
   link = operating_link;
   phase = Joined;
 }

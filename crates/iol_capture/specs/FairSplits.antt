@@ -45,7 +45,7 @@ items_passed (written.Lapses t tries ∷ items) =
     unanswered_before (length tries) (Wakes Unanswered ∷ items_passed items)
 
 -- a judge says nothing against the device, and found nothing odd
-pub record SaysNothing (judged : JudgeState) : Type 0 where
+pub record BlamesNothing (judged : JudgeState) : Type 0 where
   pub unblamed : (exchange : ℕ) (reason : Reason) → judged.verdict ≢ NotHonest exchange reason
   pub none_odd : judged.oddities ≡ 0
 
@@ -56,4 +56,4 @@ OctetsNeverBlamed = (odd : Odd) (rate : Rate) (items : List Item)
     → AreWritten (new_splitter rate) items
     → (far : Far) (silence : ℕ) → IsHonestRun far silence (items_passed items)
     → IfOk (all_split (new_splitter rate) (stream_of items))
-    (λ what. SaysNothing (fold judge_after_item (new_judge odd) what))
+    (λ what. BlamesNothing (fold judge_after_item (new_judge odd) what))

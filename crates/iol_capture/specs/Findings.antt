@@ -143,8 +143,8 @@ master_verdict_text watching = elim watching.watched.verdict [
 ]
 
 -- The kinds that a device may be of, where it may be of some, and not of all four
-abbrev pub are_told : Kinds → Bool
-are_told kinds =
+abbrev pub are_named : Kinds → Bool
+are_named kinds =
     (kinds.first_left || kinds.first_sent || kinds.last_left || kinds.last_sent)
     && not (kinds.first_left && kinds.first_sent && kinds.last_left && kinds.last_sent)
 
@@ -154,7 +154,7 @@ kind_text may_be named name =
     if may_be then (if named then codes " or " else codes "kind ") ++ name else []
 
 abbrev pub kinds_text : Kinds → List ℕ
-kinds_text kinds = if not (are_told kinds) then [] else
+kinds_text kinds = if not (are_named kinds) then [] else
     kind_text kinds.first_left false (codes "first keeps")
     ++ kind_text kinds.first_sent kinds.first_left (codes "first forgets")
     ++ kind_text kinds.last_left (kinds.first_left || kinds.first_sent) (codes "last keeps")

@@ -15,11 +15,11 @@ use Rattle.iol_capture.specs.declared.octet_line.OctetLine.{OctetLine}
 use Rattle.iol_capture.specs.declared.octet_line.OctetLine.TheVariants as line
 use Rattle.iol_capture.specs.declared.export.ExportForm.{ExportForm}
 use Rattle.iol_capture.specs.declared.export.ExportForm.TheVariants.{Timed}
-use Rattle.iol_capture.specs.FairSplits.{SaysNothing, items_passed}
+use Rattle.iol_capture.specs.FairSplits.{BlamesNothing, items_passed}
 use Rattle.iol_capture.specs.SplitterState.{new_splitter}
 use Rattle.iol_capture.specs.Written.{AreWritten, Damage, DamageBefore, Item, Joins, Octet, Request, StreamItem, stream_of}
 use Rattle.iol_capture.specs.declared.trace_line.TraceLine.{TraceLine}
-use Rattle.iol_capture.specs.declared.trace_line.TraceLine.TheVariants.{Other, Skipped, Page, Wake, Sent, Came}
+use Rattle.iol_capture.specs.declared.trace_line.TraceLine.TheVariants.{Other, Skipped, Page, Wake, Sent, Received}
 use Rattle.iol_capture.specs.declared.telling.CaptureForm.TheVariants as form
 use Rattle.iol_capture.specs.TraceLines.{trace_form}
 use Rattle.iol_capture.specs.Judging.{Judging}
@@ -45,9 +45,10 @@ IsHonestTrace far silence call waits (Wake number answer ∷ lines) = (far_new :
     × IsHonestTrace far_new silence number waits lines
 IsHonestTrace far silence call waits (Sent number octets ∷ lines) =
     IsHonestTrace far silence number (Some octets.items) lines
-IsHonestTrace far silence call waits (Came number came ∷ lines) =
+IsHonestTrace far silence call waits (Received number received ∷ lines) =
     (far_new : Far) × (silence_new : ℕ)
-    × IfSome waits (λ sent. HonestExchange far silence sent (octets_in came) far_new silence_new)
+    × IfSome waits (λ sent. HonestExchange far silence sent (octets_in received) far_new
+    silence_new)
     × IsHonestTrace far_new silence_new call None lines
 
 -- the judge is told a text that a device by the rules brings, and this is what it makes of it
@@ -83,8 +84,9 @@ form_behind form line = form
 abbrev pub shown_stream : ExportForm → List (List ℕ) → List StreamItem
 shown_stream form [] = []
 shown_stream form (line ∷ lines) =
-    let said = octet_line_form form line in
-    cons_option (option_and_then stream_item_of said) (shown_stream (form_behind form said) lines)
+    let parsed = octet_line_form form line in
+    cons_option (option_and_then stream_item_of parsed)
+    (shown_stream (form_behind form parsed) lines)
 
 -- The judge is told a text, and this is what it makes of it: octets that are written by the rules,
 -- of what a device by the rules brings
@@ -101,4 +103,4 @@ pub record AreFromHonest (odd : Odd) (rate : Rate) (text : List ℕ)
 -- the law: such a text is never called not honest, and nothing in it is called odd
 abbrev pub OctetTextsNeverBlamed : Type 0
 OctetTextsNeverBlamed = (odd : Odd) (rate : Rate) (text : List ℕ) (judging : Judging)
-    → AreFromHonest odd rate text judging → SaysNothing judging.judged
+    → AreFromHonest odd rate text judging → BlamesNothing judging.judged

@@ -10,7 +10,7 @@ use Rattle.iol_judge.specs.declared.verdict.Verdict.{Verdict}
 use Rattle.iol_judge.specs.declared.verdict.Verdict.TheVariants.{Unjudged, Honest, NotHonest, CantSay}
 use Rattle.iol_judge.specs.declared.verdict.Wake.{Wake as WakeAnswer}
 use Rattle.iol_judge.specs.declared.verdict.Wake.TheVariants.{Unanswered}
-use Rattle.iol_judge.specs.Seen.{whole_page}
+use Rattle.iol_judge.specs.Observed.{whole_page}
 use Rattle.iol_judge.specs.Judged.{JudgeState, new_judge, judge_after_exchange, judge_after_wake, judge_resumed, one_more}
 use Rattle.iol_capture.specs.declared.passed.SplitItem.{SplitItem}
 use Rattle.iol_capture.specs.declared.passed.SplitItem.TheVariants as passed
@@ -21,7 +21,7 @@ use Rattle.iol_capture.specs.declared.judgement.OddExchange.{OddExchange}
 use Rattle.iol_capture.specs.declared.judgement.TheConstants.{ODD_SHOWN}
 use Rattle.iol_capture.specs.declared.spacing.RateDoubt.{RateDoubt}
 use Rattle.iol_capture.specs.declared.trace_line.TraceLine.{TraceLine}
-use Rattle.iol_capture.specs.declared.trace_line.TraceLine.TheVariants.{Other, Skipped, Page, Wake, Sent, Came}
+use Rattle.iol_capture.specs.declared.trace_line.TraceLine.TheVariants.{Other, Skipped, Page, Wake, Sent, Received}
 use Rattle.iol_capture.specs.Watching.{Watching, exchange_watched, watching_unheard, new_watching, page_watched, wake_watched}
 
 pub record Judging : Type 0 where
@@ -65,12 +65,13 @@ new_judging odd = record {
 -- Counts
 
 abbrev pub counts_after_exchange : Verdict → ExchangeCounts → Option (List ℕ) → ExchangeCounts
-counts_after_exchange Unjudged counts came = record counts { unjudged = one_more counts.unjudged }
+counts_after_exchange Unjudged counts received =
+    record counts { unjudged = one_more counts.unjudged }
 counts_after_exchange Honest counts None =
     record counts { judged = one_more counts.judged; lost = one_more counts.lost }
 counts_after_exchange Honest counts (Some octets) =
     record counts { judged = one_more counts.judged }
-counts_after_exchange verdict counts came = counts
+counts_after_exchange verdict counts received = counts
 
 -- Calls of the wire
 
@@ -100,8 +101,8 @@ judging_at_next_call judging number =
     else Err WrongNumber
 
 -- a wake-up request was made
-abbrev pub wake_told : Judging → WakeAnswer → Judging
-wake_told judging wake = record judging {
+abbrev pub wake_judged : Judging → WakeAnswer → Judging
+wake_judged judging wake = record judging {
   judged = judge_after_wake judging.judged wake;
   watching = wake_watched judging.watching wake;
 }
@@ -115,29 +116,31 @@ with_odd odd call (Some reason) =
 
 -- a message and what came back are an exchange
 abbrev pub judging_after_exchange : Judging → List ℕ → Option (List ℕ) → Judging
-judging_after_exchange judging sent came = record judging {
-  judged = judge_after_exchange judging.judged sent came;
-  watching = exchange_watched judging.watching judging.call sent came;
+judging_after_exchange judging sent received = record judging {
+  judged = judge_after_exchange judging.judged sent received;
+  watching = exchange_watched judging.watching judging.call sent received;
   sent = None;
-  counts = counts_after_exchange judging.judged.verdict judging.counts came;
-  odd = with_odd judging.odd judging.call (judge_after_exchange judging.judged sent came).oddity;
+  counts = counts_after_exchange judging.judged.verdict judging.counts received;
+  odd = with_odd judging.odd judging.call
+      (judge_after_exchange judging.judged sent received).oddity;
 }
 
-abbrev pub came_to : Option (List ℕ) → Judging → ℕ → Option (List ℕ) → Result Judging LineFault
-came_to None judging number came = Err MessageMissing
-came_to (Some sent) judging number came =
-    if number == judging.call then Ok (judging_after_exchange judging sent came)
+abbrev pub received_in_call : Option (List ℕ) → Judging → ℕ → Option (List ℕ)
+    → Result Judging LineFault
+received_in_call None judging number received = Err MessageMissing
+received_in_call (Some sent) judging number received =
+    if number == judging.call then Ok (judging_after_exchange judging sent received)
     else Err WrongNumber
 
-abbrev pub page_told : Judging → List ℕ → Judging
-page_told judging octets = record judging {
-  judged = record judging.judged { seen = whole_page octets };
+abbrev pub page_judged : Judging → List ℕ → Judging
+page_judged judging octets = record judging {
+  judged = record judging.judged { observed = whole_page octets };
   watching = page_watched judging.watching octets;
 }
 
 -- the page counts before the first call alone: later it is what a port read
 abbrev pub judging_with_page : Judging → List ℕ → Judging
-judging_with_page judging octets = if judging.call == 0 then page_told judging octets else judging
+judging_with_page judging octets = if judging.call == 0 then page_judged judging octets else judging
 
 -- a line was skipped
 abbrev pub line_skipped : Judging → Judging
@@ -149,16 +152,17 @@ judging_after_line judging Other = Ok judging
 judging_after_line judging Skipped = Ok (line_skipped judging)
 judging_after_line judging (Page octets) = Ok (judging_with_page judging octets)
 judging_after_line judging (Wake number answer) =
-    result_map_both (λ new. wake_told new answer) (λ fault. fault)
+    result_map_both (λ new. wake_judged new answer) (λ fault. fault)
     (judging_at_next_call judging number)
 judging_after_line judging (Sent number octets) = result_map_both
     (λ (new : Judging). record new { sent = Some octets.items }) (λ fault. fault)
     (judging_at_next_call judging number)
-judging_after_line judging (Came number came) = came_to judging.sent judging number (octets_in came)
+judging_after_line judging (Received number received) =
+    received_in_call judging.sent judging number (octets_in received)
 
 -- a line is told so, where it fits a form
 abbrev pub or_bad_form : {L J : Type 0} → (L → Result J LineFault) → Option L → Result J LineFault
-or_bad_form tell line = option_map_or tell line (Err BadForm)
+or_bad_form submit line = option_map_or submit line (Err BadForm)
 
 -- Damage
 
@@ -175,7 +179,7 @@ judging_in_mode judging mode = record judging {
 abbrev pub passed_on : Judging → SplitItem → Judging
 passed_on judging (passed.Exchange exchange) =
     judging_after_exchange judging exchange.sent exchange.answer
-passed_on judging (passed.Wake answer) = wake_told judging answer
+passed_on judging (passed.Wake answer) = wake_judged judging answer
 passed_on judging (passed.Resumed mode) = judging_in_mode judging mode
 
 -- in the next call

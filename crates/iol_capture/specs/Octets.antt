@@ -13,7 +13,7 @@ use Rattle.iol_capture.specs.declared.export.ExportForm.{ExportForm}
 use Rattle.iol_capture.specs.declared.export.ExportForm.TheVariants.{Timed}
 use Rattle.iol_capture.specs.Exports.{export_form}
 use Rattle.iol_capture.specs.SplitterState.{Splitting, begins_call, new_splitter}
-use Rattle.iol_capture.specs.Splitting.{untold_at_end, octet_split, wake_split}
+use Rattle.iol_capture.specs.Splitting.{pending_at_end, octet_split, wake_split}
 use Rattle.iol_capture.specs.Damage.{damage_split, damaged_before, is_at_begin, joined_line}
 use Rattle.iol_capture.specs.SplitSteps.{SplitStep}
 use Rattle.iol_capture.specs.declared.fault.LineFault.{LineFault}
@@ -23,7 +23,7 @@ use Rattle.iol_capture.specs.declared.timed_call.TimedCall.{TimedCall}
 use Rattle.iol_capture.specs.Judging.{Judging, judging_with_page, maybe_woken, line_skipped, new_judging, passed_next, judging_in_mode}
 use Rattle.iol_capture.specs.declared.spacing.Spacing.{Spacing}
 use Rattle.iol_capture.specs.Spacings.{doubt_of, nothing_spaced, spaced_by}
-use Rattle.iol_capture.specs.Timed.{begun_untold, call_told, number_of_next, none_begun, number_by_octet}
+use Rattle.iol_capture.specs.Timed.{begun_pending, call_emitted, number_of_next, none_begun, number_by_octet}
 
 -- the octets that are split, and what the judge makes of what they are split into
 pub record Hearing : Type 0 where
@@ -66,12 +66,12 @@ passed_by_octet judging passed = passed_by_request judging passed
 -- behind an octet at this time
 abbrev pub begun_by_octet : Beginnings → Splitting → ℕ → Option SplitItem → Beginnings
 begun_by_octet begun state time passed =
-    if begins_call state then record (begun_untold begun passed) { octet = time }
-    else begun_untold begun passed
+    if begins_call state then record (begun_pending begun passed) { octet = time }
+    else begun_pending begun passed
 
 -- behind a wake-up request that is shown at this time
 abbrev pub begun_by_request : Beginnings → ℕ → Option SplitItem → Beginnings
-begun_by_request begun time passed = record (begun_untold begun passed) { request = Some time }
+begun_by_request begun time passed = record (begun_pending begun passed) { request = Some time }
 
 -- the judge is told so what a step tells, and so what isn't told began
 abbrev pub step_heard : Hearing → (Option SplitItem → Judging) → (Option SplitItem → Beginnings)
@@ -80,7 +80,7 @@ step_heard hearing judged begun step = result_map_both (λ passed. record hearin
   splitting = step.state;
   judging = judged passed;
   begun = begun passed;
-}) Split step.told
+}) Split step.emitted
 
 -- a capture begins in OPERATE: a page counts in front alone
 abbrev pub hearing_joined : Hearing → List ℕ → Hearing
@@ -99,10 +99,10 @@ hearing_after_line hearing (line.Page octets) = Ok (hearing_joined hearing octet
 hearing_after_line hearing line.Unsampled = Err NoSampleRate
 hearing_after_line hearing line.Untimed = Err NoTime
 hearing_after_line hearing (line.Damaged time) =
-    step_heard hearing (passed_by_octet hearing.judging) (begun_untold hearing.begun)
+    step_heard hearing (passed_by_octet hearing.judging) (begun_pending hearing.begun)
     (damage_split hearing.splitting time)
 hearing_after_line hearing line.DamagedBefore =
-    step_heard hearing (passed_by_octet hearing.judging) (begun_untold hearing.begun)
+    step_heard hearing (passed_by_octet hearing.judging) (begun_pending hearing.begun)
     (damaged_before hearing.splitting)
 hearing_after_line hearing (line.Octet time octet) =
     let step = octet_split hearing.splitting time octet in
@@ -117,7 +117,7 @@ hearing_after_line hearing (line.Wake time) =
 -- the stream has ended
 abbrev pub heard_whole : Hearing → Judging
 heard_whole hearing =
-    record (passed_by_request hearing.judging (untold_at_end hearing.splitting)) {
+    record (passed_by_request hearing.judging (pending_at_end hearing.splitting)) {
       passed_over = hearing.splitting.passed_over;
       rate_doubt = doubt_of hearing.spacing hearing.splitting.rate;
     }
@@ -127,8 +127,8 @@ heard_whole hearing =
 -- that which a step tells, by its number
 abbrev pub call_of_step : Beginnings → (Option SplitItem → Option ℕ) → SplitStep → Option TimedCall
 call_of_step begun number step =
-    let passed = result_unwrap_or step.told None in
-    call_told begun (number passed) step.state.layout passed
+    let passed = result_unwrap_or step.emitted None in
+    call_emitted begun (number passed) step.state.layout passed
 
 -- that which a line tells
 abbrev pub call_of_line : Hearing → OctetLine → Option TimedCall
@@ -152,5 +152,6 @@ call_of_line hearing (line.Wake time) =
 -- that which the end tells
 abbrev pub call_at_end : Hearing → Option TimedCall
 call_at_end hearing =
-    let passed = untold_at_end hearing.splitting in
-    call_told hearing.begun (number_of_next hearing.judging passed) hearing.splitting.layout passed
+    let passed = pending_at_end hearing.splitting in
+    call_emitted hearing.begun (number_of_next hearing.judging passed) hearing.splitting.layout
+    passed

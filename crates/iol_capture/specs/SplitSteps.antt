@@ -7,10 +7,10 @@ use Rattle.iol_capture.specs.SplitterState.{Splitting}
 -- what is kept behind it, and what it tells
 pub record SplitStep : Type 0 where
   pub state : Splitting
-  pub told : Result (Option SplitItem) SplitFault
+  pub emitted : Result (Option SplitItem) SplitFault
 
 abbrev pub split_step : Splitting → Result (Option SplitItem) SplitFault → SplitStep
-split_step state told = record { state = state; told = told }
+split_step state emitted = record { state = state; emitted = emitted }
 
 -- it isn't refused
 abbrev pub good_step : Splitting → Option SplitItem → SplitStep

@@ -3,7 +3,7 @@ use Rattle.std.specs.Prelude.{ℕ, Bool, ◌==◌, List, [], length, Option}
 use Rattle.iol_mseq.specs.Shape.{Shape, startup_shape}
 use Rattle.iol_far.specs.Level.{FarLink}
 use Rattle.iol_link.specs.declared.wire.Rate.{Rate}
-use Rattle.iol_judge.specs.Seen.{nothing_seen}
+use Rattle.iol_judge.specs.Observed.{nothing_observed}
 use Rattle.iol_capture.specs.Linking.{started_link}
 use Rattle.iol_capture.specs.declared.splitter.Phase.{Phase}
 use Rattle.iol_capture.specs.declared.splitter.Phase.TheVariants.{Asleep}
@@ -15,7 +15,7 @@ pub record Splitting : Type 0 where
   -- whether the decoder shows wake-up requests
   pub requests : Requests
   -- what is known of the page
-  pub seen : List (Option ℕ)
+  pub observed : List (Option ℕ)
   pub link : FarLink
   -- that of the message under way, once it is whole
   pub layout : Shape
@@ -32,7 +32,7 @@ abbrev pub new_splitter : Rate → Splitting
 new_splitter rate = record {
   rate = rate;
   requests = Unshown;
-  seen = nothing_seen;
+  observed = nothing_observed;
   link = started_link;
   layout = startup_shape;
   phase = Asleep;

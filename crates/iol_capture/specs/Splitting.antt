@@ -5,7 +5,7 @@ use Rattle.iol_mseq.specs.Master.{master_in}
 use Rattle.iol_mseq.specs.Replies.{reply_in}
 use Rattle.iol_judge.specs.declared.open.Open.{Open}
 use Rattle.iol_judge.specs.declared.verdict.Wake.TheVariants.{Unanswered}
-use Rattle.iol_judge.specs.Seen.{layouts_seen}
+use Rattle.iol_judge.specs.Observed.{layouts_observed}
 use Rattle.iol_judge.specs.Judged.{noted_by}
 use Rattle.iol_capture.specs.declared.split_fault.SplitFault.TheVariants as fault
 use Rattle.iol_capture.specs.declared.gap.Gap.{Gap}
@@ -63,8 +63,8 @@ abbrev pub line_after_reply : Splitting → Splitting
 line_after_reply state = elim (master_in state.layout state.sent) [
   | Some message ↦ if is_some (reply_in state.layout message.mc.read state.answer)
       then record state {
-        seen = noted_by state.seen message.mc state.answer;
-        link = link_after state.link (layouts_seen state.seen) state.sent message;
+        observed = noted_by state.observed message.mc state.answer;
+        link = link_after state.link (layouts_observed state.observed) state.sent message;
       }
       else state
   | None ↦ state
@@ -141,8 +141,8 @@ octet_split state time octet =
     octet_heard (record state { last = time }) (time - state.last) octet
 
 -- what isn't told when a stream ends
-abbrev pub untold_at_end : Splitting → Option SplitItem
-untold_at_end state = elim state.phase [
+abbrev pub pending_at_end : Splitting → Option SplitItem
+pending_at_end state = elim state.phase [
   | Waking ↦ Some (passed.Wake Unanswered)
   | Reply ↦ Some (exchange_of state)
   | phase ↦ None
@@ -160,7 +160,7 @@ abbrev pub cut_by_wake : Splitting → SplitStep
 cut_by_wake state =
     if is_unheard state.phase
     then good_step (damaged_line state 0) (Some (passed.Resumed (mode_begun state.link [])))
-    else good_step (cleared_line state) (untold_at_end state)
+    else good_step (cleared_line state) (pending_at_end state)
 
 -- an answer to a wake-up request is awaited
 abbrev pub line_after_request : Splitting → ℕ → Splitting
@@ -172,4 +172,4 @@ abbrev pub wake_split : Splitting → ℕ → SplitStep
 wake_split state time =
     if nat_lt time state.last then split_step state (Err fault.TimeBack) else
     let cut = cut_by_wake state in
-    split_step (line_after_request cut.state time) cut.told
+    split_step (line_after_request cut.state time) cut.emitted

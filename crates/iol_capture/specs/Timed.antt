@@ -20,9 +20,9 @@ time_of begun (Wake woken) = unwrap_or begun.request begun.octet
 time_of begun passed = begun.octet
 
 -- a wake-up request that was told is over
-abbrev pub begun_untold : Beginnings → Option SplitItem → Beginnings
-begun_untold begun (Some (Wake woken)) = record begun { request = None }
-begun_untold begun passed = begun
+abbrev pub begun_pending : Beginnings → Option SplitItem → Beginnings
+begun_pending begun (Some (Wake woken)) = record begun { request = None }
+begun_pending begun passed = begun
 
 -- Numbers
 
@@ -39,9 +39,9 @@ number_by_octet judging passed = number_of_next judging passed
 -- Calls
 
 -- That of this number which is told, where one is, with this layout. Damage is none
-abbrev pub call_told : Beginnings → Option ℕ → Shape → Option SplitItem → Option TimedCall
-call_told begun number layout (Some (Resumed mode)) = None
-call_told begun number layout passed = option_map (λ item. record {
+abbrev pub call_emitted : Beginnings → Option ℕ → Shape → Option SplitItem → Option TimedCall
+call_emitted begun number layout (Some (Resumed mode)) = None
+call_emitted begun number layout passed = option_map (λ item. record {
   time = time_of begun item;
   number = number;
   layout = layout;

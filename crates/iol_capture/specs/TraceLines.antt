@@ -9,7 +9,7 @@ use Rattle.iol_judge.specs.declared.verdict.Wake.TheVariants as wake
 use Rattle.iol_script.specs.Numerals.{octets_of_words, number_in, octets_within}
 use Rattle.iol_script.specs.Text.{text_words, words_of}
 use Rattle.iol_capture.specs.declared.trace_line.TraceLine.{TraceLine}
-use Rattle.iol_capture.specs.declared.trace_line.TraceLine.TheVariants.{Other, Skipped, Page, Wake, Sent, Came}
+use Rattle.iol_capture.specs.declared.trace_line.TraceLine.TheVariants.{Other, Skipped, Page, Wake, Sent, Received}
 use Rattle.iol_capture.specs.declared.trace_line.WordedLine.{WordedLine}
 use Rattle.iol_capture.specs.declared.trace_line.WordedLine.TheVariants as worded
 
@@ -48,15 +48,15 @@ rate_form (rate ∷ []) =
 rate_form words = None
 
 -- what came back
-abbrev pub came_form : List (List ℕ) → Option (Option (ArrayVec ℕ))
-came_form words = if are_none words then Some None else option_map Some (octets_form words)
+abbrev pub received_form : List (List ℕ) → Option (Option (ArrayVec ℕ))
+received_form words = if are_none words then Some None else option_map Some (octets_form words)
 
 -- the words behind the number of a call
 abbrev pub trace_call_form : ℕ → List (List ℕ) → Option TraceLine
 trace_call_form number (way ∷ words) =
     if bytes_eq way (codes "wake") then option_map (Wake number) (rate_form words) else
     if bytes_eq way (codes ">") then option_map (Sent number) (octets_form words) else
-    if bytes_eq way (codes "<") then option_map (Came number) (came_form words) else None
+    if bytes_eq way (codes "<") then option_map (Received number) (received_form words) else None
 trace_call_form number [] = None
 
 -- a line that begins with a digit is of a call; each other than `page` says nothing of the line
@@ -114,5 +114,5 @@ octets_read (worded.Page octets) = Some (Page octets)
 octets_read (worded.Wake number answer) = Some (Wake number answer)
 octets_read (worded.Sent number words) =
     option_map (Sent number) (octets_form (words_behind (option_copied words)))
-octets_read (worded.Came number words) =
-    option_map (Came number) (came_form (words_behind (option_copied words)))
+octets_read (worded.Received number words) =
+    option_map (Received number) (received_form (words_behind (option_copied words)))

@@ -3,7 +3,7 @@ use Rattle.std.specs.Prelude.{◌≡◌, ℕ, Bool, true, false, ◌&&◌, ◌||
 use Rattle.iol_link.specs.Honest.{test_read}
 use Rattle.iol_judge.specs.declared.verdict.Wake.{Wake}
 use Rattle.iol_judge.specs.declared.verdict.Wake.TheVariants.{Answered}
-use Rattle.iol_judge.specs.Seen.{whole_page}
+use Rattle.iol_judge.specs.Observed.{whole_page}
 use Rattle.iol_judge.specs.declared.master_verdict.MasterVerdict.{MasterVerdict}
 use Rattle.iol_judge.specs.declared.master_verdict.MasterVerdict.TheVariants.{NotByTheRules}
 use Rattle.iol_judge.specs.Watched.{WatchState, watch_after_exchange, new_watch, watch_with_page, watch_after_wake}
@@ -61,8 +61,8 @@ asks_mode octets = false
 
 -- an exchange was made
 abbrev pub watching_after_exchange : Watching → ℕ → List ℕ → Option (List ℕ) → Watching
-watching_after_exchange watching call sent came = record watching {
-  watched = watch_after_exchange watching.watched sent came;
+watching_after_exchange watching call sent received = record watching {
+  watched = watch_after_exchange watching.watched sent received;
   call = call;
   asked = watching.asked || asks_mode sent;
 }
@@ -71,23 +71,23 @@ watching_after_exchange watching call sent came = record watching {
 -- where no master by the rules would read there. In STARTUP a master that reads may do all that one
 -- may which was woken; else it is noted that the mode isn't known.
 abbrev pub read_or_woken : Watching → ℕ → List ℕ → Option (List ℕ) → Watching
-read_or_woken watching call sent came =
-    let read = watching_after_exchange (record watching { tests = false }) call sent came in
+read_or_woken watching call sent received =
+    let read = watching_after_exchange (record watching { tests = false }) call sent received in
     if is_blamed read.watched.verdict
-    then watching_after_exchange (wake_watched new_watching Answered) call sent came
+    then watching_after_exchange (wake_watched new_watching Answered) call sent received
     else record read {
       unsure = if read.asked && is_none read.unsure then Some call else read.unsure;
     }
 
 -- an exchange was made in this call; behind the first fault nothing is told
 abbrev pub exchange_watched : Watching → ℕ → List ℕ → Option (List ℕ) → Watching
-exchange_watched watching call sent came =
+exchange_watched watching call sent received =
     if is_blamed watching.watched.verdict then watching else
-    if watching.tests then read_or_woken watching call sent came
-    else watching_after_exchange watching call sent came
+    if watching.tests then read_or_woken watching call sent received
+    else watching_after_exchange watching call sent received
 
 -- the law: a test read is never blamed, where a wake-up request may be before it that isn't shown
 abbrev pub UnseenWakesAreFair : Type 0
-UnseenWakesAreFair = (watching : Watching) (call : ℕ) (came : Option (List ℕ))
+UnseenWakesAreFair = (watching : Watching) (call : ℕ) (received : Option (List ℕ))
     → watching.tests ≡ true → is_blamed watching.watched.verdict ≡ false
-    → is_blamed (exchange_watched watching call test_read came).watched.verdict ≡ false
+    → is_blamed (exchange_watched watching call test_read received).watched.verdict ≡ false

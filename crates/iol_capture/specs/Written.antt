@@ -16,7 +16,7 @@ use Rattle.iol_capture.specs.Lengths.{meaning_in, reply_length}
 use Rattle.iol_capture.specs.SplitterState.{Splitting, new_splitter}
 use Rattle.iol_capture.specs.SplitSteps.{SplitStep, good_step}
 use Rattle.iol_capture.specs.Waking.{is_test_reply, line_in_startup}
-use Rattle.iol_capture.specs.Splitting.{untold_at_end, octet_split, line_after_request, line_at_rest, wake_split}
+use Rattle.iol_capture.specs.Splitting.{pending_at_end, octet_split, line_after_request, line_at_rest, wake_split}
 use Rattle.iol_capture.specs.Damage.{damage_split, damaged_before, layout_begun, line_joined, some_octets}
 
 -- an octet, and when it begins
@@ -48,18 +48,18 @@ split state (Damage time) = damage_split state time
 split state DamageBefore = damaged_before state
 split state (Joins octets) = good_step (line_joined state octets) None
 
-abbrev pub with_told : Result (Option SplitItem) SplitFault → Result (List SplitItem) SplitFault
+abbrev pub with_emitted : Result (Option SplitItem) SplitFault → Result (List SplitItem) SplitFault
     → Result (List SplitItem) SplitFault
-with_told (Ok None) later = later
-with_told (Ok (Some passed)) (Ok later) = Ok (passed ∷ later)
-with_told (Ok (Some passed)) (Err fault) = Err fault
-with_told (Err fault) later = Err fault
+with_emitted (Ok None) later = later
+with_emitted (Ok (Some passed)) (Ok later) = Ok (passed ∷ later)
+with_emitted (Ok (Some passed)) (Err fault) = Err fault
+with_emitted (Err fault) later = Err fault
 
 -- all that a splitter tells of a stream, or the first fault
 abbrev pub all_split : Splitting → List StreamItem → Result (List SplitItem) SplitFault
-all_split state [] = with_told (Ok (untold_at_end state)) (Ok [])
+all_split state [] = with_emitted (Ok (pending_at_end state)) (Ok [])
 all_split state (shown ∷ stream) =
-    let step = split state shown in with_told step.told (all_split step.state stream)
+    let step = split state shown in with_emitted step.emitted (all_split step.state stream)
 
 -- octets, and what is shown behind them
 abbrev pub shown_before : List TimedOctet → List StreamItem → List StreamItem
@@ -327,16 +327,16 @@ stream_of (Tests tries t ∷ items) = tries_before tries (test_before t (stream_
 stream_of (Lapses t tries ∷ items) = tries_before (t ∷ tries) (stream_of items)
 
 -- what is to be told of them: of requests that aren't shown, the last of a row
-abbrev pub items_told : List Item → List SplitItem
-items_told [] = []
-items_told (Passes w ∷ items) = exchange_written w ∷ items_told items
-items_told (Reads w ∷ items) = passed.Wake Unanswered ∷ exchange_written w ∷ items_told items
-items_told (Wakes time tries t ∷ items) = passed.Wake Answered ∷ items_told items
-items_told (Fails time tries ∷ items) = passed.Wake Unanswered ∷ items_told items
-items_told (Tests tries t ∷ items) = passed.Wake Answered ∷ items_told items
-items_told (Lapses t tries ∷ items) = passed.Wake Unanswered ∷ items_told items
+abbrev pub emitted_items : List Item → List SplitItem
+emitted_items [] = []
+emitted_items (Passes w ∷ items) = exchange_written w ∷ emitted_items items
+emitted_items (Reads w ∷ items) = passed.Wake Unanswered ∷ exchange_written w ∷ emitted_items items
+emitted_items (Wakes time tries t ∷ items) = passed.Wake Answered ∷ emitted_items items
+emitted_items (Fails time tries ∷ items) = passed.Wake Unanswered ∷ emitted_items items
+emitted_items (Tests tries t ∷ items) = passed.Wake Answered ∷ emitted_items items
+emitted_items (Lapses t tries ∷ items) = passed.Wake Unanswered ∷ emitted_items items
 
 -- the law: what is written by the rules is split into exactly this
 abbrev pub WrittenIsSplit : Type 0
 WrittenIsSplit = (rate : Rate) (items : List Item) → AreWritten (new_splitter rate) items
-    → all_split (new_splitter rate) (stream_of items) ≡ Ok (items_told items)
+    → all_split (new_splitter rate) (stream_of items) ≡ Ok (emitted_items items)

@@ -36,7 +36,7 @@ pub enum CaptureFault {
     Line(u64, LineFault),
     /// A trace of so many lines has no call of the wire.
     #[error("no wake-up request, message or reply in {0} lines: is this what trace prints?")]
-    NothingTold(u64),
+    NoCall(u64),
     /// A read failed.
     #[error("read failed")]
     ReadFailed,

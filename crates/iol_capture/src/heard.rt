@@ -89,7 +89,7 @@ impl Splitter {
     pub(crate) fn layout_begun(&self) -> Result<Layout, Open>
         ensures { result ≡ layout_begun self.now }
     {
-        layout_in(&self.seen.layouts(), self.mode_begun())
+        layout_in(&self.observed.layouts(), self.mode_begun())
     }
 
     /// The mode in whose layout it is.
@@ -219,9 +219,10 @@ impl Splitter {
         if view_reply(&self.layout, message.mc().read, self.answer.as_slice()).is_err() {
             return;
         }
-        let layouts = self.seen.layouts();
+        let layouts = self.observed.layouts();
         self.link.turn(&layouts, self.sent.as_slice(), &message);
-        self.seen.note_reply(message.mc(), self.answer.as_slice());
+        self.observed
+            .note_reply(message.mc(), self.answer.as_slice());
     }
 
     /// The message and the reply under way, which are over.

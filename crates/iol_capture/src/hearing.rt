@@ -58,22 +58,22 @@ impl OctetJudgement {
     }
 
     /// One more line, and the call of the wire that it tells.
-    pub fn tell_line(&mut self, line: &[u8]) -> Result<Option<TimedCall>, LineFault>
+    pub fn submit_line(&mut self, line: &[u8]) -> Result<Option<TimedCall>, LineFault>
         ensures heard { result_and result (Ok self.new)
             ≡ or_bad_form (hearing_after_line self.old) (octet_line_form self.old.form line.now) }
-        ensures told { result_unwrap_or result None
+        ensures emitted { result_unwrap_or result None
             ≡ option_and_then (call_of_line self.old) (octet_line_form self.old.form line.now) }
     {
         match parse(self.form, line) {
-            Some(line) => self.tell(line),
+            Some(line) => self.submit(line),
             None => Err(LineFault::BadForm),
         }
     }
 
     /// What one more line shows.
-    fn tell(&mut self, line: OctetLine) -> Result<Option<TimedCall>, LineFault>
+    fn submit(&mut self, line: OctetLine) -> Result<Option<TimedCall>, LineFault>
         ensures heard { result_and result (Ok self.new) ≡ hearing_after_line self.old line }
-        ensures told { result_unwrap_or result None ≡ call_of_line self.old line }
+        ensures emitted { result_unwrap_or result None ≡ call_of_line self.old line }
     {
         match line {
             OctetLine::Other => Ok(None),
@@ -91,10 +91,10 @@ impl OctetJudgement {
             }
             OctetLine::Unsampled => Err(LineFault::NoSampleRate),
             OctetLine::Untimed => Err(LineFault::NoTime),
-            OctetLine::Damaged(time) => self.tell_damaged(time),
-            OctetLine::DamagedBefore => Ok(self.tell_damaged_before()),
-            OctetLine::Octet(time, octet) => self.tell_octet(time, octet),
-            OctetLine::Wake(time) => self.tell_request(time),
+            OctetLine::Damaged(time) => self.submit_damaged(time),
+            OctetLine::DamagedBefore => Ok(self.submit_damaged_before()),
+            OctetLine::Octet(time, octet) => self.submit_octet(time, octet),
+            OctetLine::Wake(time) => self.submit_request(time),
         }
     }
 
@@ -104,24 +104,24 @@ impl OctetJudgement {
     {
         if self.splitter.is_at_begin() {
             self.splitter.join(octets);
-            self.judgement.tell_page(octets);
+            self.judgement.submit_page(octets);
         }
     }
 
     ghost use Rattle.iol_capture.specs.declared.octet_line.OctetLine.TheVariants as line;
 
     /// An octet that begins at this time.
-    fn tell_octet(&mut self, time: u64, octet: u8) -> Result<Option<TimedCall>, LineFault>
+    fn submit_octet(&mut self, time: u64, octet: u8) -> Result<Option<TimedCall>, LineFault>
         ensures heard { result_and result (Ok self.new)
             ≡ hearing_after_line self.old (line.Octet time octet) }
-        ensures told { result_unwrap_or result None
+        ensures emitted { result_unwrap_or result None
             ≡ call_of_line self.old (line.Octet time octet) }
     {
         self.spacing.note(time);
         match self.splitter.octet(time, octet) {
             Ok(passed) => {
                 let number = pass_octet(&mut self.judgement, &passed);
-                let call = self.begun.tell(number, self.splitter.layout(), passed);
+                let call = self.begun.emit(number, self.splitter.layout(), passed);
                 if self.splitter.begins() {
                     self.begun.octet = time;
                 }
@@ -132,40 +132,40 @@ impl OctetJudgement {
     }
 
     /// An octet with an error that begins at this time.
-    fn tell_damaged(&mut self, time: u64) -> Result<Option<TimedCall>, LineFault>
+    fn submit_damaged(&mut self, time: u64) -> Result<Option<TimedCall>, LineFault>
         ensures heard { result_and result (Ok self.new)
             ≡ hearing_after_line self.old (line.Damaged time) }
-        ensures told { result_unwrap_or result None ≡ call_of_line self.old (line.Damaged time) }
+        ensures emitted { result_unwrap_or result None ≡ call_of_line self.old (line.Damaged time) }
     {
         match self.splitter.damaged(time) {
             Ok(passed) => {
                 let number = pass_octet(&mut self.judgement, &passed);
-                Ok(self.begun.tell(number, self.splitter.layout(), passed))
+                Ok(self.begun.emit(number, self.splitter.layout(), passed))
             }
             Err(fault) => Err(LineFault::Split(fault)),
         }
     }
 
     /// The octet before has an error.
-    fn tell_damaged_before(&mut self) -> Option<TimedCall>
+    fn submit_damaged_before(&mut self) -> Option<TimedCall>
         ensures heard { Ok self.new ≡ hearing_after_line self.old line.DamagedBefore }
-        ensures told { result ≡ call_of_line self.old line.DamagedBefore }
+        ensures emitted { result ≡ call_of_line self.old line.DamagedBefore }
     {
         let passed = self.splitter.damaged_before();
         let number = pass_octet(&mut self.judgement, &passed);
-        self.begun.tell(number, self.splitter.layout(), passed)
+        self.begun.emit(number, self.splitter.layout(), passed)
     }
 
     /// A wake-up request at this time.
-    fn tell_request(&mut self, time: u64) -> Result<Option<TimedCall>, LineFault>
+    fn submit_request(&mut self, time: u64) -> Result<Option<TimedCall>, LineFault>
         ensures heard { result_and result (Ok self.new)
             ≡ hearing_after_line self.old (line.Wake time) }
-        ensures told { result_unwrap_or result None ≡ call_of_line self.old (line.Wake time) }
+        ensures emitted { result_unwrap_or result None ≡ call_of_line self.old (line.Wake time) }
     {
         match self.splitter.wake(time) {
             Ok(passed) => {
                 let number = pass_request(&mut self.judgement, &passed);
-                let call = self.begun.tell(number, self.splitter.layout(), passed);
+                let call = self.begun.emit(number, self.splitter.layout(), passed);
                 self.begun.request = Some(time);
                 Ok(call)
             }
@@ -176,7 +176,7 @@ impl OctetJudgement {
     /// The stream has ended, which may tell one more call.
     pub fn finish(self) -> (Judgement, Option<TimedCall>)
         ensures judged { result.0 ≡ heard_whole self }
-        ensures told { result.1 ≡ call_at_end self }
+        ensures emitted { result.1 ≡ call_at_end self }
     {
         let mut judgement = self.judgement;
         let mut begun = self.begun;
@@ -185,7 +185,7 @@ impl OctetJudgement {
         judgement.rate_doubt = self.spacing.doubt(self.splitter.rate());
         let passed = self.splitter.end();
         let number = pass_request(&mut judgement, &passed);
-        let call = begun.tell(number, layout, passed);
+        let call = begun.emit(number, layout, passed);
         (judgement, call)
     }
 }

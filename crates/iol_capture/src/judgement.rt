@@ -1,7 +1,7 @@
 //! A judge of the device and a watch of the master, told what went over the line.
 ghost use Rattle.std.specs.Prelude.{◌≡◌, ◌==◌, option_copied};
 ghost use Rattle.iol_judge.specs.Judged.{one_more};
-ghost use Rattle.iol_capture.specs.Judging.{judging_after_exchange, judging_in_call, counts_after_exchange, is_verdict_open, maybe_woken, new_judging, no_counts, judging_with_page, passed_next, line_skipped, passed_on, judging_in_mode, wake_told, with_odd};
+ghost use Rattle.iol_capture.specs.Judging.{judging_after_exchange, judging_in_call, counts_after_exchange, is_verdict_open, maybe_woken, new_judging, no_counts, judging_with_page, passed_next, line_skipped, passed_on, judging_in_mode, wake_judged, with_odd};
 
 use crate::passed::SplitItem;
 use crate::spacing::RateDoubt;
@@ -35,15 +35,15 @@ impl ExchangeCounts {
     }
 
     /// One more exchange, while the verdict was this.
-    fn with(self, verdict: Verdict, came: Option<&[u8]>) -> ExchangeCounts
-        ensures { result ≡ counts_after_exchange verdict self (option_copied came.entry) }
+    fn with(self, verdict: Verdict, received: Option<&[u8]>) -> ExchangeCounts
+        ensures { result ≡ counts_after_exchange verdict self (option_copied received.entry) }
     {
         let mut counts = self;
         match verdict {
             Verdict::Unjudged => counts.unjudged = one_more(self.unjudged),
             Verdict::Honest => {
                 counts.judged = one_more(self.judged);
-                if came.is_none() {
+                if received.is_none() {
                     counts.lost = one_more(self.lost);
                 }
             }
@@ -141,7 +141,7 @@ impl Judgement {
     }
 
     /// The page counts before the first call alone: later it is what a port read.
-    pub(crate) fn tell_page(&mut self, octets: &[u8; 10])
+    pub(crate) fn submit_page(&mut self, octets: &[u8; 10])
         ensures { self.new ≡ judging_with_page self.old octets.now }
     {
         if self.call == 0 {
@@ -152,7 +152,7 @@ impl Judgement {
 
     /// A wake-up request was made.
     pub(crate) fn wake(&mut self, answer: Wake)
-        ensures { self.new ≡ wake_told self.old answer }
+        ensures { self.new ≡ wake_judged self.old answer }
     {
         self.judge.wake(answer);
         self.watching.wake(answer);
@@ -174,7 +174,7 @@ impl Judgement {
     }
 
     /// Whether no call was told.
-    pub(crate) fn is_untold(&self) -> bool
+    pub(crate) fn has_no_call(&self) -> bool
         ensures { result ≡ (self.now.call == 0) }
     {
         self.call == 0
@@ -199,12 +199,13 @@ impl Judgement {
     }
 
     /// A message, and what came back.
-    pub(crate) fn exchange(&mut self, sent: &[u8], came: Option<&[u8]>)
-        ensures { self.new ≡ judging_after_exchange self.old sent.now (option_copied came.entry) }
+    pub(crate) fn exchange(&mut self, sent: &[u8], received: Option<&[u8]>)
+        ensures { self.new
+            ≡ judging_after_exchange self.old sent.now (option_copied received.entry) }
     {
-        self.counts = self.counts.with(self.judge.verdict(), came);
-        self.judge.exchange(sent, came);
-        self.watching.exchange(self.call, sent, came);
+        self.counts = self.counts.with(self.judge.verdict(), received);
+        self.judge.exchange(sent, received);
+        self.watching.exchange(self.call, sent, received);
         note_odd(&mut self.odd, self.call, self.judge.oddity());
     }
 

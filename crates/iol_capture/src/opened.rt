@@ -1,7 +1,7 @@
 //! A capture that is read in pieces: the lines that ended, and the line that is open.
 ghost use Rattle.std.specs.Prelude.{◌≡◌, ◌∷◌, ◌++◌, [], ℕ, List, None, Ok, Err, OnOk, OnErr, MatchOption, MatchResult};
 ghost use Rattle.std.specs.Result.{result_and, result_unwrap_or};
-ghost use Rattle.iol_capture.specs.Capture.{IsOpenLine, calls_of_rest, capture_after_line, judging_after_rest, judging_at_end, last_call, line_call, new_opened, told_before};
+ghost use Rattle.iol_capture.specs.Capture.{IsOpenLine, calls_of_rest, capture_after_line, judging_after_rest, judging_at_end, last_call, line_call, new_opened, emitted_before};
 
 use crate::fault::{CaptureFault, LineFault};
 use crate::judgement::{Judgement, one_more};
@@ -45,13 +45,13 @@ impl EndedLines {
     }
 
     /// One more line, and the call that it tells.
-    fn tell_line(&mut self, line: &[u8]) -> Result<Option<TimedCall>, CaptureFault>
+    fn submit_line(&mut self, line: &[u8]) -> Result<Option<TimedCall>, CaptureFault>
         ensures read { result_and result (Ok self.new)
             ≡ capture_after_line (Ok self.old) line.now }
-        ensures told { result_unwrap_or result None ≡ line_call self.old.telling line.now }
+        ensures emitted { result_unwrap_or result None ≡ line_call self.old.telling line.now }
     {
         let number = one_more(self.count);
-        match self.telling.tell_line(line) {
+        match self.telling.submit_line(line) {
             Ok(call) => {
                 self.count = number;
                 Ok(call)
@@ -108,7 +108,7 @@ impl CaptureReader {
             self.judge_line(line)?;
             left = later;
         }
-        self.keep(left)
+        self.store(left)
     }
 
     /// One more octet of the text is read. Where it ends a line, that may tell a call. The first
@@ -116,25 +116,25 @@ impl CaptureReader {
     pub fn take_octet(&mut self, octet: u8) -> Result<Option<TimedCall>, CaptureFault>
         ensures judged { (rest : List ℕ) → result_and result (judging_after_rest self.new rest)
             ≡ judging_after_rest self.old (octet ∷ rest) }
-        ensures told { (rest : List ℕ) → told_before result (calls_of_rest self.new rest)
+        ensures emitted { (rest : List ℕ) → emitted_before result (calls_of_rest self.new rest)
             ≡ calls_of_rest self.old (octet ∷ rest) }
     {
         if octet == b'\n' {
             return self.end_line(&[]);
         }
-        self.keep(&[octet])?;
+        self.store(&[octet])?;
         Ok(None)
     }
 
     /// More of the line that is open.
     #[tactic(auto, using(crate::proofs::ReadLemmas::overfull, crate::proofs::CallLemmas::overfull_calls))]
-    fn keep(&mut self, more: &[u8]) -> Result<(), CaptureFault>
+    fn store(&mut self, more: &[u8]) -> Result<(), CaptureFault>
         requires { IsOpenLine more.now }
         ensures judged { (rest : List ℕ) → result_and result (judging_after_rest self.new rest)
             ≡ judging_after_rest self.old (more.now ++ rest) }
-        ensures told { OnOk result ((rest : List ℕ) → calls_of_rest self.new rest
+        ensures emitted { OnOk result ((rest : List ℕ) → calls_of_rest self.new rest
             ≡ calls_of_rest self.old (more.now ++ rest)) }
-        ensures tells_none { OnErr result ((rest : List ℕ)
+        ensures emits_none { OnErr result ((rest : List ℕ)
             → calls_of_rest self.old (more.now ++ rest) ≡ []) }
         ensures line { OnOk result (self.new.line ≡ self.old.line ++ more.now) }
         ensures ended { OnOk result (self.new.reading ≡ self.old.reading) }
@@ -167,23 +167,23 @@ impl CaptureReader {
         requires { IsOpenLine end.now }
         ensures judged { (rest : List ℕ) → result_and result (judging_after_rest self.new rest)
             ≡ judging_after_rest self.old (end.now ++ 10 ∷ rest) }
-        ensures told { (rest : List ℕ) → told_before result (calls_of_rest self.new rest)
+        ensures emitted { (rest : List ℕ) → emitted_before result (calls_of_rest self.new rest)
             ≡ calls_of_rest self.old (end.now ++ 10 ∷ rest) }
     {
-        self.keep(end)?;
-        self.end_kept()
+        self.store(end)?;
+        self.end_stored()
     }
 
     /// The open line ends with what is kept of it.
-    fn end_kept(&mut self) -> Result<Option<TimedCall>, CaptureFault>
+    fn end_stored(&mut self) -> Result<Option<TimedCall>, CaptureFault>
         ensures line { result_and result (Ok self.new.reading)
             ≡ capture_after_line (Ok self.old.reading) self.old.line }
-        ensures told { result_unwrap_or result None
+        ensures emitted { result_unwrap_or result None
             ≡ line_call self.old.reading.telling self.old.line }
         ensures empty { OnOk result (self.new.line ≡ []) }
         ensures no_feed { IsOpenLine self.old.line }
     {
-        let call = self.ended.tell_line(self.line.as_slice())?;
+        let call = self.ended.submit_line(self.line.as_slice())?;
         self.line.clear();
         Ok(call)
     }
@@ -193,25 +193,25 @@ impl CaptureReader {
     pub fn end_text(&mut self) -> Result<Option<TimedCall>, CaptureFault>
         ensures judged { result_and result (judging_after_rest self.new [])
             ≡ judging_after_rest self.old [] }
-        ensures told { told_before result (calls_of_rest self.new [])
+        ensures emitted { emitted_before result (calls_of_rest self.new [])
             ≡ calls_of_rest self.old [] }
         ensures empty { OnOk result (self.new.line ≡ []) }
     {
         if self.line.is_empty() {
             return Ok(None);
         }
-        self.end_kept()
+        self.end_stored()
     }
 
     /// What is judged of the lines that have ended, once the text has, and the last call.
     pub fn finish(self) -> Result<(Judgement, Option<TimedCall>), CaptureFault>
         ensures judged { MatchResult result (λ whole. judging_at_end (Ok self.reading) ≡ Ok whole.0)
             (λ fault. judging_at_end (Ok self.reading) ≡ Err fault) }
-        ensures told { MatchResult result (λ whole. last_call self.reading.telling ≡ whole.1)
+        ensures emitted { MatchResult result (λ whole. last_call self.reading.telling ≡ whole.1)
             (λ fault. last_call self.reading.telling ≡ None) }
     {
-        if self.ended.telling.is_untold() {
-            return Err(CaptureFault::NothingTold(self.ended.count));
+        if self.ended.telling.has_no_call() {
+            return Err(CaptureFault::NoCall(self.ended.count));
         }
         let number = one_more(self.ended.count);
         match self.ended.telling.finish() {

@@ -38,7 +38,7 @@ impl SplitItem {
     ghost use Rattle.iol_capture.specs.FairSplits.{judge_after_item};
 
     /// Tells it to a judge.
-    pub fn tell(&self, judge: &mut Judge)
+    pub fn submit(&self, judge: &mut Judge)
         ensures { judge.new ≡ judge_after_item judge.old self.now }
     {
         match self {

@@ -2,7 +2,7 @@
 ghost use Rattle.std.specs.Prelude.{◌≡◌, IfOk, codes};
 ghost use Rattle.std.specs.String.{string_bytes};
 ghost use Rattle.iol_script.specs.Printing.{Prints};
-ghost use Rattle.iol_capture.specs.Findings.{are_told, at_rate_text, because_text, blamed_text, count_text, doubt_text, fault_text, finding_of, finding_text, from_text, honest_text, kind_text, kinds_text, master_verdict_text, odd_texts, open_text, rate_word, reason_text, unsure_text, verdict_text};
+ghost use Rattle.iol_capture.specs.Findings.{are_named, at_rate_text, because_text, blamed_text, count_text, doubt_text, fault_text, finding_of, finding_text, from_text, honest_text, kind_text, kinds_text, master_verdict_text, odd_texts, open_text, rate_word, reason_text, unsure_text, verdict_text};
 
 use crate::judgement::{ExchangeCounts, Judgement, OddExchange};
 use crate::spacing::RateDoubt;
@@ -207,7 +207,7 @@ fn print_from<A: Allocator>(output: &mut String<A>, from: u64, why: &str) -> Res
 fn print_kinds<A: Allocator>(output: &mut String<A>, kinds: &Kinds) -> Result<(), AllocError>
     ensures { Prints result output.old output.new (kinds_text kinds.now) }
 {
-    if !are_told(kinds) {
+    if !are_named(kinds) {
         return Ok(());
     }
     let Kinds {
@@ -229,8 +229,8 @@ fn print_kinds<A: Allocator>(output: &mut String<A>, kinds: &Kinds) -> Result<()
 }
 
 /// Whether these are some kinds, and not all four.
-fn are_told(kinds: &Kinds) -> bool
-    ensures { result ≡ are_told kinds.now }
+fn are_named(kinds: &Kinds) -> bool
+    ensures { result ≡ are_named kinds.now }
 {
     let some = kinds.first_left || kinds.first_sent || kinds.last_left || kinds.last_sent;
     let all = kinds.first_left && kinds.first_sent && kinds.last_left && kinds.last_sent;

@@ -6,7 +6,9 @@ use thiserror::Error;
 
 // The numbers of the refusals: their one table, which the definitions cite.
 const TIME_BACK: u8 = 1;
+
 const OVERLAP: u8 = 2;
+
 const NO_LAYOUT: u8 = 7;
 
 /// Why an octet is none of a message or a reply.

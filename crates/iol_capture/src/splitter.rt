@@ -1,7 +1,7 @@
 //! The splitter.
 ghost use Rattle.std.specs.Prelude.{◌≡◌};
-ghost use Rattle.iol_judge.specs.Seen.{whole_page};
-ghost use Rattle.iol_capture.specs.Splitting.{is_unheard, untold_at_end, octet_split, wake_split};
+ghost use Rattle.iol_judge.specs.Observed.{whole_page};
+ghost use Rattle.iol_capture.specs.Splitting.{is_unheard, pending_at_end, octet_split, wake_split};
 ghost use Rattle.iol_capture.specs.Damage.{is_at_begin, line_joined};
 ghost use Rattle.iol_capture.specs.SplitSteps.{split_step, good_step};
 ghost use Rattle.iol_capture.specs.SplitterState.{begins_call, new_splitter};
@@ -9,7 +9,7 @@ ghost use Rattle.iol_capture.specs.SplitterState.{begins_call, new_splitter};
 use crate::link::Spoken;
 use crate::passed::SplitItem;
 use crate::split_fault::SplitFault;
-use iol_judge::{SeenPage, Wake};
+use iol_judge::{ObservedPage, Wake};
 use iol_link::Rate;
 use iol_mseq::{Layout, Message};
 use std::marker::Model;
@@ -73,7 +73,7 @@ pub(crate) enum Requests {
 pub struct Splitter {
     pub(crate) rate: Rate,
     pub(crate) requests: Requests,
-    pub(crate) seen: SeenPage,
+    pub(crate) observed: ObservedPage,
     pub(crate) link: Spoken,
     /// That of the message under way, once it is whole.
     pub(crate) layout: Layout,
@@ -94,7 +94,7 @@ impl Model for Splitter {
     ghost view = { λ s. record {
       rate = s.rate;
       requests = s.requests;
-      seen = s.seen;
+      observed = s.observed;
       link = s.link;
       layout = s.layout;
       phase = s.phase;
@@ -113,7 +113,7 @@ impl Splitter {
         Splitter {
             rate,
             requests: Requests::Unshown,
-            seen: SeenPage::nothing(),
+            observed: ObservedPage::nothing(),
             link: Spoken::started(),
             layout: Layout::startup(),
             phase: Phase::Asleep,
@@ -126,9 +126,9 @@ impl Splitter {
 
     /// The device has this page: the octets of 0x02 to 0x0B. A page that was read needn't be told.
     pub fn page(&mut self, octets: &[u8; 10])
-        ensures { self.new ≡ record self.old { seen = whole_page octets.now } }
+        ensures { self.new ≡ record self.old { observed = whole_page octets.now } }
     {
-        self.seen = SeenPage::whole(octets);
+        self.observed = ObservedPage::whole(octets);
     }
 
     /// The stream begins while a device with this page is in OPERATE: the octets of 0x02 to 0x0B.
@@ -213,7 +213,7 @@ impl Splitter {
 
     /// The stream has ended: what isn't told yet. A message without its last octets is none.
     pub fn end(mut self) -> Option<SplitItem>
-        ensures { result ≡ untold_at_end self }
+        ensures { result ≡ pending_at_end self }
     {
         self.finish()
     }
@@ -238,7 +238,7 @@ impl Splitter {
     /// What isn't told yet. No octet is under way any more.
     fn finish(&mut self) -> Option<SplitItem>
         ensures { good_step self.new result
-            ≡ good_step (cleared_line self.old) (untold_at_end self.old) }
+            ≡ good_step (cleared_line self.old) (pending_at_end self.old) }
     {
         let passed = match self.phase {
             Phase::Asleep | Phase::Joined => None,

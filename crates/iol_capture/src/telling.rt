@@ -1,7 +1,7 @@
 //! A judge, told the lines of a capture in one form or the other.
 ghost use Rattle.std.specs.Prelude.{◌≡◌, MatchResult, Ok};
 ghost use Rattle.std.specs.Result.{result_and, result_unwrap_or};
-ghost use Rattle.iol_capture.specs.Capture.{is_untold, judging_if_whole, last_call, line_call, line_told, new_telling};
+ghost use Rattle.iol_capture.specs.Capture.{has_no_call, judging_if_whole, last_call, line_call, line_judged, new_telling};
 
 use crate::fault::LineFault;
 use crate::hearing::OctetJudgement;
@@ -40,11 +40,11 @@ impl Telling {
 
     /// One more line, whose call isn't shown.
     pub fn judge_line(&mut self, line: &[u8]) -> Result<(), LineFault>
-        ensures { result_and result (Ok self.new) ≡ line_told self.old line.now }
+        ensures { result_and result (Ok self.new) ≡ line_judged self.old line.now }
     {
         match self {
-            Telling::Trace(tracing) => tracing.tell_line(line),
-            Telling::Octets(hearing) => match hearing.tell_line(line) {
+            Telling::Trace(tracing) => tracing.submit_line(line),
+            Telling::Octets(hearing) => match hearing.submit_line(line) {
                 Ok(_) => Ok(()),
                 Err(fault) => Err(fault),
             },
@@ -52,25 +52,25 @@ impl Telling {
     }
 
     /// One more line, and the call of the wire that it tells.
-    pub fn tell_line(&mut self, line: &[u8]) -> Result<Option<TimedCall>, LineFault>
-        ensures heard { result_and result (Ok self.new) ≡ line_told self.old line.now }
-        ensures told { result_unwrap_or result None ≡ line_call self.old line.now }
+    pub fn submit_line(&mut self, line: &[u8]) -> Result<Option<TimedCall>, LineFault>
+        ensures heard { result_and result (Ok self.new) ≡ line_judged self.old line.now }
+        ensures emitted { result_unwrap_or result None ≡ line_call self.old line.now }
     {
         match self {
             Telling::Trace(tracing) => {
-                tracing.tell_line(line)?;
+                tracing.submit_line(line)?;
                 Ok(None)
             }
-            Telling::Octets(hearing) => hearing.tell_line(line),
+            Telling::Octets(hearing) => hearing.submit_line(line),
         }
     }
 
     /// Whether a trace told no call.
-    pub fn is_untold(&self) -> bool
-        ensures { result ≡ is_untold self.now }
+    pub fn has_no_call(&self) -> bool
+        ensures { result ≡ has_no_call self.now }
     {
         match self {
-            Telling::Trace(tracing) => tracing.is_untold(),
+            Telling::Trace(tracing) => tracing.has_no_call(),
             Telling::Octets(_) => false,
         }
     }
@@ -79,7 +79,7 @@ impl Telling {
     pub fn finish(self) -> Result<(Judgement, Option<TimedCall>), LineFault>
         ensures judged { MatchResult result (λ whole. judging_if_whole self ≡ Ok whole.0)
             (λ fault. judging_if_whole self ≡ Err fault) }
-        ensures told { MatchResult result (λ whole. last_call self ≡ whole.1)
+        ensures emitted { MatchResult result (λ whole. last_call self ≡ whole.1)
             (λ fault. last_call self ≡ None) }
     {
         match self {

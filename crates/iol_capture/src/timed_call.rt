@@ -1,6 +1,6 @@
 //! A call of the wire that octets were split into, and when it began.
 ghost use Rattle.std.specs.Prelude.{◌≡◌};
-ghost use Rattle.iol_capture.specs.Timed.{begun_untold, call_told, none_begun, time_of};
+ghost use Rattle.iol_capture.specs.Timed.{begun_pending, call_emitted, none_begun, time_of};
 
 use crate::passed::SplitItem;
 use iol_mseq::Layout;
@@ -40,14 +40,14 @@ impl Beginnings {
     }
 
     /// The call of this number that was told, where one was, with this layout.
-    pub fn tell(
+    pub fn emit(
         &mut self,
         number: Option<u64>,
         layout: Layout,
         passed: Option<SplitItem>,
     ) -> Option<TimedCall>
-        ensures begun { self.new ≡ begun_untold self.old passed }
-        ensures call { result ≡ call_told self.old number layout passed }
+        ensures begun { self.new ≡ begun_pending self.old passed }
+        ensures call { result ≡ call_emitted self.old number layout passed }
     {
         let item = passed?;
         if let SplitItem::Resumed(_) = item {

@@ -2,7 +2,7 @@
 ghost use Rattle.std.specs.Prelude.{◌≡◌, ◌<◌, ◌≤◌, ◌∷◌, IfSome, MatchOption, if◌then◌else◌, length, option_and_then, option_copied, option_map};
 ghost use Rattle.std.specs.List.{position};
 ghost use Rattle.iol_script.specs.Numerals.{before, octet_of_digits, octets_of_words};
-ghost use Rattle.iol_capture.specs.TraceLines.{are_none, came_form, colon_words, ends_word, octets_after, octets_form, octets_read, page_form, rate_form, ten_of, trace_call_form, trace_form, trace_words_form, words_behind};
+ghost use Rattle.iol_capture.specs.TraceLines.{are_none, received_form, colon_words, ends_word, octets_after, octets_form, octets_read, page_form, rate_form, ten_of, trace_call_form, trace_form, trace_words_form, words_behind};
 
 use arrayvec::ArrayVec;
 use iol_judge::Wake;
@@ -25,7 +25,7 @@ pub enum TraceLine {
     /// What the master sent in the call of this number.
     Sent(u64, LineOctets),
     /// What came back in that call, if anything did.
-    Came(u64, Option<LineOctets>),
+    Received(u64, Option<LineOctets>),
 }
 
 /// The same, where octets are still words: those that stand behind the words before them.
@@ -36,7 +36,7 @@ pub(crate) enum WordedLine<'a> {
     Page([u8; 10]),
     Wake(u64, Wake),
     Sent(u64, Option<&'a [u8]>),
-    Came(u64, Option<&'a [u8]>),
+    Received(u64, Option<&'a [u8]>),
 }
 
 impl TraceLine {
@@ -51,7 +51,10 @@ impl TraceLine {
             WordedLine::Page(octets) => TraceLine::Page(octets),
             WordedLine::Wake(number, answer) => TraceLine::Wake(number, answer),
             WordedLine::Sent(number, words) => TraceLine::Sent(number, parse_octets(words)?),
-            WordedLine::Came(number, words) => TraceLine::Came(number, parse_came(words)?),
+            WordedLine::Received(number, words) => TraceLine::Received(
+                number,
+                parse_received(words)?,
+            ),
         })
     }
 }
@@ -130,7 +133,7 @@ fn parse_call(number: u64, words: Option<&[u8]>) -> Option<WordedLine<'_>>
     match way {
         b"wake" => Some(WordedLine::Wake(number, parse_rate(behind)?)),
         b">" => Some(WordedLine::Sent(number, behind)),
-        b"<" => Some(WordedLine::Came(number, behind)),
+        b"<" => Some(WordedLine::Received(number, behind)),
         _ => None,
     }
 }
@@ -174,11 +177,11 @@ fn parse_octets(words: Option<&[u8]>) -> Option<LineOctets>
 }
 
 /// The same, or `none`.
-fn parse_came(words: Option<&[u8]>) -> Option<Option<LineOctets>>
-    ensures { result ≡ came_form (words_behind (option_copied words.entry)) }
+fn parse_received(words: Option<&[u8]>) -> Option<Option<LineOctets>>
+    ensures { result ≡ received_form (words_behind (option_copied words.entry)) }
 {
     let mut octets = LineOctets::new();
-    Some(if read_came(words, &mut octets)? {
+    Some(if read_received(words, &mut octets)? {
         Some(octets)
     } else {
         None
@@ -186,9 +189,9 @@ fn parse_came(words: Option<&[u8]>) -> Option<Option<LineOctets>>
 }
 
 /// Whether anything came back: octets, which are put in the place of others, or `none`.
-pub(crate) fn read_came(words: Option<&[u8]>, octets: &mut LineOctets) -> Option<bool>
+pub(crate) fn read_received(words: Option<&[u8]>, octets: &mut LineOctets) -> Option<bool>
     ensures { option_map (λ any. if any then Some octets.new else None) result
-        ≡ came_form (words_behind (option_copied words.entry)) }
+        ≡ received_form (words_behind (option_copied words.entry)) }
 {
     if are_none(words) {
         return Some(false);

@@ -2,12 +2,12 @@
 ghost use Rattle.std.specs.Prelude.{◌≡◌, ◌==◌, Ok, Err, OnErr, if◌then◌else◌, is_some, option_copied};
 ghost use Rattle.std.specs.Result.{result_and};
 ghost use Rattle.iol_capture.specs.declared.fault.LineFault.TheVariants.{ReplyMissing, WrongNumber};
-ghost use Rattle.iol_capture.specs.Judging.{came_to, is_call_number, judging_after_line, judging_in_call, new_judging, or_bad_form};
+ghost use Rattle.iol_capture.specs.Judging.{received_in_call, is_call_number, judging_after_line, judging_in_call, new_judging, or_bad_form};
 ghost use Rattle.iol_capture.specs.TraceLines.{octets_read, trace_form};
 
 use crate::fault::LineFault;
 use crate::judgement::Judgement;
-use crate::trace_line::{WordedLine, read_came, read_octets};
+use crate::trace_line::{WordedLine, read_octets, read_received};
 use iol_judge::Odd;
 use iol_script::LineOctets;
 use std::marker::Model;
@@ -55,10 +55,10 @@ impl TraceJudgement {
     }
 
     /// Whether no call was told.
-    pub fn is_untold(&self) -> bool
+    pub fn has_no_call(&self) -> bool
         ensures { result ≡ (self.now.call == 0) }
     {
-        self.judgement.is_untold()
+        self.judgement.has_no_call()
     }
 
     /// What is judged, where no message waits.
@@ -70,18 +70,18 @@ impl TraceJudgement {
     }
 
     /// One more line.
-    pub fn tell_line(&mut self, line: &[u8]) -> Result<(), LineFault>
+    pub fn submit_line(&mut self, line: &[u8]) -> Result<(), LineFault>
         ensures { result_and result (Ok self.new)
             ≡ or_bad_form (judging_after_line self.old) (trace_form line.now) }
     {
         match WordedLine::parse(line) {
-            Some(line) => self.tell(line),
+            Some(line) => self.submit(line),
             None => Err(LineFault::BadForm),
         }
     }
 
     /// What one more line says.
-    fn tell(&mut self, line: WordedLine<'_>) -> Result<(), LineFault>
+    fn submit(&mut self, line: WordedLine<'_>) -> Result<(), LineFault>
         ensures { result_and result (Ok self.new)
             ≡ or_bad_form (judging_after_line self.old) (octets_read line.entry) }
     {
@@ -92,7 +92,7 @@ impl TraceJudgement {
                 Ok(())
             }
             WordedLine::Page(octets) => {
-                self.judgement.tell_page(&octets);
+                self.judgement.submit_page(&octets);
                 Ok(())
             }
             WordedLine::Wake(number, answer) => {
@@ -100,15 +100,15 @@ impl TraceJudgement {
                 self.judgement.wake(answer);
                 Ok(())
             }
-            WordedLine::Sent(number, words) => self.tell_sent(number, words),
-            WordedLine::Came(number, words) => self.tell_came(number, words),
+            WordedLine::Sent(number, words) => self.submit_sent(number, words),
+            WordedLine::Received(number, words) => self.submit_received(number, words),
         }
     }
 
     ghost use Rattle.iol_capture.specs.declared.trace_line.WordedLine.TheVariants as worded;
 
     /// What was sent in the call of this number.
-    fn tell_sent(&mut self, number: u64, words: Option<&[u8]>) -> Result<(), LineFault>
+    fn submit_sent(&mut self, number: u64, words: Option<&[u8]>) -> Result<(), LineFault>
         ensures { result_and result (Ok self.new)
             ≡ or_bad_form (judging_after_line self.old)
             (octets_read (worded.Sent number words.entry)) }
@@ -122,13 +122,13 @@ impl TraceJudgement {
     }
 
     /// What came back in the call of this number, if anything did.
-    fn tell_came(&mut self, number: u64, words: Option<&[u8]>) -> Result<(), LineFault>
+    fn submit_received(&mut self, number: u64, words: Option<&[u8]>) -> Result<(), LineFault>
         ensures { result_and result (Ok self.new)
             ≡ or_bad_form (judging_after_line self.old)
-            (octets_read (worded.Came number words.entry)) }
+            (octets_read (worded.Received number words.entry)) }
     {
         let mut octets = LineOctets::new();
-        match read_came(words, &mut octets) {
+        match read_received(words, &mut octets) {
             Some(true) => self.hear(number, Some(octets.as_slice())),
             Some(false) => self.hear(number, None),
             None => Err(LineFault::BadForm),
@@ -136,9 +136,9 @@ impl TraceJudgement {
     }
 
     /// What came back to the message that waits.
-    fn hear(&mut self, number: u64, came: Option<&[u8]>) -> Result<(), LineFault>
+    fn hear(&mut self, number: u64, received: Option<&[u8]>) -> Result<(), LineFault>
         ensures { result_and result (Ok self.new)
-            ≡ came_to self.old.sent self.old number (option_copied came.entry) }
+            ≡ received_in_call self.old.sent self.old number (option_copied received.entry) }
     {
         if !self.waits {
             return Err(LineFault::MessageMissing);
@@ -146,7 +146,7 @@ impl TraceJudgement {
         if number != self.judgement.call {
             return Err(LineFault::WrongNumber);
         }
-        self.judgement.exchange(self.sent.as_slice(), came);
+        self.judgement.exchange(self.sent.as_slice(), received);
         self.waits = false;
         Ok(())
     }

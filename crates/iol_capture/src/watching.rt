@@ -119,39 +119,40 @@ impl CallWatch {
     }
 
     /// An exchange was made in this call.
-    pub fn exchange(&mut self, call: u64, sent: &[u8], came: Option<&[u8]>)
-        ensures { self.new ≡ exchange_watched self.old call sent.now (option_copied came.entry) }
+    pub fn exchange(&mut self, call: u64, sent: &[u8], received: Option<&[u8]>)
+        ensures { self.new
+            ≡ exchange_watched self.old call sent.now (option_copied received.entry) }
     {
         if self.is_blamed() {
             return;
         }
         if self.tests {
-            self.read_or_wake(call, sent, came);
+            self.read_or_wake(call, sent, received);
         } else {
-            self.follow(call, sent, came);
+            self.follow(call, sent, received);
         }
     }
 
     /// An exchange was made.
-    fn follow(&mut self, call: u64, sent: &[u8], came: Option<&[u8]>)
+    fn follow(&mut self, call: u64, sent: &[u8], received: Option<&[u8]>)
         ensures { self.new
-            ≡ watching_after_exchange self.old call sent.now (option_copied came.entry) }
+            ≡ watching_after_exchange self.old call sent.now (option_copied received.entry) }
     {
-        self.watch.exchange(sent, came);
+        self.watch.exchange(sent, received);
         self.call = call;
         self.asked = self.asked || asks_mode(sent);
     }
 
     /// An exchange was made that is a read, or the test read of a wake-up request.
-    fn read_or_wake(&mut self, call: u64, sent: &[u8], came: Option<&[u8]>)
-        ensures { self.new ≡ read_or_woken self.old call sent.now (option_copied came.entry) }
+    fn read_or_wake(&mut self, call: u64, sent: &[u8], received: Option<&[u8]>)
+        ensures { self.new ≡ read_or_woken self.old call sent.now (option_copied received.entry) }
     {
         self.tests = false;
-        self.follow(call, sent, came);
+        self.follow(call, sent, received);
         if self.is_blamed() {
             *self = CallWatch::new();
             self.wake(Wake::Answered);
-            self.follow(call, sent, came);
+            self.follow(call, sent, received);
         } else if self.asked && self.unsure.is_none() {
             self.unsure = Some(call);
         }

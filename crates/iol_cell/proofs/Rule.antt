@@ -54,14 +54,15 @@ still_one_writer users user old new here role words rule i j a b at_i at_j a_wri
 
 pub reads : ReadsKeepTheRule
 reads user old words users rule here =
-    let new : Sight = record { writes = old.writes; seen = rule.published } in (
+    let new : Sight = record { writes = old.writes; observed = rule.published } in (
       new,
       record {
         published = rule.published;
         shows = rule.shows;
-        begins = each (λ other sight. StartsWith rule.published sight.seen) users user new
+        begins = each (λ other sight. StartsWith rule.published sight.observed) users user new
             (starts_with_itself rule.published) (λ other sight apart. rule.begins other sight);
-        whole = each (λ other sight. sight.writes ≡ true → sight.seen ≡ rule.published) users user
+        whole = each (λ other sight. sight.writes ≡ true → sight.observed ≡ rule.published)
+            users user
             new (λ role. refl) (λ other sight apart. rule.whole other sight);
         one_writer = still_one_writer users user old new here refl words rule;
       },
@@ -72,18 +73,18 @@ pub publishes : PublishesKeepTheRule
 publishes user old after writes words users rule here =
     let image : Images = image_of after ∷ [] in
     let next : Images = rule.published ++ image in
-    let new : Sight = record { writes = old.writes; seen = old.seen ++ image } in
-    let all : new.seen ≡ next = ap (λ (l : Images). l ++ image)
+    let new : Sight = record { writes = old.writes; observed = old.observed ++ image } in
+    let all : new.observed ≡ next = ap (λ (l : Images). l ++ image)
     (rule.whole user old here writes) in (
       new,
       record {
         published = next;
         shows = sym (last_image-append rule.published (image_of after));
-        begins = each (λ other sight. StartsWith next sight.seen) users user new
+        begins = each (λ other sight. StartsWith next sight.observed) users user new
             (subst (StartsWith next) (sym all) (starts_with_itself next))
-            (λ other sight apart was. StartsWith-append rule.published sight.seen image
+            (λ other sight apart was. StartsWith-append rule.published sight.observed image
             (rule.begins other sight was));
-        whole = each (λ other sight. sight.writes ≡ true → sight.seen ≡ next) users user new
+        whole = each (λ other sight. sight.writes ≡ true → sight.observed ≡ next) users user new
             (λ role. all)
             (λ other sight apart was role. absurd
             (apart (rule.one_writer other user sight old was here role writes)));
@@ -95,7 +96,7 @@ publishes user old after writes words users rule here =
 -- without a publish the rule stays, if each that writes afterwards was there before
 stays : (words : List ℕ) (users after : List Sight) (rule : CellRule words users)
     → ((i : ℕ) (sight : Sight) → get_elem? after i ≡ some sight
-    → StartsWith rule.published sight.seen)
+    → StartsWith rule.published sight.observed)
     → ((i : ℕ) (sight : Sight) → get_elem? after i ≡ some sight → sight.writes ≡ true
     → get_elem? users i ≡ some sight) → CellRule words after
 stays words users after rule begins was = record {
@@ -119,7 +120,8 @@ splits user old words users rule here =
     (λ (same : seat ≡ sight). subst P same now)
     (at_snoc (set users user old) seat sight other there) in
     stays words users _ rule
-    (λ other sight. back (λ s. StartsWith rule.published s.seen) (rule.begins user old here) other
+    (λ other sight. back (λ s. StartsWith rule.published s.observed) (rule.begins user old here)
+    other
     sight (rule.begins other sight))
     (λ other sight. back (λ s. s.writes ≡ true → get_elem? users other ≡ some s)
     (λ role. let bad : false ≡ true = role in cc) other sight (λ was role. was))
@@ -144,8 +146,8 @@ joins user other into from reader words users rule here apart there =
     each (λ i sight. i ≢ user → get_elem? users i ≡ some sight) users user new
     (λ not. absurd (not refl)) (λ i sight not at far. at) other from there apart in
     stays words users _ rule
-    (all (λ i sight. StartsWith rule.published sight.seen)
-    (StartsWith-longer_list rule.published into.seen from.seen
+    (all (λ i sight. StartsWith rule.published sight.observed)
+    (StartsWith-longer_list rule.published into.observed from.observed
     (rule.begins user into here) (rule.begins other from was)) (rule.published, refl) rule.begins)
     (all (λ i sight. sight.writes ≡ true → get_elem? users i ≡ some sight)
     (λ role. let bad : false ≡ true = role in cc) (λ role. let bad : false ≡ true = role in cc)

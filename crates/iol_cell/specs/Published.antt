@@ -29,9 +29,9 @@ pub record CellRule (words : List ℕ) (users : List Sight) : Type 0 where
   pub published : List (Option (List ℕ))
   pub shows : image_of words ≡ last_image published
   pub begins : (user : ℕ) (sight : Sight) → get_elem? users user ≡ some sight
-      → StartsWith published sight.seen
+      → StartsWith published sight.observed
   pub whole : (user : ℕ) (sight : Sight) → get_elem? users user ≡ some sight → sight.writes ≡ true
-      → sight.seen ≡ published
+      → sight.observed ≡ published
   pub one_writer : (user other : ℕ) (sight beside : Sight) → get_elem? users user ≡ some sight
       → get_elem? users other ≡ some beside
       → sight.writes ≡ true → beside.writes ≡ true → user ≡ other

@@ -8,33 +8,36 @@ use Rattle.iol_cell.specs.declared.steps.Sight.{Sight}
 
 -- the writer of a new cell
 abbrev pub first_writer : Sight
-first_writer = record { writes = true; seen = [] }
+first_writer = record { writes = true; observed = [] }
 
 -- a read adds to what was seen, and finds the last image of it
 pub record Reads (old : Sight) (before after : List ℕ) (new : Sight) : Type 0 where
   pub same_role : new.writes ≡ old.writes
-  pub later : StartsWith new.seen old.seen
-  pub found : image_of before ≡ last_image new.seen
+  pub later : StartsWith new.observed old.observed
+  pub found : image_of before ≡ last_image new.observed
 
 -- a publish puts an image, or none, behind those before
 pub record Publishes (old : Sight) (before after : List ℕ) (new : Sight) : Type 0 where
   pub same_role : new.writes ≡ old.writes
-  pub appended : new.seen ≡ old.seen ++ image_of after ∷ []
+  pub appended : new.observed ≡ old.observed ++ image_of after ∷ []
 
 -- a split leaves the user that is split as it is, and makes a seat that has seen the same
 abbrev pub seat_beside : Sight → Sight
-seat_beside old = record { writes = false; seen = old.seen }
+seat_beside old = record { writes = false; observed = old.observed }
 
 abbrev pub longer_list : List (Option (List ℕ)) → List (Option (List ℕ)) → List (Option (List ℕ))
 longer_list images others = if nat_lt (length images) (length others) then others else images
 
 -- a join gives a seat the longer of two lists
 abbrev pub joined_seat : Sight → Sight → Sight
-joined_seat into from = record { writes = false; seen = longer_list into.seen from.seen }
+joined_seat into from = record {
+  writes = false;
+  observed = longer_list into.observed from.observed;
+}
 
 -- and leaves the other one with the empty list
 abbrev pub spent_seat : Sight
-spent_seat = record { writes = false; seen = [] }
+spent_seat = record { writes = false; observed = [] }
 
 abbrev pub ReadsKeepTheRule : Type 0
 ReadsKeepTheRule = (user : ℕ) (sight : Sight) → Turns CellRule user sight (λ words. words) Reads

@@ -30,7 +30,7 @@ impl<A: Handle> Model for ImageWriter<A> {
 
     ghost view = { λ writer. record {
       cell = writer.pass.table_id;
-      images = (cell_view writer.pass).seen;
+      images = (cell_view writer.pass).observed;
     } };
 
     ghost invariant = { λ writer.
@@ -62,7 +62,7 @@ impl<A: Handle> Model for ImageSeat<A> {
 
     ghost view = { λ seat. record {
       cell = seat.pass.table_id;
-      images = (cell_view seat.pass).seen;
+      images = (cell_view seat.pass).observed;
     } };
 
     ghost invariant = { λ seat. seat.pass.table_id ≡ (arc_value seat.cell).table.shared.table_id };

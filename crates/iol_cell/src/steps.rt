@@ -10,7 +10,7 @@ use std::collections::LinkedList;
 /// images that it has seen. No value of it is made: contracts alone speak of it.
 pub struct Sight {
     pub writes: bool,
-    pub seen: LinkedList<Option<Image>>,
+    pub observed: LinkedList<Option<Image>>,
 }
 
 /// The rule of a cell: it shows the last published image, and each user has seen the first of them.

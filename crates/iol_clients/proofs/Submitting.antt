@@ -42,19 +42,19 @@ module _ {W : Type 0} (facts : WireFacts W) (ports : ℕ) (d d' : DeskState) whe
       → request ≡ client_request → (tickets tickets' : List Ticket)
       → tickets' ≡ tickets_with tickets answer → answer ≢ Err (Port (Book NoMemory))
       → SubmitsRead (port_facts facts) (client_state d tickets) (client_state d' tickets')
-  submits_read answer request there counts entered is tickets tickets' kept memory =
+  submits_read answer request there counts entered is tickets tickets' recorded memory =
       let counted = counts_there answer there counts in
       record {
         answer = answer;
         counted = counted;
         entered = rw is at (entered_there answer counted entered);
-        kept = kept;
+        recorded = recorded;
         memory = memory;
       }
 
 -- what was answered isn't want of memory: a ticket, or another fault
-pub given : (ticket : Ticket) (fault : MasterFault) → Ok ticket ≢ Err fault
-given ticket fault e = grind (arith, e)
+pub issued : (ticket : Ticket) (fault : MasterFault) → Ok ticket ≢ Err fault
+issued ticket fault e = grind (arith, e)
 
 abbrev refused : MasterFault → Result Ticket MasterFault
 refused why = Err why

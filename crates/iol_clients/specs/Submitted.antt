@@ -40,7 +40,7 @@ module _ {P : Type 0} (facts : PortFacts P) where
     pub answer : Result Ticket MasterFault
     pub counted : CountsSubmit facts.refuses client.desk answer next.desk
     pub entered : WasEntered facts client.desk Ordinary client_request answer next.desk
-    pub kept : next.tickets ≡ tickets_with client.tickets answer
+    pub recorded : next.tickets ≡ tickets_with client.tickets answer
     pub memory : answer ≢ Err (Port (Book NoMemory))
 
   -- so many were, one after another

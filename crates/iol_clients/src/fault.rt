@@ -7,7 +7,9 @@ use thiserror::Error;
 
 // The numbers of the refusals: their one table, which the definitions cite.
 const OUT_OF_MEMORY: u8 = 24;
+
 const NO_THREAD: u8 = 32;
+
 const DESKS_FULL: u8 = 33;
 
 /// Why a run of many clients is refused.

@@ -1,6 +1,6 @@
 //! The ports of a plan, each over a simulated wire and device.
 ghost use Rattle.std.specs.Prelude.{◌≡◌, All, IfOk, vec_len};
-ghost use Rattle.iol_master.specs.Tickets.{HasGiven};
+ghost use Rattle.iol_master.specs.Tickets.{HasIssued};
 
 use iol_book::Limits;
 use iol_device::Device;
@@ -24,7 +24,7 @@ const ROOM: u32 = 1_000;
 
 /// A port over a clean wire, in operation after 15 turns.
 fn open_port(alloc: Global) -> Result<Port<Sim<Params>>, AllocError>
-    ensures { IfOk result (λ p. HasGiven p 0) }
+    ensures { IfOk result (λ p. HasIssued p 0) }
 {
     let mut params = Params::new();
     // The first parameter finds room.
@@ -42,7 +42,7 @@ fn open_port(alloc: Global) -> Result<Port<Sim<Params>>, AllocError>
 /// So many ports, which gave no ticket yet.
 pub(crate) fn open_ports(alloc: Global, count: u32) -> Result<Vec<Port<Sim<Params>>>, AllocError>
     ensures count { IfOk result (λ v. vec_len v ≡ count) }
-    ensures fresh { IfOk result (λ v. All (λ p. HasGiven p 0) v.items) }
+    ensures fresh { IfOk result (λ v. All (λ p. HasIssued p 0) v.items) }
 {
     let mut ports = Vec::new(alloc);
     for _ in 0..count {

@@ -109,15 +109,15 @@ pub stop_appended : (result fault : JudgeFault) (a b c : Option (List ℕ))
     → (result ≡ OutOfMemory → Keeps b c)
     → ((fault ≡ WriteFailed → ⊥) → (text : List ℕ) × Appends a b text)
     → (result ≡ WriteFailed → ⊥) → (text : List ℕ) × Appends a c text
-stop_appended (Capture why) fault a b c left same written kept first other =
+stop_appended (Capture why) fault a b c left same written unchanged first other =
     let is : Capture why ≡ fault = same other in
     let (text, appends) = first (λ failed. cc) in
     (text ++ left, Appends-trans a b c text left appends (written why refl))
-stop_appended WriteFailed fault a b c left same written kept first other = absurd (other refl)
-stop_appended OutOfMemory fault a b c left same written kept first other =
+stop_appended WriteFailed fault a b c left same written unchanged first other = absurd (other refl)
+stop_appended OutOfMemory fault a b c left same written unchanged first other =
     let is : OutOfMemory ≡ fault = same other in
     let (text, appends) = first (λ failed. cc) in
-    (text ++ [], Appends-trans a b c text [] appends (keeps_nothing b c (kept refl)))
+    (text ++ [], Appends-trans a b c text [] appends (keeps_nothing b c (unchanged refl)))
 
 -- Texts
 
@@ -127,7 +127,7 @@ module _ (rate : Rate) where
   text_none p = record {
     judged = λ rest. refl;
     calls = [];
-    told = λ rest. refl;
+    emitted = λ rest. refl;
     flows = flows_none rate p.waits p.written;
   }
 
@@ -138,8 +138,8 @@ module _ (rate : Rate) where
     judged = λ rest. two.judged rest ∙ one.judged (more ++ rest)
         ∙ ap (λ t. judging_after_rest p.opened t) (sym (append_assoc text more rest));
     calls = one.calls ++ two.calls;
-    told = λ rest. append_assoc one.calls two.calls (calls_of_rest r.opened rest)
-        ∙ ap (λ l. one.calls ++ l) (two.told rest) ∙ one.told (more ++ rest)
+    emitted = λ rest. append_assoc one.calls two.calls (calls_of_rest r.opened rest)
+        ∙ ap (λ l. one.calls ++ l) (two.emitted rest) ∙ one.emitted (more ++ rest)
         ∙ ap (λ t. calls_of_rest p.opened t) (sym (append_assoc text more rest));
     flows = flows_calls_join rate one.calls two.calls p.waits q.waits r.waits p.written q.written
         r.written one.flows two.flows;
@@ -154,7 +154,7 @@ module _ (rate : Rate) where
     traces = record {
       is_judged = sym (one.judged more) ∙ two.traces.is_judged;
       prints = subst (λ (calls : List TimedCall).
-          PrintsCalls rate calls (one.flows.trace ++ two.trace)) (one.told more)
+          PrintsCalls rate calls (one.flows.trace ++ two.trace)) (one.emitted more)
           (calls_join rate one.calls (calls_of_rest q.opened more) one.flows.trace two.trace
           one.flows.prints two.traces.prints);
     };
@@ -198,11 +198,11 @@ module _ (rate : Rate) where
   pub bad_ends : (p : OctetsPlace) (text : List ℕ) (why : CaptureFault)
       → Err why ≡ judging_after_rest p.opened text → [] ≡ calls_of_rest p.opened text
       → TracesToEnd rate p text (Err why) p.waits p.written
-  bad_ends p text why judged told = record {
+  bad_ends p text why judged emitted = record {
     trace = [];
     traces = record {
       is_judged = sym judged;
-      prints = subst (λ (calls : List TimedCall). PrintsCalls rate calls []) told refl;
+      prints = subst (λ (calls : List TimedCall). PrintsCalls rate calls []) emitted refl;
     };
     flows = record {
       written = [];
@@ -217,13 +217,13 @@ module _ (rate : Rate) where
       → FlowsCalls rate calls p.waits p.written q.waits q.written
       → (fault ≡ OutOfMemory) ⊎ (fault ≡ WriteFailed)
       → (fault ≡ OutOfMemory → Keeps q.written new) → StopsTrace fault rate p text left new
-  stops_after (Capture why) p q calls text left new flows (inl is) kept = absurd (cc)
-  stops_after (Capture why) p q calls text left new flows (inr is) kept = absurd (cc)
-  stops_after WriteFailed p q calls text left new flows either kept = tt
-  stops_after OutOfMemory p q calls text left new flows either kept = (
+  stops_after (Capture why) p q calls text left new flows (inl is) unchanged = absurd (cc)
+  stops_after (Capture why) p q calls text left new flows (inr is) unchanged = absurd (cc)
+  stops_after WriteFailed p q calls text left new flows either unchanged = tt
+  stops_after OutOfMemory p q calls text left new flows either unchanged = (
     flows.flows.written ++ [],
     Appends-trans p.written q.written new flows.flows.written [] flows.flows.appends
-        (keeps_nothing q.written new (kept refl)),
+        (keeps_nothing q.written new (unchanged refl)),
   )
 
   -- an octet was read, and this call is shown, by a call with this result
@@ -237,15 +237,15 @@ module _ (rate : Rate) where
       → IfErr result (λ e. (e ≡ OutOfMemory) ⊎ (e ≡ WriteFailed))
       → (result ≡ Err OutOfMemory → Keeps p.written r.written)
       → ReadsText result rate p (octet ∷ []) r
-  octet_shown (Ok done) p r octet call judged told shown faults kept = record {
+  octet_shown (Ok done) p r octet call judged emitted shown faults unchanged = record {
     judged = judged;
     calls = cons_option call [];
-    told = λ rest. option_first call (calls_of_rest r.opened rest) ∙ told rest;
+    emitted = λ rest. option_first call (calls_of_rest r.opened rest) ∙ emitted rest;
     flows = shown;
   }
-  octet_shown (Err fault) p r octet call judged told shown faults kept = λ rest.
+  octet_shown (Err fault) p r octet call judged emitted shown faults unchanged = λ rest.
       stops_after fault p p [] ((octet ∷ []) ++ rest) r.waits r.written
-      (flows_none rate p.waits p.written) faults (λ is. kept (ap Err is))
+      (flows_none rate p.waits p.written) faults (λ is. unchanged (ap Err is))
 
   -- the last line was read, and its call shown, and then the end
   pub end_shown : (p : OctetsPlace) (opened : ReaderState) (first last : Option TimedCall)
@@ -257,7 +257,7 @@ module _ (rate : Rate) where
       → FlowsCalls rate (cons_option first []) p.waits p.written waits mid
       → FlowsCalls rate (cons_option last []) waits mid left new
       → TracesToEnd rate p [] judged left new
-  end_shown p opened first last judged waits left mid new same told empty is_judged is_last one
+  end_shown p opened first last judged waits left mid new same emitted empty is_judged is_last one
       two =
       let flows = flows_calls_join rate (cons_option first []) (cons_option last []) p.waits waits
       left p.written mid new one two in
@@ -267,7 +267,7 @@ module _ (rate : Rate) where
       rw empty refl in
       let calls : cons_option first [] ++ cons_option last [] ≡ calls_of_rest p.opened [] =
       option_first first (cons_option last [])
-      ∙ ap (λ l. cons_option first l) (ap (λ c. cons_option c []) (sym is_last) ∙ ends) ∙ told in
+      ∙ ap (λ l. cons_option first l) (ap (λ c. cons_option c []) (sym is_last) ∙ ends) ∙ emitted in
       record {
         trace = flows.trace;
         traces = record {

@@ -5,7 +5,7 @@ use Rattle.iol_mseq.specs.Shape.{Shape, startup_shape, preoperate_shape, operate
 use Rattle.iol_mseq.specs.declared.fault.MseqFault.{MseqFault}
 use Rattle.iol_script.specs.CheckLines.{CheckForm, skip, layout, master, read_reply, write_reply, check_form}
 use Rattle.iol_print.specs.Printed.{refusal_text}
-use Rattle.iol_print.specs.Said.{PrintsMessage, PrintsReply}
+use Rattle.iol_print.specs.Meanings.{PrintsMessage, PrintsReply}
 use Rattle.iol_commands.specs.Printed.{layout_text}
 use Rattle.iol_script.specs.declared.check_line.LayoutLine.{LayoutLine}
 use Rattle.iol_script.specs.declared.check_line.LayoutLine.TheVariants.{Startup, Preoperate, Operate}

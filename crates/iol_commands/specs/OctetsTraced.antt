@@ -101,7 +101,7 @@ pub record TracesText (rate : Rate) (old : OctetsPlace) (text : List ℕ)
   pub judged : (rest : List ℕ) → judging_after_rest new.opened rest
       ≡ judging_after_rest old.opened (text ++ rest)
   pub calls : List TimedCall
-  pub told : (rest : List ℕ) → calls ++ calls_of_rest new.opened rest
+  pub emitted : (rest : List ℕ) → calls ++ calls_of_rest new.opened rest
       ≡ calls_of_rest old.opened (text ++ rest)
   pub flows : FlowsCalls rate calls old.waits old.written new.waits new.written
 

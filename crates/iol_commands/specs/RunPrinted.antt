@@ -63,7 +63,7 @@ device_text (answer.Refused error additional) =
 
 -- how a request ended
 abbrev pub outcome_text : Outcome → List ℕ
-outcome_text (Done given) = codes " done " ++ device_text given
+outcome_text (Done reply) = codes " done " ++ device_text reply
 outcome_text (Unknown cause) = codes " unknown " ++ cause_name cause
 outcome_text Withdrawn = codes " withdrawn"
 outcome_text NoIsdu = codes " noisdu"

@@ -137,7 +137,7 @@ fn stop<A: Allocator, W: Write>(writer: &mut W, output: &String<A>, fault: Judge
     ensures same { result ≢ WriteFailed → result ≡ fault }
     ensures written { (why : CaptureFault) → result ≡ Capture why
         → Appends (W.contents writer.old) (W.contents writer.new) (string_bytes output.now) }
-    ensures kept { result ≡ OutOfMemory
+    ensures unchanged { result ≡ OutOfMemory
         → Keeps (W.contents writer.old) (W.contents writer.new) }
 {
     match fault {

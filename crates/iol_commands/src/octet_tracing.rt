@@ -121,7 +121,7 @@ fn show<A: Allocator, W: Write>(
         (string_bytes output.old) (W.contents writer.old)
         (string_bytes output.new) (W.contents writer.new)) }
     ensures faults { IfErr result (λ e. (e ≡ OutOfMemory) ⊎ (e ≡ WriteFailed)) }
-    ensures kept { result ≡ Err OutOfMemory
+    ensures unchanged { result ≡ Err OutOfMemory
         → Keeps (W.contents writer.old) (W.contents writer.new) }
 {
     let Some(call) = call else {

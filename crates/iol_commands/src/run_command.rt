@@ -17,7 +17,7 @@ use crate::fault::ProgramFault;
 use crate::playing::{PortScript, play_lines};
 use crate::streams::{read_input, write_output};
 use iol_cell::Handle;
-use iol_device::{Apart, App, Device, Kept};
+use iol_device::{Apart, App, Device, FullRecord};
 use iol_far::Kind;
 use iol_page::Page;
 use iol_param_sim::Parameters;
@@ -177,7 +177,7 @@ fn first_device<P: App, A: Handle>(
     alloc: A,
     script: &Script<A>,
     app: P,
-) -> Result<Device<P, Kept<A>>, AllocError>
+) -> Result<Device<P, FullRecord<A>>, AllocError>
     requires { IsScript script.now }
     ensures { IfOk result (λ device. device
         ≡ new_device script.now.kind script.now.misses_pulses script.now.page app) }
@@ -195,7 +195,7 @@ fn device_of<P: App, A: Handle>(
     kind: Kind,
     app: P,
     page: Page,
-) -> Result<Device<P, Kept<A>>, AllocError>
+) -> Result<Device<P, FullRecord<A>>, AllocError>
     requires { IsOk (layouts_of page) }
     ensures { IfOk result (λ device. device ≡ new_device kind false page app) }
 {

@@ -132,8 +132,8 @@ module _ {P : Type 0} (Q : Request → Type 0) (n : ℕ) where
       → KeepsAt device → KeepsAt (after_deeds device deeds)
   keeps_all device [] room keeps = keeps
   keeps_all device (deed ∷ deeds) room keeps =
-      let kept = keeps_deed device deed (omega (arith, room)) keeps in
-      keeps_all (after_deed device deed) deeds (omega (arith, room, kept.0)) kept.1
+      let keeps_one = keeps_deed device deed (omega (arith, room)) keeps in
+      keeps_all (after_deed device deed) deeds (omega (arith, room, keeps_one.0)) keeps_one.1
 
 -- The law
 
@@ -147,10 +147,10 @@ past_keeps : {P : Type 0} (device : Running P) (n : ℕ) → IsPast device n
 past_keeps device n past = grind (arith, common_steps)
 
 -- a START write keeps nothing, so that whatever is handed over then has the next number
-anew_by : (n : ℕ) (had start : Bool) (new : Option Request) → start ≡ true → n + 1 < 2 ^ 64
-    → (number : ℕ) → number ≡ number_by n (is_some new && not (had && not start))
+anew_by : (n : ℕ) (under_way start : Bool) (new : Option Request) → start ≡ true → n + 1 < 2 ^ 64
+    → (number : ℕ) → number ≡ number_by n (is_some new && not (under_way && not start))
     → (n ≤ number) × (option_map (λ request. number) new ≢ Some n)
-anew_by n had start new e room number is = grind (arith, common_steps, next_is)
+anew_by n under_way start new e room number is = grind (arith, common_steps, next_is)
 
 pub numbers_are_own : {P : Type 0} (device : Running P) → NumbersAreOwn device
 unfolding HeedsAs

@@ -17,7 +17,7 @@ begins_command (Some command) begun = starts_with nat_eq command.octets begun
 
 -- of two messages that begin alike the shorter one, until as many came
 abbrev pub shorter_left : ℕ → ℕ → ℕ → ℕ
-shorter_left came command other = if nat_lt came other then min command other else command
+shorter_left received command other = if nat_lt received other then min command other else command
 
 -- behind a command that waits another message is in the new layout, and the command may come again
 abbrev pub length_behind : Option WaitingCommand → Far → List ℕ → ℕ

@@ -16,14 +16,14 @@ abbrev pub is_that : Option DeviceMode → DeviceMode → Bool
 is_that None mode = false
 is_that (Some asked) mode = is_mode asked mode
 
-abbrev pub is_said : Far → DeviceMode → Option MasterMsg → Bool
-is_said far mode None = true
-is_said far mode (Some message) =
+abbrev pub asks_for : Far → DeviceMode → Option MasterMsg → Bool
+asks_for far mode None = true
+asks_for far mode (Some message) =
     is_that (known_mode far.page (mode_asked (command_in message))) mode
 
 abbrev pub is_asked : Far → WaitingCommand → Bool
 is_asked far command = not (is_mode far.mode command.into)
-    && is_said far command.into (message_in (layout_of far) command.octets)
+    && asks_for far command.into (message_in (layout_of far) command.octets)
 
 abbrev pub is_asked_if : Far → Option WaitingCommand → Bool
 is_asked_if far None = true

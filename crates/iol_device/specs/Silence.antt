@@ -14,15 +14,15 @@ says_valid Operate (Some ProcessDataOutputOperate) = true
 says_valid mode command = false
 
 -- whether octets say so, by the message that they are and the far end that accepts it
-abbrev pub is_told_valid : Option (Far × MasterMsg) → Bool
-is_told_valid None = false
-is_told_valid (Some (there, message)) = says_valid there.mode (command_in message)
+abbrev pub ends_silence : Option (Far × MasterMsg) → Bool
+ends_silence None = false
+ends_silence (Some (there, message)) = says_valid there.mode (command_in message)
 
 -- whether the master counts as silent once the far end has heard these octets
 -- DEV-19
 abbrev pub silent_after : Bool → Far → List ℕ → Bool
 silent_after silent far octets =
-    if is_told_valid (accepted_message far octets) then false else silent
+    if ends_silence (accepted_message far octets) then false else silent
 
 -- the process data out that a device shows
 -- DEV-19

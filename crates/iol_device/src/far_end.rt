@@ -9,7 +9,7 @@ use crate::app::App;
 use crate::data::{copy_of, message_of, take_image};
 use crate::fault::DeviceFault;
 use crate::isdu::{IsduSide, is_kind_of};
-use crate::record::{Kept, Record, Unkept};
+use crate::record::{FullRecord, NoRecord, Record};
 use iol_event::{Event, EventMemory};
 use iol_far::{
     Carried, DeviceMode, Kind, ModeCommand, command_in, flow_of, is_confirm, message_in, mode_asked,
@@ -29,7 +29,7 @@ const READ: u8 = 0x80;
 
 /// The far end of the line.
 #[derive(Drop)]
-pub(crate) struct FarEnd<R: Record = Kept> {
+pub(crate) struct FarEnd<R: Record = FullRecord> {
     awake: bool,
     mode: DeviceMode,
     waits: Option<ModeCommand>,
@@ -47,7 +47,7 @@ pub(crate) struct FarEnd<R: Record = Kept> {
     misses_pulses: bool,
     carried: R,
     /// Its history.
-    past: Unkept,
+    past: NoRecord,
 }
 
 impl<R: Record> Model for FarEnd<R> {
@@ -96,7 +96,7 @@ impl<R: Record> FarEnd<R> {
     ghost use Rattle.iol_far.specs.Octets.{octets_in_buffer};
     ghost use Rattle.iol_far.specs.Laws.{IsRegular};
     ghost use Rattle.iol_far.specs.Orderly.{IsOrderly};
-    ghost use Rattle.iol_device.specs.Pulses.{is_orderly, is_asked, is_asked_if, is_said};
+    ghost use Rattle.iol_device.specs.Pulses.{is_orderly, is_asked, is_asked_if, asks_for};
     ghost use Rattle.iol_device.specs.declared.fault.DeviceFault.{DeviceFault};
 
     /// Asleep, as a device is delivered.
@@ -124,7 +124,7 @@ impl<R: Record> FarEnd<R> {
             cycle_time: 0,
             misses_pulses: false,
             carried,
-            past: Unkept::new(),
+            past: NoRecord::new(),
         }
     }
 
@@ -167,12 +167,12 @@ impl<R: Record> FarEnd<R> {
     fn is_asked(&self, command: &ModeCommand) -> bool
         ensures { result ≡ is_asked self.now command.now }
     {
-        command.into != self.mode && self.is_said(command.into, &command.octets)
+        command.into != self.mode && self.asks_for(command.into, &command.octets)
     }
 
     /// Whether octets, where they are a message in the present layout, ask for that mode.
-    fn is_said(&self, into: DeviceMode, octets: &[u8]) -> bool
-        ensures { result ≡ is_said self.now into (message_in (layout_of self.now) octets.now) }
+    fn asks_for(&self, into: DeviceMode, octets: &[u8]) -> bool
+        ensures { result ≡ asks_for self.now into (message_in (layout_of self.now) octets.now) }
     {
         match message_in(&self.layout, octets) {
             Some(message) => is_that(self.known_mode(mode_asked(command_in(&message))), into),
@@ -264,11 +264,11 @@ impl<R: Record> FarEnd<R> {
         if !command.octets.as_slice().starts_with(begun) {
             return other;
         }
-        let again = command.octets.len() as u8;
+        let repeated = command.octets.len() as u8;
         if begun.len() < other as usize {
-            again.min(other)
+            repeated.min(other)
         } else {
-            again
+            repeated
         }
     }
 
@@ -703,7 +703,7 @@ impl<R: Record> FarEnd<R> {
     }
 }
 
-impl<A: Allocator + Copy> FarEnd<Kept<A>> {
+impl<A: Allocator + Copy> FarEnd<FullRecord<A>> {
     /// The record.
     pub fn carried(&self) -> &[Carried]
         ensures { result.now ≡ self.now.carried }

@@ -5,9 +5,13 @@ use thiserror::Error;
 
 // The numbers of the refusals: their one table, which the definitions cite.
 const WRONG_ANSWER_KIND: u8 = 14;
+
 const MEMORY_FULL: u8 = 16;
+
 const OUT_OF_MEMORY: u8 = 24;
+
 const WRONG_IMAGE_LENGTH: u8 = 29;
+
 const OTHER_REQUEST: u8 = 37;
 
 /// Why a call of a device was refused.

@@ -7,7 +7,7 @@ ghost use Rattle.iol_far.specs.Isdu.{Empty, Receiving, Answered, isdu_written, i
 ghost use Rattle.iol_far.specs.Record.{takes_more};
 ghost use Rattle.iol_device.specs.App.{Reacts};
 ghost use Rattle.iol_device.specs.Pulses.{is_isdu_empty};
-ghost use Rattle.iol_device.specs.Inside.{IsduValue, IsKept, IsKeptAt, GoesOn, LastSentIsWithin, state_of, last_sent, count_in, sent_flow, is_sent, is_next, is_all_sent, waits_for_read};
+ghost use Rattle.iol_device.specs.Inside.{IsduValue, IsIsduConsistent, IsStageConsistent, GoesOn, LastSentIsWithin, state_of, last_sent, count_in, sent_flow, is_sent, is_next, is_all_sent, waits_for_read};
 
 use crate::app::App;
 use crate::record::Record;
@@ -55,7 +55,7 @@ pub(crate) struct IsduSide {
 
 impl Model for IsduSide {
     ghost use Rattle.std.specs.Prelude.{◌≤◌};
-    ghost use Rattle.iol_device.specs.Inside.{IsduValue, IsKept, state_of};
+    ghost use Rattle.iol_device.specs.Inside.{IsduValue, IsIsduConsistent, state_of};
 
     ghost Value = { IsduValue };
 
@@ -66,7 +66,7 @@ impl Model for IsduSide {
       counted = s.counted;
     } };
 
-    ghost invariant = { λ s. IsKept s.size s.stage s.joiner s.cutter };
+    ghost invariant = { λ s. IsIsduConsistent s.size s.stage s.joiner s.cutter };
 }
 
 impl IsduSide {
@@ -385,7 +385,7 @@ fn take(joiner: &mut Joiner, cutter: &mut Cutter<Reaction>, flow: Flow, octets: 
     ensures state { state_of result joiner.new cutter.new
         ≡ isdu_written (Receiving joiner.old.text joiner.old.count) flow octets.now }
     ensures size { cutter.new.size ≡ cutter.old.size }
-    ensures kept { IsKeptAt result joiner.new cutter.new }
+    ensures consistent { IsStageConsistent result joiner.new cutter.new }
 {
     match joiner.take(flow, octets) {
         Err(_) => IsduStage::Empty,
@@ -404,7 +404,7 @@ fn complete(joiner: &Joiner, cutter: &mut Cutter<Reaction>, flow: Flow) -> IsduS
     ensures state { state_of result joiner.now cutter.new
         ≡ whole_or_empty (request_of joiner.now.text) (count_in flow) }
     ensures size { cutter.new.size ≡ cutter.old.size }
-    ensures kept { IsKeptAt result joiner.now cutter.new }
+    ensures consistent { IsStageConsistent result joiner.now cutter.new }
 {
     let reaction = cutter.source_mut();
     if joiner.request_into(&mut reaction.request).is_err() {
@@ -421,10 +421,11 @@ fn complete(joiner: &Joiner, cutter: &mut Cutter<Reaction>, flow: Flow) -> IsduS
 fn append_segment(cutter: &Cutter<Reaction>, size: OdLength, octets: &mut Message)
     requires size { size ≡ cutter.now.size }
     requires sent { LastSentIsWithin cutter.now.size
-        (answer_text_to cutter.now.source.request cutter.now.source.answer) cutter.now.given }
+        (answer_text_to cutter.now.source.request cutter.now.source.answer) cutter.now.issued }
     requires room { length octets.old.items ≤ 32 }
     ensures { octets.new.items ≡ octets.old.items ++ isdu_data size
-        (Answered cutter.now.source.request cutter.now.source.answer (last_sent cutter.now.given)) }
+        (Answered cutter.now.source.request cutter.now.source.answer
+        (last_sent cutter.now.issued)) }
 {
     if !cutter.append_again(octets) {
         append_zeros(octets, size.get());
@@ -434,22 +435,22 @@ fn append_segment(cutter: &Cutter<Reaction>, size: OdLength, octets: &mut Messag
 /// The flow of the last segment given.
 fn sent_flow(cutter: &Cutter<Reaction>) -> Option<Flow>
     requires { LastSentIsWithin cutter.now.size
-        (answer_text_to cutter.now.source.request cutter.now.source.answer) cutter.now.given }
-    ensures { result ≡ sent_flow cutter.now.given }
+        (answer_text_to cutter.now.source.request cutter.now.source.answer) cutter.now.issued }
+    ensures { result ≡ sent_flow cutter.now.issued }
 {
     cutter.flow()
 }
 
 /// Whether the last segment given went under this COUNT.
 fn is_sent(sent: Option<Flow>, count: u8) -> bool
-    ensures { (given : ℕ) → sent ≡ sent_flow given → result ≡ is_sent given count }
+    ensures { (issued : ℕ) → sent ≡ sent_flow issued → result ≡ is_sent issued count }
 {
     sent == Some(Flow::Count(count))
 }
 
 /// Whether the next one does.
 fn is_next(sent: Option<Flow>, count: u8) -> bool
-    ensures { (given : ℕ) → sent ≡ sent_flow given → result ≡ is_next given count }
+    ensures { (issued : ℕ) → sent ≡ sent_flow issued → result ≡ is_next issued count }
 {
     match sent {
         Some(Flow::Count(last)) => count == segment_number(last as usize + 1),

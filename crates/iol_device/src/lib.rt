@@ -22,4 +22,4 @@ pub use app::{Apart, App};
 pub use device::Device;
 pub use fault::DeviceFault;
 pub use iol_far::{Carried, DeviceMode};
-pub use record::{Kept, Record, Unkept};
+pub use record::{FullRecord, NoRecord, Record};

@@ -36,12 +36,12 @@ pub trait Record: Drop {
 
 /// A record in memory, of a room of 1 to 100,000 pairs that is taken at the opening.
 #[derive(Drop)]
-pub struct Kept<A: Allocator + Copy = Global> {
+pub struct FullRecord<A: Allocator + Copy = Global> {
     pairs: Vec<Carried, A>,
     room: u32,
 }
 
-impl<A: Allocator + Copy> Model for Kept<A> {
+impl<A: Allocator + Copy> Model for FullRecord<A> {
     ghost use Rattle.std.specs.Prelude.{◌≤◌, vec_capacity};
     ghost use Rattle.iol_device.specs.Record.{RecordValue};
 
@@ -52,12 +52,12 @@ impl<A: Allocator + Copy> Model for Kept<A> {
     ghost invariant = { λ r. r.room ≤ vec_capacity r.pairs };
 }
 
-impl<A: Allocator + Copy> Kept<A> {
+impl<A: Allocator + Copy> FullRecord<A> {
     /// An empty record with room for so many pairs.
-    pub(crate) fn open(alloc: A, room: u32) -> Result<Kept<A>, AllocError>
+    pub(crate) fn open(alloc: A, room: u32) -> Result<FullRecord<A>, AllocError>
         ensures { IfOk result (λ r. r ≡ record { carried = []; room = room }) }
     {
-        Ok(Kept {
+        Ok(FullRecord {
             pairs: Vec::with_capacity(alloc, room as usize)?,
             room,
         })
@@ -71,7 +71,7 @@ impl<A: Allocator + Copy> Kept<A> {
     }
 }
 
-impl<A: Allocator + Copy> Record for Kept<A> {
+impl<A: Allocator + Copy> Record for FullRecord<A> {
     ghost carried = { λ r. r.carried };
 
     ghost room = { λ r. Some r.room };
@@ -94,64 +94,64 @@ impl<A: Allocator + Copy> Record for Kept<A> {
 
 /// What clauses alone know, at no cost of memory: a record without bound, or what else happened
 /// at a device.
-pub struct Unkept {
+pub struct NoRecord {
     marker: PhantomData<u8>,
     pub ghost noted: { Noted },
 }
 
-impl Model for Unkept {
+impl Model for NoRecord {
     ghost also_owns = { λ _. ftrue };
 }
 
-impl Unkept {
+impl NoRecord {
     /// What the caller says; it may speak of `near`.
-    pub(crate) fn of<T>(near: &T) -> Unkept
+    pub(crate) fn of<T>(near: &T) -> NoRecord
         ghost noted: { Noted }
         ensures { result.noted ≡ noted }
     {
         let _ = near;
-        Unkept {
+        NoRecord {
             marker: PhantomData,
         }
     }
 
     /// Nothing yet.
-    pub(crate) fn new() -> Unkept
+    pub(crate) fn new() -> NoRecord
         ensures { result.noted ≡ nothing_noted }
     {
-        Unkept::of(&())
+        NoRecord::of(&())
     }
 
     /// The record with one more pair.
-    fn grown_by(&self, request: &Request, answer: &Answer) -> Unkept
+    fn grown_by(&self, request: &Request, answer: &Answer) -> NoRecord
         ensures { result.noted ≡ record self.now.noted {
           carried = grown_by self.now.noted.carried request.now answer.now;
         } }
     {
-        Unkept::of(&(self, request, answer))
+        NoRecord::of(&(self, request, answer))
     }
 
     /// With this history.
-    pub(crate) fn with_history<T>(&self, near: &T) -> Unkept
+    pub(crate) fn with_history<T>(&self, near: &T) -> NoRecord
         ghost history: { List HistoryEntry }
         ensures { result.noted ≡ record self.now.noted { history = history } }
     {
-        Unkept::of(&(self, near))
+        NoRecord::of(&(self, near))
     }
 }
 
-impl Drop for Unkept {
+impl Drop for NoRecord {
     fn drop(self) {
         let Self { marker: _ } = self;
     }
 }
 
 // It owns nothing, so it may go to any thread, and any thread may share it.
-unsafe impl Send for Unkept {}
+unsafe impl Send for NoRecord {}
 
-unsafe impl Sync for Unkept {}
+unsafe impl Sync for NoRecord {}
 
-impl Record for Unkept {
+impl Record for NoRecord {
     ghost carried = { λ r. r.noted.carried };
 
     ghost room = { λ r. None };

@@ -1,7 +1,7 @@
 //! Tests of a device: memory that is refused, and laws.
 ghost use Rattle.std.specs.Prelude.{◌≡◌};
 
-use iol_device::{Apart, App, Device, DeviceFault, Kept, Record};
+use iol_device::{Apart, App, Device, DeviceFault, FullRecord, Record};
 use iol_far::{
     ends_stay_level, events_stay_until_confirmed, hearing_again_changes_nothing, links_stay_level,
     messages_are_heard, modes_have_layouts, page_and_room_stay, replies_are_read,
@@ -33,7 +33,7 @@ const PAGE_READ: [u8; 2] = [0xA2, 0x00];
 const PAGE_OCTET: [u8; 2] = [0x17, 0x1B];
 
 /// A device with a record over memory that an order refuses.
-type Recording<'a> = Device<Numbered, Kept<&'a RefusingAlloc>>;
+type Recording<'a> = Device<Numbered, FullRecord<&'a RefusingAlloc>>;
 
 fn opened(refusing: &RefusingAlloc) -> Result<Recording<'_>, (DeviceFault, Numbered)> {
     Device::open(refusing, APP, Page::from_octets(&PLAIN), 2)

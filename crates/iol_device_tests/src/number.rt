@@ -167,8 +167,8 @@ fn an_answer_for_the_request_before_is_refused(rt: HostRuntime) -> Result<(), Fa
 /// Numbers go on behind the one that is given.
 #[test]
 fn numbers_go_on(rt: HostRuntime) {
-    for (given, first) in [(0, 1), (41, 42), (u64::MAX, 0)] {
-        let mut device = Device::new_from(Apart, Page::from_octets(&PLAIN), given);
+    for (last, first) in [(0, 1), (41, 42), (u64::MAX, 0)] {
+        let mut device = Device::new_from(Apart, Page::from_octets(&PLAIN), last);
         device.wake();
         device.hear(INTO_PREOPERATE);
         device.hear(READ_16);

@@ -23,7 +23,7 @@ fn at(index: u16, sub: u8) -> Place {
 }
 
 /// The reaction to a read that brought these octets.
-fn brought(octets: &[u8]) -> Result<Reaction, Fail>
+fn read_reaction(octets: &[u8]) -> Result<Reaction, Fail>
     ensures { IfOk result (λ r. AnswersKind (is_read r.request) r.answer) }
 {
     Ok(Reaction {
@@ -111,7 +111,7 @@ fn all_lengths(rt: HostRuntime) -> Result<(), Fail> {
         let request = Request::write(places[count % 3], &octets[..count])?;
         let text = encode_request(&request);
         assert!(rt; both_ways(&text));
-        let reaction = brought(&octets[..count])?;
+        let reaction = read_reaction(&octets[..count])?;
         let answer = encode_answer(&reaction.request, &reaction.answer);
         assert!(rt; both_ways(&answer));
         for size in SIZES {

@@ -10,7 +10,7 @@ use Rattle.iol_event.specs.Memory.{octets_of, event_octet}
 use Rattle.iol_event.specs.Reading.{marked_places, is_readable, places_size, place_address, next_address, IsEventList, reading}
 use Rattle.iol_event.specs.Laws.{taken_from, answers, event_at}
 use Rattle.iol_event.proofs.Places.{six, marked_places-first, is_readable-first, six-at}
-use Rattle.iol_event.proofs.Steps.{had, next_address-had, had-next, had-more, had-last, answers-had}
+use Rattle.iol_event.proofs.Steps.{so_far, next_address-so_far, so_far-next, so_far-more, so_far-last, answers-so_far}
 
 -- an octet of a place by its address
 octet_there : (es : List Event) (e : Event) (address k part : ℕ) → address ≡ 3 * k + part + 1
@@ -71,41 +71,41 @@ module _ (es : List Event) (h : IsEventList es) where
       ∙ event_there es k (get_or es k none) (slice_get-get_or es k none (omega (arith, long)))))
 
   -- the octets at the first addresses are those that the reader has
-  had-reading : (i : ℕ) → i ≤ suc (3 * length es) → reading es i ≡ had (event_octet es) i
-  had-reading zero le = refl
-  had-reading (suc zero) le = refl
-  had-reading (suc (suc k)) le =
-      ap (λ xs. xs ++ event_octet es (suc k) ∷ []) (had-reading (suc k) (omega arith))
-      ∙ ap (λ a. had (event_octet es) (suc k) ++ event_octet es a ∷ [])
+  so_far-reading : (i : ℕ) → i ≤ suc (3 * length es) → reading es i ≡ so_far (event_octet es) i
+  so_far-reading zero le = refl
+  so_far-reading (suc zero) le = refl
+  so_far-reading (suc (suc k)) le =
+      ap (λ xs. xs ++ event_octet es (suc k) ∷ []) (so_far-reading (suc k) (omega arith))
+      ∙ ap (λ a. so_far (event_octet es) (suc k) ++ event_octet es a ∷ [])
       (sym (address k (omega arith)))
-      ∙ had-next (event_octet es) k (omega (arith, size))
+      ∙ so_far-next (event_octet es) k (omega (arith, size))
 
   pub next_address-reading : (i : ℕ) → i ≤ 3 * length es → next_address (reading es i) ≡ i
   next_address-reading zero le = refl
   next_address-reading (suc k) le =
-      ap next_address (had-reading (suc k) (omega arith))
-      ∙ next_address-had (event_octet es) k (omega (arith, size))
+      ap next_address (so_far-reading (suc k) (omega arith))
+      ∙ next_address-so_far (event_octet es) k (omega (arith, size))
       ∙ address k (omega arith)
 
   pub taken-more : (i : ℕ) → i < 3 * length es
       → taken_from (event_octet es) (reading es i)
       ≡ record { answer = Ok None; reader = reading es (i + 1) }
   taken-more i lt =
-      ap (taken_from (event_octet es)) (had-reading i (omega arith))
-      ∙ had-more (event_octet es) readable i (omega (arith, size))
+      ap (taken_from (event_octet es)) (so_far-reading i (omega arith))
+      ∙ so_far-more (event_octet es) readable i (omega (arith, size))
       ∙ ap (λ xs. record { answer = Ok None; reader = xs })
-      (sym (had-reading (suc i) (omega arith)) ∙ ap (reading es) (sym (add-one i)))
+      (sym (so_far-reading (suc i) (omega arith)) ∙ ap (reading es) (sym (add-one i)))
 
   pub taken-last : taken_from (event_octet es) (reading es (3 * length es))
       ≡ record { answer = Ok (Some es); reader = [] }
   taken-last =
-      ap (taken_from (event_octet es)) (had-reading (3 * length es) (omega arith)
-      ∙ ap (had (event_octet es)) (sym size))
-      ∙ had-last (event_octet es) readable
+      ap (taken_from (event_octet es)) (so_far-reading (3 * length es) (omega arith)
+      ∙ ap (so_far (event_octet es)) (sym size))
+      ∙ so_far-last (event_octet es) readable
       ∙ ap (λ xs. record { answer = Ok (Some xs); reader = [] }) events
 
   pub answers-frozen : answers (event_octet es) [] (3 * length es + 1)
       ≡ replicate (3 * length es) (Ok None) ++ Ok (Some es) ∷ []
   answers-frozen = rw add-one
-      (answers-had (event_octet es) readable (3 * length es) 0 (omega (arith, size))
+      (answers-so_far (event_octet es) readable (3 * length es) 0 (omega (arith, size))
       ∙ ap (λ xs. replicate (3 * length es) (Ok None) ++ Ok (Some xs) ∷ []) events)

@@ -1,5 +1,5 @@
 -- What a reader does with the octets of a device, and the events that it gives: the law of the
--- marked places. Begin at `had`.
+-- marked places. Begin at `so_far`.
 use Rattle.std.proofs.Common.{◌≡◌, ℕ, zero, suc, ◌+◌, ◌-◌, ◌*◌, ◌/◌, ◌%◌, ◌<◌, ◌≤◌, Bool, true, false, List, [], ◌∷◌, ◌++◌, length, take, get_or, ltb, map, refl, sym, ◌∙◌, ap, arith}
 use Rattle.std.specs.Prelude.{Some, None, Ok, replicate}
 use Rattle.std.proofs.Math.Seq.{take-suc}
@@ -48,57 +48,58 @@ module _ (device : ℕ → ℕ) where
   long = length-octets_at (marked_places (device 0))
 
   -- the first octets of a reading
-  abbrev pub had : ℕ → List ℕ
-  had zero = []
-  had (suc k) = device 0 ∷ take k octets
+  abbrev pub so_far : ℕ → List ℕ
+  so_far zero = []
+  so_far (suc k) = device 0 ∷ take k octets
 
-  pub next_address-had : (k : ℕ) → k ≤ size
-      → next_address (had (suc k)) ≡ place_address (device 0) k
-  next_address-had k le =
+  pub next_address-so_far : (k : ℕ) → k ≤ size
+      → next_address (so_far (suc k)) ≡ place_address (device 0) k
+  next_address-so_far k le =
       ap (place_address (device 0)) (length-take-le k octets (omega (arith, long)))
 
   -- the next one is that of its address
-  pub had-next : (k : ℕ) → k < size
-      → had (suc k) ++ device (place_address (device 0) k) ∷ [] ≡ had (suc (suc k))
-  had-next k lt =
+  pub so_far-next : (k : ℕ) → k < size
+      → so_far (suc k) ++ device (place_address (device 0) k) ∷ [] ≡ so_far (suc (suc k))
+  so_far-next k lt =
       ap (λ o. device 0 ∷ (take k octets ++ o ∷ [])) (octets_at-index (marked_places (device 0))
       (λ i below. (marked_places-range (device 0) i below).0) k lt)
       ∙ ap (λ xs. device 0 ∷ xs) (sym (take-suc octets k 0 (omega (arith, long))))
 
-  taken_from-had : (i : ℕ) → i ≤ size → taken_from device (had i) ≡ taken_all (had (suc i))
-  taken_from-had zero le = refl
-  taken_from-had (suc k) le =
-      ap (λ a. taken_all (had (suc k) ++ device a ∷ [])) (next_address-had k (omega arith))
-      ∙ ap taken_all (had-next k (omega arith))
+  taken_from-so_far : (i : ℕ) → i ≤ size → taken_from device (so_far i) ≡ taken_all (so_far (suc i))
+  taken_from-so_far zero le = refl
+  taken_from-so_far (suc k) le =
+      ap (λ a. taken_all (so_far (suc k) ++ device a ∷ [])) (next_address-so_far k (omega arith))
+      ∙ ap taken_all (so_far-next k (omega arith))
 
   module _ (readable : is_readable (device 0) ≡ true) where
     -- whether more octets are wanted
     wanted : (i : ℕ) (b : Bool) → i ≤ size → ltb i size ≡ b → ltb (length (take i octets)) size ≡ b
     wanted i b le e = ap (λ n. ltb n size) (length-take-le i octets (omega (arith, long))) ∙ e
 
-    pub had-more : (i : ℕ) → i < size
-        → taken_from device (had i) ≡ record { answer = Ok None; reader = had (suc i) }
-    had-more i lt = taken_from-had i (omega arith)
+    pub so_far-more : (i : ℕ) → i < size
+        → taken_from device (so_far i) ≡ record { answer = Ok None; reader = so_far (suc i) }
+    so_far-more i lt = taken_from-so_far i (omega arith)
         ∙ rw (readable, wanted i true (omega arith) (lt-ltb i size lt))
 
-    pub had-last : taken_from device (had size)
+    pub so_far-last : taken_from device (so_far size)
         ≡ record {
           answer = Ok (Some (map (event_at device) (marked_places (device 0))));
           reader = [];
         }
-    had-last = taken_from-had size (omega arith)
+    so_far-last = taken_from-so_far size (omega arith)
         ∙ rw (readable, wanted size false (omega arith) (le-ltb size size (omega arith)))
         (ap (λ xs. record { answer = Ok (Some (events_of xs)); reader = [] })
         (take_all size octets (omega (arith, long)))
         ∙ ap (λ es. record { answer = Ok (Some es); reader = [] })
         (events_of-octets_at (marked_places (device 0))))
 
-    pub answers-had : (k i : ℕ) → i + k ≡ size → answers device (had i) (suc k)
+    pub answers-so_far : (k i : ℕ) → i + k ≡ size → answers device (so_far i) (suc k)
         ≡ replicate k (Ok None)
         ++ Ok (Some (map (event_at device) (marked_places (device 0)))) ∷ []
-    answers-had zero i e =
+    answers-so_far zero i e =
         let all : i ≡ size = omega arith in
-        ap (λ n. (taken_from device (had n)).answer ∷ []) all ∙ ap (λ t. t.answer ∷ []) had-last
-    answers-had (suc k) i e =
-        ap (λ t. t.answer ∷ answers device t.reader (suc k)) (had-more i (omega arith))
-        ∙ ap (λ xs. Ok None ∷ xs) (answers-had k (suc i) (omega arith))
+        ap (λ n. (taken_from device (so_far n)).answer ∷ []) all
+        ∙ ap (λ t. t.answer ∷ []) so_far-last
+    answers-so_far (suc k) i e =
+        ap (λ t. t.answer ∷ answers device t.reader (suc k)) (so_far-more i (omega arith))
+        ∙ ap (λ xs. Ok None ∷ xs) (answers-so_far k (suc i) (omega arith))

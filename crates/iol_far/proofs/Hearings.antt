@@ -35,11 +35,11 @@ abbrev pub IsHere : Far → Far → Type 0
 IsHere far there = (there ≡ far)
     ⊎ ((w : WaitingCommand) × (far.waits ≡ Some w) × (there ≡ far_in_mode far w.into))
 
-pub kept_here : (P : Far → Type 0) (far there : Far)
+pub preserved_here : (P : Far → Type 0) (far there : Far)
     → ((w : WaitingCommand) → far.waits ≡ Some w → P (far_in_mode far w.into)) → P far
     → IsHere far there → P there
-kept_here P far there moves h (inl e) = subst P (sym e) h
-kept_here P far there moves h (inr (w, waits, e)) = subst P (sym e) (moves w waits)
+preserved_here P far there moves h (inl e) = subst P (sym e) h
+preserved_here P far there moves h (inr (w, waits, e)) = subst P (sym e) (moves w waits)
 
 -- the far end in which octets are accepted: the message is one of its layout, and what waits there
 -- are these octets
@@ -74,7 +74,7 @@ pub keeps_hear : (P : Far → Type 0) (o : List ℕ)
 keeps_hear P o works moves far h =
     heard_found (λ (x : HearResult). P x.far) far o h (λ there m a.
     works there m (layout_of there) a.reads
-    (kept_here P far there (λ w waits. moves far w.into h) h a.here))
+    (preserved_here P far there (λ w waits. moves far w.into h) h a.here))
 
 -- asleep it hears nothing
 pub hear_asleep : (g : Far) (o : List ℕ) → g.awake ≡ false
@@ -85,10 +85,10 @@ pub asleep_silent : (g : Far) (o r : List ℕ) → g.awake ≡ false → (hear g
 asleep_silent g o r w e = grind (arith, common_steps)
 
 -- a message of the present layout is accepted, where what waits are its octets
-pub accepted_again : (o : List ℕ) (m : MasterMsg) (g : Far) → g.awake ≡ true
+pub accepted_twice : (o : List ℕ) (m : MasterMsg) (g : Far) → g.awake ≡ true
     → IfSome g.waits (λ w. w.octets ≡ o) → message_in (layout_of g) o ≡ Some m
     → accepted_message g o ≡ Some (g, m)
-accepted_again o m g awake mine reads = grind (arith, common_steps, bytes_same o)
+accepted_twice o m g awake mine reads = grind (arith, common_steps, bytes_same o)
 
 -- Local steps
 
@@ -175,11 +175,11 @@ module _ (page : List ℕ) (link : FarLink) (o : List ℕ) (m : MasterMsg)
 
   -- and where it was
   module _ (g : Far) (at : IsAt page (turned_link page link o m) g) where
-    pub again_accepted : accepted_message g o ≡ Some (g, m)
-    again_accepted = grind (arith, common_steps, same_octets o, bytes_same o)
+    pub repeat_accepted : accepted_message g o ≡ Some (g, m)
+    repeat_accepted = grind (arith, common_steps, same_octets o, bytes_same o)
 
-    pub again_says : LinkSays page link o m (with_reply (far_after_message g o m) m)
-    again_says = grind (arith, common_steps)
+    pub repeat_says : LinkSays page link o m (with_reply (far_after_message g o m) m)
+    repeat_says = grind (arith, common_steps)
 
   data Linking (g : Far) : Type 0 where
     asleep : g.awake ≡ false → g.page ≡ page → Linking g
@@ -192,8 +192,8 @@ module _ (page : List ℕ) (link : FarLink) (o : List ℕ) (m : MasterMsg)
       inr (subst (LinkSays page link o m) (sym (ap (heard_as g o) (first_accepted g h)))
       (first_says g h))
   hear_linking g (heard h) =
-      inr (subst (LinkSays page link o m) (sym (ap (heard_as g o) (again_accepted g h)))
-      (again_says g h))
+      inr (subst (LinkSays page link o m) (sym (ap (heard_as g o) (repeat_accepted g h)))
+      (repeat_says g h))
 
   linking_hear : (g : Far) → Linking g → Linking (hear g o).far
   linking_hear g d = elim (hear_linking g d) [

@@ -20,10 +20,10 @@ use Rattle.iol_far.specs.Isdu.{Empty, Handed, Answered, isdu_data, fits}
 use Rattle.iol_far.specs.Far.{Far, isdu_after, counted_after, far_after_message, HearResult, hear, heard_as, with_reply}
 use Rattle.iol_far.specs.Local.{LocalStep, local}
 use Rattle.iol_far.specs.History.{HistoryEntry}
-use Rattle.iol_far.specs.Level.{IsIdle, Move, Begin, FarLink, accepting_link, turned_link, Happening, Own, Hears, far_after_all, hearings, base_after, Progress, Clear, Perhaps, Stands, IsGrown, IsMove, RecallsAtLeast, hands_whole, IsOutOnce, IsSent, under_way, HasIsduFor, IsLevelBefore, IsLevel, grown_by}
+use Rattle.iol_far.specs.Level.{IsIdle, Move, Begin, FarLink, accepting_link, turned_link, Happening, Own, Hears, far_after_all, hearings, base_after, Progress, NoneHeld, Perhaps, Stands, IsGrown, IsMove, RecallsAtLeast, hands_whole, IsOutOnce, IsSent, under_way, HasIsduFor, IsLevelBefore, IsLevel, grown_by}
 use Rattle.iol_far.specs.Laws.{LevelLaws, ReplySays}
-use Rattle.iol_far.proofs.Standing.{request_long, Mid, Needs, Leaves, first_hear, whole_hear, again_hear, mid_done, stands_done, mid_grown, stands_grown, begins_by, needs_of, isdu_next, under_way_grown}
-use Rattle.iol_far.proofs.Hearings.{hear_asleep, asleep_silent, keeps_local, out_begins, out_after, at_beside, there_by, first_accepted, first_says, again_accepted, again_says}
+use Rattle.iol_far.proofs.Standing.{request_long, Mid, Needs, Leaves, first_hear, whole_hear, repeat_hear, mid_done, stands_done, mid_grown, stands_grown, begins_by, needs_of, isdu_next, under_way_grown}
+use Rattle.iol_far.proofs.Hearings.{hear_asleep, asleep_silent, keeps_local, out_begins, out_after, at_beside, there_by, first_accepted, first_says, repeat_accepted, repeat_says}
 use Rattle.iol_event.specs.Memory.{Events, events_after_raise}
 use Rattle.iol_far.specs.Linked.{IsAt, LinkSays}
 use Rattle.iol_isdu.specs.declared.values.Answer.{Answer}
@@ -134,15 +134,16 @@ module _ (page : List ℕ) (kind : Kind) (size : ℕ) (texts : TextLaws size)
     hear_unheard : (g : Far) → IsLevelBefore page kind size base link p g → Just (hear g o)
     hear_unheard g h =
         let there = there_by g.waits g o in
-        let kept = there_stands page kind size base link p o g h sent.idle in
+        let preserved = there_stands page kind size base link p o g h sent.idle in
         subst Just (sym (ap (heard_as g o)
         (first_accepted page link o m sent.spells g (before_at h))))
-        (just_worked there (first_says page link o m sent.spells g (before_at h)) kept.0 h.isdu base
+        (just_worked there (first_says page link o m sent.spells g (before_at h)) preserved.0
+        h.isdu base
         (λ once. refl)
         (λ once. stands_grown kind.hands_over size base p there.counted there.carried there.isdu
-        kept.1) (first_hear kind size texts sized trust trusts base (knows_isdu page) tries
+        preserved.1) (first_hear kind size texts sized trust trusts base (knows_isdu page) tries
         there.isdu there.counted there.carried p m.mc.channel m.mc.read (flow_of m.mc.address)
-        m.od.items what sent.move (needed h.isdu) kept.1))
+        m.od.items what sent.move (needed h.isdu) preserved.1))
 
   hear_heard : (tries : ℕ) (g : Far) → 1 ≤ tries → IsAt page (turned_link page link o m) g
       → g.kind ≡ kind
@@ -150,9 +151,9 @@ module _ (page : List ℕ) (kind : Kind) (size : ℕ) (texts : TextLaws size)
       → Mid kind size now p what g.isdu g.counted g.carried
       → Just tries (hear g o)
   hear_heard tries g low at kind_is isdu now same mid =
-      let by = just_worked tries g (again_says page link o m sent.spells g at) kind_is isdu in
+      let by = just_worked tries g (repeat_says page link o m sent.spells g at) kind_is isdu in
       subst (Just tries)
-      (sym (ap (heard_as g o) (again_accepted page link o m sent.spells g at)))
+      (sym (ap (heard_as g o) (repeat_accepted page link o m sent.spells g at)))
       (elim (cases_Bool (hands_whole kind.hands_over size what)) [
         | inl whole ↦ by g.carried (λ once. absurd (omega (arith, low, once whole)))
             (λ once. absurd (omega (arith, low, once whole)))
@@ -163,7 +164,7 @@ module _ (page : List ℕ) (kind : Kind) (size : ℕ) (texts : TextLaws size)
             let mid : Mid kind size base p what g.isdu g.counted g.carried = rw base_is at mid in
             by base (λ once. refl)
             (λ once. unwhole kind.hands_over size base p what g.carried more (mid_grown_here g mid))
-            (again_hear kind size texts sized trust trusts base (knows_isdu page) tries g.isdu
+            (repeat_hear kind size texts sized trust trusts base (knows_isdu page) tries g.isdu
             g.counted g.carried low p m.mc.channel m.mc.read (flow_of m.mc.address) m.od.items what
             more sent.move (needed isdu) mid)
       ])
@@ -283,33 +284,34 @@ turned_isdu page link o m none isdu =
 module _ (page : List ℕ) (kind : Kind) (size : ℕ) (texts : TextLaws size)
     (sized : SegmentsHaveSize) (base : List Carried) (link : FarLink)
     (o : List ℕ) (m : MasterMsg) (r : Request)
-    (sent : IsSent page size link Clear o m (Begin r)) where
-  clear_written : (g : Far) → length (request_text r) ≤ size
-      → IsMove size (Begin r) Clear m.mc.channel m.mc.read (flow_of m.mc.address) m.od.items
-      → Stands kind.hands_over size base Clear g.isdu g.counted g.carried
+    (sent : IsSent page size link NoneHeld o m (Begin r)) where
+  begin_written : (g : Far) → length (request_text r) ≤ size
+      → IsMove size (Begin r) NoneHeld m.mc.channel m.mc.read (flow_of m.mc.address) m.od.items
+      → Stands kind.hands_over size base NoneHeld g.isdu g.counted g.carried
       → Stands kind.hands_over size base (Perhaps r) g.isdu g.counted g.carried
-  clear_written g short move stands = grind (arith, common_steps)
+  begin_written g short move stands = grind (arith, common_steps)
 
   pub level_wonders : length (request_text r) ≤ size → link.waits ≡ None → (most : ℕ)
       → IsOutOnce kind.hands_over size (Begin r) most → (g : Far)
-      → IsLevel page kind size base link Clear o most g → (question : List ℕ)
+      → IsLevel page kind size base link NoneHeld o most g → (question : List ℕ)
       → IsLevel page kind size base link (Perhaps r) question 0 g
   level_wonders short none most once g l question =
-      elim (during_level page kind size texts sized base link Clear o m (Begin r) sent UntilSent tt
+      elim (during_level page kind size texts sized base link NoneHeld o m (Begin r) sent
+      UntilSent tt
       most g l) [
         | asleep w i k ↦ inl (w, i, perhaps (hands_whole kind.hands_over size (Begin r)) (k once))
         | unheard h ↦ out_begins (Sleeps base (Perhaps r)) _ question g (before_by (before_at h)
-            h.kind_is sent.begins (clear_written g short sent.move h.stands))
+            h.kind_is sent.begins (begin_written g short sent.move h.stands))
         | heard low at k i now same mid ↦ let now_is = same once in
             let mid = rw now_is at mid in
-            let isdu = (begins_by size Clear m.mc.channel m.mc.read (flow_of m.mc.address)
+            let isdu = (begins_by size NoneHeld m.mc.channel m.mc.read (flow_of m.mc.address)
             m.od.items r sent.move).1 in
             let link_is = turned_isdu page link o m none isdu in
             out_begins (Sleeps base (Perhaps r)) _ question g (before_by (rw link_is at at) k
             sent.begins (mid.0, (request_long size r, omega (arith, short)), inr mid.1))
       ]
     where
-      perhaps : (b : Bool) → IsGrown base (if b then Perhaps r else Clear) g.carried
+      perhaps : (b : Bool) → IsGrown base (if b then Perhaps r else NoneHeld) g.carried
           → IsGrown base (Perhaps r) g.carried
       perhaps b grown = grind (arith, common_steps)
 

@@ -19,7 +19,7 @@ use Rattle.iol_far.specs.declared.kind.Recalls.{Recalls}
 use Rattle.iol_far.specs.declared.kind.Recalls.TheVariants.{UntilSent}
 use Rattle.iol_far.specs.Isdu.{IsduState, Empty, Whole, Handed, Answered, isdu_with_octets, received_at, isdu_written, isdu_read, remaining_isdu, handed_over, written_by, counted_by, answer_text_to, fits, isdu_data, whole_or_empty}
 use Rattle.iol_far.specs.SegmentLaws.{SegmentLaws}
-use Rattle.iol_far.specs.Level.{grown_by, IsTaken, IsWritten, IsGrownOnce, Move, Begin, More, Ask, Next, Leave, Other, base_after, Progress, Perhaps, Written, Busy, Had, Stands, IsIdle, IsGrown, IsMove, may_be_none, after, RecallsAtLeast, hands_whole, under_way, is_open, MayBegin, HasIsduFor}
+use Rattle.iol_far.specs.Level.{grown_by, IsTaken, IsWritten, IsGrownOnce, Move, Begin, More, Ask, Next, Leave, Other, base_after, Progress, Perhaps, Written, Busy, Received, Stands, IsIdle, IsGrown, IsMove, may_be_none, after, RecallsAtLeast, hands_whole, under_way, is_open, MayBegin, HasIsduFor}
 use Rattle.std.proofs.lemmas.List.{length-replicate, append-nil}
 use Rattle.iol_octets.specs.declared.control.Channel.{Channel}
 use Rattle.iol_octets.specs.declared.control.Channel.TheVariants.{Isdu}
@@ -102,9 +102,9 @@ written_start : (h : HandsOver) (n : Option ℕ) (s : IsduState) (od : List ℕ)
 written_start h n s od = grind (arith, common_steps)
 
 -- the same COUNT again
-again_at : (z : Stage) (t od : List ℕ) (c : ℕ)
+count_repeated : (z : Stage) (t od : List ℕ) (c : ℕ)
     → isdu_written (received_at z t (Some c)) (Count c) od ≡ received_at z t (Some c)
-again_at z t od c = grind (arith, nat_tests, common_steps)
+count_repeated z t od c = grind (arith, nat_tests, common_steps)
 
 -- no request's text is empty
 pub request_long : (size : ℕ) (r : Request) → 0 * size < length (request_text r)
@@ -171,17 +171,18 @@ module _ (k : Recalls) (size : ℕ) (laws : SegmentLaws size) (base : List Carri
       absurd (omega (arith, w.0.1, more))
 
   -- and the same again
-  pub kept : (h : HandsOver) (r : Request) (i : ℕ) (s : IsduState) (n : Option ℕ)
+  pub preserved : (h : HandsOver) (r : Request) (i : ℕ) (s : IsduState) (n : Option ℕ)
       (carried : List Carried) → IsRequest r → IsWritten h size base r (suc i) s n carried
       → IsWritten h size base r (suc i)
       (written_by h n (remaining_isdu k size s) (Count (suc i % 16)) (part size r (suc i)))
       (counted_by h n (Count (suc i % 16))) carried
-  kept FirstRead r i s n carried fits w =
-      rw (recalled_still s r (suc i) w.0) (again_at _ _ (part size r (suc i)) (suc i % 16), w.1)
-  kept LastSegment r i s n carried fits (m, inl w) =
+  preserved FirstRead r i s n carried fits w =
+      rw (recalled_still s r (suc i) w.0)
+      (count_repeated _ _ (part size r (suc i)) (suc i % 16), w.1)
+  preserved LastSegment r i s n carried fits (m, inl w) =
       rw (recalled_still s r (suc i) w.1, laws.grows r (suc i) (count_at (suc i)) fits w.0)
       (refl, inl (w.0, grind (arith, nat_tests, common_steps), w.2))
-  kept LastSegment r i s n carried fits (m, inr w) =
+  preserved LastSegment r i s n carried fits (m, inr w) =
       let taken = w.1 in rw m (refl, inr (w.0, grind (arith, nat_tests, common_steps)))
 
 -- Reads
@@ -241,10 +242,10 @@ module _ (h : HandsOver) (size : ℕ) (base : List Carried) (p : Progress) (n : 
 module _ (h : HandsOver) (size : ℕ) (base : List Carried) (r : Request) (s : IsduState)
     (n : Option ℕ) (carried : List Carried) where
   -- what was had, or is over
-  had_is : (i : ℕ) (t : List ℕ) → Stands h size base (Had r i t) s n carried
+  received_is : (i : ℕ) (t : List ℕ) → Stands h size base (Received r i t) s n carried
       → (a : Answer) × (s ≡ Answered r a (Some i)) × IsTrue (fits r a)
       × (t ≡ segments_up_to size (answer_text_to r a) i) × (carried ≡ grown_by base r a)
-  had_is i t stands = grind (arith, common_steps)
+  received_is i t stands = grind (arith, common_steps)
 
   -- a Begin whose text is not whole has changed no record
   still_base : hands_whole h size (Begin r) ≡ false → IsWritten h size base r 0 s n carried
@@ -304,7 +305,7 @@ module _ (kind : Kind) (size : ℕ) (base : List Carried) (p : Progress) where
   MidMore p s n carried = ⊥
 
   abbrev MidNext : Progress → IsduState → List Carried → Type 0
-  MidNext (Had r i t) s carried = IsFetched kind.recalls size base r i t s carried
+  MidNext (Received r i t) s carried = IsFetched kind.recalls size base r i t s carried
   MidNext p s carried = ⊥
 
   -- what the far end holds once the message was heard, and local steps since then
@@ -370,39 +371,39 @@ module _ (kind : Kind) (size : ℕ) (texts : TextLaws size) (sized : SegmentsHav
   asked_written LastSegment i s n fits last (m, inr w) = asked_taken s w.1
 
   -- a START read once more
-  asked_again : {r : Request} {missed later : List Carried → Type 0} {s : IsduState}
+  asked_twice : {r : Request} {missed later : List Carried → Type 0} {s : IsduState}
       {carried : List Carried} → (missed carried → later carried)
       → (kind.recalls ≡ UntilSent → IsGrownOnce base r carried → later carried)
       → Finds base r missed s carried → Found base r later (asked s) carried
-  asked_again {s = s} so forgets (taken t) = asked_taken s t
-  asked_again {r} so forgets (begins a f e g) = elim (recalled_sent kind.recalls size r a 0) [
+  asked_twice {s = s} so forgets (taken t) = asked_taken s t
+  asked_twice {r} so forgets (begins a f e g) = elim (recalled_sent kind.recalls size r a 0) [
     | inl same ↦ first a f (rw (e, same) refl) g
     | inr gone ↦ none (rw (e, gone.0) refl) (forgets gone.1 (inr (a, g)))
   ]
-  asked_again so forgets (nothing e m) = none (rw e (nothing_read Start)) (so m)
+  asked_twice so forgets (nothing e m) = none (rw e (nothing_read Start)) (so m)
 
   -- the same segment of an answer once more
-  sent_again : (r : Request) (a : Answer) (i : ℕ)
+  sent_twice : (r : Request) (a : Answer) (i : ℕ)
       → isdu_read size (Answered r a (Some (suc i))) (Count (suc i % 16))
       ≡ Answered r a (Some (suc i))
-  sent_again r a i = grind (arith, nat_tests, common_steps)
+  sent_twice r a i = grind (arith, nat_tests, common_steps)
 
-  fetched_again : {r : Request} {i : ℕ} {t : List ℕ} {s : IsduState} {carried : List Carried}
+  fetched_twice : {r : Request} {i : ℕ} {t : List ℕ} {s : IsduState} {carried : List Carried}
       → IsFetched kind.recalls size base r i t s carried
       → IsFetched kind.recalls size base r i t (next s i)
       carried
-  fetched_again {r} {i} (a, f, g, e, more, inl sent) = (
+  fetched_twice {r} {i} (a, f, g, e, more, inl sent) = (
     a,
     f,
     g,
     e,
     more,
     rw sent (elim (recalled_sent kind.recalls size r a (suc i)) [
-      | inl same ↦ inl (rw same (sent_again r a i))
+      | inl same ↦ inl (rw same (sent_twice r a i))
       | inr gone ↦ inr (rw gone.0 refl, gone.1, (more, gone.2))
     ]),
   )
-  fetched_again {i = i} (a, f, g, e, more, inr gone) =
+  fetched_twice {i = i} (a, f, g, e, more, inr gone) =
       (a, f, g, e, more, inr (rw gone.0 (nothing_read (Count (suc i % 16))), gone.1, gone.2))
 
   -- What a reply says
@@ -420,7 +421,7 @@ module _ (kind : Kind) (size : ℕ) (texts : TextLaws size) (sized : SegmentsHav
   stood_next : (tries : ℕ) {r : Request} {i : ℕ} {t : List ℕ} {s : IsduState} (n : Option ℕ)
       {carried : List Carried} → (tries ≡ 0 → s ≡ Empty → ⊥)
       → IsFetched kind.recalls size base r i t s carried
-      → Stood (after trust tries (Had r i t) Next (isdu_data size s)) s n carried
+      → Stood (after trust tries (Received r i t) Next (isdu_data size s)) s n carried
   stood_next tries {r = r} {i = i} n {carried = carried} never (a, f, g, e, more, inl sent) =
       rw (sent, e) (cond_both (may_be_none trust tries (segments_up_to size (answer_text_to r a) i)
       (segment size (answer_text_to r a) (suc i))) _ _
@@ -453,11 +454,11 @@ module _ (kind : Kind) (size : ℕ) (texts : TextLaws size) (sized : SegmentsHav
     missed_later missed = grind (arith, common_steps)
 
     missed_still : 1 ≤ tries → Lost 1 p r carried → Lost tries p r carried
-    missed_still again missed = grind (arith, common_steps)
+    missed_still repeated missed = grind (arith, common_steps)
 
-    missed_again : 1 ≤ tries → kind.recalls ≡ UntilSent → IsGrownOnce base r carried
+    missed_twice : 1 ≤ tries → kind.recalls ≡ UntilSent → IsGrownOnce base r carried
         → Lost tries p r carried
-    missed_again again forgets grown = grind (arith, common_steps)
+    missed_twice repeated forgets grown = grind (arith, common_steps)
 
   wondered_first : (tries : ℕ) {r : Request} (s : IsduState) (n : Option ℕ)
       (carried : List Carried) → Stood (Perhaps r) s n carried
@@ -535,8 +536,8 @@ module _ (kind : Kind) (size : ℕ) (texts : TextLaws size) (sized : SegmentsHav
         (asked_written kind.hands_over i s n st.0 m st.1)
     first_hear (Busy r) Isdu true Start od Ask m needs st =
         has_asked (Busy r) Isdu true Start od m needs (asked_taken s st)
-    first_hear (Had r i t) Isdu true (Count c) od Next m needs st =
-        let found = had_is kind.hands_over size base r s n carried i t st in
+    first_hear (Received r i t) Isdu true (Count c) od Next m needs st =
+        let found = received_is kind.hands_over size base r s n carried i t st in
         let more = m.1 found.0 found.2 found.3 in
         let sent = fetched kind.recalls size r found.0 i found.1 more in
         let after : IsFetched kind.recalls size base r i t (next s i) carried =
@@ -549,31 +550,31 @@ module _ (kind : Kind) (size : ℕ) (texts : TextLaws size) (sized : SegmentsHav
     first_hear p c read f od what m needs st = absurd m
 
     -- and a later one
-    pub again_hear : 1 ≤ tries → (p : Progress) (c : Channel) (read : Bool) (f : Flow)
+    pub repeat_hear : 1 ≤ tries → (p : Progress) (c : Channel) (read : Bool) (f : Flow)
         (od : List ℕ) (what : Move) → hands_whole kind.hands_over size what ≡ false
         → IsMove size what p c read f od → Needs known what
         → Mid kind size base p what s n carried → Left p c read f od what
-    again_hear again p c read f od Leave x m needs mid = has_left p c read f od m mid.1
-    again_hear again p c read f od Other x m needs mid = is_other p c read f od m mid
-    again_hear again p c read f od (Begin r) x m needs mid =
+    repeat_hear repeated p c read f od Leave x m needs mid = has_left p c read f od m mid.1
+    repeat_hear repeated p c read f od Other x m needs mid = is_other p c read f od m mid
+    repeat_hear repeated p c read f od (Begin r) x m needs mid =
         has_begun p c read f od r m needs
         (still_base kind.hands_over size base r s n carried x mid.1)
-    again_hear again (Written r i) Isdu false (Count c) od More x m needs mid =
-        let w = kept kind.recalls size laws base kind.hands_over r i s n carried mid.0 mid.1 in
+    repeat_hear repeated (Written r i) Isdu false (Count c) od More x m needs mid =
+        let w = preserved kind.recalls size laws base kind.hands_over r i s n carried mid.0 mid.1 in
         rw (needs, m.1, m.2) (record { mid = (mid.0, w); stood = (mid.0, w) })
-    again_hear again p c read f od Ask x m needs mid =
+    repeat_hear repeated p c read f od Ask x m needs mid =
         has_asked p c read f od m needs
         (asked_map (λ r. Finds base r (Lost 1 p r) s carried)
         (λ r. Found base r (Lost tries p r) (asked s) carried) p
-        (λ r. asked_again (missed_still tries p r carried again)
-        (missed_again tries p r carried again)) mid)
-    again_hear again (Had r i t) Isdu true (Count c) od Next x m needs mid =
-        let kept = fetched_again mid in
+        (λ r. asked_twice (missed_still tries p r carried repeated)
+        (missed_twice tries p r carried repeated)) mid)
+    repeat_hear repeated (Received r i t) Isdu true (Count c) od Next x m needs mid =
+        let preserved = fetched_twice mid in
         rw (needs, m.0) (record {
-          mid = kept;
-          stood = stood_next tries n (λ z. absurd (omega (arith, again, z))) kept;
+          mid = preserved;
+          stood = stood_next tries n (λ z. absurd (omega (arith, repeated, z))) preserved;
         })
-    again_hear again p c read f od what x m needs mid = absurd m
+    repeat_hear repeated p c read f od what x m needs mid = absurd m
 
 module _ (kind : Kind) (size : ℕ) (base : List Carried) where
   -- the request is answered while the message is out

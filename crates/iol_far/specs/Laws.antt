@@ -23,7 +23,7 @@ use Rattle.iol_far.specs.Isdu.{isdu_data, own}
 use Rattle.iol_far.specs.Codec.{layout_in, message_in, reply_octets, flow_of}
 use Rattle.iol_far.specs.Far.{Far, HearResult, layout_of, accepted_message, hear, reply_to, is_confirm}
 use Rattle.iol_far.specs.Local.{LocalStep, local, locals, far_after_wake, input_size}
-use Rattle.iol_far.specs.Level.{Progress, Quiet, Clear, Perhaps, Move, Begin, FarLink, IsSent, IsLevelBefore, IsLevel, IsGrown, RecallsAtLeast, IsOutOnce, IsIdle, IsSettled, under_way, turned_link, after, base_after}
+use Rattle.iol_far.specs.Level.{Progress, Quiet, NoneHeld, Perhaps, Move, Begin, FarLink, IsSent, IsLevelBefore, IsLevel, IsGrown, RecallsAtLeast, IsOutOnce, IsIdle, IsSettled, under_way, turned_link, after, base_after}
 
 -- a START read on the ISDU channel
 abbrev pub is_start_read : Channel → Bool → Flow → Bool
@@ -91,15 +91,15 @@ pub record OutputStaysInOperate : Type 0 where
 -- the record's room
 pub record MuchStays : Type 0 where
   pub kind_heard : (far : Far) (octets : List ℕ) → (hear far octets).far.kind ≡ far.kind
-  pub kind_kept : (far : Far) (steps : List LocalStep) → (locals far steps).kind ≡ far.kind
+  pub kind_stays : (far : Far) (steps : List LocalStep) → (locals far steps).kind ≡ far.kind
   pub misses_heard : (far : Far) (octets : List ℕ)
       → (hear far octets).far.misses_pulses ≡ far.misses_pulses
-  pub misses_kept : (far : Far) (steps : List LocalStep)
+  pub misses_stay : (far : Far) (steps : List LocalStep)
       → (locals far steps).misses_pulses ≡ far.misses_pulses
   pub page_heard : (far : Far) (octets : List ℕ) → (hear far octets).far.page ≡ far.page
-  pub page_kept : (far : Far) (step : LocalStep) → (local far step).page ≡ far.page
+  pub page_stays : (far : Far) (step : LocalStep) → (local far step).page ≡ far.page
   pub room_heard : (far : Far) (octets : List ℕ) → (hear far octets).far.room ≡ far.room
-  pub room_kept : (far : Far) (step : LocalStep) → (local far step).room ≡ far.room
+  pub room_stays : (far : Far) (step : LocalStep) → (local far step).room ≡ far.room
   pub record_heard : (far : Far) (octets : List ℕ) → (hear far octets).far.carried ≡ far.carried
 
 -- What keeps the ends level while a message is out
@@ -162,10 +162,10 @@ pub record LevelLaws (size : ℕ) : Type 0 where
   -- octets
   pub wonders : (page : List ℕ) (kind : Kind) (base : List Carried) (link : FarLink)
       (octets : List ℕ) (message : MasterMsg) (request : Request)
-      → IsSent page size link Clear octets message (Begin request)
+      → IsSent page size link NoneHeld octets message (Begin request)
       → length (request_text request) ≤ size → link.waits ≡ None
       → (most : ℕ) → IsOutOnce kind.hands_over size (Begin request) most
-      → (far : Far) → IsLevel page kind size base link Clear octets most far
+      → (far : Far) → IsLevel page kind size base link NoneHeld octets most far
       → (question : List ℕ) → IsLevel page kind size base link (Perhaps request) question 0 far
   -- where the application has nothing, none is under way, with the record as it is: nothing more
   -- of the request comes
@@ -175,7 +175,7 @@ pub record LevelLaws (size : ℕ) : Type 0 where
       → IsLevelBefore page kind size far.carried link Quiet far
   -- after a wake
   pub wakes : (far : Far) → IsLevelBefore far.page far.kind size far.carried
-      (record { mode = Startup; waits = None }) Clear (far_after_wake far)
+      (record { mode = Startup; waits = None }) NoneHeld (far_after_wake far)
   -- while no request is under way the size of segments doesn't matter, as where
   -- another layout is taken
   pub idle : (other : ℕ) (page : List ℕ) (kind : Kind) (base : List Carried) (link : FarLink)

@@ -35,7 +35,7 @@ pub data Progress : Type 0 where
   -- none is under way; the device may hold an answer of before
   Quiet : Progress
   -- none is under way, and the device holds nothing
-  Clear : Progress
+  NoneHeld : Progress
   -- its only segment was sent, which the device may have heard
   Perhaps : Request → Progress
   -- the segments up to this one had a good reply
@@ -43,7 +43,7 @@ pub data Progress : Type 0 where
   -- the device said that it is busy with it
   Busy : Request → Progress
   -- the answer's segments up to this one were had, and these are their octets
-  Had : Request → ℕ → List ℕ → Progress
+  Received : Request → ℕ → List ℕ → Progress
   -- it has ended, and whether it was carried out can't be known
   Unsure : Request → Progress
 
@@ -82,7 +82,7 @@ abbrev pub Stands : HandsOver → ℕ → List Carried → Progress → IsduStat
     → List Carried → Type 0
 Stands hands_over size base Quiet Empty counted carried = carried ≡ base
 Stands hands_over size base Quiet (Answered request answer last) counted carried = carried ≡ base
-Stands hands_over size base Clear Empty counted carried = carried ≡ base
+Stands hands_over size base NoneHeld Empty counted carried = carried ≡ base
 Stands hands_over size base (Perhaps request) state counted carried = IsRequest request
     × IsLast size (request_text request) 0
     × (((state ≡ Empty) × (carried ≡ base))
@@ -91,7 +91,7 @@ Stands hands_over size base (Written request i) state counted carried = IsReques
     × IsWritten hands_over size base request i state counted carried
 Stands hands_over size base (Busy request) state counted carried =
     IsTaken base request state carried
-Stands hands_over size base (Had request i text) (Answered held answer (Some sent)) counted
+Stands hands_over size base (Received request i text) (Answered held answer (Some sent)) counted
     carried = (held ≡ request) × IsTrue (fits held answer) × (sent ≡ i)
     × (text ≡ segments_up_to size (answer_text_to request answer) i)
     × (carried ≡ grown_by base request answer)
@@ -104,11 +104,11 @@ Stands hands_over size base progress state counted carried = ⊥
 -- since then the record has grown by nothing, or by the request under way with some answer
 abbrev pub IsGrown : List Carried → Progress → List Carried → Type 0
 IsGrown base Quiet carried = carried ≡ base
-IsGrown base Clear carried = carried ≡ base
+IsGrown base NoneHeld carried = carried ≡ base
 IsGrown base (Perhaps request) carried = IsGrownOnce base request carried
 IsGrown base (Written request i) carried = IsGrownOnce base request carried
 IsGrown base (Busy request) carried = IsGrownOnce base request carried
-IsGrown base (Had request i text) carried = (answer : Answer)
+IsGrown base (Received request i text) carried = (answer : Answer)
     × (carried ≡ grown_by base request answer)
 IsGrown base (Unsure request) carried = IsGrownOnce base request carried
 
@@ -135,21 +135,21 @@ base_after any base carried = base
 -- What a reply says
 
 -- nothing came in place of an answer, as only a device sends that has forgotten it
-abbrev pub nothing_came : Recalls → Request → List ℕ → Progress
-nothing_came UntilLeft request data_in = Had request 0 data_in
-nothing_came UntilSent request data_in = Unsure request
+abbrev pub progress_after_nothing : Recalls → Request → List ℕ → Progress
+progress_after_nothing UntilLeft request data_in = Received request 0 data_in
+progress_after_nothing UntilSent request data_in = Unsure request
 
 -- busy, nothing, or the answer's first segment
 abbrev pub progress_after_ask : Recalls → Request → List ℕ → Progress
 progress_after_ask recalls request data_in =
     if slice_index data_in 0 == 1 then Busy request else
-    if slice_index data_in 0 == 0 then nothing_came recalls request data_in else
-    Had request 0 data_in
+    if slice_index data_in 0 == 0 then progress_after_nothing recalls request data_in else
+    Received request 0 data_in
 
 -- nothing came: the device has not heard of the request, where it was asked for the first time;
 -- else it may have answered before
 abbrev pub unheard_of : ℕ → Request → Progress
-unheard_of zero request = Clear
+unheard_of zero request = NoneHeld
 unheard_of (suc tries) request = Unsure request
 
 -- the same where the device may not have heard of the request
@@ -157,7 +157,7 @@ abbrev pub progress_after_doubt : ℕ → Request → List ℕ → Progress
 progress_after_doubt tries request data_in =
     if slice_index data_in 0 == 1 then Busy request else
     if slice_index data_in 0 == 0 then unheard_of tries request else
-    Had request 0 data_in
+    Received request 0 data_in
 
 abbrev pub is_open : Stage → Bool
 is_open Open = true
@@ -178,10 +178,10 @@ after recalls tries (Written request i) More data_in = Written request (suc i)
 after recalls tries (Perhaps request) Ask data_in = progress_after_doubt tries request data_in
 after recalls tries (Written request i) Ask data_in = progress_after_ask recalls request data_in
 after recalls tries (Busy request) Ask data_in = progress_after_ask recalls request data_in
-after recalls tries (Had request i text) Next data_in =
+after recalls tries (Received request i text) Next data_in =
     if may_be_none recalls tries text data_in then Unsure request else
-    Had request (suc i) (text ++ data_in)
-after recalls tries progress Leave data_in = Clear
+    Received request (suc i) (text ++ data_in)
+after recalls tries progress Leave data_in = NoneHeld
 after recalls tries progress any data_in = progress
 
 -- the device recalls an answer so long, or longer
@@ -228,7 +228,7 @@ MayBegin page what = Unit {0}
 abbrev pub IsMove : ℕ → Move → Progress → Channel → Bool → Flow → List ℕ → Type 0
 IsMove size (Begin request) Quiet Isdu false Start octets = IsRequest request
     × (octets ≡ segment size (request_text request) 0)
-IsMove size (Begin request) Clear Isdu false Start octets = IsRequest request
+IsMove size (Begin request) NoneHeld Isdu false Start octets = IsRequest request
     × (octets ≡ segment size (request_text request) 0)
 IsMove size More (Written request i) Isdu false (Count count) octets =
     (suc i * size < length (request_text request)) × (count ≡ segment_number (suc i))
@@ -237,7 +237,7 @@ IsMove size Ask (Perhaps request) Isdu true Start octets = Unit {0}
 IsMove size Ask (Written request i) Isdu true Start octets = IsLast size (request_text request) i
 IsMove size Ask (Busy request) Isdu true Start octets = Unit {0}
 -- the text had so far is no whole answer
-IsMove size Next (Had request i text) Isdu true (Count count) octets =
+IsMove size Next (Received request i text) Isdu true (Count count) octets =
     (count ≡ segment_number (suc i))
     × ((answer : Answer) → IsTrue (fits request answer)
     → text ≡ segments_up_to size (answer_text_to request answer) i
@@ -263,7 +263,7 @@ IsOutOnce hands_over size what times = hands_whole hands_over size what ≡ true
 -- no request is under way
 abbrev pub IsIdle : Progress → Type 0
 IsIdle Quiet = Unit {0}
-IsIdle Clear = Unit {0}
+IsIdle NoneHeld = Unit {0}
 IsIdle progress = ⊥
 
 -- the application has nothing of a request, and gets nothing of it any more
@@ -296,7 +296,7 @@ under_way hands_over size progress what = progress
 -- a request is under way only where the page has ISDU
 abbrev pub HasIsduFor : List ℕ → Progress → Type 0
 HasIsduFor page Quiet = Unit {0}
-HasIsduFor page Clear = Unit {0}
+HasIsduFor page NoneHeld = Unit {0}
 HasIsduFor page progress = IsTrue (knows_isdu page)
 
 -- The far end is of this kind, and as the master's fields say, with no message out

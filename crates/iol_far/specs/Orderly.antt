@@ -16,7 +16,7 @@ use Rattle.iol_far.specs.Laws.{IsValidInOperate}
 -- a command that waits asks for another mode, as its octets say
 pub record IsAsked (far : Far) (command : WaitingCommand) : Type 0 where
   pub other : is_mode far.mode command.into ≡ false
-  pub said : (message : MasterMsg) → message_in (layout_of far) command.octets ≡ Some message
+  pub asks : (message : MasterMsg) → message_in (layout_of far) command.octets ≡ Some message
       → known_mode far.page (mode_asked (command_in message)) ≡ Some command.into
 
 -- In STARTUP it holds no text (its ISDU handler is inactive there, 7.3.6); a command that waits

@@ -5,10 +5,15 @@ use thiserror::Error;
 
 // The numbers of the refusals: their one table, which the definitions cite.
 const DATA_TOO_LONG: u8 = 9;
+
 const TRUNCATED: u8 = 10;
+
 const BAD_ISDU_LENGTH: u8 = 11;
+
 const BAD_SERVICE: u8 = 12;
+
 const BAD_CHKPDU: u8 = 13;
+
 const WRONG_ANSWER_KIND: u8 = 14;
 
 /// Why octets are no request or no answer.

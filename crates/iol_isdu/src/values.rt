@@ -151,7 +151,7 @@ impl Clone for Request {
     fn clone(&self) -> Result<Request, AllocError> {
         Ok(match self {
             Request::Read(place) => Request::Read(*place),
-            Request::Write(place, octets) => Request::Write(*place, octets_again(octets)),
+            Request::Write(place, octets) => Request::Write(*place, octets_copy(octets)),
         })
     }
 }
@@ -165,7 +165,7 @@ impl Clone for Answer {
 
     fn clone(&self) -> Result<Answer, AllocError> {
         Ok(match self {
-            Answer::Read(octets) => Answer::Read(octets_again(octets)),
+            Answer::Read(octets) => Answer::Read(octets_copy(octets)),
             Answer::Written => Answer::Written,
             Answer::Refused(error, additional) => Answer::Refused(*error, *additional),
         })
@@ -173,12 +173,12 @@ impl Clone for Answer {
 }
 
 /// The octets once more, all of them in one step.
-fn octets_again(octets: &Octets) -> Octets
+fn octets_copy(octets: &Octets) -> Octets
     ensures { result ≡ octets.now }
 {
-    let mut again = Octets::new();
-    put(&mut again, octets);
-    again
+    let mut copy = Octets::new();
+    put(&mut copy, octets);
+    copy
 }
 
 /// Puts these octets in place of others.

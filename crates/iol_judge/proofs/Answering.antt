@@ -18,14 +18,14 @@ use Rattle.iol_far.specs.Far.{Far, isdu_after, layout_of, far_after_message, rep
 use Rattle.iol_far.specs.Codec.{message_in, reply_octets}
 use Rattle.iol_mseq.specs.declared.master.MasterMsg.{MasterMsg}
 use Rattle.std.specs.Option.{option_or}
-use Rattle.iol_judge.specs.declared.had.HadSegments.{HadSegments}
+use Rattle.iol_judge.specs.declared.partial.PartialAnswer.{PartialAnswer}
 use Rattle.iol_judge.specs.declared.reason.Reason.{Reason}
 use Rattle.iol_judge.specs.declared.reason.Reason.TheVariants.{InvalidNotZero}
 use Rattle.iol_judge.specs.declared.transfer.Transfer.{Transfer}
 use Rattle.iol_judge.specs.declared.transfer.Transfer.TheVariants as known
-use Rattle.iol_judge.specs.Answers.{had_with, is_busy, none_had, segment_fault, text_fault}
-use Rattle.iol_judge.specs.Transfers.{asked_told, transfer_fault, transfer_told_by, transfer_told}
-use Rattle.iol_judge.specs.UnderWay.{AreHad, IsUnderWay, IsAnswered, IsAnswerAsked}
+use Rattle.iol_judge.specs.Answers.{partial_with, is_busy, unread_answer, segment_fault, text_fault}
+use Rattle.iol_judge.specs.Transfers.{asked_updated, transfer_fault, transfer_updated_by, transfer_updated}
+use Rattle.iol_judge.specs.UnderWay.{AreObserved, IsUnderWay, IsAnswered, IsAnswerAsked}
 use Rattle.iol_judge.proofs.Sending.{AreTexts, none_holds, same_by}
 use Rattle.std.proofs.lemmas.Bool.Decides.{nat_tests}
 use Rattle.iol_octets.specs.Zeros.{are_zeros}
@@ -35,15 +35,15 @@ use Rattle.iol_mseq.specs.declared.reply.Reply.{Reply}
 use Rattle.iol_event.specs.Memory.{IsEventMemory, is_empty}
 use Rattle.iol_judge.specs.declared.verdict.Odd.{Odd}
 use Rattle.iol_judge.specs.declared.events.ShownEvents.{ShownEvents}
-use Rattle.iol_judge.specs.Seen.{is_of_page, page_noted}
+use Rattle.iol_judge.specs.Observed.{is_of_page, page_noted}
 use Rattle.iol_judge.specs.State.{KnownState}
 use Rattle.iol_judge.specs.Taking.{Taken}
-use Rattle.iol_judge.specs.Replies.{By, Not, cycle_told, data_fault, data_oddity, explanation_of, held_against, state_after_reply, no_zeros, page_fault, page_oddity, fault_in_reply, reply_oddity, shown_told}
+use Rattle.iol_judge.specs.Replies.{By, Not, cycle_updated, data_fault, data_oddity, explanation_of, held_against, state_after_reply, no_zeros, page_fault, page_oddity, fault_in_reply, reply_oddity, shown_updated}
 use Rattle.iol_judge.specs.Judged.{page_after_reply, noted_at}
 use Rattle.iol_judge.specs.Octets.{Agrees, are_as_known, with_octets}
 use Rattle.iol_judge.specs.Admitted.{Admits, AreAsKnown}
 use Rattle.iol_judge.proofs.Hearing.{control_is, shown_awake, under_way_awake}
-use Rattle.iol_judge.proofs.Sets.{events_fit, flag_fits, flagged_shown, told_shown}
+use Rattle.iol_judge.proofs.Sets.{events_fit, flag_fits, flagged_shown, updated_shown}
 use Rattle.iol_judge.proofs.Known.{AreAt, fits_known, text_is_no_fault, same_known, segment_at, set_agrees, with_agrees, with_long}
 
 -- Behind a read of the ISDU channel an answer was sent, if there is one
@@ -95,63 +95,65 @@ module _ (size : ℕ) (law : AreTexts size) (request : Request) (answer : Answer
   not_busy = ap (λ (b : Bool). b && are_zeros (drop 1 (segment size its_text 0)))
       (law.texts.busy (is_read request) answer (law.fitting request answer fit))
 
-  module _ (had : HadSegments) (sent : ℕ) (are : AreHad size had its_text sent)
-      (read : is_read request ≡ had.read) where
+  module _ (partial : PartialAnswer) (sent : ℕ) (are : AreObserved size partial its_text sent)
+      (read : is_read request ≡ partial.read) where
     -- the segment that was sent
     abbrev its_segment : List ℕ
     its_segment = segment size its_text sent
 
-    not_again : (had.at == 0 && is_busy its_segment) ≡ false
-    not_again = split (had.at == 0) refl
+    not_busy_again : (partial.at == 0 && is_busy its_segment) ≡ false
+    not_busy_again = split (partial.at == 0) refl
       where
-        split : (b : Bool) → (had.at == 0) ≡ b → (b && is_busy its_segment) ≡ false
+        split : (b : Bool) → (partial.at == 0) ≡ b → (b && is_busy its_segment) ≡ false
         split false e = refl
         split true e = rw (same_by size law.some sent 0 (omega (arith, eqb-true _ 0 e))) not_busy
 
-    there : AreAt had.at its_segment (λ k. get_or its_text k 0)
+    there : AreAt partial.at its_segment (λ k. get_or its_text k 0)
     there k less = ap (λ n. get_or its_text (n + k) 0) are.at
         ∙ segment_at size its_text sent (law.sized size its_text sent) k less
 
     -- and once it was had
-    had_holds : AreHad size (had_with had its_segment) its_text sent
-    had_holds = record {
-      octets = with_agrees had.octets had.at its_segment its_text are.octets there;
-      places = with_long had.octets had.at its_segment ∙ are.places;
+    partial_holds : AreObserved size (partial_with partial its_segment) its_text sent
+    partial_holds = record {
+      octets = with_agrees partial.octets partial.at its_segment its_text are.octets there;
+      places = with_long partial.octets partial.at its_segment ∙ are.places;
       begun = are.begun;
       within = are.within;
       at = are.at;
       count = are.count;
     }
 
-    none_other : are_as_known (drop had.at had.octets) its_segment ≡ true
-    none_other = fits_known had.octets had.at its_segment its_text are.octets there
+    none_other : are_as_known (drop partial.at partial.octets) its_segment ≡ true
+    none_other = fits_known partial.octets partial.at its_segment its_text are.octets there
 
-    text_fits : text_fault had.read had.begun (with_octets had.octets had.at its_segment) ≡ None
+    text_fits : text_fault partial.read partial.begun
+        (with_octets partial.octets partial.at its_segment) ≡ None
     text_fits =
         let fits = law.fitting request answer fit in
-        let holds = had_holds in
+        let holds = partial_holds in
         rw (← read) (text_is_no_fault (is_read request) its_text
         (law.texts.answers (is_read request) answer fits)
-        (law.texts.accepted (is_read request) answer fits) _ holds.octets holds.places had.begun
+        (law.texts.accepted (is_read request) answer fits) _ holds.octets holds.places partial.begun
         are.begun)
 
-    segment_fits : segment_fault had its_segment ≡ None
-    segment_fits = rw (not_again, none_other) text_fits
+    segment_fits : segment_fault partial its_segment ≡ None
+    segment_fits = rw (not_busy_again, none_other) text_fits
 
-answered_fits : (size : ℕ) → AreTexts size → (had : HadSegments) (state : IsduState)
-    → IsAnswered size had state → segment_fault had (isdu_data size state) ≡ None
-answered_fits size law had (Answered request answer (Some i)) h =
-    segment_fits size law request answer h.1 had i h.2 h.0
-answered_fits size law had state h = absurd h
+answered_fits : (size : ℕ) → AreTexts size → (partial : PartialAnswer) (state : IsduState)
+    → IsAnswered size partial state → segment_fault partial (isdu_data size state) ≡ None
+answered_fits size law partial (Answered request answer (Some i)) h =
+    segment_fits size law request answer h.1 partial i h.2 h.0
+answered_fits size law partial state h = absurd h
 
-told_answered : (size : ℕ) → AreTexts size → (had : HadSegments) (state : IsduState)
-    → IsAnswered size had state → IsAnswered size (had_with had (isdu_data size state)) state
-told_answered size law had (Answered request answer (Some i)) h = (
+updated_answered : (size : ℕ) → AreTexts size → (partial : PartialAnswer) (state : IsduState)
+    → IsAnswered size partial state → IsAnswered size
+    (partial_with partial (isdu_data size state)) state
+updated_answered size law partial (Answered request answer (Some i)) h = (
   h.0,
   h.1,
-  had_holds size law _ _ h.1 had i h.2 h.0,
+  partial_holds size law _ _ h.1 partial i h.2 h.0,
 )
-told_answered size law had state h = absurd h
+updated_answered size law partial state h = absurd h
 
 module _ (hands_over : HandsOver) (counted : Option ℕ) (size : ℕ) (law : AreTexts size) where
   pub isdu_fits : (transfer : Transfer) (state : IsduState) → IsUnderWay hands_over counted size
@@ -164,50 +166,53 @@ module _ (hands_over : HandsOver) (counted : Option ℕ) (size : ℕ) (law : Are
   isdu_fits (known.Asked read last) (Handed request) h s = rw (busy_is size) refl
   isdu_fits (known.Asked read last) (Answered request answer (Some zero)) h s =
       cond_both _ _ _ IsNone (λ e. refl) (λ e. segment_fits size law request answer h.1
-      (none_had read) 0 (none_holds size law read request answer h.1) h.0)
+      (unread_answer read) 0 (none_holds size law read request answer h.1) h.0)
   isdu_fits (known.Asked read last) (Answered request answer None) h s = absurd s
-  isdu_fits (known.Answered had) state h s = answered_fits size law had state h
-  isdu_fits (known.Perhaps had) state h s = elim h [
-    | inl is ↦ cond_both _ _ _ IsNone (λ e. refl) (λ e. answered_fits size law had state is)
+  isdu_fits (known.Answered partial) state h s = answered_fits size law partial state h
+  isdu_fits (known.Perhaps partial) state h s = elim h [
+    | inl is ↦ cond_both _ _ _ IsNone (λ e. refl) (λ e. answered_fits size law partial state is)
     | inr none ↦ rw (none, zeros_are size) refl
   ]
   isdu_fits known.Free state h s = refl
   isdu_fits transfer state h s = absurd h
 
-  told_asked : (read : Bool) (last : Option ℕ) (state : IsduState)
+  updated_asked : (read : Bool) (last : Option ℕ) (state : IsduState)
       → IsAnswerAsked hands_over counted read last state → IsSent state
-      → IsUnderWay hands_over counted size (asked_told read last (isdu_data size state)) state
-  told_asked read last (Handed request) h s = rw (busy_is size) h
-  told_asked read last (Answered request answer (Some zero)) h s =
+      → IsUnderWay hands_over counted size (asked_updated read last (isdu_data size state)) state
+  updated_asked read last (Handed request) h s = rw (busy_is size) h
+  updated_asked read last (Answered request answer (Some zero)) h s =
       rw (not_busy size law request answer h.1) (
         h.0,
         h.1,
-        had_holds size law request answer h.1
-            (none_had read) 0 (none_holds size law read request answer h.1) h.0,
+        partial_holds size law request answer h.1
+            (unread_answer read) 0 (none_holds size law read request answer h.1) h.0,
       )
-  told_asked read last (Answered request answer None) h s = absurd s
-  told_asked read last state h s = absurd h
+  updated_asked read last (Answered request answer None) h s = absurd s
+  updated_asked read last state h s = absurd h
 
-  pub told_under_way : (transfer : Transfer) (state : IsduState)
+  pub updated_under_way : (transfer : Transfer) (state : IsduState)
       → IsUnderWay hands_over counted size transfer state → IsSent state
-      → IsUnderWay hands_over counted size (transfer_told_by transfer (isdu_data size state)) state
-  told_under_way (known.Asked read last) state h s = told_asked read last state h s
-  told_under_way (known.Answered had) state h s = told_answered size law had state h
+      → IsUnderWay hands_over counted size (transfer_updated_by transfer (isdu_data size state))
+      state
+  updated_under_way (known.Asked read last) state h s = updated_asked read last state h s
+  updated_under_way (known.Answered partial) state h s = updated_answered size law partial state h
   -- where it was sent, or the answer had ended before
-  told_under_way (known.Perhaps had) state h s = elim h [
+  updated_under_way (known.Perhaps partial) state h s = elim h [
     | inl is ↦
-        let kept = had_with had (isdu_data size state) in
-        rw (answered_fits size law had state is) (cond_both (not (are_zeros (isdu_data size state)))
-        (known.Answered kept) (known.Perhaps kept)
+        let recorded = partial_with partial (isdu_data size state) in
+        rw (answered_fits size law partial state is)
+        (cond_both (not (are_zeros (isdu_data size state)))
+        (known.Answered recorded) (known.Perhaps recorded)
         (λ (t : Transfer). IsUnderWay hands_over counted size t state)
-        (λ e. told_answered size law had state is) (λ e. inl (told_answered size law had state is)))
+        (λ e. updated_answered size law partial state is)
+        (λ e. inl (updated_answered size law partial state is)))
     | inr none ↦
         let zeros = replicate size 0 in
-        rw (none, zeros_are size) (cond_both (is_some (segment_fault had zeros)) known.Quiet
-        (known.Perhaps (had_with had zeros))
+        rw (none, zeros_are size) (cond_both (is_some (segment_fault partial zeros)) known.Quiet
+        (known.Perhaps (partial_with partial zeros))
         (λ (t : Transfer). IsUnderWay hands_over counted size t Empty) (λ e. refl) (λ e. inr refl))
   ]
-  told_under_way transfer state h s = h
+  updated_under_way transfer state h s = h
 
 -- The checks of a reply
 
@@ -228,10 +233,10 @@ page_at : (far : Far) (address : ℕ) → is_of_page address ≡ true
 page_at far address e = rw (one_outside _ e, e) refl
 
 -- that is what is known of it
-seen_fits : (seen : List (Option ℕ)) (far : Far) (address : ℕ) → Agrees seen far.page
-    → (if is_of_page address then page_fault seen address (page_octet_of far address) else None)
+observed_fits : (observed : List (Option ℕ)) (far : Far) (address : ℕ) → Agrees observed far.page
+    → (if is_of_page address then page_fault observed address (page_octet_of far address) else None)
     ≡ None
-seen_fits seen far address agrees = cond_both _ _ _ IsNone
+observed_fits observed far address agrees = cond_both _ _ _ IsNone
     (λ e. rw (page_at far address e, e, same_known _ _ (agrees (address - 2))) refl) (λ e. refl)
 
 -- and nothing is odd in it
@@ -240,36 +245,38 @@ page_even : (cycle : Option ℕ) (far : Far) (address : ℕ) → IfSome cycle (�
 page_even cycle far address at = grind (arith, common_steps, same_known)
 
 -- the data that a reply brings, where it brings some
-abbrev brought : Far → ℕ → Bool → Channel → ℕ → List ℕ
-brought far size read channel address = if read then data_of far size channel address else []
+abbrev reply_data : Far → ℕ → Bool → Channel → ℕ → List ℕ
+reply_data far size read channel address = if read then data_of far size channel address else []
 
-module _ (seen : List (Option ℕ)) (state : KnownState) (far : Far) (size : ℕ) (law : AreTexts size)
-    (agrees : Agrees seen far.page) (six : length far.events.frozen ≤ 6)
+module _ (observed : List (Option ℕ)) (state : KnownState) (far : Far) (size : ℕ)
+    (law : AreTexts size)
+    (agrees : Agrees observed far.page) (six : length far.events.frozen ≤ 6)
     (shown : AreAsKnown state.events far.events)
     (under_way : IsUnderWay far.kind.hands_over far.counted size state.transfer far.isdu) where
   data_fits : (read : Bool) (channel : Channel) (address : ℕ) → IsSentBy read channel far.isdu
-      → (if read then data_fault seen state (not (is_empty far.events.frozen)) channel address
-      (brought far size read channel address) else None) ≡ None
+      → (if read then data_fault observed state (not (is_empty far.events.frozen)) channel address
+      (reply_data far size read channel address) else None) ≡ None
   data_fits read channel address sent =
-      grind (arith, common_steps, seen_fits, events_fit, isdu_fits)
+      grind (arith, common_steps, observed_fits, events_fit, isdu_fits)
 
 data_even : (cycle : Option ℕ) (far : Far) (size : ℕ) (read : Bool) (channel : Channel)
     (address : ℕ) → IfSome cycle (λ o. far.cycle_time ≡ o) → (if read
-    then data_oddity cycle channel address (brought far size read channel address) else None) ≡ None
+    then data_oddity cycle channel address (reply_data far size read channel address) else None)
+    ≡ None
 data_even cycle far size read channel address at =
     grind (arith, common_steps, zeros_are, neither, page_even)
 
-nothing_said : (odd : Odd) (kept : KnownState) (fault oddity : Option Reason) → fault ≡ None
+nothing_odd : (odd : Odd) (state : KnownState) (fault oddity : Option Reason) → fault ≡ None
     → oddity ≡ None → (elim (held_against odd fault oddity) [
-      | None ↦ By kept oddity
+      | None ↦ By state oddity
       | Some reason ↦ Not reason
-    ]) ≡ By kept None
-nothing_said odd kept fault oddity e f = grind arith
+    ]) ≡ By state None
+nothing_odd odd state fault oddity e f = grind arith
 
-module _ (seen : List (Option ℕ)) (there : Far) (octets : List ℕ) (message : MasterMsg)
+module _ (observed : List (Option ℕ)) (there : Far) (octets : List ℕ) (message : MasterMsg)
     (law : AreTexts (layout_of there).od) (awake : there.awake ≡ true)
     (memory : IsEventMemory (far_after_message there octets message).events)
-    (agrees : Agrees seen there.page) where
+    (agrees : Agrees observed there.page) where
   -- the device that worked the message
   abbrev worked_far : Far
   worked_far = far_after_message there octets message
@@ -278,11 +285,12 @@ module _ (seen : List (Option ℕ)) (there : Far) (octets : List ℕ) (message :
   its_answer = reply_to worked_far (layout_of there) message
 
   no_fault : (state : KnownState) → Admits state worked_far
-      → fault_in_reply seen state (layout_of there) message.mc its_answer ≡ None
+      → fault_in_reply observed state (layout_of there) message.mc its_answer ≡ None
   no_fault state admits =
       let shown = shown_awake state worked_far awake admits in
       rw (status_fits ((layout_of there).pd_in == 0) (not (is_some there.input))) (neither _ _
-      (flag_fits state.events worked_far.events shown) (data_fits seen state worked_far (layout_of
+      (flag_fits state.events worked_far.events shown)
+      (data_fits observed state worked_far (layout_of
       there).od law agrees memory.frozen shown (under_way_awake state worked_far awake admits)
       message.mc.read message.mc.channel message.mc.address (worked_sent there octets message)))
 
@@ -292,36 +300,37 @@ module _ (seen : List (Option ℕ)) (there : Far) (octets : List ℕ) (message :
   no_oddity state admits = grind (arith, common_steps, neither, invalid_zeros, data_even)
 
   pub explains : (odd : Odd) (found : Taken) (reply : List ℕ) → found.message ≡ message
-      → found.layout ≡ layout_of there → Admits found.kept worked_far
+      → found.layout ≡ layout_of there → Admits found.state worked_far
       → reply_in (layout_of there) message.mc.read reply ≡ Some its_answer
-      → explanation_of odd seen (Some found) reply
-      ≡ By (state_after_reply found.kept message.mc its_answer) None
+      → explanation_of odd observed (Some found) reply
+      ≡ By (state_after_reply found.state message.mc its_answer) None
   explains odd found reply same_message same_layout admits reads =
-      grind (arith, common_steps, nothing_said, no_fault, no_oddity)
+      grind (arith, common_steps, nothing_odd, no_fault, no_oddity)
 
 -- What a reply tells
 
-cycle_said : (old : Option ℕ) (far : Far) (size : ℕ) (read : Bool) (channel : Channel)
+cycle_learned : (old : Option ℕ) (far : Far) (size : ℕ) (read : Bool) (channel : Channel)
     (address : ℕ) → IfSome old (λ o. far.cycle_time ≡ o)
-    → IfSome (cycle_told old read channel address
-    (slice_index (brought far size read channel address) 0)) (λ o. far.cycle_time ≡ o)
-cycle_said old far size read channel address h = grind (arith, common_steps)
+    → IfSome (cycle_updated old read channel address
+    (slice_index (reply_data far size read channel address) 0)) (λ o. far.cycle_time ≡ o)
+cycle_learned old far size read channel address h = grind (arith, common_steps)
 
-events_said : (events : ShownEvents) (far : Far) (size : ℕ) (read : Bool) (channel : Channel)
+events_learned : (events : ShownEvents) (far : Far) (size : ℕ) (read : Bool) (channel : Channel)
     (address : ℕ) → length far.events.frozen ≤ 6 → AreAsKnown events far.events
-    → AreAsKnown (shown_told events read channel address
-    (slice_index (brought far size read channel address) 0)) far.events
-events_said events far size true Diagnosis address six s = told_shown _ _ six s _
-events_said events far size read channel address six s = s
+    → AreAsKnown (shown_updated events read channel address
+    (slice_index (reply_data far size read channel address) 0)) far.events
+events_learned events far size true Diagnosis address six s = updated_shown _ _ six s _
+events_learned events far size read channel address six s = s
 
-isdu_said : (size : ℕ) → AreTexts size → (transfer : Transfer) (far : Far) (read : Bool)
+isdu_learned : (size : ℕ) → AreTexts size → (transfer : Transfer) (far : Far) (read : Bool)
     (channel : Channel) (address : ℕ)
     → IsUnderWay far.kind.hands_over far.counted size transfer far.isdu
     → IsSentBy read channel far.isdu
-    → IsUnderWay far.kind.hands_over far.counted size (transfer_told transfer read channel
-    (brought far size read channel address)) far.isdu
-isdu_said size law transfer far true Isdu address h sent = told_under_way _ _ size law _ _ h sent
-isdu_said size law transfer far read channel address h sent = h
+    → IsUnderWay far.kind.hands_over far.counted size (transfer_updated transfer read channel
+    (reply_data far size read channel address)) far.isdu
+isdu_learned size law transfer far true Isdu address h sent =
+    updated_under_way _ _ size law _ _ h sent
+isdu_learned size law transfer far read channel address h sent = h
 
 pub learned_admits : (state : KnownState) (far : Far) (message : MasterMsg)
     → AreTexts (layout_of far).od → far.awake ≡ true → IsEventMemory far.events
@@ -332,30 +341,32 @@ learned_admits state far message law awake memory sent h =
       arith,
       common_steps,
       shown_awake,
-      events_said,
+      events_learned,
       flagged_shown,
-      isdu_said,
+      isdu_learned,
       under_way_awake,
-      cycle_said,
+      cycle_learned,
     )
 
-page_told : (seen : List (Option ℕ)) (far : Far) (address : ℕ) → Agrees seen far.page
-    → Agrees (page_noted seen address (page_octet_of far address)) far.page
-page_told seen far address agrees = cond_both _ _ _ (λ (s : List (Option ℕ)). Agrees s far.page)
-    (λ e. rw (page_at far address e) (set_agrees seen _ _ _ agrees refl)) (λ e. agrees)
+page_updated : (observed : List (Option ℕ)) (far : Far) (address : ℕ) → Agrees observed far.page
+    → Agrees (page_noted observed address (page_octet_of far address)) far.page
+page_updated observed far address agrees =
+    cond_both _ _ _ (λ (s : List (Option ℕ)). Agrees s far.page)
+    (λ e. rw (page_at far address e) (set_agrees observed _ _ _ agrees refl)) (λ e. agrees)
 
-noted_told : (seen : List (Option ℕ)) (far : Far) (reply : Reply) (size : ℕ) (read : Bool)
-    (channel : Channel) (address : ℕ) → reply.od.items ≡ (brought far size read channel address)
-    → Agrees seen far.page
-    → Agrees (noted_at seen read channel address (slice_index (reply_octets reply) 0)) far.page
+noted_updated : (observed : List (Option ℕ)) (far : Far) (reply : Reply) (size : ℕ) (read : Bool)
+    (channel : Channel) (address : ℕ) → reply.od.items ≡ (reply_data far size read channel address)
+    → Agrees observed far.page
+    → Agrees (noted_at observed read channel address (slice_index (reply_octets reply) 0)) far.page
 unfolding reply_octets
-noted_told seen far reply size read channel address e agrees =
-    grind (arith, common_steps, page_told)
+noted_updated observed far reply size read channel address e agrees =
+    grind (arith, common_steps, page_updated)
 
-pub noted_agrees : (seen : List (Option ℕ)) (far : Far) (sent : List ℕ) (layout : Shape)
+pub noted_agrees : (observed : List (Option ℕ)) (far : Far) (sent : List ℕ) (layout : Shape)
     (message : MasterMsg) → message_in layout sent ≡ Some message → (size : Shape)
-    → Agrees seen far.page
-    → Agrees (page_after_reply seen sent (reply_octets (reply_to far size message))) far.page
-noted_agrees seen far sent layout message h size agrees = rw (← control_is layout sent message h)
-    (noted_told seen far (reply_to far size message) size.od message.mc.read
+    → Agrees observed far.page
+    → Agrees (page_after_reply observed sent (reply_octets (reply_to far size message))) far.page
+noted_agrees observed far sent layout message h size agrees =
+    rw (← control_is layout sent message h)
+    (noted_updated observed far (reply_to far size message) size.od message.mc.read
     message.mc.channel message.mc.address refl agrees)

@@ -29,7 +29,7 @@ use Rattle.iol_far.specs.declared.kind.Kind.{Kind}
 use Rattle.iol_judge.specs.declared.kinds.Kinds.{Kinds}
 use Rattle.iol_judge.specs.Family.{both_kinds, admits_kind}
 use Rattle.iol_judge.specs.Numbers.{later}
-use Rattle.iol_judge.specs.Seen.{nothing_seen, whole_page, layouts_seen}
+use Rattle.iol_judge.specs.Observed.{nothing_observed, whole_page, layouts_observed}
 use Rattle.iol_judge.specs.State.{KnownState, parts, powered_state, startup_state, woken_state}
 use Rattle.iol_judge.specs.Events.{shown_after}
 use Rattle.iol_judge.specs.declared.events.ShownEvents.{ShownEvents}
@@ -38,9 +38,9 @@ use Rattle.iol_judge.specs.Taking.{Taken, mode_layout, taken_by_state}
 use Rattle.iol_judge.specs.Judged.{JudgeState, states_with, added_taken, each_in_turn, lost_into, lost_part, explained_into, replied_part, replied_into, concluded_lost, concluded_replied, odd_for_all, judge_without_reply, judge_after_answer, one_more, judge_after_exchange, woken_states, woken_into, judge_after_wake, kinds_left, kinds_with}
 use Rattle.iol_judge.specs.Judged as judging
 use Rattle.iol_judge.specs.Octets.{Agrees}
-use Rattle.iol_judge.specs.Admitted.{Admits, AreUnanswered, IsPossible, IsFair, Passing, Wakes, Passes, judge_after_passing, told_all, is_answered, IsHonest, IsHonestRun, IsWake, NeverBlamed, One}
+use Rattle.iol_judge.specs.Admitted.{Admits, AreUnanswered, IsPossible, IsFair, Passing, Wakes, Passes, judge_after_passing, judge_after_all, is_answered, IsHonest, IsHonestRun, IsWake, NeverBlamed, One}
 use Rattle.iol_judge.proofs.Known.{nothing_known}
-use Rattle.iol_judge.proofs.Sets.{Gains, Keeps, bound, each_gains, each_keeps, Left, added_keeps, added_admits, both_has, other_has, released_free, Alike, locals_alike, one_alike, woken_admits}
+use Rattle.iol_judge.proofs.Sets.{Gains, Preserves, bound, each_gains, each_preserves, Left, added_preserves, added_admits, both_has, other_has, released_free, Alike, locals_alike, one_alike, woken_admits}
 use Rattle.iol_judge.proofs.Hearing.{IsPart, all_have, parts_admit, Knows, knows, Accepting, accepting, Fits, state_fits}
 use Rattle.iol_judge.proofs.Answering.{explains, learned_admits, noted_agrees, worked_sent}
 use Rattle.iol_judge.proofs.Sending.{AllTexts}
@@ -142,8 +142,8 @@ part_fits known sent far texts knows part is_part work found e = rw work.spells 
 
 module _ (known : Result Layouts Open) (sent : List ℕ) (far new : Far)
     (texts : AllTexts) (knows : Knows known far.page) (follows : Follows far sent new) where
-  part_keeps : Keeps (lost_part known sent) (Left new)
-  part_keeps mid part more h a = grind (arith, common_steps, bound, added_keeps)
+  part_preserves : Preserves (lost_part known sent) (Left new)
+  part_preserves mid part more h a = grind (arith, common_steps, bound, added_preserves)
 
   part_gains : (work : Works far sent) → new ≡ worked_by work
       → Gains (lost_part known sent) (IsPart far sent) (Left new)
@@ -155,31 +155,32 @@ module _ (known : Result Layouts Open) (sent : List ℕ) (far new : Far)
       inner : (found : Option Taken) → added_taken mid found ≡ Ok more
           → Fits work.there sent (Some work.message) found → Left new more
       inner None h fits = absurd fits
-      inner (Some taken) h fits = added_admits texts new mid taken.kept more h (rw is fits.2)
+      inner (Some taken) h fits = added_admits texts new mid taken.state more h (rw is fits.2)
 
-  lost_keeps : Keeps (lost_into known sent) (Left new)
-  lost_keeps next state more h a =
+  lost_preserves : Preserves (lost_into known sent) (Left new)
+  lost_preserves next state more h a =
       let s = bound _ _ h in
-      each_keeps part_keeps (parts state sent) s.0 more s.2
-      (added_keeps texts new next state s.0 s.1 a)
+      each_preserves part_preserves (parts state sent) s.0 more s.2
+      (added_preserves texts new next state s.0 s.1 a)
 
   lost_gains : Gains (lost_into known sent) (λ state. Admits state far) (Left new)
   lost_gains next state more h a =
       let s = bound (states_with next state)
       (λ mid. each_in_turn (lost_part known sent) mid (parts state sent)) h in
       elim follows [
-        | inl is ↦ each_keeps part_keeps (parts state sent) s.0 more s.2
+        | inl is ↦ each_preserves part_preserves (parts state sent) s.0 more s.2
             (rw is (added_admits texts far next state s.0 s.1 a))
-        | inr work ↦ each_gains part_keeps (part_gains work.0 work.1) (parts state sent) s.0 more
+        | inr work ↦ each_gains part_preserves (part_gains work.0 work.1) (parts state sent) s.0
+            more
             s.2 (parts_admit far sent texts work.0.accepting.hears state a)
       ]
 
   lost_admits : (states out : List KnownState)
       → each_in_turn (lost_into known sent) [] states ≡ Ok out → Left far states → Left new out
-  lost_admits states out h admits = each_gains lost_keeps lost_gains states [] out h admits
+  lost_admits states out h admits = each_gains lost_preserves lost_gains states [] out h admits
 
 concluded_fair : (judged : JudgeState) (new : Far) (found : Result (List KnownState) Open)
-    → judged.verdict ≡ Honest → judged.oddities ≡ 0 → Agrees judged.seen new.page
+    → judged.verdict ≡ Honest → judged.oddities ≡ 0 → Agrees judged.observed new.page
     → ((out : List KnownState) → found ≡ Ok out → Left new out)
     → IsFair (concluded_lost judged found) new
 concluded_fair judged new found honest even agrees admits = grind (arith, common_steps)
@@ -197,66 +198,70 @@ now_even (state ∷ states) old = refl
 
 module _ (law : Laws) (reads : RepliesAreRead) (judged : JudgeState)
     (honest : judged.verdict ≡ Honest) (even : judged.oddities ≡ 0) (far : Far)
-    (agrees : Agrees judged.seen far.page) (admits : Left far judged.states) (sent : List ℕ)
+    (agrees : Agrees judged.observed far.page) (admits : Left far judged.states) (sent : List ℕ)
     (work : Works far sent) (sized : IsSized (worked_by work))
     (memory : IsEventMemory (worked_by work).events) where
   abbrev its_reply : List ℕ
   its_reply = reply_octets (reply_to (worked_by work) (layout_of work.there) work.message)
 
   abbrev known : Result Layouts Open
-  known = layouts_seen judged.seen
+  known = layouts_observed judged.observed
 
   -- what a state explains, and a part of it
   abbrev into : NextStates → KnownState → Result NextStates Open
-  into = replied_into known judged.odd judged.seen sent its_reply
+  into = replied_into known judged.odd judged.observed sent its_reply
 
   abbrev part_into : NextStates → KnownState → Result NextStates Open
-  part_into = replied_part known judged.odd judged.seen sent its_reply
+  part_into = replied_part known judged.odd judged.observed sent its_reply
 
   -- and nothing odd is found
   abbrev AdmitsNext : NextStates → Type 0
   AdmitsNext next = Left (worked_by work) next.states.items × (next.oddity ≡ None)
 
-  next_admits : (next : NextStates) (kept : KnownState) (oddity : Option Reason) (more : NextStates)
+  next_admits : (next : NextStates) (state : KnownState) (oddity : Option Reason)
+      (more : NextStates)
       → odd_for_all next.states.items next.oddity oddity ≡ None
-      → ((out : List KnownState) → states_with next.states.items kept ≡ Ok out
+      → ((out : List KnownState) → states_with next.states.items state ≡ Ok out
       → Left (worked_by work) out)
-      → explained_into next (By kept oddity) ≡ Ok more → AdmitsNext more
-  next_admits next kept oddity more even admits h = grind (arith, common_steps, bound)
+      → explained_into next (By state oddity) ≡ Ok more → AdmitsNext more
+  next_admits next state oddity more even admits h = grind (arith, common_steps, bound)
 
-  part_kept : Keeps part_into AdmitsNext
-  part_kept next state more h a =
+  part_preserved : Preserves part_into AdmitsNext
+  part_preserved next state more h a =
       let s = bound (taken_by_state known state sent)
-      (λ found. explained_into next (explanation_of judged.odd judged.seen found its_reply)) h in
-      inner (explanation_of judged.odd judged.seen s.0 its_reply) s.2
+      (λ found. explained_into next (explanation_of judged.odd judged.observed found its_reply))
+      h in
+      inner (explanation_of judged.odd judged.observed s.0 its_reply) s.2
     where
       inner : (by : Explanation) → explained_into next by ≡ Ok more → AdmitsNext more
       inner (By found oddity) h = next_admits next found oddity more (old_even _ _ _ _ a.0 a.1)
-          (λ out e. added_keeps law.texts _ next.states.items found out e a.0) h
+          (λ out e. added_preserves law.texts _ next.states.items found out e a.0) h
       inner (Not reason) h =
           let e : ◌≡◌ {A = NextStates} (record next { reason = later next.reason reason })
           more = cc in
           subst AdmitsNext e a
 
-  there_agrees : Agrees judged.seen work.there.page
+  there_agrees : Agrees judged.observed work.there.page
   there_agrees = rw work.accepting.by.page agrees
 
   part_gained : Gains part_into (IsPart far sent) AdmitsNext
   unfolding Fits
   part_gained next state more h a =
       let s = bound (taken_by_state known state sent)
-      (λ found. explained_into next (explanation_of judged.odd judged.seen found its_reply)) h in
+      (λ found. explained_into next (explanation_of judged.odd judged.observed found its_reply))
+      h in
       inner s.0 (part_fits known sent far law.texts
       (knows law.pages _ _ agrees) state a work s.0 s.1) s.2
     where
       inner : (found : Option Taken) → Fits work.there sent (Some work.message) found
-          → explained_into next (explanation_of judged.odd judged.seen found its_reply) ≡ Ok more
+          → explained_into next (explanation_of judged.odd judged.observed found its_reply)
+          ≡ Ok more
           → AdmitsNext more
       inner None fits h = absurd fits
       inner (Some found) fits h =
-          let new = state_after_reply found.kept work.message.mc
+          let new = state_after_reply found.state work.message.mc
           (reply_to (worked_by work) (layout_of work.there) work.message) in
-          let by : explanation_of judged.odd judged.seen (Some found) its_reply ≡ By new None =
+          let by : explanation_of judged.odd judged.observed (Some found) its_reply ≡ By new None =
           explains _ work.there sent _ (law.texts work.there) work.accepting.awake memory
           there_agrees _ found _ fits.0 fits.1 fits.2 (reads (worked_by work) work.message sized) in
           next_admits next new None more (now_even _ _)
@@ -265,11 +270,13 @@ module _ (law : Laws) (reads : RepliesAreRead) (judged : JudgeState)
           (worked_sent work.there sent work.message) fits.2))
           (sym (ap (λ (x : Explanation). explained_into next x) by) ∙ h)
 
-  replied_keeps : Keeps into AdmitsNext
-  replied_keeps next state more h a = each_keeps part_kept (parts state sent) next more h a
+  replied_preserves : Preserves into AdmitsNext
+  replied_preserves next state more h a =
+      each_preserves part_preserved (parts state sent) next more h a
 
   replied_gains : Gains into (λ state. Admits state far) AdmitsNext
-  replied_gains next state more h a = each_gains part_kept part_gained (parts state sent) next more
+  replied_gains next state more h a =
+      each_gains part_preserved part_gained (parts state sent) next more
       h (parts_admit far sent law.texts work.accepting.hears state a)
 
   concluded_next : (found : Result NextStates Open)
@@ -295,28 +302,29 @@ module _ (law : Laws) (reads : RepliesAreRead) (judged : JudgeState)
 
   replied_fair : IsFair (judging.judge_after_reply judged sent its_reply) (worked_by work)
   replied_fair =
-      concluded_next _ (λ out e. each_gains replied_keeps replied_gains _ _ out e admits)
+      concluded_next _ (λ out e. each_gains replied_preserves replied_gains _ _ out e admits)
 
 -- A wake-up request
 
 module _ (texts : AllTexts) (wake : Wake) (far new : Far)
     (follows : (new ≡ far_after_wake far) ⊎ ((wake ≡ Unanswered) × (new ≡ far))) where
-  woken_keeps : Keeps (woken_into wake) (Left new)
-  woken_keeps next state more h a =
-      each_keeps (added_keeps texts new) (woken_states wake state) next more h a
+  woken_preserves : Preserves (woken_into wake) (Left new)
+  woken_preserves next state more h a =
+      each_preserves (added_preserves texts new) (woken_states wake state) next more h a
 
   -- the device after the wake-up request is one of those that are added
   woken_one : (state : KnownState) → Admits state far → Left new (woken_states wake state)
   woken_one state admits = grind (arith, common_steps, woken_admits)
 
   woken_gains : Gains (woken_into wake) (λ state. Admits state far) (Left new)
-  woken_gains next state more h a = each_gains (added_keeps texts new) (added_admits texts new)
+  woken_gains next state more h a = each_gains (added_preserves texts new) (added_admits texts new)
       _ next more h (woken_one state a)
 
   all_woken_admits : (states out : List KnownState)
       → each_in_turn (woken_into wake) [] states ≡ Ok out
       → Left far states → Left new out
-  all_woken_admits states out h admits = each_gains woken_keeps woken_gains states [] out h admits
+  all_woken_admits states out h admits =
+      each_gains woken_preserves woken_gains states [] out h admits
 
 -- the wake took effect, or wasn't answered and was lost
 took_effect : (wake : Wake) (far new : Far) (wakes : Bool) → new
@@ -354,22 +362,22 @@ wake_fair texts judged far wake new h fair =
 abbrev MayWake : Far → KnownState → Type 0
 MayWake far state = Left far (woken_states Unanswered state)
 
-shown_again : (shown : ShownEvents)
+shown_twice : (shown : ShownEvents)
     → shown_after (shown_after shown false) false ≡ shown_after shown false
-shown_again Held = refl
-shown_again Any = refl
-shown_again Fresh = refl
-shown_again (Filled places) = refl
+shown_twice Held = refl
+shown_twice Any = refl
+shown_twice Fresh = refl
+shown_twice (Filled places) = refl
 
-woken_again : (state : KnownState) → woken_state (woken_state state) ≡ woken_state state
-woken_again state = ap (startup_state state.kinds state.cycle) (shown_again state.events)
+woken_twice : (state : KnownState) → woken_state (woken_state state) ≡ woken_state state
+woken_twice state = ap (startup_state state.kinds state.cycle) (shown_twice state.events)
 
 -- one more request leaves them the same
 still_woken : (far : Far) (state : KnownState) → MayWake far state
     → Left (far_after_wake far) (woken_state state ∷ powered_state state ∷ [])
 still_woken far state (inl here) = woken_admits state far here
 still_woken far state (inr (inl woken)) =
-    rw woken_again at (woken_admits (woken_state state) far woken)
+    rw woken_twice at (woken_admits (woken_state state) far woken)
 still_woken far state (inr (inr (inl powered))) = inr (elim (woken_admits _ far powered) [
   | inl here ↦ inl here
   | inr there ↦ there
@@ -402,9 +410,9 @@ module _ (wake : Wake) (far new : Far) (h : IsWake far (is_answered wake) new) w
       → each_in_turn (woken_into wake) [] states ≡ Ok out
       → One (MayWake far) states → Left new out
   all_woken_of texts states out e may = each_gains
-      (λ next state more is a. each_keeps (added_keeps texts new) (woken_states wake state)
+      (λ next state more is a. each_preserves (added_preserves texts new) (woken_states wake state)
       next more is a)
-      (λ next state more is a. each_gains (added_keeps texts new) (added_admits texts new)
+      (λ next state more is a. each_gains (added_preserves texts new) (added_admits texts new)
       _ next more is (woken_of state a)) states [] out e may
 
 may_at_first : (states : List KnownState) (far : Far) → Left far states
@@ -438,7 +446,7 @@ unseen_fair : AllTexts → (judged : JudgeState) (far : Far) (count : ℕ) (betw
 unseen_fair texts judged far count between wake new unseen h fair =
     split judged.verdict fair.state
   where
-    agrees : Agrees judged.seen between.page
+    agrees : Agrees judged.observed between.page
     agrees = rw (unseen_page count far between unseen) fair.page
 
     split : (verdict : Verdict) → IsPossible verdict judged.states far
@@ -455,26 +463,27 @@ unseen_fair texts judged far count between wake new unseen h fair =
 
 -- The page
 
-none_seen : (far : Far) → Agrees nothing_seen far.page
-none_seen far place = nothing_known 10 place _
+none_observed : (far : Far) → Agrees nothing_observed far.page
+none_observed far place = nothing_known 10 place _
 
 whole_agrees : (page : List ℕ) → Agrees (whole_page page) page
 whole_agrees page place = grind (arith, common_steps)
 
 -- Kinds
 
-with_keeps : (states : List KnownState) (kinds : Kinds) (kind : Kind)
+with_preserves : (states : List KnownState) (kinds : Kinds) (kind : Kind)
     → admits_kind kinds kind ≡ true
     → admits_kind (kinds_with kinds states) kind ≡ true
-with_keeps [] kinds kind h = h
-with_keeps (state ∷ states) kinds kind h = with_keeps states (both_kinds kinds state.kinds) kind
+with_preserves [] kinds kind h = h
+with_preserves (state ∷ states) kinds kind h =
+    with_preserves states (both_kinds kinds state.kinds) kind
     (both_has kinds _ kind h)
 
 with_gains : (states : List KnownState) (kinds : Kinds) (far : Far) → Left far states
     → admits_kind (kinds_with kinds states) far.kind ≡ true
 with_gains [] kinds far h = absurd h
 with_gains (state ∷ states) kinds far (inl here) =
-    with_keeps states _ _ (other_has kinds _ _ here.kind)
+    with_preserves states _ _ (other_has kinds _ _ here.kind)
 with_gains (state ∷ states) kinds far (inr there) = with_gains states _ far there
 
 -- a device's kind is among those that are left
@@ -497,15 +506,17 @@ regular_all law far (step ∷ steps) h = regular_all law (local far step) steps 
 
 module _ (law : Laws) (stays : RegularStays) (much : MuchStays) (reads : RepliesAreRead) where
   module _ (judged : JudgeState) (honest : judged.verdict ≡ Honest) (even : judged.oddities ≡ 0)
-      (far : Far) (regular : IsRegular far) (agrees : Agrees judged.seen far.page)
+      (far : Far) (regular : IsRegular far) (agrees : Agrees judged.observed far.page)
       (admits : Left far judged.states) (sent : List ℕ) where
     quiet_fair : (new : Far) → Follows far sent new → new.page ≡ far.page
         → IsFair (judge_without_reply judged sent) new
     quiet_fair new follows page =
-        concluded_fair judged new (each_in_turn (lost_into (layouts_seen judged.seen) sent) []
+        concluded_fair judged new (each_in_turn
+        (lost_into (layouts_observed judged.observed) sent) []
         judged.states) honest
-        even (rw page agrees) (λ out e. lost_admits (layouts_seen judged.seen) sent far new
-        law.texts (knows law.pages judged.seen far.page agrees) follows judged.states out e admits)
+        even (rw page agrees) (λ out e. lost_admits (layouts_observed judged.observed) sent far new
+        law.texts (knows law.pages judged.observed far.page agrees) follows judged.states out e
+        admits)
 
     -- whatever came, where the device answered nothing or the reply was lost
     lost_fair : (new : Far) → Follows far sent new → new.page ≡ far.page
@@ -514,8 +525,8 @@ module _ (law : Laws) (stays : RegularStays) (much : MuchStays) (reads : Replies
     lost_fair new follows page None unread = quiet_fair new follows page
     lost_fair new follows page (Some reply) unread =
         cond_both _ _ _ (λ (j : JudgeState). IsFair j new)
-        (λ e. absurd (readable_is_unaltered (layouts_seen judged.seen) far.page sent reply
-        (knows law.pages judged.seen far.page agrees) unread e))
+        (λ e. absurd (readable_is_unaltered (layouts_observed judged.observed) far.page sent reply
+        (knows law.pages judged.observed far.page agrees) unread e))
         (λ e. quiet_fair new follows page)
 
     -- the unaltered reply of a device that worked the message
@@ -525,7 +536,7 @@ module _ (law : Laws) (stays : RegularStays) (much : MuchStays) (reads : Replies
     clean_works work =
         let reply = reply_octets (reply_to (worked_by work) (layout_of work.there) work.message) in
         let new : IsRegular (worked_by work) = rw work.heard_is at (stays.hears far sent regular) in
-        cond_both (can_be_read (layouts_seen judged.seen) sent reply)
+        cond_both (can_be_read (layouts_observed judged.observed) sent reply)
         (judging.judge_after_reply judged sent reply)
         (judge_without_reply judged sent) (λ (j : JudgeState). IsFair j (worked_by work))
         (λ e. replied_fair law reads judged honest even far agrees admits sent work new.sized
@@ -540,10 +551,10 @@ module _ (law : Laws) (stays : RegularStays) (much : MuchStays) (reads : Replies
     -- an exchange, once the device did what it does by itself
     passed_fair : (answer : Option (List ℕ)) (passage : Passage) → IsAnswer passage far sent answer
         → IsFair (judge_after_answer judged sent answer) (far_after passage far sent)
-    passed_fair answer OutLost came = lost_fair far (inl refl) refl answer came
-    passed_fair answer BackLost came = lost_fair _ (follows_heard far sent)
-        (much.page_heard far sent) answer came
-    passed_fair answer Clean came = rw came clean_fair
+    passed_fair answer OutLost received = lost_fair far (inl refl) refl answer received
+    passed_fair answer BackLost received = lost_fair _ (follows_heard far sent)
+        (much.page_heard far sent) answer received
+    passed_fair answer Clean received = rw received clean_fair
 
   exchange_fair : (judged : JudgeState) (far : Far) (silence : ℕ) (sent : List ℕ)
       (answer : Option (List ℕ)) (new : Far) (silence_new : ℕ)
@@ -555,7 +566,7 @@ module _ (law : Laws) (stays : RegularStays) (much : MuchStays) (reads : Replies
       same : Alike far (locals far h.steps)
       same = locals_alike far h.steps
 
-      agrees : Agrees judged.seen new.page
+      agrees : Agrees judged.observed new.page
       agrees = rw (ap (λ (g : Far). g.page) h.far_is ∙ passed_same (λ (g : Far). g.page)
           _ _ sent (much.page_heard (locals far h.steps) sent) ∙ same.page) fair.page
 
@@ -572,32 +583,32 @@ module _ (law : Laws) (stays : RegularStays) (much : MuchStays) (reads : Replies
 
   -- A capture
 
-  told_fair : (judged : JudgeState) (far : Far) (silence : ℕ) (passing : Passing) (new : Far)
+  passing_fair : (judged : JudgeState) (far : Far) (silence : ℕ) (passing : Passing) (new : Far)
       (silence_new : ℕ) → IsHonest far silence passing new silence_new → IsFair judged far
       → IsFair (judge_after_passing judged passing) new
-  told_fair judged far silence (Wakes wake) new silence_new h fair =
+  passing_fair judged far silence (Wakes wake) new silence_new h fair =
       wake_fair law.texts _ far wake new h.0 fair
-  told_fair judged far silence (Passes sent answer) new silence_new h fair =
+  passing_fair judged far silence (Passes sent answer) new silence_new h fair =
       exchange_fair _ far _ sent _ new _ h fair
 
   -- nothing changes the kind
-  told_kind : (far : Far) (silence : ℕ) (passing : Passing) (new : Far) (silence_new : ℕ)
+  kind_stays : (far : Far) (silence : ℕ) (passing : Passing) (new : Far) (silence_new : ℕ)
       → IsHonest far silence passing new silence_new → new.kind ≡ far.kind
-  told_kind far silence passing new silence_new h =
+  kind_stays far silence passing new silence_new h =
       grind (arith, common_steps, woken_same, passed_same)
 
   run_all : (judged : JudgeState) (far : Far) → IsFair judged far
       → (silence : ℕ) (capture : List Passing) → IsHonestRun far silence capture
-      → (last : Far) × IsFair (told_all judged capture) last × (last.kind ≡ far.kind)
+      → (last : Far) × IsFair (judge_after_all judged capture) last × (last.kind ≡ far.kind)
   run_all judged far fair silence [] h = (far, fair, refl)
   run_all judged far fair silence (passing ∷ capture) h =
       let rest = run_all (judge_after_passing judged passing) h.0
-      (told_fair judged far silence passing h.0 h.1 h.2 fair) h.1 capture h.3 in
-      (rest.0, rest.1, rest.2 ∙ told_kind far silence passing h.0 h.1 h.2)
+      (passing_fair judged far silence passing h.0 h.1 h.2 fair) h.1 capture h.3 in
+      (rest.0, rest.1, rest.2 ∙ kind_stays far silence passing h.0 h.1 h.2)
 
   pub never_blamed : NeverBlamed
   never_blamed = record {
-    begins = λ odd far. record { page = none_seen far; state = tt; odd = refl };
+    begins = λ odd far. record { page = none_observed far; state = tt; odd = refl };
     pages = λ judged far fair.
         record { page = whole_agrees far.page; state = fair.state; odd = fair.odd };
     wakes_any = wake_fair law.texts;
@@ -616,5 +627,5 @@ module _ (law : Laws) (stays : RegularStays) (much : MuchStays) (reads : Replies
         (run_all judged far fair silence capture h).1.odd;
     kinds = λ judged far fair silence capture h.
         let last = run_all judged far fair silence capture h in
-        rw last.2 at (fair_kinds (told_all judged capture) last.0 last.1);
+        rw last.2 at (fair_kinds (judge_after_all judged capture) last.0 last.1);
   }

@@ -12,7 +12,7 @@ use Rattle.iol_far.specs.Far.{known_mode, Far, WaitingCommand, layout_of, accept
 use Rattle.iol_judge.specs.declared.open.Open.{Open}
 use Rattle.iol_judge.specs.declared.open.Open.TheVariants.{PageRefused}
 use Rattle.std.specs.Result.{result_map_both}
-use Rattle.iol_judge.specs.Seen.{layouts_by, layouts_known, layouts_seen}
+use Rattle.iol_judge.specs.Observed.{layouts_by, layouts_known, layouts_observed}
 use Rattle.iol_judge.specs.Taking.{Taken, and_then, mode_layout, mode_known, cycle_after, state_after, taken_message}
 use Rattle.iol_judge.specs.Transfers.{isdu_known, is_apart, transfer_after, transfer_in}
 use Rattle.iol_judge.specs.Octets.{Agrees}
@@ -53,20 +53,22 @@ asked_ok : (asked : Result Layouts PageFault) (layouts : Layouts)
 asked_ok (Ok l) layouts h = let e : l ≡ layouts = cc in ap Ok e
 asked_ok (Err fault) layouts h = absurd (cc)
 
-abbrev Told : List ℕ → ℕ → Option ℕ → Type 0
-Told page place known = IfSome known (λ octet. slice_index page place ≡ octet)
+abbrev KnownAt : List ℕ → ℕ → Option ℕ → Type 0
+KnownAt page place known = IfSome known (λ octet. slice_index page place ≡ octet)
 
-known_by : (page : List ℕ) (layouts : Layouts) (c r i o : Option ℕ) → Told page 1 c → Told page 2 r
-    → Told page 3 i → Told page 4 o → layouts_known c r i o ≡ Ok layouts
+known_by : (page : List ℕ) (layouts : Layouts) (c r i o : Option ℕ) → KnownAt page 1 c
+    → KnownAt page 2 r
+    → KnownAt page 3 i → KnownAt page 4 o → layouts_known c r i o ≡ Ok layouts
     → layouts_of page ≡ Ok layouts
 unfolding layouts_by
 known_by page layouts (Some c) (Some r) (Some i) (Some o) tc tr ti to h =
     rw (tc, tr, ti, to) (asked_ok _ _ h)
 known_by page layouts c r i o tc tr ti to h = absurd (cc)
 
-seen_layouts : (seen : List (Option ℕ)) (page : List ℕ) (layouts : Layouts) → Agrees seen page
-    → layouts_seen seen ≡ Ok layouts → layouts_of page ≡ Ok layouts
-seen_layouts seen page layouts agrees h =
+observed_layouts : (observed : List (Option ℕ)) (page : List ℕ) (layouts : Layouts)
+    → Agrees observed page
+    → layouts_observed observed ≡ Ok layouts → layouts_of page ≡ Ok layouts
+observed_layouts observed page layouts agrees h =
     known_by page _ _ _ _ _ (agrees 1) (agrees 2) (agrees 3) (agrees 4) h
 
 layout_known : (page : List ℕ) (layouts : Layouts) → layouts_of page ≡ Ok layouts
@@ -83,14 +85,14 @@ knows_none : (page : List ℕ) (why : Open) → Knows (Err why) page
 unfolding layout_in
 knows_none page why = grind (arith, common_steps)
 
-pub knows : PagesAskForLayouts → (seen : List (Option ℕ)) (page : List ℕ) → Agrees seen page
-    → Knows (layouts_seen seen) page
+pub knows : PagesAskForLayouts → (observed : List (Option ℕ)) (page : List ℕ) → Agrees observed page
+    → Knows (layouts_observed observed) page
 unfolding layout_in
-knows law seen page agrees = split (layouts_seen seen) refl
+knows law observed page agrees = split (layouts_observed observed) refl
   where
-    split : (known : Result Layouts Open) → layouts_seen seen ≡ known → Knows known page
+    split : (known : Result Layouts Open) → layouts_observed observed ≡ known → Knows known page
     split (Ok layouts) e =
-        let asks : layouts_of page ≡ Ok layouts = seen_layouts seen page _ agrees e in
+        let asks : layouts_of page ≡ Ok layouts = observed_layouts observed page _ agrees e in
         let by : IsAskedBy page layouts = rw asks at (law page) in
         record {
           layout = layout_known page _ asks;
@@ -150,7 +152,7 @@ unfoldable pub Fits : Far → List ℕ → Option MasterMsg → Option Taken →
 Fits there octets None found = found ≡ None
 Fits there octets (Some message) None = ⊥
 Fits there octets (Some message) (Some found) = (found.message ≡ message)
-    × (found.layout ≡ layout_of there) × Admits found.kept (far_after_message there octets message)
+    × (found.layout ≡ layout_of there) × Admits found.state (far_after_message there octets message)
 
 cycle_admits : (old : ℕ) (known : Option ℕ) (channel : Channel) (read : Bool) (address octet : ℕ)
     → IfSome known (λ o. old ≡ o) → IfSome (cycle_after known channel read address octet)
@@ -234,20 +236,20 @@ module _ (known : Result Layouts Open) (far there : Far) (octets : List ℕ) (st
       → message.mc ≡ control_of (slice_index octets 0)
       → mode_known known (mode_asked (command_in message)) ≡ asked → layout ≡ layout_of there
       → (found : Option Taken) → and_then asked (λ mode. Ok (Some (record {
-        kept = state_after known its_link state octets layout message mode;
+        state = state_after known its_link state octets layout message mode;
         layout = layout;
         message = message;
       }))) ≡ Ok found → Fits there octets (Some message) found
   unfolding Fits
   fits_asked layout message (Ok asked) mc e l (Some found) h =
       let is : ◌≡◌ {A = Taken} (record {
-        kept = state_after known its_link state octets layout message asked;
+        state = state_after known its_link state octets layout message asked;
         layout = layout;
         message = message;
       }) found = cc in (
         ap (λ (t : Taken). t.message) (sym is),
         ap (λ (t : Taken). t.layout) (sym is) ∙ l,
-        subst (λ (t : Taken). Admits t.kept (far_after_message there octets message)) is
+        subst (λ (t : Taken). Admits t.state (far_after_message there octets message)) is
             (record {
               kind = rw accepting.by.kind admits.kind;
               link = worked_link there its_link octets asked message at

@@ -18,8 +18,8 @@ use Rattle.iol_isdu.specs.declared.fault.IsduFault.TheVariants.{BadChkpdu, BadSe
 use Rattle.iol_segment.specs.Cut.{segment}
 use Rattle.iol_segment.specs.TextLaws.{HoldsLength}
 use Rattle.iol_judge.specs.declared.answer.Look.TheVariants.{Padding}
-use Rattle.iol_judge.specs.declared.answer.TheConstants.{LONGEST_ANSWER, MOST_HAD}
-use Rattle.iol_judge.specs.Answers.{has_answer, answer_head, is_answered_by, is_some_answer, is_such_answer, looks_right, nothing_had, text_fault}
+use Rattle.iol_judge.specs.declared.answer.TheConstants.{LONGEST_ANSWER, MOST_OBSERVED}
+use Rattle.iol_judge.specs.Answers.{has_answer, answer_head, is_answered_by, is_some_answer, is_such_answer, looks_right, no_known_octets, text_fault}
 use Rattle.iol_judge.specs.Octets.{Agrees, are_as_known, is_other, may_be_even, with_octets}
 
 -- Octets that may be known
@@ -33,21 +33,21 @@ pub same_known : (known : Option ℕ) (octet : ℕ) → IfSome known (λ o. octe
 same_known known octet h = grind (arith, common_steps)
 
 -- one octet more is known
-pub set_agrees : (seen : List (Option ℕ)) (page : ℕ → ℕ) (place octet : ℕ)
-    → ((k : ℕ) → IfSome (get_or seen k None) (λ o. page k ≡ o)) → page place ≡ octet
-    → (k : ℕ) → IfSome (get_or (set seen place (Some octet)) k None) (λ o. page k ≡ o)
-set_agrees seen page place octet agrees e k = grind (arith, common_steps, agrees k)
+pub set_agrees : (observed : List (Option ℕ)) (page : ℕ → ℕ) (place octet : ℕ)
+    → ((k : ℕ) → IfSome (get_or observed k None) (λ o. page k ≡ o)) → page place ≡ octet
+    → (k : ℕ) → IfSome (get_or (set observed place (Some octet)) k None) (λ o. page k ≡ o)
+set_agrees observed page place octet agrees e k = grind (arith, common_steps, agrees k)
 
-pub nothing_agrees : (octets : List ℕ) → Agrees nothing_had octets
-unfolding nothing_had
-nothing_agrees octets place = nothing_known MOST_HAD place
+pub nothing_agrees : (octets : List ℕ) → Agrees no_known_octets octets
+unfolding no_known_octets
+nothing_agrees octets place = nothing_known MOST_OBSERVED place
     (λ octet. slice_index octets place ≡ octet)
 
-pub nothing_long : length nothing_had ≡ MOST_HAD
-unfolding nothing_had
+pub nothing_long : length no_known_octets ≡ MOST_OBSERVED
+unfolding no_known_octets
 nothing_long =
     let none : Option ℕ = None in
-    length-replicate MOST_HAD none
+    length-replicate MOST_OBSERVED none
 
 -- some octets are those at a place of others
 abbrev pub AreAt : ℕ → List ℕ → (ℕ → ℕ) → Type 0
@@ -66,64 +66,68 @@ first_at place octet octets at are =
     ap at sum ∙ are 0 (omega arith)
 
 -- what is known agrees still, once octets are known that do
-pub with_agrees : (seen : List (Option ℕ)) (place : ℕ) (octets text : List ℕ)
-    → Agrees seen text → AreAt place octets (λ k. get_or text k 0)
-    → Agrees (with_octets seen place octets) text
-with_agrees seen place [] text agrees are = agrees
-with_agrees seen place (octet ∷ octets) text agrees are =
-    with_agrees (set seen place (Some octet)) (place + 1) octets text
-    (set_agrees seen (λ k. get_or text k 0) place octet agrees
+pub with_agrees : (observed : List (Option ℕ)) (place : ℕ) (octets text : List ℕ)
+    → Agrees observed text → AreAt place octets (λ k. get_or text k 0)
+    → Agrees (with_octets observed place octets) text
+with_agrees observed place [] text agrees are = agrees
+with_agrees observed place (octet ∷ octets) text agrees are =
+    with_agrees (set observed place (Some octet)) (place + 1) octets text
+    (set_agrees observed (λ k. get_or text k 0) place octet agrees
     (first_at place octet octets (λ k. get_or text k 0) are))
     (behind_first place octet octets (λ k. get_or text k 0) are)
 
-pub with_long : (seen : List (Option ℕ)) (place : ℕ) (octets : List ℕ)
-    → length (with_octets seen place octets) ≡ length seen
-with_long seen place [] = refl
-with_long seen place (octet ∷ octets) =
-    with_long (set seen place (Some octet)) (place + 1) octets ∙ length-set seen place (Some octet)
+pub with_long : (observed : List (Option ℕ)) (place : ℕ) (octets : List ℕ)
+    → length (with_octets observed place octets) ≡ length observed
+with_long observed place [] = refl
+with_long observed place (octet ∷ octets) =
+    with_long (set observed place (Some octet)) (place + 1) octets
+    ∙ length-set observed place (Some octet)
 
 -- behind the last none is kept
-pub with_past : (seen : List (Option ℕ)) (place : ℕ) (octets : List ℕ) → length seen ≤ place
-    → with_octets seen place octets ≡ seen
-with_past seen place [] past = refl
-with_past seen place (octet ∷ octets) past =
-    let same = set_past seen place (Some octet) past in
+pub with_past : (observed : List (Option ℕ)) (place : ℕ) (octets : List ℕ) → length observed ≤ place
+    → with_octets observed place octets ≡ observed
+with_past observed place [] past = refl
+with_past observed place (octet ∷ octets) past =
+    let same = set_past observed place (Some octet) past in
     ap (λ (s : List (Option ℕ)). with_octets s (place + 1) octets) same
-    ∙ with_past seen (place + 1) octets (omega (arith, past))
+    ∙ with_past observed (place + 1) octets (omega (arith, past))
 
 -- one more is known
-pub next_noted : (seen : List (Option ℕ)) (place : ℕ) (octets : List ℕ) (i : ℕ) → i < length octets
-    → with_octets seen place (drop i octets)
-    ≡ with_octets (set seen place (Some (get_or octets i 0))) (place + 1) (drop (i + 1) octets)
-next_noted seen place octets i less =
+pub next_noted : (observed : List (Option ℕ)) (place : ℕ) (octets : List ℕ) (i : ℕ)
+    → i < length octets
+    → with_octets observed place (drop i octets)
+    ≡ with_octets (set observed place (Some (get_or octets i 0))) (place + 1) (drop (i + 1) octets)
+next_noted observed place octets i less =
     let next : suc i ≡ i + 1 = omega arith in
-    ap (λ (l : List ℕ). with_octets seen place l) (drop-cons octets i 0 less) ∙ ap (λ n. with_octets
-    (set seen place (Some (get_or octets i 0))) (place + 1) (drop n octets)) next
+    ap (λ (l : List ℕ). with_octets observed place l) (drop-cons octets i 0 less)
+    ∙ ap (λ n. with_octets
+    (set observed place (Some (get_or octets i 0))) (place + 1) (drop n octets)) next
 
 -- octets that agree are none that is known to be another
-fits_at : (seen : List (Option ℕ)) (octets : List ℕ) (at : ℕ → ℕ)
-    → ((k : ℕ) → IfSome (get_or seen k None) (λ o. at k ≡ o))
+fits_at : (observed : List (Option ℕ)) (octets : List ℕ) (at : ℕ → ℕ)
+    → ((k : ℕ) → IfSome (get_or observed k None) (λ o. at k ≡ o))
     → ((k : ℕ) → k < length octets → at k ≡ get_or octets k 0)
-    → are_as_known seen octets ≡ true
-fits_at seen [] at agrees are = refl
+    → are_as_known observed octets ≡ true
+fits_at observed [] at agrees are = refl
 fits_at [] (octet ∷ octets) at agrees are = refl
-fits_at (known ∷ seen) (octet ∷ octets) at agrees are =
+fits_at (known ∷ observed) (octet ∷ octets) at agrees are =
     let first : at 0 ≡ octet = are 0 (omega arith) in
     let same : is_other known octet ≡ false =
     ap (λ o. is_other known o) (sym first) ∙ same_known known (at 0) (agrees 0) in
-    and_from _ _ (ap not same) (fits_at seen octets (λ k. at (suc k)) (λ k. agrees (suc k))
+    and_from _ _ (ap not same) (fits_at observed octets (λ k. at (suc k)) (λ k. agrees (suc k))
     (λ k less. are (suc k) (omega (arith, less))))
 
 -- what is known from a place on is what is known there
-behind : (seen : List (Option ℕ)) (text : List ℕ) (place : ℕ) → Agrees seen text
-    → (k : ℕ) → IfSome (get_or (drop place seen) k None) (λ o. get_or text (place + k) 0 ≡ o)
-behind seen text place agrees k = rw (get_or-drop place seen k None) (agrees (place + k))
+behind : (observed : List (Option ℕ)) (text : List ℕ) (place : ℕ) → Agrees observed text
+    → (k : ℕ) → IfSome (get_or (drop place observed) k None) (λ o. get_or text (place + k) 0 ≡ o)
+behind observed text place agrees k = rw (get_or-drop place observed k None) (agrees (place + k))
 
-pub fits_known : (seen : List (Option ℕ)) (place : ℕ) (octets text : List ℕ) → Agrees seen text
-    → AreAt place octets (λ k. get_or text k 0) → are_as_known (drop place seen) octets ≡ true
-fits_known seen place octets text agrees are =
-    fits_at (drop place seen) octets (λ k. get_or text (place + k) 0)
-    (behind seen text place agrees) are
+pub fits_known : (observed : List (Option ℕ)) (place : ℕ) (octets text : List ℕ)
+    → Agrees observed text
+    → AreAt place octets (λ k. get_or text k 0) → are_as_known (drop place observed) octets ≡ true
+fits_known observed place octets text agrees are =
+    fits_at (drop place observed) octets (λ k. get_or text (place + k) 0)
+    (behind observed text place agrees) are
 
 -- a segment's octets are those at its place: behind the text there are zeros
 
@@ -196,22 +200,22 @@ head_at : (text : List ℕ) (n : ℕ) → total_at text ≡ Ok n
     → get_or text k 0 ≡ get_or (answer_head (get_or text 0 0 / 16) n) k 0
 head_at text n e k less = grind (arith, nat_tests, common_steps)
 
-even_is : (seen : List (Option ℕ)) (octets : List ℕ) (sum : ℕ) → length seen ≡ length octets
-    → ((k : ℕ) → IfSome (get_or seen k None) (λ o. get_or octets k 0 ≡ o))
-    → fold bit_xor sum octets ≡ 0 → may_be_even sum seen ≡ true
+even_is : (observed : List (Option ℕ)) (octets : List ℕ) (sum : ℕ) → length observed ≡ length octets
+    → ((k : ℕ) → IfSome (get_or observed k None) (λ o. get_or octets k 0 ≡ o))
+    → fold bit_xor sum octets ≡ 0 → may_be_even sum observed ≡ true
 even_is [] [] sum same agrees even = eq-eqb sum 0 even
-even_is (None ∷ seen) octets sum same agrees even = refl
-even_is (Some o ∷ seen) (octet ∷ octets) sum same agrees even =
-    even_is seen octets (bit_xor sum o) (omega (arith, same)) (λ k. agrees (suc k))
+even_is (None ∷ observed) octets sum same agrees even = refl
+even_is (Some o ∷ observed) (octet ∷ octets) sum same agrees even =
+    even_is observed octets (bit_xor sum o) (omega (arith, same)) (λ k. agrees (suc k))
     (ap (λ n. fold bit_xor (bit_xor sum n) octets) (sym (agrees 0)) ∙ even)
-even_is seen octets sum same agrees even = absurd (omega (arith, same))
+even_is observed octets sum same agrees even = absurd (omega (arith, same))
 
-zeros_are : (seen : List (Option ℕ))
-    → ((k : ℕ) → IfSome (get_or seen k None) (λ o. 0 ≡ o))
-    → list_all (λ octet. not (is_other octet 0)) seen ≡ true
+zeros_are : (observed : List (Option ℕ))
+    → ((k : ℕ) → IfSome (get_or observed k None) (λ o. 0 ≡ o))
+    → list_all (λ octet. not (is_other octet 0)) observed ≡ true
 zeros_are [] agrees = refl
-zeros_are (known ∷ seen) agrees =
-    and_from _ _ (ap not (same_known known 0 (agrees 0))) (zeros_are seen (λ k. agrees (suc k)))
+zeros_are (known ∷ observed) agrees =
+    and_from _ _ (ap not (same_known known 0 (agrees 0))) (zeros_are observed (λ k. agrees (suc k)))
 
 any_service : (p : ℕ → Bool) (service total : ℕ) → answer_accepts service total ≡ true
     → p service ≡ true → list_any p (4 ∷ 5 ∷ 12 ∷ 13 ∷ []) ≡ true
@@ -229,27 +233,27 @@ head_of_text : (text : List ℕ) (n : ℕ) → total_at text ≡ Ok n
 head_of_text text n e = grind (arith, nat_tests, common_steps)
 
 -- what is known of its octets
-taken : (seen : List (Option ℕ)) (n : ℕ) (text : List ℕ) → Agrees seen text
-    → (k : ℕ) → IfSome (get_or (take n seen) k None) (λ o. get_or text k 0 ≡ o)
-taken seen n text agrees k = ⊎_elim
-    (λ lt. rw (get_or-take n seen k None lt) (agrees k))
-    (λ le. let cut = length-take n seen in
-    rw (get_or_past (take n seen) k None (omega arith)) tt) (cases_lt k n)
+taken : (observed : List (Option ℕ)) (n : ℕ) (text : List ℕ) → Agrees observed text
+    → (k : ℕ) → IfSome (get_or (take n observed) k None) (λ o. get_or text k 0 ≡ o)
+taken observed n text agrees k = ⊎_elim
+    (λ lt. rw (get_or-take n observed k None lt) (agrees k))
+    (λ le. let cut = length-take n observed in
+    rw (get_or_past (take n observed) k None (omega arith)) tt) (cases_lt k n)
 
 -- and behind it
-behind_text : (seen : List (Option ℕ)) (text : List ℕ) → Agrees seen text
-    → (k : ℕ) → IfSome (get_or (drop (length text) seen) k None) (λ o. 0 ≡ o)
-behind_text seen text agrees k =
+behind_text : (observed : List (Option ℕ)) (text : List ℕ) → Agrees observed text
+    → (k : ℕ) → IfSome (get_or (drop (length text) observed) k None) (λ o. 0 ≡ o)
+behind_text observed text agrees k =
     let past : get_or text (length text + k) 0 ≡ 0 =
     get_or_past text (length text + k) 0 (omega arith) in
-    rw (← past) (behind seen text (length text) agrees k)
+    rw (← past) (behind observed text (length text) agrees k)
 
 -- what a whole text is found to be
-said : (read : Bool) (service : ℕ) (text : List ℕ)
+no_fault_in : (read : Bool) (service : ℕ) (text : List ℕ)
     → (if not (answer_accepts service (length text)) then Some BadService else
     if not (xor_of text == 0) then Some BadChkpdu else None) ≡ None
     → (answer_accepts service (length text) ≡ true) × (xor_of text ≡ 0)
-said read service text e =
+no_fault_in read service text e =
     let first = is_accepted (answer_accepts service (length text)) BadService _ e in
     let second = is_accepted (xor_of text == 0) BadChkpdu None first.1 in
     (first.0, eqb-true _ _ second.0)
@@ -271,7 +275,7 @@ module _ (read : Bool) (text : List ℕ) (holds : HoldsLength text)
   found = both_none _ _ accepted
 
   accepts : (answer_accepts its_service its_length ≡ true) × (xor_of text ≡ 0)
-  accepts = said read its_service text (ap (λ (t : List ℕ).
+  accepts = no_fault_in read its_service text (ap (λ (t : List ℕ).
       if not (answer_accepts its_service (length t)) then Some BadService else
       if not (xor_of t == 0) then Some BadChkpdu else None) (sym whole)
       ∙ (both_none _ _ found.0).1)
@@ -283,65 +287,69 @@ module _ (read : Bool) (text : List ℕ) (holds : HoldsLength text)
   pub longest : its_length ≤ LONGEST_ANSWER
   longest = accepted_most its_service its_length accepts.0
 
-  module _ (seen : List (Option ℕ)) (agrees : Agrees seen text)
-      (long : length seen ≡ MOST_HAD) where
+  module _ (observed : List (Option ℕ)) (agrees : Agrees observed text)
+      (long : length observed ≡ MOST_OBSERVED) where
     abbrev its_head : List ℕ
     its_head = answer_head its_service its_length
 
-    head_right : are_as_known seen its_head ≡ true
-    head_right = fits_at seen its_head (λ k. get_or text k 0) agrees
+    head_right : are_as_known observed its_head ≡ true
+    head_right = fits_at observed its_head (λ k. get_or text k 0) agrees
         (head_at text its_length holds)
 
     -- its head, and what stands behind that
     parts : its_head ++ drop (length its_head) text ≡ text
     parts = head_of_text text its_length holds
 
-    body_known : (k : ℕ) → IfSome (get_or (drop (length its_head) (take its_length seen)) k None)
+    body_known : (k : ℕ) → IfSome (get_or (drop (length its_head) (take its_length observed)) k
+        None)
         (λ o. get_or (drop (length its_head) text) k 0 ≡ o)
     body_known k = rw (
-      get_or-drop (length its_head) (take its_length seen) k None,
+      get_or-drop (length its_head) (take its_length observed) k None,
       get_or-drop (length its_head) text k 0,
-    ) (taken seen its_length text agrees (length its_head + k))
+    ) (taken observed its_length text agrees (length its_head + k))
 
-    body_long : length (drop (length its_head) (take its_length seen))
+    body_long : length (drop (length its_head) (take its_length observed))
         ≡ length (drop (length its_head) text)
     body_long =
         let most = longest in
-        let taken : length (take its_length seen) ≡ its_length =
-        length-take-le its_length seen (omega (arith, long)) in
-        length-drop (length its_head) (take its_length seen)
+        let taken : length (take its_length observed) ≡ its_length =
+        length-take-le its_length observed (omega (arith, long)) in
+        length-drop (length its_head) (take its_length observed)
         ∙ ap (λ n. n - length its_head) taken ∙ sym (length-drop (length its_head) text)
 
     body_even : fold bit_xor (xor_of its_head) (drop (length its_head) text) ≡ 0
     body_even = sym (fold-append bit_xor 0 its_head (drop (length its_head) text))
         ∙ ap xor_of parts ∙ accepts.1
 
-    sum_right : may_be_even (xor_of its_head) (drop (length its_head) (take its_length seen)) ≡ true
+    sum_right : may_be_even (xor_of its_head)
+        (drop (length its_head) (take its_length observed)) ≡ true
     sum_right = even_is _ (drop (length its_head) text) (xor_of its_head) body_long body_known
         body_even
 
-    padding_right : list_all (λ octet. not (is_other octet 0)) (drop its_length seen) ≡ true
-    padding_right = zeros_are _ (λ k. behind_text seen text agrees k)
+    padding_right : list_all (λ octet. not (is_other octet 0)) (drop its_length observed) ≡ true
+    padding_right = zeros_are _ (λ k. behind_text observed text agrees k)
 
-    right : looks_right Padding its_service its_length seen ≡ true
+    right : looks_right Padding its_service its_length observed ≡ true
     right = and_from _ _ (and_from _ _ head_right sum_right) padding_right
 
-    some_answer : is_some_answer Padding read seen its_length ≡ true
-    some_answer = any_service (is_such_answer Padding read seen its_length) its_service its_length
+    some_answer : is_some_answer Padding read observed its_length ≡ true
+    some_answer = any_service (is_such_answer Padding read observed its_length) its_service
+        its_length
         accepts.0 (and_from _ _ is_answered right)
 
     -- it is found by its octets that are known
     pub is_found : (above most : ℕ) → above < its_length → its_length ≤ most
-        → has_answer Padding read seen above most ≡ true
+        → has_answer Padding read observed above most ≡ true
     unfolding has_answer
     is_found above most low high =
         let place = its_length - (above + 1) in
         let at : above + 1 + place ≡ its_length = omega arith in
         let within : place < most - above = omega arith in
-        list_any_at (is_some_answer Padding read seen) (range_with_len (above + 1) (most - above))
+        list_any_at (is_some_answer Padding read observed)
+        (range_with_len (above + 1) (most - above))
         place 0 (omega (arith, length-range_with_len (above + 1) (most - above)))
-        (ap (is_some_answer Padding read seen)
+        (ap (is_some_answer Padding read observed)
         (get_or-range_with_len (above + 1) (most - above) place 0 within ∙ at) ∙ some_answer)
 
-    pub text_is_no_fault : (begun : ℕ) → begun < its_length → text_fault read begun seen ≡ None
+    pub text_is_no_fault : (begun : ℕ) → begun < its_length → text_fault read begun observed ≡ None
     text_is_no_fault begun less = rw (is_found begun LONGEST_ANSWER less longest) refl

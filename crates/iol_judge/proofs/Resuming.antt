@@ -34,8 +34,8 @@ module _ (judged : JudgeState) (before far : Far) (fair : IsFair judged before)
   possible (inl held) = inr (inl (admits Held held))
   possible (inr any) = inl (admits Any any)
 
-  agrees : Agrees judged.seen far.page
-  agrees = subst (λ (page : List ℕ). Agrees judged.seen page) (sym page) fair.page
+  agrees : Agrees judged.observed far.page
+  agrees = subst (λ (page : List ℕ). Agrees judged.observed page) (sym page) fair.page
 
   from : IsHoldKnown far.events → (verdict : Verdict) → judged.verdict ≡ verdict
       → IsFair (resumed_from verdict judged mode) far

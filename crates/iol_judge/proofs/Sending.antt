@@ -22,14 +22,14 @@ use Rattle.iol_far.specs.Laws.{ModesHaveLayouts}
 use Rattle.iol_far.specs.SegmentLaws.{AnswersFit, SegmentLaws}
 use Rattle.iol_judge.specs.declared.answer.Look.TheVariants.{Padding}
 use Rattle.iol_judge.specs.declared.answer.TheConstants.{LONGEST_ANSWER}
-use Rattle.iol_judge.specs.declared.had.Further.{Further}
-use Rattle.iol_judge.specs.declared.had.Further.TheVariants.{GoesOn, MayEnd, Ends}
-use Rattle.iol_judge.specs.declared.had.HadSegments.{HadSegments}
+use Rattle.iol_judge.specs.declared.partial.Further.{Further}
+use Rattle.iol_judge.specs.declared.partial.Further.TheVariants.{GoesOn, MayEnd, Ends}
+use Rattle.iol_judge.specs.declared.partial.PartialAnswer.{PartialAnswer}
 use Rattle.iol_judge.specs.declared.transfer.Transfer.{Transfer}
 use Rattle.iol_judge.specs.declared.transfer.Transfer.TheVariants as known
-use Rattle.iol_judge.specs.Answers.{has_answer, is_next_count, none_had, reaching, was_sent}
-use Rattle.iol_judge.specs.Transfers.{answered_read, first_again, further, goes_further, or_ended, sent_again, while_further}
-use Rattle.iol_judge.specs.UnderWay.{AreHad, IsUnderWay, IsAnswered}
+use Rattle.iol_judge.specs.Answers.{has_answer, is_next_count, unread_answer, reaching, was_sent}
+use Rattle.iol_judge.specs.Transfers.{answered_read, first_resent, further, goes_further, or_ended, resent, while_further}
+use Rattle.iol_judge.specs.UnderWay.{AreObserved, IsUnderWay, IsAnswered}
 use Rattle.iol_judge.proofs.Known.{is_found, longest, nothing_agrees, nothing_long}
 
 -- Which segments were sent, once a device worked a read
@@ -57,7 +57,7 @@ has_octets (x ∷ text) h = omega arith
 -- the first segment was sent, and none was had
 pub none_holds : (size : ℕ) (law : AreTexts size) (read : Bool) (request : Request)
     (answer : Answer) → IsTrue (fits request answer)
-    → AreHad size (none_had read) (answer_text_to request answer) 0
+    → AreObserved size (unread_answer read) (answer_text_to request answer) 0
 none_holds size law read request answer fit =
     let some = has_octets (answer_text_to request answer)
     (law.texts.begins (is_read request) answer (law.fitting request answer fit)) in
@@ -93,20 +93,22 @@ max_below a b n h k = grind (arith, common_steps)
 min_above : (a b n : ℕ) → n ≤ a → n ≤ b → n ≤ min a b
 min_above a b n h k = grind (arith, common_steps)
 
-module _ (size : ℕ) (law : AreTexts size) (request : Request) (answer : Answer) (had : HadSegments)
-    (sent : ℕ) (read : is_read request ≡ had.read) (fit : IsTrue (fits request answer))
-    (are : AreHad size had (answer_text_to request answer) sent) where
+module _ (size : ℕ) (law : AreTexts size) (request : Request) (answer : Answer)
+    (partial : PartialAnswer)
+    (sent : ℕ) (read : is_read request ≡ partial.read) (fit : IsTrue (fits request answer))
+    (are : AreObserved size partial (answer_text_to request answer) sent) where
   abbrev its_text : List ℕ
   its_text = answer_text_to request answer
 
   -- some answer has the octets had: the device's
   found : (above most : ℕ) → above < length its_text → length its_text ≤ most
-      → has_answer Padding had.read had.octets above most ≡ true
+      → has_answer Padding partial.read partial.octets above most ≡ true
   found above most low high =
       let fits = law.fitting request answer fit in
       rw (← read) (is_found (is_read request) its_text
       (law.texts.answers (is_read request) answer fits)
-      (law.texts.accepted (is_read request) answer fits) had.octets are.octets are.places above most
+      (law.texts.accepted (is_read request) answer fits) partial.octets are.octets are.places
+      above most
       low high)
 
   most : length its_text ≤ LONGEST_ANSWER
@@ -117,7 +119,7 @@ module _ (size : ℕ) (law : AreTexts size) (request : Request) (answer : Answer
 
   -- this segment was sent
   sent_at : (number at count : ℕ) → number * size < length its_text → at ≡ number * size
-      → count ≡ number % 16 → IsAnswered size (record had { at = at; count = count })
+      → count ≡ number % 16 → IsAnswered size (record partial { at = at; count = count })
       (Answered request answer (Some number))
   sent_at number at count within e f = (
     read,
@@ -133,53 +135,59 @@ module _ (size : ℕ) (law : AreTexts size) (request : Request) (answer : Answer
   )
 
   -- and the text has one there
-  reaches : (kept : HadSegments) (number place : ℕ) → place < length its_text
-      → IsAnswered size kept (Answered request answer (Some number))
-      → IsAnswered size (reaching place kept) (Answered request answer (Some number))
-  reaches kept number place there h =
-      let had = h.2 in (
+  reaches : (recorded : PartialAnswer) (number place : ℕ) → place < length its_text
+      → IsAnswered size recorded (Answered request answer (Some number))
+      → IsAnswered size (reaching place recorded) (Answered request answer (Some number))
+  reaches recorded number place there h =
+      let partial = h.2 in (
         h.0,
         h.1,
         record {
-          octets = had.octets;
-          places = had.places;
-          begun = max_below kept.begun place (length its_text) had.begun there;
-          within = had.within;
-          at = had.at;
-          count = had.count;
+          octets = partial.octets;
+          places = partial.places;
+          begun = max_below recorded.begun place (length its_text) partial.begun there;
+          within = partial.within;
+          at = partial.at;
+          count = partial.count;
         },
       )
 
-  counts : ((had.count + 1) % 16) ≡ ((sent + 1) % 16)
+  counts : ((partial.count + 1) % 16) ≡ ((sent + 1) % 16)
   counts = let count = are.count in ap (λ c. (c + 1) % 16) count ∙ counted_up sent
 
   -- whether there is a next segment is as the octets had say
-  Says : Further → Type 0
-  Says GoesOn = (sent + 1) * size < length its_text
-  Says MayEnd = Unit {0}
-  Says Ends = length its_text ≤ (sent + 1) * size
+  Shows : Further → Type 0
+  Shows GoesOn = (sent + 1) * size < length its_text
+  Shows MayEnd = Unit {0}
+  Shows Ends = length its_text ≤ (sent + 1) * size
 
-  further_says : Says (further had (had.at + size))
-  unfolding Says
-  further_says =
-      let next = had.at + size in
+  further_shows : Shows (further partial (partial.at + size))
+  unfolding Shows
+  further_shows =
+      let next = partial.at + size in
       let place : next ≡ (sent + 1) * size = omega (arith, are.at) in
-      let more = has_answer Padding had.read had.octets (max had.begun next) LONGEST_ANSWER in
-      let ends = has_answer Padding had.read had.octets had.begun (min next LONGEST_ANSWER) in
+      let more = has_answer Padding partial.read partial.octets (max partial.begun next)
+      LONGEST_ANSWER in
+      let ends = has_answer Padding partial.read partial.octets partial.begun
+      (min next LONGEST_ANSWER) in
       split more ends place refl refl
     where
-      split : (more ends : Bool) → had.at + size ≡ (sent + 1) * size
-          → has_answer Padding had.read had.octets (max had.begun (had.at + size)) LONGEST_ANSWER
+      split : (more ends : Bool) → partial.at + size ≡ (sent + 1) * size
+          → has_answer Padding partial.read partial.octets
+          (max partial.begun (partial.at + size)) LONGEST_ANSWER
           ≡ more
-          → has_answer Padding had.read had.octets had.begun (min (had.at + size) LONGEST_ANSWER)
+          → has_answer Padding partial.read partial.octets partial.begun
+          (min (partial.at + size) LONGEST_ANSWER)
           ≡ ends
-          → Says (if not more then Ends else if ends then MayEnd else GoesOn)
+          → Shows (if not more then Ends else if ends then MayEnd else GoesOn)
       split false ends place e f = by_le _ _ (λ lt. true≢false (sym (found _ LONGEST_ANSWER
-          (max_below had.begun (had.at + size) (length its_text) are.begun (omega (arith, place)))
+          (max_below partial.begun (partial.at + size) (length its_text) are.begun
+          (omega (arith, place)))
           most) ∙ e))
       split true true place e f = tt
-      split true false place e f = by_lt _ _ (λ le. true≢false (sym (found had.begun _ are.begun
-          (min_above (had.at + size) LONGEST_ANSWER (length its_text) (omega (arith, place)) most))
+      split true false place e f = by_lt _ _ (λ le. true≢false (sym (found partial.begun _ are.begun
+          (min_above (partial.at + size) LONGEST_ANSWER (length its_text) (omega (arith, place))
+          most))
           ∙ f))
 
   module _ (hands_over : HandsOver) (counted : Option ℕ) where
@@ -191,35 +199,35 @@ module _ (size : ℕ) (law : AreTexts size) (request : Request) (answer : Answer
     next_if asked = if (asked && has_segment size its_text (sent + 1))
         then Answered request answer (Some (sent + 1)) else Empty
 
-    abbrev had_next : ℕ → HadSegments
-    had_next count = record had { at = had.at + size; count = count }
+    abbrev partial_next : ℕ → PartialAnswer
+    partial_next count = record partial { at = partial.at + size; count = count }
 
     -- what holds behind a read under COUNT, of the segment sent last or of the next
     abbrev Goes : Recalls → ℕ → Bool → Bool → Type 0
     Goes recalls count was next = IsUnderWay hands_over counted size
-        (if was then sent_again recalls size had had else
-        if next then goes_further (had.at + size) had (had_next count) else known.Quiet)
+        (if was then resent recalls size partial partial else
+        if next then goes_further (partial.at + size) partial (partial_next count) else known.Quiet)
         (isdu_read size (remaining_isdu recalls size its_state) (Count count))
 
     -- so this is held, where it holds while there is one
-    goes_on : (kept : HadSegments) (number : ℕ) → ((sent + 1) * size < length its_text
-        → IsAnswered size kept (Answered request answer (Some number)))
-        → IsUnderWay hands_over counted size (goes_further (had.at + size) had kept)
+    goes_on : (recorded : PartialAnswer) (number : ℕ) → ((sent + 1) * size < length its_text
+        → IsAnswered size recorded (Answered request answer (Some number)))
+        → IsUnderWay hands_over counted size (goes_further (partial.at + size) partial recorded)
         (if has_segment size its_text (sent + 1) then Answered request answer (Some number)
         else Empty)
-    unfolding Says
-    goes_on kept number holds = split (further had (had.at + size)) further_says
+    unfolding Shows
+    goes_on recorded number holds = split (further partial (partial.at + size)) further_shows
         (has_segment size its_text (sent + 1)) refl
       where
         there : (sent + 1) * size < length its_text → IsAnswered size
-            (reaching (had.at + size) kept) (Answered request answer (Some number))
+            (reaching (partial.at + size) recorded) (Answered request answer (Some number))
         there more = let at = are.at in
-            reaches kept number (had.at + size) (omega arith) (holds more)
+            reaches recorded number (partial.at + size) (omega arith) (holds more)
 
-        split : (f : Further) → Says f → (b : Bool)
+        split : (f : Further) → Shows f → (b : Bool)
             → nat_lt ((sent + 1) * size) (length its_text) ≡ b
             → IsUnderWay hands_over counted size
-            (while_further f (reaching (had.at + size) kept))
+            (while_further f (reaching (partial.at + size) recorded))
             (if b then Answered request answer (Some number) else Empty)
         split GoesOn more true e = there more
         split GoesOn more false e = absurd (omega (arith, ltb-false _ _ e))
@@ -229,15 +237,15 @@ module _ (size : ℕ) (law : AreTexts size) (request : Request) (answer : Answer
         split Ends more false e = refl
 
     -- a segment is sent again
-    again_goes : (recalls : Recalls) (again : HadSegments) (number : ℕ)
-        → IsAnswered size again (Answered request answer (Some number))
+    resent_goes : (recalls : Recalls) (repeat : PartialAnswer) (number : ℕ)
+        → IsAnswered size repeat (Answered request answer (Some number))
         → (next : IsduState → IsduState) → next its_state ≡ Answered request answer (Some number)
         → next Empty ≡ Empty
-        → IsUnderWay hands_over counted size (sent_again recalls size had again)
+        → IsUnderWay hands_over counted size (resent recalls size partial repeat)
         (next (remaining_isdu recalls size its_state))
-    again_goes UntilLeft again number holds next e f = rw e holds
-    again_goes UntilSent again number holds next e f =
-        rw (split (has_segment size its_text (sent + 1))) (goes_on again number (λ more. holds))
+    resent_goes UntilLeft repeat number holds next e f = rw e holds
+    resent_goes UntilSent repeat number holds next e f =
+        rw (split (has_segment size its_text (sent + 1))) (goes_on repeat number (λ more. holds))
       where
         split : (b : Bool) → next (if b then its_state else Empty)
             ≡ (if b then Answered request answer (Some number) else Empty)
@@ -246,9 +254,9 @@ module _ (size : ℕ) (law : AreTexts size) (request : Request) (answer : Answer
 
     -- a read under START
     start_goes : (recalls : Recalls)
-        → IsUnderWay hands_over counted size (first_again recalls size had)
+        → IsUnderWay hands_over counted size (first_resent recalls size partial)
         (isdu_read size (remaining_isdu recalls size its_state) Start)
-    start_goes recalls = again_goes recalls (record had { at = 0; count = 0 }) 0
+    start_goes recalls = resent_goes recalls (record partial { at = 0; count = 0 }) 0
         (sent_at 0 0 0 (let within = are.within in omega arith) (omega arith) refl)
         (λ (s : IsduState). isdu_read size s Start) refl refl
 
@@ -260,25 +268,25 @@ module _ (size : ℕ) (law : AreTexts size) (request : Request) (answer : Answer
 
     -- a read under COUNT
     pub count_goes : (recalls : Recalls) (count : ℕ)
-        → IsUnderWay hands_over counted size (answered_read recalls size had count)
+        → IsUnderWay hands_over counted size (answered_read recalls size partial count)
         (isdu_read size (remaining_isdu recalls size its_state) (Count count))
     count_goes recalls count = rw (was, next)
         (going (nat_lt 0 sent && count == sent % 16) (count == (sent + 1) % 16) refl refl)
       where
-        was : was_sent had count ≡ (nat_lt 0 sent && count == sent % 16)
-        was = rw (are.count, above_zero size law.some sent had.at are.at) refl
+        was : was_sent partial count ≡ (nat_lt 0 sent && count == sent % 16)
+        was = rw (are.count, above_zero size law.some sent partial.at are.at) refl
 
-        next : is_next_count had count ≡ (count == (sent + 1) % 16)
+        next : is_next_count partial count ≡ (count == (sent + 1) % 16)
         next = ap (λ c. count == c) counts
 
         going : (a b : Bool) → (nat_lt 0 sent && count == sent % 16) ≡ a
             → (count == (sent + 1) % 16) ≡ b → Goes recalls count a b
-        going true b p q = again_goes _ had sent (read, fit, are)
+        going true b p q = resent_goes _ partial sent (read, fit, are)
             (λ (s : IsduState). isdu_read size s (Count count)) (rw p refl) refl
         going false true p q = rw (sent_read _ count true p q)
-            (goes_on (had_next count) (sent + 1) (λ more.
+            (goes_on (partial_next count) (sent + 1) (λ more.
             let at = are.at in
-            sent_at (sent + 1) (had.at + size) count more (omega arith) (eqb-true count _ q)))
+            sent_at (sent + 1) (partial.at + size) count more (omega arith) (eqb-true count _ q)))
         going false false p q = sent_read _ count false p q
 
 -- how a device transfers: by its kind, with the COUNT that it keeps of the last write, and in
@@ -312,34 +320,36 @@ stays UntilSent size (Answered request answer (Some sent)) u = absurd u
 stays recalls size state u = refl
 
 module _ (by : Manner) where
-  pub answered_start : (had : HadSegments) (state : IsduState) → IsAnswered by.size had state
-      → Holds by (first_again by.kind.recalls by.size had) (read_by by state Start)
-  answered_start had state h = grind (arith, common_steps, start_goes)
+  pub answered_start : (partial : PartialAnswer) (state : IsduState)
+      → IsAnswered by.size partial state
+      → Holds by (first_resent by.kind.recalls by.size partial) (read_by by state Start)
+  answered_start partial state h = grind (arith, common_steps, start_goes)
 
-  pub answered_count : (had : HadSegments) (state : IsduState) (count : ℕ)
-      → IsAnswered by.size had state
-      → Holds by (answered_read by.kind.recalls by.size had count) (read_by by state (Count count))
-  answered_count had state count h = grind (arith, common_steps, count_goes)
+  pub answered_count : (partial : PartialAnswer) (state : IsduState) (count : ℕ)
+      → IsAnswered by.size partial state
+      → Holds by (answered_read by.kind.recalls by.size partial count)
+      (read_by by state (Count count))
+  answered_count partial state count h = grind (arith, common_steps, count_goes)
 
   -- or the answer had ended before
   pub still_goes : (transfer : Transfer) (state : IsduState) → Holds by transfer state
       → Holds by (or_ended transfer) state
-  still_goes (known.Answered had) state h = inl h
+  still_goes (known.Answered partial) state h = inl h
   still_goes transfer state h = h
 
-  further_ended : (f : Further) (had : HadSegments)
-      → Holds by (or_ended (while_further f had)) Empty
-  further_ended Ends had = refl
-  further_ended f had = inr refl
+  further_ended : (f : Further) (partial : PartialAnswer)
+      → Holds by (or_ended (while_further f partial)) Empty
+  further_ended Ends partial = refl
+  further_ended f partial = inr refl
 
-  pub again_ended : (recalls : Recalls) (had again : HadSegments)
-      → Holds by (or_ended (sent_again recalls by.size had again)) Empty
-  again_ended UntilLeft had again = inr refl
-  again_ended UntilSent had again = further_ended _ (reaching (had.at + by.size) again)
+  pub resent_ended : (recalls : Recalls) (partial repeat : PartialAnswer)
+      → Holds by (or_ended (resent recalls by.size partial repeat)) Empty
+  resent_ended UntilLeft partial repeat = inr refl
+  resent_ended UntilSent partial repeat = further_ended _ (reaching (partial.at + by.size) repeat)
 
-  pub had_ended : (had : HadSegments) (count : ℕ)
-      → Holds by (or_ended (answered_read by.kind.recalls by.size had count)) Empty
-  had_ended had count = grind (arith, common_steps, again_ended, further_ended)
+  pub partial_ended : (partial : PartialAnswer) (count : ℕ)
+      → Holds by (or_ended (answered_read by.kind.recalls by.size partial count)) Empty
+  partial_ended partial count = grind (arith, common_steps, resent_ended, further_ended)
 
   -- a segment isn't read of a state that has sent none
   pub none_read : (state : IsduState) (count : ℕ) → Unsent state

@@ -13,7 +13,7 @@ use Rattle.iol_judge.specs.declared.events.FilledPlaces.{FilledPlaces}
 use Rattle.iol_judge.specs.declared.events.ShownEvents.{ShownEvents}
 use Rattle.iol_judge.specs.declared.events.ShownEvents.TheVariants.{Fresh, Filled}
 use Rattle.iol_judge.specs.Octets.{is_known_in, is_other}
-use Rattle.iol_judge.specs.Events.{covers_events, shown_after, flag_fault, flag_told, marked_count, place_known, places_fault, places_of, events_fault, octet_told, places_told, events_told}
+use Rattle.iol_judge.specs.Events.{covers_events, shown_after, flag_fault, flag_updated, marked_count, place_known, places_fault, places_of, events_fault, octet_updated, places_updated, events_updated}
 use Rattle.iol_judge.specs.Admitted.{IsReleased, AreIn, AreAsKnown, Admits, One}
 use Rattle.std.specs.Cmp.{booleans_Decides}
 use Rattle.std.specs.Option.{option_eq}
@@ -23,10 +23,10 @@ use Rattle.iol_isdu.specs.declared.values.Answer.{Answer}
 use Rattle.iol_far.specs.declared.kind.HandsOver.{HandsOver}
 use Rattle.iol_far.specs.declared.kind.HandsOver.TheVariants.{FirstRead, LastSegment}
 use Rattle.iol_far.specs.Isdu.{IsduState, Handed, Answered, fits}
-use Rattle.iol_judge.specs.declared.had.HadSegments.{HadSegments}
+use Rattle.iol_judge.specs.declared.partial.PartialAnswer.{PartialAnswer}
 use Rattle.iol_judge.specs.declared.transfer.Transfer.{Transfer}
 use Rattle.iol_judge.specs.declared.transfer.Transfer.TheVariants as known
-use Rattle.iol_judge.specs.Answers.{none_had, same_had}
+use Rattle.iol_judge.specs.Answers.{unread_answer, same_partial}
 use Rattle.iol_judge.specs.Transfers.{covers_transfer}
 use Rattle.iol_judge.specs.UnderWay.{IsUnderWay, IsHanded, IsAnswerAsked, IsAnswered, HasUnderWay}
 use Rattle.iol_judge.specs.declared.open.Open.{Open}
@@ -65,14 +65,14 @@ worked_shown shown memory confirm s = grind (arith, common_steps)
 
 -- What the first allows whatever the second does
 
-pub known_in_keeps : (a b : Option ℕ) (P : ℕ → Type 0) → is_known_in a b ≡ true → IfSome b P
+pub known_in_preserves : (a b : Option ℕ) (P : ℕ → Type 0) → is_known_in a b ≡ true → IfSome b P
     → IfSome a P
-known_in_keeps a b P h s = grind (arith, common_steps)
+known_in_preserves a b P h s = grind (arith, common_steps)
 
 known_in_all : (a b : List (Option ℕ)) (k : ℕ) (P : ℕ → Type 0) → pointwise is_known_in a b ≡ true
     → IfSome (slice_index_or b k None) P → IfSome (slice_index_or a k None) P
 known_in_all [] [] k P h p = p
-known_in_all (x ∷ a) (y ∷ b) zero P h p = known_in_keeps x y P (and_parts _ _ h).0 p
+known_in_all (x ∷ a) (y ∷ b) zero P h p = known_in_preserves x y P (and_parts _ _ h).0 p
 known_in_all (x ∷ a) (y ∷ b) (suc k) P h p = known_in_all a b k P (and_parts _ _ h).1 p
 known_in_all a b k P h p = absurd (cc)
 
@@ -88,7 +88,8 @@ pub flag_fits : (shown : ShownEvents) (memory : Events) → AreAsKnown shown mem
 flag_fits shown memory s = grind (arith, common_steps)
 
 pub flagged_shown : (shown : ShownEvents) (memory : Events) → length memory.frozen ≤ 6
-    → AreAsKnown shown memory → AreAsKnown (flag_told shown (not (is_empty memory.frozen))) memory
+    → AreAsKnown shown memory → AreAsKnown (flag_updated shown (not (is_empty memory.frozen)))
+    memory
 flagged_shown shown memory six s = grind (arith, common_steps, nothing_known)
 
 -- The octets of the diagnosis channel
@@ -96,7 +97,7 @@ flagged_shown shown memory six s = grind (arith, common_steps, nothing_known)
 -- once the flag was had, the places are the device's
 places_in : (shown : ShownEvents) (memory : Events) → length memory.frozen ≤ 6
     → AreAsKnown shown memory
-    → AreIn (places_of (flag_told shown (not (is_empty memory.frozen)))) memory.frozen
+    → AreIn (places_of (flag_updated shown (not (is_empty memory.frozen)))) memory.frozen
 places_in shown memory six s = grind (arith, common_steps, nothing_known)
 
 marks_length : (n : ℕ) → n ≤ 6 → marked_count (128 + (2 ^ n - 1)) ≡ Some n
@@ -150,25 +151,27 @@ module _ (f : List Event) (address : ℕ) where
         else max places.least ((address - 1) / 3 + 1)) ≤ length f
     least_in e = grind (arith, common_steps, filled_below, is_place)
 
-    octet_in : (address == 0) ≡ false → AreIn (octet_told places address (event_octet f address)) f
+    octet_in : (address == 0) ≡ false
+        → AreIn (octet_updated places address (event_octet f address)) f
     octet_in e = grind (arith, common_steps, least_in, set_agrees, above_zero)
 
-    pub told_in : AreIn (places_told places address (event_octet f address)) f
-    told_in = grind (arith, common_steps, marks, octet_in)
+    pub updated_in : AreIn (places_updated places address (event_octet f address)) f
+    updated_in = grind (arith, common_steps, marks, octet_in)
 
 -- a reply to a read of the diagnosis channel
 pub events_fit : (shown : ShownEvents) (memory : Events) → length memory.frozen ≤ 6
     → AreAsKnown shown memory → (address : ℕ)
-    → events_fault (flag_told shown (not (is_empty memory.frozen))) address
+    → events_fault (flag_updated shown (not (is_empty memory.frozen))) address
     (event_octet memory.frozen address) ≡ None
 events_fit shown memory six s address = octet_fits memory.frozen address
-    (places_of (flag_told shown (not (is_empty memory.frozen)))) six (places_in shown memory six s)
+    (places_of (flag_updated shown (not (is_empty memory.frozen)))) six
+    (places_in shown memory six s)
 
-pub told_shown : (shown : ShownEvents) (memory : Events) → length memory.frozen ≤ 6
+pub updated_shown : (shown : ShownEvents) (memory : Events) → length memory.frozen ≤ 6
     → AreAsKnown shown memory → (address : ℕ)
-    → AreAsKnown (events_told shown address (event_octet memory.frozen address)) memory
-told_shown (Filled places) memory six s address = (s.0, s.1, told_in _ address places six s.2)
-told_shown shown memory six s address = s
+    → AreAsKnown (events_updated shown address (event_octet memory.frozen address)) memory
+updated_shown (Filled places) memory six s address = (s.0, s.1, updated_in _ address places six s.2)
+updated_shown shown memory six s address = s
 
 -- What a transfer covers
 
@@ -188,8 +191,8 @@ octets_same (x ∷ a) (y ∷ b) e =
     cc
 octets_same a b e = absurd (cc)
 
-had_same : (a b : HadSegments) → same_had a b ≡ true → a ≡ b
-had_same a b e =
+partial_same : (a b : PartialAnswer) → same_partial a b ≡ true → a ≡ b
+partial_same a b e =
     let octets : a.octets ≡ b.octets = octets_same _ _
     (and_parts _ _ (and_parts _ _ (and_parts _ _ (and_parts _ _ e).0).0).0).1 in
     grind (arith, common_steps, booleans_Decides)
@@ -201,7 +204,8 @@ none_first size (suc sent) some at = absurd (omega (arith, some))
 
 module _ (hands_over : HandsOver) (counted : Option ℕ) (size : ℕ) (some : 1 ≤ size) where
   none_covers : (read : Bool) (last : Option ℕ) (state : IsduState)
-      → IsAnswered size (none_had read) state → IsAnswerAsked hands_over counted read last state
+      → IsAnswered size (unread_answer read) state
+      → IsAnswerAsked hands_over counted read last state
   none_covers read last state h = grind (arith, common_steps, none_first)
 
   pub covers_under_way : (a b : Transfer) (state : IsduState) → covers_transfer a b ≡ true
@@ -219,13 +223,14 @@ module _ (hands_over : HandsOver) (counted : Option ℕ) (size : ℕ) (some : 1 
   covers_under_way (known.Asked read last) (known.Asked reads other) state e h =
       grind (arith, common_steps, booleans_Decides)
   covers_under_way (known.Asked read last) (known.Answered other) state e h =
-      none_covers read last state (rw (had_same (none_had read) other e) h)
-  covers_under_way (known.Answered had) (known.Answered other) state e h =
-      rw (had_same had other e) h
-  covers_under_way (known.Perhaps had) (known.Answered other) state e h =
-      inl (rw (had_same had other e) h)
-  covers_under_way (known.Perhaps had) (known.Perhaps other) state e h = rw (had_same had other e) h
-  covers_under_way (known.Perhaps had) known.Quiet state e h = inr h
+      none_covers read last state (rw (partial_same (unread_answer read) other e) h)
+  covers_under_way (known.Answered partial) (known.Answered other) state e h =
+      rw (partial_same partial other e) h
+  covers_under_way (known.Perhaps partial) (known.Answered other) state e h =
+      inl (rw (partial_same partial other e) h)
+  covers_under_way (known.Perhaps partial) (known.Perhaps other) state e h =
+      rw (partial_same partial other e) h
+  covers_under_way (known.Perhaps partial) known.Quiet state e h = inr h
   covers_under_way a b state e h = absurd (cc)
 
 -- once the application answered
@@ -244,8 +249,8 @@ bound (Ok a) go h = (a, refl, h)
 bound (Err why) go h = absurd (cc)
 
 -- what a step keeps, and what it gains by an item
-abbrev pub Keeps : {S A : Type 0} → (A → S → Result A Open) → (A → Type 0) → Type 0
-Keeps {S = S} {A = A} step P =
+abbrev pub Preserves : {S A : Type 0} → (A → S → Result A Open) → (A → Type 0) → Type 0
+Preserves {S = S} {A = A} step P =
     (next : A) (item : S) (more : A) → step next item ≡ Ok more → P next → P more
 
 abbrev pub Gains : {S A : Type 0} → (A → S → Result A Open) → (S → Type 0) → (A → Type 0) → Type 0
@@ -256,14 +261,15 @@ Gains {S = S} {A = A} step Q P =
 abbrev pub Left : Far → List KnownState → Type 0
 Left far states = One (λ state. Admits state far) states
 
-module _ {S A : Type 0} {step : A → S → Result A Open} {P : A → Type 0} (keeps : Keeps step P) where
+module _ {S A : Type 0} {step : A → S → Result A Open} {P : A → Type 0}
+    (preserves : Preserves step P) where
   -- so do all of them
-  pub each_keeps : (items : List S) (next out : A) → each_in_turn step next items ≡ Ok out
+  pub each_preserves : (items : List S) (next out : A) → each_in_turn step next items ≡ Ok out
       → P next → P out
-  each_keeps [] next out h p = let e : next ≡ out = cc in rw e at p
-  each_keeps (item ∷ items) next out h p =
+  each_preserves [] next out h p = let e : next ≡ out = cc in rw e at p
+  each_preserves (item ∷ items) next out h p =
       let s = bound _ _ h in
-      each_keeps items s.0 out s.2 (keeps next item s.0 s.1 p)
+      each_preserves items s.0 out s.2 (preserves next item s.0 s.1 p)
 
   -- what the step of one of the items gains, is so in the end
   pub each_gains : {Q : S → Type 0} → Gains step Q P → (items : List S) (next out : A)
@@ -272,7 +278,7 @@ module _ {S A : Type 0} {step : A → S → Result A Open} {P : A → Type 0} (k
   each_gains gains (item ∷ items) next out h has =
       let s = bound _ _ h in
       elim has [
-        | inl here ↦ each_keeps items s.0 out s.2 (gains next item s.0 s.1 here)
+        | inl here ↦ each_preserves items s.0 out s.2 (gains next item s.0 s.1 here)
         | inr there ↦ each_gains gains items s.0 out s.2 there
       ]
 
@@ -317,7 +323,7 @@ alike_admits a b far some h kind s =
       same_mode,
       option_same,
       same_command,
-      known_in_keeps,
+      known_in_preserves,
       covers_shown,
       covers_under_way,
     )
@@ -384,8 +390,8 @@ added_next states state next h = grind (arith, common_steps)
 
 module _ (texts : AllTexts) (far : Far) where
   -- what was admitted still is
-  pub added_keeps : Keeps states_with (Left far)
-  added_keeps states state next h admits = grind (arith, common_steps, added_next, front_admits)
+  pub added_preserves : Preserves states_with (Left far)
+  added_preserves states state next h admits = grind (arith, common_steps, added_next, front_admits)
 
   -- and so is what the state admits that is added
   pub added_admits : Gains states_with (λ state. Admits state far) (Left far)

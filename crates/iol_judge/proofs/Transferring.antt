@@ -10,10 +10,10 @@ use Rattle.iol_far.specs.Isdu as far
 use Rattle.iol_far.specs.declared.kind.HandsOver.{HandsOver}
 use Rattle.iol_far.specs.declared.kind.HandsOver.TheVariants.{FirstRead, LastSegment}
 use Rattle.iol_far.specs.declared.kind.Recalls.{Recalls}
-use Rattle.iol_judge.specs.declared.had.HadSegments.{HadSegments}
+use Rattle.iol_judge.specs.declared.partial.PartialAnswer.{PartialAnswer}
 use Rattle.iol_judge.specs.declared.transfer.Transfer.{Transfer}
 use Rattle.iol_judge.specs.declared.transfer.Transfer.TheVariants as known
-use Rattle.iol_judge.specs.Transfers.{transfer_of_request, count_written, transfer_of_octets, transfer_at_stage, answered_read, asked_again, count_read, is_quiet, or_ended, start_read, transfer_after, transfer_on, transfer_unknown, whole_read, apart, is_apart}
+use Rattle.iol_judge.specs.Transfers.{transfer_of_request, count_written, transfer_of_octets, transfer_at_stage, answered_read, asked_repeated, count_read, is_quiet, or_ended, start_read, transfer_after, transfer_on, transfer_unknown, whole_read, apart, is_apart}
 use Rattle.iol_judge.specs.Admitted.{One}
 use Rattle.iol_judge.specs.UnderWay.{IsCounted, IsUnderWay, IsHanded, IsAnswerAsked, IsAnswered, IsWhole}
 use Rattle.iol_judge.proofs.Sets.{asked_covers}
@@ -24,14 +24,14 @@ use Rattle.iol_isdu.specs.declared.values.Answer.{Answer}
 use Rattle.iol_isdu.specs.Answers.{is_read}
 use Rattle.iol_far.specs.declared.kind.Kind.{Kind}
 use Rattle.iol_far.specs.Far.{isdu_after, counted_after}
-use Rattle.iol_judge.specs.Answers.{none_had}
-use Rattle.iol_judge.proofs.Sending.{AreTexts, Holds, Manner, Unsent, again_ended, answered_count, answered_start, had_ended, none_holds, none_read, read_by, stays, still_goes}
+use Rattle.iol_judge.specs.Answers.{unread_answer}
+use Rattle.iol_judge.proofs.Sending.{AreTexts, Holds, Manner, Unsent, resent_ended, answered_count, answered_start, partial_ended, none_holds, none_read, read_by, stays, still_goes}
 
 -- A write
 
 -- the COUNT of a write that comes again is kept
-counted_again : (last : Option ℕ) (count : ℕ) → is_last last count ≡ true → Some count ≡ last
-counted_again last count e = grind (arith, common_steps)
+counted_same : (last : Option ℕ) (count : ℕ) → is_last last count ≡ true → Some count ≡ last
+counted_same last count e = grind (arith, common_steps)
 
 -- a request that is whole is handed over with its last segment, or stays
 abbrev left_by : HandsOver → IsduState → IsduState
@@ -71,12 +71,14 @@ pub recalled_written : (recalls : Recalls) (size : ℕ) (hands_over : HandsOver)
 recalled_written recalls size hands_over counted state count octets = grind (arith, common_steps)
 
 -- what a write under its COUNT keeps
-kept_again : (by : HandsOver) (now : Option ℕ) (size : ℕ) (here : Transfer) (state : IsduState)
+repeat_preserves : (by : HandsOver) (now : Option ℕ) (size : ℕ) (here : Transfer)
+    (state : IsduState)
     (counted last : Option ℕ) (count : ℕ) → counted ≡ last
     → (is_last last count ≡ true → IsUnderWay by now size here state)
     → IsUnderWay by now size (if is_last last count then here else known.Quiet)
     (if is_last counted count then state else Empty)
-kept_again by now size here state counted last count same keeps = grind (arith, common_steps)
+repeat_preserves by now size here state counted last count same preserves =
+    grind (arith, common_steps)
 
 module _ (counted : Option ℕ) (size count : ℕ) (octets : List ℕ) where
   -- a write under COUNT leaves nothing of a request that was handed over at the first read
@@ -87,9 +89,9 @@ module _ (counted : Option ℕ) (size count : ℕ) (octets : List ℕ) where
       → IsAnswerAsked FirstRead counted read last state → Writes state
   asked_written read last state h = grind (arith, common_steps)
 
-  answered_written : (had : HadSegments) (state : IsduState) → IsAnswered size had state
+  answered_written : (partial : PartialAnswer) (state : IsduState) → IsAnswered size partial state
       → Writes state
-  answered_written had state h = grind (arith, common_steps)
+  answered_written partial state h = grind (arith, common_steps)
 
   count_first : (transfer : Transfer) (state : IsduState)
       → IsUnderWay FirstRead counted size transfer state → IsUnderWay FirstRead counted size
@@ -97,37 +99,38 @@ module _ (counted : Option ℕ) (size count : ℕ) (octets : List ℕ) where
   count_first known.Quiet state h = ap (λ (s : IsduState). isdu_written s (Count count) octets) h
   count_first (known.Receiving text last) state h = rw h (goes_on FirstRead counted size text.items
       octets last count (is_last last count) (count == next_count last) tt)
-  count_first (known.Whole read last) (Whole request a) h = kept_again FirstRead counted size
+  count_first (known.Whole read last) (Whole request a) h = repeat_preserves FirstRead counted size
       (known.Whole read last) (Whole request a) a last count h.1 (λ e. h)
   count_first (known.Handed read last) state h =
       asked_written read last state (asked_covers FirstRead counted read last state h)
   count_first (known.Asked read last) state h = asked_written read last state h
-  count_first (known.Answered had) state h = answered_written had state h
-  count_first (known.Perhaps had) state h = elim h [
-    | inl is ↦ answered_written had state is
+  count_first (known.Answered partial) state h = answered_written partial state h
+  count_first (known.Perhaps partial) state h = elim h [
+    | inl is ↦ answered_written partial state is
     | inr none ↦ ap (λ (s : IsduState). isdu_written s (Count count) octets) none
   ]
   count_first known.Free state h = tt
   count_first transfer state h = absurd h
 
   -- where it was handed over at the last segment, that one may come again
-  abbrev Again : Transfer → IsduState → Option ℕ → Type 0
-  Again here state last = IsUnderWay LastSegment (Some count) size
+  abbrev Repeats : Transfer → IsduState → Option ℕ → Type 0
+  Repeats here state last = IsUnderWay LastSegment (Some count) size
       (if is_last last count then here else known.Quiet)
       (written_over counted state (Count count) octets)
 
-  handed_again : (here : Transfer) (read : Bool) (last : Option ℕ) → ((s : IsduState) → IsHanded
+  handed_repeat : (here : Transfer) (read : Bool) (last : Option ℕ) → ((s : IsduState) → IsHanded
       LastSegment (Some count) read last s → IsUnderWay LastSegment (Some count) size here s)
-      → (state : IsduState) → IsHanded LastSegment counted read last state → Again here state last
-  handed_again here read last keeps state h = grind (arith, common_steps, kept_again, counted_again)
+      → (state : IsduState) → IsHanded LastSegment counted read last state → Repeats here state last
+  handed_repeat here read last preserves state h =
+      grind (arith, common_steps, repeat_preserves, counted_same)
 
   asked_over : (read : Bool) (last : Option ℕ) (state : IsduState)
-      → IsAnswerAsked LastSegment counted read last state → Again known.Free state last
-  asked_over read last state h = grind (arith, common_steps, handed_again)
+      → IsAnswerAsked LastSegment counted read last state → Repeats known.Free state last
+  asked_over read last state h = grind (arith, common_steps, handed_repeat)
 
-  answered_over : (had : HadSegments) (state : IsduState) → IsAnswered size had state
+  answered_over : (partial : PartialAnswer) (state : IsduState) → IsAnswered size partial state
       → written_over counted state (Count count) octets ≡ Empty
-  answered_over had state h = grind (arith, common_steps)
+  answered_over partial state h = grind (arith, common_steps)
 
   count_last : (transfer : Transfer) (state : IsduState)
       → IsUnderWay LastSegment counted size transfer state
@@ -137,12 +140,12 @@ module _ (counted : Option ℕ) (size count : ℕ) (octets : List ℕ) where
       ap (λ (s : IsduState). written_over counted s (Count count) octets) h
   count_last (known.Receiving text last) state h = rw h (goes_on LastSegment (Some count) size
       text.items octets last count (is_last last count) (count == next_count last) refl)
-  count_last (known.Whole read last) state h = handed_again _ read last (λ s k. k) state h
-  count_last (known.Handed read last) state h = handed_again _ read last (λ s k. k) state h
+  count_last (known.Whole read last) state h = handed_repeat _ read last (λ s k. k) state h
+  count_last (known.Handed read last) state h = handed_repeat _ read last (λ s k. k) state h
   count_last (known.Asked read last) state h = asked_over read last state h
-  count_last (known.Answered had) state h = answered_over had state h
-  count_last (known.Perhaps had) state h = elim h [
-    | inl is ↦ answered_over had state is
+  count_last (known.Answered partial) state h = answered_over partial state h
+  count_last (known.Perhaps partial) state h = elim h [
+    | inl is ↦ answered_over partial state is
     | inr none ↦ ap (λ (s : IsduState). written_over counted s (Count count) octets) none
   ]
   count_last known.Free state h = tt
@@ -156,10 +159,10 @@ count_under_way hands_over counted size transfer state count octets h =
 
 -- A read under START, and under COUNT
 
-pub none_had_goes : (size : ℕ) → AreTexts size → (read : Bool) (request : Request) (answer : Answer)
+pub unread_goes : (size : ℕ) → AreTexts size → (read : Bool) (request : Request) (answer : Answer)
     → is_read request ≡ read → IsTrue (fits request answer)
-    → IsAnswered size (none_had read) (Answered request answer (Some 0))
-none_had_goes size law read request answer is fit =
+    → IsAnswered size (unread_answer read) (Answered request answer (Some 0))
+unread_goes size law read request answer is fit =
     (is, fit, none_holds size law read request answer fit)
 
 handed_unsent : (hands_over : HandsOver) (counted : Option ℕ) (read : Bool) (last : Option ℕ)
@@ -173,7 +176,7 @@ whole_unsent hands_over counted read last state h = grind (arith, common_steps, 
 asked_start : (hands_over : HandsOver) (counted : Option ℕ) (recalls : Recalls) (size : ℕ)
     (read : Bool) (last : Option ℕ) (state : IsduState)
     → IsAnswerAsked hands_over counted read last state
-    → IsUnderWay hands_over counted size (asked_again recalls read last)
+    → IsUnderWay hands_over counted size (asked_repeated recalls read last)
     (isdu_read size (remaining_isdu recalls size state) Start)
 asked_start hands_over counted recalls size read last state h = grind (arith, common_steps)
 
@@ -189,23 +192,24 @@ module _ (by : Manner) where
   whole_start hands_over read last state h = grind (arith, common_steps, handed_start)
 
   -- of an answer that may have ended before
-  perhaps_goes : (transfer : Transfer) (flow : Flow) (had : HadSegments) (state : IsduState)
+  perhaps_goes : (transfer : Transfer) (flow : Flow) (partial : PartialAnswer) (state : IsduState)
       → Holds by (or_ended transfer) Empty → isdu_read by.size Empty flow ≡ Empty
-      → (IsAnswered by.size had state → Holds by transfer (read_by by state flow)) → IsAnswered
-      by.size had state ⊎ (state ≡ Empty) → Holds by (or_ended transfer) (read_by by state flow)
-  perhaps_goes transfer flow had state ended empty goes h = grind (arith, common_steps, still_goes)
+      → (IsAnswered by.size partial state → Holds by transfer (read_by by state flow)) → IsAnswered
+      by.size partial state ⊎ (state ≡ Empty) → Holds by (or_ended transfer) (read_by by state flow)
+  perhaps_goes transfer flow partial state ended empty goes h =
+      grind (arith, common_steps, still_goes)
 
   asked_count : (read : Bool) (last : Option ℕ) (state : IsduState) (count : ℕ)
       → IsAnswerAsked by.kind.hands_over by.counted read last state
-      → Holds by (or_ended (answered_read by.kind.recalls by.size (none_had read) count))
+      → Holds by (or_ended (answered_read by.kind.recalls by.size (unread_answer read) count))
       (read_by by state (Count count))
   asked_count read last (Answered request answer (Some zero)) count h = still_goes by _ _
-      (answered_count by (none_had read) (Answered request answer (Some 0)) count
-      (none_had_goes by.size by.law read request answer h.0 h.1))
+      (answered_count by (unread_answer read) (Answered request answer (Some 0)) count
+      (unread_goes by.size by.law read request answer h.0 h.1))
   asked_count read last (Answered request answer (Some (suc sent))) count h = absurd h
   asked_count read last state count h =
       rw (none_read by state count (handed_unsent by.kind.hands_over by.counted read last state h))
-      (had_ended by (none_had read) count)
+      (partial_ended by (unread_answer read) count)
 
   start_read_under_way : (transfer : Transfer) (state : IsduState) → Holds by transfer state
       → Holds by (start_read by.kind by.size transfer) (read_by by state Start)
@@ -214,9 +218,10 @@ module _ (by : Manner) where
   start_read_under_way (known.Whole read last) state h = whole_start _ read last state h
   start_read_under_way (known.Handed read last) state h = handed_start _ read last state h
   start_read_under_way (known.Asked read last) state h = asked_start _ _ _ _ read last state h
-  start_read_under_way (known.Answered had) state h = answered_start by had state h
-  start_read_under_way (known.Perhaps had) state h =
-      perhaps_goes _ Start had state (again_ended by _ had _) refl (answered_start by had state) h
+  start_read_under_way (known.Answered partial) state h = answered_start by partial state h
+  start_read_under_way (known.Perhaps partial) state h =
+      perhaps_goes _ Start partial state (resent_ended by _ partial _) refl
+      (answered_start by partial state) h
   start_read_under_way known.Free state h = tt
 
   count_read_under_way : (transfer : Transfer) (state : IsduState) (count : ℕ)
@@ -230,10 +235,11 @@ module _ (by : Manner) where
   count_read_under_way (known.Handed read last) state count h =
       none_read by state count (handed_unsent by.kind.hands_over by.counted read last state h)
   count_read_under_way (known.Asked read last) state count h = asked_count read last state count h
-  count_read_under_way (known.Answered had) state count h = answered_count by had state count h
-  count_read_under_way (known.Perhaps had) state count h =
-      perhaps_goes (answered_read by.kind.recalls by.size had count) (Count count) had state
-      (had_ended by had count) refl (answered_count by had state count) h
+  count_read_under_way (known.Answered partial) state count h =
+      answered_count by partial state count h
+  count_read_under_way (known.Perhaps partial) state count h =
+      perhaps_goes (answered_read by.kind.recalls by.size partial count) (Count count) partial state
+      (partial_ended by partial count) refl (answered_count by partial state count) h
   count_read_under_way known.Free state count h = tt
 
 -- A message
@@ -335,11 +341,11 @@ module _ (hands_over : HandsOver) (counted : Option ℕ) (size : ℕ) (law : Are
   asked_apart : (read : Bool) (last : Option ℕ) (state : IsduState)
       → IsAnswerAsked hands_over counted read last state
       → IsHanded hands_over counted read last state
-      ⊎ (IsAnswered size (none_had read) state ⊎ ⊥)
+      ⊎ (IsAnswered size (unread_answer read) state ⊎ ⊥)
   asked_apart read last (Handed request) h = inl h
   asked_apart read last (Answered request answer None) h = inl h
   asked_apart read last (Answered request answer (Some zero)) h =
-      inr (inl (none_had_goes size law read _ _ h.0 h.1))
+      inr (inl (unread_goes size law read _ _ h.0 h.1))
   asked_apart read last state h = absurd h
 
   pub apart_under_way : (transfer : Transfer) (state : IsduState) → IsUnderWay hands_over counted

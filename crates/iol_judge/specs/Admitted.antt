@@ -18,7 +18,7 @@ use Rattle.iol_judge.specs.declared.verdict.Odd.{Odd}
 use Rattle.iol_judge.specs.declared.verdict.Wake.{Wake}
 use Rattle.iol_judge.specs.declared.verdict.Wake.TheVariants.{Answered, Unanswered}
 use Rattle.iol_judge.specs.Octets.{Agrees}
-use Rattle.iol_judge.specs.Seen.{whole_page}
+use Rattle.iol_judge.specs.Observed.{whole_page}
 use Rattle.iol_judge.specs.State.{KnownState}
 use Rattle.iol_judge.specs.Family.{admits_kind}
 use Rattle.iol_judge.specs.UnderWay.{HasUnderWay}
@@ -67,7 +67,7 @@ IsPossible verdict states far = Unit {0}
 
 -- the judge says nothing against the device, and found nothing odd
 pub record IsFair (judged : JudgeState) (far : Far) : Type 0 where
-  pub page : Agrees judged.seen far.page
+  pub page : Agrees judged.observed far.page
   pub state : IsPossible judged.verdict judged.states far
   pub odd : judged.oddities ≡ 0
 
@@ -87,9 +87,10 @@ judge_after_passing judged (Wakes wake) = judge_after_wake judged wake
 judge_after_passing judged (Passes sent answer) = judge_after_exchange judged sent answer
 
 -- the judge, told a whole capture
-abbrev pub told_all : JudgeState → List Passing → JudgeState
-told_all judged [] = judged
-told_all judged (passing ∷ capture) = told_all (judge_after_passing judged passing) capture
+abbrev pub judge_after_all : JudgeState → List Passing → JudgeState
+judge_after_all judged [] = judged
+judge_after_all judged (passing ∷ capture) =
+    judge_after_all (judge_after_passing judged passing) capture
 
 -- one wake of a device of any kind: some steps by itself, then the wake's effect or nothing; it is
 -- answered only where it took effect
@@ -125,7 +126,7 @@ pub record NeverBlamed : Type 0 where
   pub begins : (odd : Odd) (far : Far) → IsFair (new_judge odd) far
   -- its page, where it is told
   pub pages : (judged : JudgeState) (far : Far) → IsFair judged far
-      → IsFair (record judged { seen = whole_page far.page }) far
+      → IsFair (record judged { observed = whole_page far.page }) far
   pub wakes_any : (judged : JudgeState) (far : Far) (wake : Wake) (far_new : Far)
       → IsWake far (is_answered wake) far_new → IsFair judged far
       → IsFair (judge_after_wake judged wake) far_new
@@ -145,13 +146,13 @@ pub record NeverBlamed : Type 0 where
   pub runs : (judged : JudgeState) (far : Far) → IsFair judged far
       → (silence : ℕ) (capture : List Passing) → IsHonestRun far silence capture
       → (exchange : ℕ) (reason : Reason)
-      → (told_all judged capture).verdict ≢ NotHonest exchange reason
+      → (judge_after_all judged capture).verdict ≢ NotHonest exchange reason
   pub none_odd : (judged : JudgeState) (far : Far) → IsFair judged far
       → (silence : ℕ) (capture : List Passing) → IsHonestRun far silence capture
-      → (told_all judged capture).oddities ≡ 0
+      → (judge_after_all judged capture).oddities ≡ 0
   pub kinds : (judged : JudgeState) (far : Far) → IsFair judged far
       → (silence : ℕ) (capture : List Passing) → IsHonestRun far silence capture
-      → admits_kind (kinds_left (told_all judged capture)) far.kind ≡ true
+      → admits_kind (kinds_left (judge_after_all judged capture)) far.kind ≡ true
 
 -- its event hold is on, or over
 abbrev pub IsHoldKnown : Events → Type 0

@@ -12,30 +12,30 @@ use Rattle.iol_isdu.specs.declared.fault.IsduFault.{IsduFault}
 use Rattle.iol_isdu.specs.declared.fault.IsduFault.TheVariants.{BadIsduLength}
 use Rattle.iol_judge.specs.declared.answer.Look.{Look}
 use Rattle.iol_judge.specs.declared.answer.Look.TheVariants.{Head, Sum, Padding}
-use Rattle.iol_judge.specs.declared.answer.TheConstants.{LONGEST_ANSWER, MOST_HAD, SHORTEST_LONG}
-use Rattle.iol_judge.specs.declared.had.HadSegments.{HadSegments}
+use Rattle.iol_judge.specs.declared.answer.TheConstants.{LONGEST_ANSWER, MOST_OBSERVED, SHORTEST_LONG}
+use Rattle.iol_judge.specs.declared.partial.PartialAnswer.{PartialAnswer}
 use Rattle.iol_judge.specs.declared.reason.Reason.{Reason}
 use Rattle.iol_judge.specs.declared.reason.Reason.TheVariants.{BusyAgain, AnswerKind, AnswerLength, AnswerSum, AnswerPadding, SegmentChanged}
 use Rattle.iol_judge.specs.Octets.{are_as_known, is_other, may_be_even, with_octets}
 
-unfoldable pub nothing_had : List (Option ℕ)
-nothing_had = replicate MOST_HAD None
+unfoldable pub no_known_octets : List (Option ℕ)
+no_known_octets = replicate MOST_OBSERVED None
 
 -- the first segment was sent, and not had
-abbrev pub none_had : Bool → HadSegments
-none_had read = record { read = read; octets = nothing_had; begun = 0; at = 0; count = 0 }
+abbrev pub unread_answer : Bool → PartialAnswer
+unread_answer read = record { read = read; octets = no_known_octets; begun = 0; at = 0; count = 0 }
 
-abbrev pub same_had : HadSegments → HadSegments → Bool
-same_had a b = beq a.read b.read && pointwise (option_eq nat_eq) a.octets b.octets
+abbrev pub same_partial : PartialAnswer → PartialAnswer → Bool
+same_partial a b = beq a.read b.read && pointwise (option_eq nat_eq) a.octets b.octets
     && a.begun == b.begun && a.at == b.at && a.count == b.count
 
 -- the segment sent last, behind the first, has this COUNT
-abbrev pub was_sent : HadSegments → ℕ → Bool
-was_sent had count = nat_lt 0 had.at && count == had.count
+abbrev pub was_sent : PartialAnswer → ℕ → Bool
+was_sent partial count = nat_lt 0 partial.at && count == partial.count
 
 -- the segment behind it has
-abbrev pub is_next_count : HadSegments → ℕ → Bool
-is_next_count had count = count == segment_number (had.count + 1)
+abbrev pub is_next_count : PartialAnswer → ℕ → Bool
+is_next_count partial count = count == segment_number (partial.count + 1)
 
 -- busy: 01 and zeros
 abbrev pub is_busy : List ℕ → Bool
@@ -84,10 +84,10 @@ has_answer look read octets above most =
     list_any (is_some_answer look read octets) (range_with_len (above + 1) (most - above))
 
 -- the first two octets, as far as they are known
-abbrev pub head_had : List (Option ℕ) → List ℕ
-head_had (Some first ∷ Some second ∷ octets) = first ∷ second ∷ []
-head_had (Some first ∷ octets) = first ∷ []
-head_had octets = []
+abbrev pub known_head : List (Option ℕ) → List ℕ
+known_head (Some first ∷ Some second ∷ octets) = first ∷ second ∷ []
+known_head (Some first ∷ octets) = first ∷ []
+known_head octets = []
 
 -- no text has this total length, or no such answer
 abbrev pub head_reason : Result ℕ IsduFault → Reason
@@ -100,19 +100,19 @@ text_fault read begun octets =
     if has_answer Padding read octets begun LONGEST_ANSWER then None else
     if has_answer Sum read octets begun LONGEST_ANSWER then Some AnswerPadding else
     if has_answer Head read octets begun LONGEST_ANSWER then Some AnswerSum else
-    Some (head_reason (total_at (head_had octets)))
+    Some (head_reason (total_at (known_head octets)))
 
 -- once the segment sent last had these octets
-abbrev pub had_with : HadSegments → List ℕ → HadSegments
-had_with had od = record had { octets = with_octets had.octets had.at od }
+abbrev pub partial_with : PartialAnswer → List ℕ → PartialAnswer
+partial_with partial od = record partial { octets = with_octets partial.octets partial.at od }
 
 -- why it can't have these: busy again, others than before, or those of no answer
-abbrev pub segment_fault : HadSegments → List ℕ → Option Reason
-segment_fault had od =
-    if had.at == 0 && is_busy od then Some BusyAgain else
-    if not (are_as_known (drop had.at had.octets) od) then Some SegmentChanged else
-    text_fault had.read had.begun (with_octets had.octets had.at od)
+abbrev pub segment_fault : PartialAnswer → List ℕ → Option Reason
+segment_fault partial od =
+    if partial.at == 0 && is_busy od then Some BusyAgain else
+    if not (are_as_known (drop partial.at partial.octets) od) then Some SegmentChanged else
+    text_fault partial.read partial.begun (with_octets partial.octets partial.at od)
 
 -- a segment at a place was sent
-abbrev pub reaching : ℕ → HadSegments → HadSegments
-reaching place had = record had { begun = max had.begun place }
+abbrev pub reaching : ℕ → PartialAnswer → PartialAnswer
+reaching place partial = record partial { begun = max partial.begun place }

@@ -42,11 +42,11 @@ flag_fault shown flag = None
 abbrev pub first_places : ℕ → ShownEvents
 first_places most = Filled (record { least = 1; most = most; octets = replicate 18 None })
 
-abbrev pub flag_told : ShownEvents → Bool → ShownEvents
-flag_told Any true = first_places 6
-flag_told Fresh true = first_places 1
-flag_told Any false = Fresh
-flag_told shown flag = shown
+abbrev pub flag_updated : ShownEvents → Bool → ShownEvents
+flag_updated Any true = first_places 6
+flag_updated Fresh true = first_places 1
+flag_updated Any false = Fresh
+flag_updated shown flag = shown
 
 -- The octets of the diagnosis channel, once the flag was had
 
@@ -94,22 +94,22 @@ places_of shown = no_places
 abbrev pub events_fault : ShownEvents → ℕ → ℕ → Option Reason
 events_fault shown address octet = places_fault (places_of shown) address octet
 
-abbrev pub marks_told : FilledPlaces → Option ℕ → FilledPlaces
-marks_told places None = places
-marks_told places (Some count) = record places { least = count; most = count }
+abbrev pub marks_updated : FilledPlaces → Option ℕ → FilledPlaces
+marks_updated places None = places
+marks_updated places (Some count) = record places { least = count; most = count }
 
-abbrev pub octet_told : FilledPlaces → ℕ → ℕ → FilledPlaces
-octet_told places address octet = record places {
+abbrev pub octet_updated : FilledPlaces → ℕ → ℕ → FilledPlaces
+octet_updated places address octet = record places {
   least = if octet == 0 then places.least else max places.least ((address - 1) / 3 + 1);
   octets = slice_set places.octets (address - 1) (Some octet);
 }
 
-abbrev pub places_told : FilledPlaces → ℕ → ℕ → FilledPlaces
-places_told places address octet =
-    if address == 0 then marks_told places (marked_count octet) else
-    if nat_le address 18 then octet_told places address octet else places
+abbrev pub places_updated : FilledPlaces → ℕ → ℕ → FilledPlaces
+places_updated places address octet =
+    if address == 0 then marks_updated places (marked_count octet) else
+    if nat_le address 18 then octet_updated places address octet else places
 
 -- once a diagnosis address was read as this octet
-abbrev pub events_told : ShownEvents → ℕ → ℕ → ShownEvents
-events_told (Filled places) address octet = Filled (places_told places address octet)
-events_told shown address octet = shown
+abbrev pub events_updated : ShownEvents → ℕ → ℕ → ShownEvents
+events_updated (Filled places) address octet = Filled (places_updated places address octet)
+events_updated shown address octet = shown

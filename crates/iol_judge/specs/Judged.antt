@@ -23,14 +23,14 @@ use Rattle.iol_judge.specs.declared.events.ShownEvents.TheVariants.{Any, Held}
 use Rattle.iol_judge.specs.declared.kinds.Kinds.{Kinds}
 use Rattle.iol_judge.specs.Family.{all_kinds, both_kinds, no_kinds}
 use Rattle.iol_judge.specs.Numbers.{later}
-use Rattle.iol_judge.specs.Seen.{nothing_seen, layouts_seen, page_noted}
+use Rattle.iol_judge.specs.Observed.{nothing_observed, layouts_observed, page_noted}
 use Rattle.iol_judge.specs.State.{KnownState, are_alike, first_state, parts, resumed_state, woken_state, powered_state, covers}
 use Rattle.iol_judge.specs.Taking.{Taken, and_then, taken_by_state}
 use Rattle.iol_judge.specs.Replies.{Explanation, By, Not, can_be_read, explanation_of}
 
 pub record JudgeState : Type 0 where
   -- what is known of the page, of whichever state
-  pub seen : List (Option ℕ)
+  pub observed : List (Option ℕ)
   -- one of these is the device's, while the verdict is `Honest`
   pub states : List KnownState
   pub verdict : Verdict
@@ -45,7 +45,7 @@ pub record JudgeState : Type 0 where
 
 abbrev pub new_judge : Odd → JudgeState
 new_judge odd = record {
-  seen = nothing_seen;
+  observed = nothing_observed;
   states = [];
   verdict = Unjudged;
   exchanges = 0;
@@ -98,7 +98,7 @@ result_with result written = result_and result (Ok written)
 
 abbrev pub added_taken : List KnownState → Option Taken → Result (List KnownState) Open
 added_taken next None = Ok next
-added_taken next (Some taken) = states_with next taken.kept
+added_taken next (Some taken) = states_with next taken.state
 
 -- with the message worked, for the reply may be lost
 abbrev pub lost_part : Result Layouts Open → List ℕ → List KnownState → KnownState
@@ -129,14 +129,14 @@ explained_into next (Not reason) = Ok (record next { reason = later next.reason 
 
 abbrev pub replied_part : Result Layouts Open → Odd → List (Option ℕ) → List ℕ → List ℕ → NextStates
     → KnownState → Result NextStates Open
-replied_part known odd seen sent reply next part = and_then (taken_by_state known part sent)
-    (λ taken. explained_into next (explanation_of odd seen taken reply))
+replied_part known odd observed sent reply next part = and_then (taken_by_state known part sent)
+    (λ taken. explained_into next (explanation_of odd observed taken reply))
 
 -- each state that explains the reply
 abbrev pub replied_into : Result Layouts Open → Odd → List (Option ℕ) → List ℕ → List ℕ → NextStates
     → KnownState → Result NextStates Open
-replied_into known odd seen sent reply next state =
-    each_in_turn (replied_part known odd seen sent reply) next (parts state sent)
+replied_into known odd observed sent reply next state =
+    each_in_turn (replied_part known odd observed sent reply) next (parts state sent)
 
 -- An exchange
 
@@ -146,14 +146,14 @@ concluded_lost judged (Err why) = record judged { verdict = CantSay judged.excha
 
 -- the octet of a page that a reply brings
 abbrev pub noted_at : List (Option ℕ) → Bool → Channel → ℕ → ℕ → List (Option ℕ)
-noted_at seen true Page address octet = page_noted seen address octet
-noted_at seen read channel address octet = seen
+noted_at observed true Page address octet = page_noted observed address octet
+noted_at observed read channel address octet = observed
 
 abbrev pub noted_by : List (Option ℕ) → Mc → List ℕ → List (Option ℕ)
-noted_by seen mc reply = noted_at seen mc.read mc.channel mc.address (slice_index reply 0)
+noted_by observed mc reply = noted_at observed mc.read mc.channel mc.address (slice_index reply 0)
 
 abbrev pub page_after_reply : List (Option ℕ) → List ℕ → List ℕ → List (Option ℕ)
-page_after_reply seen sent reply = noted_by seen (control_of (slice_index sent 0)) reply
+page_after_reply observed sent reply = noted_by observed (control_of (slice_index sent 0)) reply
 
 -- an odd exchange is counted
 abbrev pub with_oddity : JudgeState → Option Reason → JudgeState
@@ -167,7 +167,7 @@ concluded_replied judged sent reply (Ok next) = elim next.states.items [
   | [] ↦ record judged { states = []; verdict = NotHonest judged.exchanges next.reason }
   | states ↦
       with_oddity (record judged {
-        seen = page_after_reply judged.seen sent reply;
+        observed = page_after_reply judged.observed sent reply;
         states = states;
       })
       next.oddity
@@ -180,17 +180,17 @@ no_next = record { states = record { items = [] }; reason = NotTaken; oddity = N
 
 abbrev pub judge_without_reply : JudgeState → List ℕ → JudgeState
 judge_without_reply judged sent = concluded_lost judged
-    (each_in_turn (lost_into (layouts_seen judged.seen) sent) [] judged.states)
+    (each_in_turn (lost_into (layouts_observed judged.observed) sent) [] judged.states)
 
 abbrev pub judge_after_reply : JudgeState → List ℕ → List ℕ → JudgeState
 judge_after_reply judged sent reply = concluded_replied judged sent reply (each_in_turn
-    (replied_into (layouts_seen judged.seen) judged.odd judged.seen sent reply)
+    (replied_into (layouts_observed judged.observed) judged.odd judged.observed sent reply)
     no_next judged.states)
 
 abbrev pub judge_after_answer : JudgeState → List ℕ → Option (List ℕ) → JudgeState
 judge_after_answer judged sent None = judge_without_reply judged sent
 judge_after_answer judged sent (Some reply) =
-    if can_be_read (layouts_seen judged.seen) sent reply
+    if can_be_read (layouts_observed judged.observed) sent reply
     then judge_after_reply judged sent reply else judge_without_reply judged sent
 
 -- the judge, told an exchange

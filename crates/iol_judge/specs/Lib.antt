@@ -6,7 +6,7 @@ pub mod Family
 pub mod Answers
 pub mod Transfers
 pub mod State
-pub mod Seen
+pub mod Observed
 pub mod Taking
 pub mod Replies
 pub mod Judged

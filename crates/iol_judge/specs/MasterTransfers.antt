@@ -86,8 +86,8 @@ asked_after_reply read octets =
     transfer_in_answer read octets None
 
 -- the same of a START read in place of a START write: of which the device has heard nothing
-abbrev pub doubted_told : Bool → List ℕ → MasterTransfer
-doubted_told read octets =
+abbrev pub doubted_updated : Bool → List ℕ → MasterTransfer
+doubted_updated read octets =
     if slice_index octets 0 == NO_SERVICE then Undecided else asked_after_reply read octets
 
 -- zeros came to a COUNT read that went out again: where they end the answer, a device that forgot
@@ -96,18 +96,18 @@ abbrev pub ended_by_zeros : MasterTransfer → MasterTransfer
 ended_by_zeros Quiet = Undecided
 ended_by_zeros transfer = transfer
 
-abbrev pub repeated_told : Bool → ArrayVec ℕ → Option ℕ → List ℕ → MasterTransfer
-repeated_told read text last octets =
-    let told = transfer_in_answer read (text.items ++ octets) last in
-    if are_zeros octets then ended_by_zeros told else told
+abbrev pub repeat_updated : Bool → ArrayVec ℕ → Option ℕ → List ℕ → MasterTransfer
+repeat_updated read text last octets =
+    let updated = transfer_in_answer read (text.items ++ octets) last in
+    if are_zeros octets then ended_by_zeros updated else updated
 
 -- once the good reply to a read on the ISDU channel brought these octets
 abbrev pub transfer_after_reply : MasterTransfer → List ℕ → MasterTransfer
 transfer_after_reply (Asked read) octets = asked_after_reply read octets
-transfer_after_reply (Doubted read) octets = doubted_told read octets
+transfer_after_reply (Doubted read) octets = doubted_updated read octets
 transfer_after_reply (Answered read text last) octets =
     transfer_in_answer read (text.items ++ octets) last
-transfer_after_reply (Repeated read text last) octets = repeated_told read text last octets
+transfer_after_reply (Repeated read text last) octets = repeat_updated read text last octets
 transfer_after_reply transfer octets = transfer
 
 -- A message in place of a repeat

@@ -22,9 +22,9 @@ use Rattle.iol_judge.specs.declared.taken.Heard.{Heard}
 use Rattle.iol_judge.specs.declared.taken.Heard.TheVariants.{Explained, Refused}
 use Rattle.iol_judge.specs.declared.events.ShownEvents.{ShownEvents}
 use Rattle.iol_judge.specs.Octets.{is_other}
-use Rattle.iol_judge.specs.Transfers.{transfer_fault, transfer_told}
-use Rattle.iol_judge.specs.Events.{flag_fault, flag_told, events_fault, events_told}
-use Rattle.iol_judge.specs.Seen.{is_of_page, octet_seen}
+use Rattle.iol_judge.specs.Transfers.{transfer_fault, transfer_updated}
+use Rattle.iol_judge.specs.Events.{flag_fault, flag_updated, events_fault, events_updated}
+use Rattle.iol_judge.specs.Observed.{is_of_page, octet_observed}
 use Rattle.iol_judge.specs.State.{KnownState}
 use Rattle.iol_judge.specs.Taking.{Taken, mode_layout}
 
@@ -54,23 +54,23 @@ no_zeros octets reason = if are_zeros octets then None else Some reason
 
 -- an octet of the page is another than was read
 abbrev pub page_fault : List (Option ℕ) → ℕ → ℕ → Option Reason
-page_fault seen address octet = other_than (octet_seen seen address) octet PageChanged
+page_fault observed address octet = other_than (octet_observed observed address) octet PageChanged
 
 -- the on-request data of the reply to a read, once its Event flag was had
 abbrev pub data_fault : List (Option ℕ) → KnownState → Bool → Channel → ℕ → List ℕ → Option Reason
-data_fault seen state flag Process address od = None
-data_fault seen state flag Page address od =
-    if is_of_page address then page_fault seen address (slice_index od 0) else None
-data_fault seen state flag Diagnosis address od =
-    events_fault (flag_told state.events flag) address (slice_index od 0)
-data_fault seen state flag Isdu address od = transfer_fault state.transfer od
+data_fault observed state flag Process address od = None
+data_fault observed state flag Page address od =
+    if is_of_page address then page_fault observed address (slice_index od 0) else None
+data_fault observed state flag Diagnosis address od =
+    events_fault (flag_updated state.events flag) address (slice_index od 0)
+data_fault observed state flag Isdu address od = transfer_fault state.transfer od
 
 abbrev pub fault_in_reply : List (Option ℕ) → KnownState → Shape → Mc → Reply → Option Reason
-fault_in_reply seen state layout mc reply =
+fault_in_reply observed state layout mc reply =
     if reply.invalid && (layout.pd_in == 0) then Some StatusWithoutData else
     option_or (flag_fault state.events reply.event)
     (if mc.read
-    then data_fault seen state reply.event mc.channel mc.address reply.od.items
+    then data_fault observed state reply.event mc.channel mc.address reply.od.items
     else None)
 
 -- What is odd in a reply: no device by the rules sends it, and no promise to a client rests on it
@@ -96,24 +96,24 @@ reply_oddity cycle mc reply =
 
 -- page address 0x01, where it was read as this octet: what was known stays, though it was passed
 -- over that another came
-abbrev pub cycle_told : Option ℕ → Bool → Channel → ℕ → ℕ → Option ℕ
-cycle_told old true Page address octet =
+abbrev pub cycle_updated : Option ℕ → Bool → Channel → ℕ → ℕ → Option ℕ
+cycle_updated old true Page address octet =
     if address == 1 then option_or old (Some octet) else old
-cycle_told old read channel address octet = old
+cycle_updated old read channel address octet = old
 
-abbrev pub shown_told : ShownEvents → Bool → Channel → ℕ → ℕ → ShownEvents
-shown_told events true Diagnosis address octet = events_told events address octet
-shown_told events read channel address octet = events
+abbrev pub shown_updated : ShownEvents → Bool → Channel → ℕ → ℕ → ShownEvents
+shown_updated events true Diagnosis address octet = events_updated events address octet
+shown_updated events read channel address octet = events
 
 -- the state, once its reply to that message was had
 abbrev pub state_after_reply : KnownState → Mc → Reply → KnownState
 state_after_reply state mc reply = record state {
   cycle =
-      cycle_told state.cycle mc.read mc.channel mc.address (slice_index reply.od.items 0);
+      cycle_updated state.cycle mc.read mc.channel mc.address (slice_index reply.od.items 0);
   events =
-      shown_told (flag_told state.events reply.event) mc.read mc.channel mc.address
+      shown_updated (flag_updated state.events reply.event) mc.read mc.channel mc.address
       (slice_index reply.od.items 0);
-  transfer = transfer_told state.transfer mc.read mc.channel reply.od.items;
+  transfer = transfer_updated state.transfer mc.read mc.channel reply.od.items;
 }
 
 -- Whether a state explains a reply
@@ -144,17 +144,17 @@ held_against PassedOver fault oddity = fault
 
 abbrev pub explained_by : Odd → List (Option ℕ) → KnownState → Shape → MasterMsg → Option Reply
     → Explanation
-explained_by odd seen state layout message None = Not ReplyLength
-explained_by odd seen state layout message (Some reply) =
+explained_by odd observed state layout message None = Not ReplyLength
+explained_by odd observed state layout message (Some reply) =
     let oddity = reply_oddity state.cycle message.mc reply in
-    elim (held_against odd (fault_in_reply seen state layout message.mc reply) oddity) [
+    elim (held_against odd (fault_in_reply observed state layout message.mc reply) oddity) [
       | None ↦ By (state_after_reply state message.mc reply) oddity
       | Some reason ↦ Not reason
     ]
 
 -- whether a state explains the reply that came, by what it makes of the message
 abbrev pub explanation_of : Odd → List (Option ℕ) → Option Taken → List ℕ → Explanation
-explanation_of odd seen None reply = Not NotTaken
-explanation_of odd seen (Some taken) reply =
-    explained_by odd seen taken.kept taken.layout taken.message
+explanation_of odd observed None reply = Not NotTaken
+explanation_of odd observed (Some taken) reply =
+    explained_by odd observed taken.state taken.layout taken.message
     (reply_in taken.layout taken.message.mc.read reply)

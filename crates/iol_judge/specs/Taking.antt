@@ -19,7 +19,7 @@ use Rattle.iol_judge.specs.State.{KnownState}
 
 -- a message that a state took, with the state once it worked it, and the layout
 pub record Taken : Type 0 where
-  pub kept : KnownState
+  pub state : KnownState
   pub layout : Shape
   pub message : MasterMsg
 
@@ -69,7 +69,7 @@ abbrev pub taken_message : Result Layouts Open → FarLink → KnownState → Li
 taken_message known link state octets layout None = Ok None
 taken_message known link state octets layout (Some message) =
     and_then (mode_known known (mode_asked (command_in message))) (λ asked. Ok (Some (record {
-      kept = state_after known link state octets layout message asked;
+      state = state_after known link state octets layout message asked;
       layout = layout;
       message = message;
     })))
@@ -88,4 +88,4 @@ abbrev pub worked_by : Result (Option TakenMessage) Open → KnownState → Resu
 worked_by (Err why) state = Err why
 worked_by (Ok None) state = Ok None
 worked_by (Ok (Some taken)) state =
-    Ok (Some (record { kept = state; layout = taken.layout; message = taken.message }))
+    Ok (Some (record { state = state; layout = taken.layout; message = taken.message }))

@@ -19,9 +19,9 @@ use Rattle.iol_far.specs.declared.kind.HandsOver.TheVariants.{FirstRead, LastSeg
 use Rattle.iol_far.specs.declared.kind.Recalls.{Recalls}
 use Rattle.iol_far.specs.declared.kind.Recalls.TheVariants.{UntilLeft, UntilSent}
 use Rattle.iol_far.specs.Far.{WaitingCommand}
-use Rattle.iol_judge.specs.declared.had.Further.{Further}
-use Rattle.iol_judge.specs.declared.had.Further.TheVariants.{GoesOn, MayEnd, Ends}
-use Rattle.iol_judge.specs.declared.had.HadSegments.{HadSegments}
+use Rattle.iol_judge.specs.declared.partial.Further.{Further}
+use Rattle.iol_judge.specs.declared.partial.Further.TheVariants.{GoesOn, MayEnd, Ends}
+use Rattle.iol_judge.specs.declared.partial.PartialAnswer.{PartialAnswer}
 use Rattle.iol_judge.specs.declared.open.Open.{Open as Unsaid}
 use Rattle.iol_judge.specs.declared.reason.Reason.{Reason}
 use Rattle.iol_judge.specs.declared.reason.Reason.TheVariants.{NoAnswerDue, NotBusy}
@@ -30,7 +30,7 @@ use Rattle.iol_judge.specs.declared.transfer.Transfer.TheVariants.{Quiet, Receiv
 use Rattle.iol_judge.specs.declared.transfer.TheConstants.{LONGEST}
 use Rattle.iol_judge.specs.declared.answer.Look.TheVariants.{Padding}
 use Rattle.iol_judge.specs.declared.answer.TheConstants.{LONGEST_ANSWER}
-use Rattle.iol_judge.specs.Answers.{had_with, has_answer, is_busy, is_next_count, none_had, reaching, same_had, segment_fault, was_sent}
+use Rattle.iol_judge.specs.Answers.{partial_with, has_answer, is_busy, is_next_count, unread_answer, reaching, same_partial, segment_fault, was_sent}
 
 -- what the first allows whatever the second does
 abbrev pub covers_transfer : Transfer → Transfer → Bool
@@ -46,11 +46,11 @@ covers_transfer (Asked read last) (Handed reads other) =
     beq read reads && option_eq nat_eq last other
 covers_transfer (Asked read last) (Asked reads other) =
     beq read reads && option_eq nat_eq last other
-covers_transfer (Asked read last) (Answered had) = same_had (none_had read) had
-covers_transfer (Answered had) (Answered other) = same_had had other
-covers_transfer (Perhaps had) (Answered other) = same_had had other
-covers_transfer (Perhaps had) (Perhaps other) = same_had had other
-covers_transfer (Perhaps had) Quiet = true
+covers_transfer (Asked read last) (Answered partial) = same_partial (unread_answer read) partial
+covers_transfer (Answered partial) (Answered other) = same_partial partial other
+covers_transfer (Perhaps partial) (Answered other) = same_partial partial other
+covers_transfer (Perhaps partial) (Perhaps other) = same_partial partial other
+covers_transfer (Perhaps partial) Quiet = true
 covers_transfer a b = false
 
 -- A write on the ISDU channel
@@ -97,64 +97,67 @@ whole_read LastSegment read last = Asked read last
 
 -- whether an answer has a segment at a place behind one that was sent: those that have the octets
 -- had are all longer, some are, or none is
-abbrev pub further : HadSegments → ℕ → Further
-further had next =
-    let has = has_answer Padding had.read had.octets in
-    if not (has (max had.begun next) LONGEST_ANSWER) then Ends else
-    if has had.begun (min next LONGEST_ANSWER) then MayEnd else GoesOn
+abbrev pub further : PartialAnswer → ℕ → Further
+further partial next =
+    let has = has_answer Padding partial.read partial.octets in
+    if not (has (max partial.begun next) LONGEST_ANSWER) then Ends else
+    if has partial.begun (min next LONGEST_ANSWER) then MayEnd else GoesOn
 
 -- this is known where the answer goes on, and nothing is under way where it ends
-abbrev pub while_further : Further → HadSegments → Transfer
-while_further GoesOn had = Answered had
-while_further MayEnd had = Perhaps had
-while_further Ends had = Quiet
+abbrev pub while_further : Further → PartialAnswer → Transfer
+while_further GoesOn partial = Answered partial
+while_further MayEnd partial = Perhaps partial
+while_further Ends partial = Quiet
 
-abbrev pub goes_further : ℕ → HadSegments → HadSegments → Transfer
-goes_further next had sent = while_further (further had next) (reaching next sent)
+abbrev pub goes_further : ℕ → PartialAnswer → PartialAnswer → Transfer
+goes_further next partial sent = while_further (further partial next) (reaching next sent)
 
 -- A segment that was sent is sent again, so that this is known: a device that recalls its answer
 -- until it was sent has it only while there is a segment behind the one sent last
-abbrev pub sent_again : Recalls → ℕ → HadSegments → HadSegments → Transfer
-sent_again UntilLeft size had again = Answered again
-sent_again UntilSent size had again = goes_further (had.at + size) had again
+abbrev pub resent : Recalls → ℕ → PartialAnswer → PartialAnswer → Transfer
+resent UntilLeft size partial repeat = Answered repeat
+resent UntilSent size partial repeat = goes_further (partial.at + size) partial repeat
 
 -- of an answer of which a segment was sent
-abbrev pub answered_read : Recalls → ℕ → HadSegments → ℕ → Transfer
-answered_read recalls size had count =
-    if was_sent had count then sent_again recalls size had had else
-    if is_next_count had count
-    then goes_further (had.at + size) had (record had { at = had.at + size; count = count }) else
+abbrev pub answered_read : Recalls → ℕ → PartialAnswer → ℕ → Transfer
+answered_read recalls size partial count =
+    if was_sent partial count then resent recalls size partial partial else
+    if is_next_count partial count
+    then goes_further (partial.at + size) partial
+    (record partial { at = partial.at + size; count = count }) else
     Quiet
 
 -- or the answer had ended before
 abbrev pub or_ended : Transfer → Transfer
-or_ended (Answered had) = Perhaps had
+or_ended (Answered partial) = Perhaps partial
 or_ended other = other
 
 abbrev pub count_read : Recalls → ℕ → Transfer → ℕ → Transfer
-count_read recalls size (Answered had) count = answered_read recalls size had count
-count_read recalls size (Perhaps had) count = or_ended (answered_read recalls size had count)
+count_read recalls size (Answered partial) count = answered_read recalls size partial count
+count_read recalls size (Perhaps partial) count =
+    or_ended (answered_read recalls size partial count)
 -- the answer's first segment may be sent, and not had
 count_read recalls size (Asked read last) count =
-    or_ended (answered_read recalls size (none_had read) count)
+    or_ended (answered_read recalls size (unread_answer read) count)
 count_read recalls size Free count = Free
 count_read recalls size old count = Quiet
 
 -- an answer of which a segment was sent, from the first on
-abbrev pub first_again : Recalls → ℕ → HadSegments → Transfer
-first_again recalls size had = sent_again recalls size had (record had { at = 0; count = 0 })
+abbrev pub first_resent : Recalls → ℕ → PartialAnswer → Transfer
+first_resent recalls size partial =
+    resent recalls size partial (record partial { at = 0; count = 0 })
 
-abbrev pub asked_again : Recalls → Bool → Option ℕ → Transfer
-asked_again UntilLeft read last = Asked read last
+abbrev pub asked_repeated : Recalls → Bool → Option ℕ → Transfer
+asked_repeated UntilLeft read last = Asked read last
 -- which is told apart before (`apart`)
-asked_again UntilSent read last = Free
+asked_repeated UntilSent read last = Free
 
 abbrev pub start_read : Kind → ℕ → Transfer → Transfer
 start_read kind size (Whole read last) = whole_read kind.hands_over read last
 start_read kind size (Handed read last) = Asked read last
-start_read kind size (Asked read last) = asked_again kind.recalls read last
-start_read kind size (Answered had) = first_again kind.recalls size had
-start_read kind size (Perhaps had) = or_ended (first_again kind.recalls size had)
+start_read kind size (Asked read last) = asked_repeated kind.recalls read last
+start_read kind size (Answered partial) = first_resent kind.recalls size partial
+start_read kind size (Perhaps partial) = or_ended (first_resent kind.recalls size partial)
 start_read kind size Free = Free
 start_read kind size old = Quiet
 
@@ -199,10 +202,10 @@ is_apart_at (Whole read last) true Start = true
 is_apart_at (Handed read last) false (Count count) = is_last last count
 is_apart_at (Asked read last) true Start = true
 is_apart_at (Asked read last) false (Count count) = is_last last count
-is_apart_at (Answered had) true Start = true
-is_apart_at (Answered had) true (Count count) = was_sent had count
-is_apart_at (Perhaps had) true Start = true
-is_apart_at (Perhaps had) true (Count count) = was_sent had count
+is_apart_at (Answered partial) true Start = true
+is_apart_at (Answered partial) true (Count count) = was_sent partial count
+is_apart_at (Perhaps partial) true Start = true
+is_apart_at (Perhaps partial) true (Count count) = was_sent partial count
 is_apart_at old read flow = false
 
 -- devices with this transfer may do different things, by their kind
@@ -212,7 +215,7 @@ is_apart old channel read flow = false
 
 -- the transfers that it is one of: the application has the request, or an answer was sent
 abbrev pub apart : Transfer → List Transfer
-apart (Asked read last) = Handed read last ∷ Answered (none_had read) ∷ []
+apart (Asked read last) = Handed read last ∷ Answered (unread_answer read) ∷ []
 apart old = old ∷ []
 
 -- whether the device has ISDU, where that is known
@@ -230,31 +233,31 @@ transfer_in (Some command) octets old = if bytes_eq octets command.octets then o
 abbrev pub transfer_fault : Transfer → List ℕ → Option Reason
 transfer_fault (Handed read last) od = if is_busy od then None else Some NotBusy
 transfer_fault (Asked read last) od =
-    if is_busy od then None else segment_fault (none_had read) od
-transfer_fault (Answered had) od = segment_fault had od
-transfer_fault (Perhaps had) od = if are_zeros od then None else segment_fault had od
+    if is_busy od then None else segment_fault (unread_answer read) od
+transfer_fault (Answered partial) od = segment_fault partial od
+transfer_fault (Perhaps partial) od = if are_zeros od then None else segment_fault partial od
 transfer_fault Free od = None
 -- a read leaves no text whole
 transfer_fault (Whole read last) od = None
 transfer_fault transfer od = if are_zeros od then None else Some NoAnswerDue
 
 -- busy, or the answer's first segment
-abbrev pub asked_told : Bool → Option ℕ → List ℕ → Transfer
-asked_told read last od =
-    if is_busy od then Handed read last else Answered (had_with (none_had read) od)
+abbrev pub asked_updated : Bool → Option ℕ → List ℕ → Transfer
+asked_updated read last od =
+    if is_busy od then Handed read last else Answered (partial_with (unread_answer read) od)
 
 -- no answer any more, or a segment; zeros may be either
-abbrev pub perhaps_told : HadSegments → List ℕ → Transfer
-perhaps_told had od =
-    if not (are_zeros od) then Answered (had_with had od) else
-    if is_some (segment_fault had od) then Quiet else Perhaps (had_with had od)
+abbrev pub perhaps_updated : PartialAnswer → List ℕ → Transfer
+perhaps_updated partial od =
+    if not (are_zeros od) then Answered (partial_with partial od) else
+    if is_some (segment_fault partial od) then Quiet else Perhaps (partial_with partial od)
 
-abbrev pub transfer_told_by : Transfer → List ℕ → Transfer
-transfer_told_by (Asked read last) od = asked_told read last od
-transfer_told_by (Answered had) od = Answered (had_with had od)
-transfer_told_by (Perhaps had) od = perhaps_told had od
-transfer_told_by old od = old
+abbrev pub transfer_updated_by : Transfer → List ℕ → Transfer
+transfer_updated_by (Asked read last) od = asked_updated read last od
+transfer_updated_by (Answered partial) od = Answered (partial_with partial od)
+transfer_updated_by (Perhaps partial) od = perhaps_updated partial od
+transfer_updated_by old od = old
 
-abbrev pub transfer_told : Transfer → Bool → Channel → List ℕ → Transfer
-transfer_told old true Isdu od = transfer_told_by old od
-transfer_told old read channel od = old
+abbrev pub transfer_updated : Transfer → Bool → Channel → List ℕ → Transfer
+transfer_updated old true Isdu od = transfer_updated_by old od
+transfer_updated old read channel od = old

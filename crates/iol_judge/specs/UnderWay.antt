@@ -6,21 +6,22 @@ use Rattle.iol_far.specs.declared.kind.HandsOver.{HandsOver}
 use Rattle.iol_far.specs.declared.kind.HandsOver.TheVariants.{FirstRead, LastSegment}
 use Rattle.iol_far.specs.Far.{Far, layout_of}
 use Rattle.iol_far.specs.Isdu.{IsduState, Empty, Receiving, Whole, Handed, Answered, answer_text_to, fits}
-use Rattle.iol_judge.specs.declared.answer.TheConstants.{MOST_HAD}
-use Rattle.iol_judge.specs.declared.had.HadSegments.{HadSegments}
+use Rattle.iol_judge.specs.declared.answer.TheConstants.{MOST_OBSERVED}
+use Rattle.iol_judge.specs.declared.partial.PartialAnswer.{PartialAnswer}
 use Rattle.iol_judge.specs.declared.transfer.Transfer.{Transfer}
 use Rattle.iol_judge.specs.declared.transfer.Transfer.TheVariants as known
 use Rattle.iol_judge.specs.Octets.{Agrees}
 
 -- Each octet that is known is the text's. It has a segment where one is known to begin, and of its
 -- segments, of this size, this one was sent last
-pub record AreHad (size : ℕ) (had : HadSegments) (text : List ℕ) (sent : ℕ) : Type 0 where
-  pub octets : Agrees had.octets text
-  pub places : length had.octets ≡ MOST_HAD
-  pub begun : had.begun < length text
-  pub within : sent * size < length text
-  pub at : had.at ≡ sent * size
-  pub count : had.count ≡ segment_number sent
+pub record AreObserved (size : ℕ) (partial : PartialAnswer) (text : List ℕ) (sent : ℕ) : Type 0
+  where
+    pub octets : Agrees partial.octets text
+    pub places : length partial.octets ≡ MOST_OBSERVED
+    pub begun : partial.begun < length text
+    pub within : sent * size < length text
+    pub at : partial.at ≡ sent * size
+    pub count : partial.count ≡ segment_number sent
 
 -- a device that hands over at the last segment keeps the COUNT of that
 abbrev pub IsCounted : HandsOver → Option ℕ → Option ℕ → Type 0
@@ -49,10 +50,10 @@ IsAnswerAsked hands_over counted read last (Answered request answer (Some zero))
 IsAnswerAsked hands_over counted read last state = IsHanded hands_over counted read last state
 
 -- segments of an answer were sent
-abbrev pub IsAnswered : ℕ → HadSegments → IsduState → Type 0
-IsAnswered size had (Answered request answer (Some sent)) = (is_read request ≡ had.read)
-    × IsTrue (fits request answer) × AreHad size had (answer_text_to request answer) sent
-IsAnswered size had state = ⊥
+abbrev pub IsAnswered : ℕ → PartialAnswer → IsduState → Type 0
+IsAnswered size partial (Answered request answer (Some sent)) = (is_read request ≡ partial.read)
+    × IsTrue (fits request answer) × AreObserved size partial (answer_text_to request answer) sent
+IsAnswered size partial state = ⊥
 
 -- the ISDU state, with the COUNT of the last write, is as known, by when the device hands over, and
 -- with segments of this size
@@ -66,9 +67,9 @@ IsUnderWay hands_over counted size (known.Handed read last) state =
     IsHanded hands_over counted read last state
 IsUnderWay hands_over counted size (known.Asked read last) state =
     IsAnswerAsked hands_over counted read last state
-IsUnderWay hands_over counted size (known.Answered had) state = IsAnswered size had state
-IsUnderWay hands_over counted size (known.Perhaps had) state =
-    IsAnswered size had state ⊎ (state ≡ Empty)
+IsUnderWay hands_over counted size (known.Answered partial) state = IsAnswered size partial state
+IsUnderWay hands_over counted size (known.Perhaps partial) state =
+    IsAnswered size partial state ⊎ (state ≡ Empty)
 IsUnderWay hands_over counted size known.Free state = Unit {0}
 
 -- so is that of a device

@@ -14,9 +14,9 @@ is_out watched = elim watched.verdict [
 
 -- the same octets again, behind an exchange that left the message out, are never blamed
 abbrev pub RepeatsAreFair : Type 0
-RepeatsAreFair = (watched : WatchState) (octets : List ℕ) (answer again : Option (List ℕ))
+RepeatsAreFair = (watched : WatchState) (octets : List ℕ) (answer repeat : Option (List ℕ))
     → is_out (watch_after_exchange watched octets answer) ≡ true
-    → (watch_after_exchange (watch_after_exchange watched octets answer) octets again).verdict
+    → (watch_after_exchange (watch_after_exchange watched octets answer) octets repeat).verdict
     ≡ ByTheRules
 
 -- a wake-up request is never blamed

@@ -11,7 +11,7 @@ use Rattle.iol_page.specs.declared.master_command.MasterCommand.{MasterCommand}
 use Rattle.iol_page.specs.declared.master_command.MasterCommand.TheVariants.{MasterIdent}
 use Rattle.iol_far.specs.Codec.{flow_of, message_in}
 use Rattle.iol_far.specs.Far.{command_in}
-use Rattle.iol_judge.specs.Seen.{nothing_seen, octet_seen, page_noted, layouts_seen}
+use Rattle.iol_judge.specs.Observed.{nothing_observed, octet_observed, page_noted, layouts_observed}
 use Rattle.iol_judge.specs.declared.verdict.Wake.{Wake}
 use Rattle.iol_judge.specs.declared.verdict.Wake.TheVariants.{Answered, Unanswered}
 use Rattle.iol_judge.specs.declared.blame.Blame.{Blame}
@@ -33,7 +33,7 @@ use Rattle.iol_judge.specs.MasterTransfers.{transfer_after_repeat, asks_instead,
 abbrev pub new_master : MasterState
 new_master = record {
   phase = Down;
-  seen = nothing_seen;
+  observed = nothing_observed;
   done = record { ident = false; cycle = false };
   out = None;
   output = no_output;
@@ -43,9 +43,9 @@ new_master = record {
 
 -- once a wake-up request was made, by what is known of the page
 abbrev pub master_after_wake : MasterState → List (Option ℕ) → Wake → MasterState
-master_after_wake master seen answer = record new_master {
+master_after_wake master observed answer = record new_master {
   phase = elim answer [ Answered ↦ Startup | Unanswered ↦ Down ];
-  seen = seen;
+  observed = observed;
   output = woken_output master.output;
 }
 
@@ -53,7 +53,7 @@ master_after_wake master seen answer = record new_master {
 
 abbrev pub command_sent : MasterState → Option MasterCommand → Result MasterState Blame
 command_sent master command =
-    if allows master.phase (layouts_seen master.seen) master.done command
+    if allows master.phase (layouts_observed master.observed) master.done command
     then Ok (record master {
       done = record master.done {
         ident = elim command [ Some MasterIdent ↦ true | command ↦ master.done.ident ];
@@ -62,7 +62,7 @@ command_sent master command =
     else Err NotStartUp
 
 abbrev pub cycle_sent : MasterState → ℕ → Result MasterState Blame
-cycle_sent master octet = if allows_cycle (octet_seen master.seen 2) octet
+cycle_sent master octet = if allows_cycle (octet_observed master.observed 2) octet
     then Ok (record master { done = record master.done { cycle = true } })
     else Err NotStartUp
 
@@ -142,10 +142,10 @@ checked_instead twice octets (Ok master) = Ok (record (left_out master octets tw
 })
 checked_instead twice octets (Err fault) = Err fault
 
-abbrev pub sent_new_or_again : Option MissedMessage → MasterState → List ℕ
+abbrev pub sent_new_or_repeat : Option MissedMessage → MasterState → List ℕ
     → Result MasterState Blame
-sent_new_or_again None master octets = sent_new master octets
-sent_new_or_again (Some out) master octets =
+sent_new_or_repeat None master octets = sent_new master octets
+sent_new_or_repeat (Some out) master octets =
     if bytes_eq out.octets.items octets then Ok (master_after_repeat master) else
     if asks_instead master.transfer out.octets.items octets
     then asked_instead out.twice octets (sent_new master octets) else
@@ -157,7 +157,7 @@ sent_new_or_again (Some out) master octets =
 abbrev pub master_after_sending : MasterState → List ℕ → Result MasterState Blame
 master_after_sending master octets = elim master.phase [
   | Down ↦ Err WakeDue
-  | phase ↦ sent_new_or_again master.out master octets
+  | phase ↦ sent_new_or_repeat master.out master octets
 ]
 
 -- What comes back
@@ -173,7 +173,7 @@ master_without_reply master octets = elim master.out [
 -- the good reply to a write to the page: another mode drops the transfer
 abbrev pub mode_entered : MasterState → Option MasterCommand → MasterState
 mode_entered master command = record master {
-  phase = phase_after_command master.phase (layouts_seen master.seen) command;
+  phase = phase_after_command master.phase (layouts_observed master.observed) command;
   transfer =
       if is_some command && not (is_in_operate master.phase) then Quiet else master.transfer;
 }
@@ -189,7 +189,10 @@ events_on master read octets = record master {
 abbrev pub read_from : Channel → MasterState → MasterMsg → List ℕ → MasterState
 read_from Process master message octets = master
 read_from Page master message octets =
-    record master { seen = page_noted master.seen message.mc.address (slice_index octets 0) }
+    record master {
+      observed = page_noted master.observed message.mc.address
+          (slice_index octets 0);
+    }
 read_from Diagnosis master message octets = events_on master true octets
 read_from Isdu master message octets =
     record master { transfer = transfer_after_reply master.transfer octets }
@@ -227,7 +230,7 @@ master_after_answer master octets answer =
 
 pub record WatchState : Type 0 where
   -- what was told of the page
-  pub told : List (Option ℕ)
+  pub preset : List (Option ℕ)
   pub master : MasterState
   pub verdict : MasterVerdict
   -- how many exchanges there were
@@ -235,19 +238,19 @@ pub record WatchState : Type 0 where
 
 abbrev pub new_watch : WatchState
 new_watch =
-    record { told = nothing_seen; master = new_master; verdict = Unjudged; exchanges = 0 }
+    record { preset = nothing_observed; master = new_master; verdict = Unjudged; exchanges = 0 }
 
 -- the device has this page
 abbrev pub watch_with_page : WatchState → List (Option ℕ) → WatchState
 watch_with_page watched page =
-    record watched { told = page; master = record watched.master { seen = page } }
+    record watched { preset = page; master = record watched.master { observed = page } }
 
 -- the watch, told a wake-up request
 abbrev pub watch_after_wake : WatchState → Wake → WatchState
 watch_after_wake watched wake = elim watched.verdict [
   | NotByTheRules number fault ↦ watched
   | verdict ↦ record watched {
-    master = master_after_wake watched.master watched.told wake;
+    master = master_after_wake watched.master watched.preset wake;
     verdict = ByTheRules;
   }
 ]

@@ -3,7 +3,7 @@ ghost use Rattle.std.specs.Prelude.{◌≡◌, ◌-◌, ◌<◌, ◌≤◌, IsTr
 ghost use Rattle.std.specs.List.{list_all, list_any, range_with_len};
 ghost use Rattle.iol_isdu.specs.Answers.{is_read};
 ghost use Rattle.iol_isdu.specs.Frame.{total_at, xor_of};
-ghost use Rattle.iol_judge.specs.Answers.{has_answer, head_had, answer_head, head_reason, is_some_answer, is_such_answer, looks_right, text_fault};
+ghost use Rattle.iol_judge.specs.Answers.{has_answer, known_head, answer_head, head_reason, is_some_answer, is_such_answer, looks_right, text_fault};
 ghost use Rattle.iol_judge.specs.Octets.{is_other, may_be_even};
 
 use crate::octets::{are_as_known, from_place, is_other, may_be_even};
@@ -18,10 +18,10 @@ const SHORTEST_LONG: usize = 17;
 pub(crate) const LONGEST_ANSWER: usize = 235;
 
 /// The most octets that are kept of an answer: those of the longest text, and of a segment.
-pub(crate) const MOST_HAD: usize = 270;
+pub(crate) const MOST_OBSERVED: usize = 270;
 
 /// The octets of an answer and those behind it, where they are known.
-pub(crate) type HadOctets = [Option<u8>; MOST_HAD];
+pub(crate) type KnownOctets = [Option<u8>; MOST_OBSERVED];
 
 /// The services that answer.
 const SERVICES: [u8; 4] = [0x4, 0x5, 0xC, 0xD];
@@ -38,7 +38,7 @@ pub(crate) enum Look {
 }
 
 /// Why no answer to a read, or to a write, of more octets than so many has these.
-pub(crate) fn text_fault(read: bool, begun: usize, octets: &HadOctets) -> Option<Reason>
+pub(crate) fn text_fault(read: bool, begun: usize, octets: &KnownOctets) -> Option<Reason>
     ensures { result ≡ text_fault read begun octets.now }
 {
     if has_answer(Look::Padding, read, octets, begun, LONGEST_ANSWER) {
@@ -53,8 +53,8 @@ pub(crate) fn text_fault(read: bool, begun: usize, octets: &HadOctets) -> Option
 }
 
 /// Why the first octets are those of no answer.
-fn head_reason(octets: &HadOctets) -> Reason
-    ensures { result ≡ head_reason (total_at (head_had octets.now)) }
+fn head_reason(octets: &KnownOctets) -> Reason
+    ensures { result ≡ head_reason (total_at (known_head octets.now)) }
 {
     let total = match (octets[0], octets[1]) {
         (Some(first), Some(second)) => total_of(&[first, second]),
@@ -72,7 +72,7 @@ fn head_reason(octets: &HadOctets) -> Reason
 pub(crate) fn has_answer(
     look: Look,
     read: bool,
-    octets: &HadOctets,
+    octets: &KnownOctets,
     above: usize,
     most: usize,
 ) -> bool
@@ -88,7 +88,7 @@ pub(crate) fn has_answer(
 }
 
 /// Whether some answer of at least so many octets, and of fewer than that, has them.
-fn has_answer_of(look: Look, read: bool, octets: &HadOctets, least: usize, end: usize) -> bool
+fn has_answer_of(look: Look, read: bool, octets: &KnownOctets, least: usize, end: usize) -> bool
     ensures { result ≡ list_any (is_some_answer look read octets.now)
         (range_with_len least (end - least)) }
 {
@@ -101,7 +101,7 @@ fn has_answer_of(look: Look, read: bool, octets: &HadOctets, least: usize, end: 
 }
 
 /// Whether some answer of this total length has them.
-fn is_some_answer(look: Look, read: bool, octets: &HadOctets, total: usize) -> bool
+fn is_some_answer(look: Look, read: bool, octets: &KnownOctets, total: usize) -> bool
     ensures { result ≡ is_some_answer look read octets.now total }
 {
     SERVICES.iter().any(|service| is_such_answer(look, read, *service, total, octets))
@@ -109,7 +109,7 @@ fn is_some_answer(look: Look, read: bool, octets: &HadOctets, total: usize) -> b
 
 /// Whether such a request is answered by a text of this service and total length, and these may be
 /// its octets.
-fn is_such_answer(look: Look, read: bool, service: u8, total: usize, octets: &HadOctets) -> bool
+fn is_such_answer(look: Look, read: bool, service: u8, total: usize, octets: &KnownOctets) -> bool
     ensures { result ≡ is_such_answer look read octets.now total service }
 {
     let can_be = match (service, read) {
@@ -122,7 +122,7 @@ fn is_such_answer(look: Look, read: bool, service: u8, total: usize, octets: &Ha
 }
 
 /// Whether these may be the octets of a text of this service and total length.
-fn looks_right(look: Look, service: u8, total: usize, octets: &HadOctets) -> bool
+fn looks_right(look: Look, service: u8, total: usize, octets: &KnownOctets) -> bool
     requires service { service ≤ 13 }
     requires total { total ≤ LONGEST_ANSWER }
     ensures { result ≡ looks_right look service total octets.now }

@@ -5,12 +5,19 @@ use thiserror::Error;
 
 // The numbers: their one table, which the definitions cite.
 const WAKE_DUE: u8 = 1;
+
 const NOT_REPEATED: u8 = 2;
+
 const NOT_START_UP: u8 = 3;
+
 const NOT_WELL_FORMED: u8 = 4;
+
 const OUTPUT_OCTETS: u8 = 5;
+
 const NOT_DUE: u8 = 6;
+
 const REQUEST_TEXT: u8 = 7;
+
 const NOT_IN_LINE: u8 = 8;
 
 /// Why no master by the rules would have sent a message.

@@ -1,6 +1,6 @@
 //! What is known of a device's events.
 ghost use Rattle.std.specs.Prelude.{◌≡◌};
-ghost use Rattle.iol_judge.specs.Events.{covers_events, events_fault, events_told, first_places, flag_fault, flag_told, places_of, shown_after};
+ghost use Rattle.iol_judge.specs.Events.{covers_events, events_fault, events_updated, first_places, flag_fault, flag_updated, places_of, shown_after};
 
 use crate::reason::Reason;
 
@@ -71,10 +71,10 @@ impl ShownEvents {
 
     /// A reply has this Event flag: the same in place.
     pub fn hear_flag(&mut self, flag: bool)
-        ensures { self.new ≡ flag_told self.old flag }
+        ensures { self.new ≡ flag_updated self.old flag }
     {
         if flag || matches!(self, ShownEvents::Any) {
-            *self = self.flag_told(flag);
+            *self = self.flag_updated(flag);
         }
     }
 
@@ -90,8 +90,8 @@ impl ShownEvents {
     }
 
     /// Once a reply had this Event flag.
-    pub fn flag_told(&self, flag: bool) -> ShownEvents
-        ensures { result ≡ flag_told self.now flag }
+    pub fn flag_updated(&self, flag: bool) -> ShownEvents
+        ensures { result ≡ flag_updated self.now flag }
     {
         match (self, flag) {
             (ShownEvents::Any, true) => ShownEvents::first(PLACES),
@@ -130,18 +130,18 @@ impl ShownEvents {
     }
 
     /// Once a diagnosis address was read as this octet.
-    pub fn told(&self, address: u8, octet: u8) -> ShownEvents
-        ensures { result ≡ events_told self.now address octet }
+    pub fn updated(&self, address: u8, octet: u8) -> ShownEvents
+        ensures { result ≡ events_updated self.now address octet }
     {
         match self {
-            ShownEvents::Filled(places) => ShownEvents::Filled(places.told(address, octet)),
+            ShownEvents::Filled(places) => ShownEvents::Filled(places.updated(address, octet)),
             _ => *self,
         }
     }
 }
 
 impl FilledPlaces {
-    ghost use Rattle.iol_judge.specs.Events.{covers_places, fills, marked_count, marks_told, no_places, place_known, places_fault, places_told, status_fault};
+    ghost use Rattle.iol_judge.specs.Events.{covers_places, fills, marked_count, marks_updated, no_places, place_known, places_fault, places_updated, status_fault};
 
     /// No place is filled.
     fn none() -> FilledPlaces
@@ -210,11 +210,11 @@ impl FilledPlaces {
 
     /// Once a diagnosis address was read as this octet: one of a place that isn't 0 stands in a
     /// filled place.
-    fn told(&self, address: u8, octet: u8) -> FilledPlaces
-        ensures { result ≡ places_told self.now address octet }
+    fn updated(&self, address: u8, octet: u8) -> FilledPlaces
+        ensures { result ≡ places_updated self.now address octet }
     {
         match address {
-            0x00 => self.marks_told(marked(octet)),
+            0x00 => self.marks_updated(marked(octet)),
             0x01..=0x12 => {
                 let mut places = *self;
                 places.octets[address as usize - 1] = Some(octet);
@@ -228,8 +228,8 @@ impl FilledPlaces {
     }
 
     /// Once the StatusCode marked so many.
-    fn marks_told(&self, count: Option<u8>) -> FilledPlaces
-        ensures { result ≡ marks_told self.now count }
+    fn marks_updated(&self, count: Option<u8>) -> FilledPlaces
+        ensures { result ≡ marks_updated self.now count }
     {
         match count {
             Some(count) => FilledPlaces {

@@ -1,6 +1,6 @@
 //! The judge.
 ghost use Rattle.std.specs.Prelude.{◌≡◌, ◌∷◌, option_copied, [], Ok, Err, OnErr, IsTrue, length};
-ghost use Rattle.iol_judge.specs.Seen.{whole_page};
+ghost use Rattle.iol_judge.specs.Observed.{whole_page};
 ghost use Rattle.iol_judge.specs.Family.{no_kinds};
 ghost use Rattle.iol_judge.specs.State.{KnownState, parts};
 ghost use Rattle.iol_judge.specs.Taking.{and_then, taken_by_state};
@@ -8,14 +8,14 @@ ghost use Rattle.iol_judge.specs.Replies.{explained_as, explanation_of};
 ghost use Rattle.iol_judge.specs.Judged.{concluded_lost, judge_after_exchange, judge_resumed, kinds_left, kinds_with, new_judge, page_after_reply, judge_after_wake};
 
 use crate::events::ShownEvents;
-use crate::kept::KeptState;
 use crate::kinds::Kinds;
 use crate::next::{copy_states, lose, reply, wake};
+use crate::observed::{KnownLayouts, ObservedPage};
 use crate::octets::first_octet;
 use crate::open::Open;
+use crate::possible::PossibleState;
 use crate::readable::is_readable;
 use crate::reason::Reason;
-use crate::seen::{KnownLayouts, SeenPage};
 use crate::taken::{Heard, NextStates, States};
 use crate::verdict::{Odd, Verdict, Wake};
 use iol_far::DeviceMode;
@@ -30,7 +30,7 @@ use std::marker::Model;
 /// there was one.
 #[derive(Drop)]
 pub struct Judge {
-    seen: SeenPage,
+    observed: ObservedPage,
     /// The layouts that it asks for.
     layouts: KnownLayouts,
     states: States,
@@ -46,12 +46,12 @@ pub struct Judge {
 impl Model for Judge {
     ghost use Rattle.std.specs.Prelude.{◌≡◌};
     ghost use Rattle.iol_judge.specs.Judged.{JudgeState};
-    ghost use Rattle.iol_judge.specs.Seen.{layouts_seen};
+    ghost use Rattle.iol_judge.specs.Observed.{layouts_observed};
 
     ghost Value = { JudgeState };
 
     ghost view = { λ j. record {
-      seen = j.seen;
+      observed = j.observed;
       states = j.states.items;
       verdict = j.verdict;
       exchanges = j.exchanges;
@@ -60,7 +60,7 @@ impl Model for Judge {
       oddities = j.oddities;
     } };
 
-    ghost invariant = { λ j. j.layouts ≡ layouts_seen j.seen };
+    ghost invariant = { λ j. j.layouts ≡ layouts_observed j.observed };
 }
 
 impl Judge {
@@ -68,10 +68,10 @@ impl Judge {
     pub fn new(odd: Odd) -> Judge
         ensures { result ≡ new_judge odd }
     {
-        let seen = SeenPage::nothing();
+        let observed = ObservedPage::nothing();
         Judge {
-            seen,
-            layouts: seen.layouts(),
+            observed,
+            layouts: observed.layouts(),
             states: States::new(),
             next: NextStates::none(),
             verdict: Verdict::Unjudged,
@@ -84,9 +84,9 @@ impl Judge {
 
     /// The device has this page: the octets of 0x02 to 0x0B.
     pub fn page(&mut self, octets: &[u8; 10])
-        ensures { self.new ≡ record self.old { seen = whole_page octets.now } }
+        ensures { self.new ≡ record self.old { observed = whole_page octets.now } }
     {
-        self.see(SeenPage::whole(octets));
+        self.observe(ObservedPage::whole(octets));
     }
 
     /// A wake-up request was sent.
@@ -126,9 +126,10 @@ impl Judge {
             return;
         }
         self.states.clear();
-        self.states.push(KeptState::resumed(mode, ShownEvents::Any));
         self.states
-            .push(KeptState::resumed(mode, ShownEvents::Held));
+            .push(PossibleState::resumed(mode, ShownEvents::Any));
+        self.states
+            .push(PossibleState::resumed(mode, ShownEvents::Held));
         self.verdict = Verdict::Honest;
     }
 
@@ -178,7 +179,7 @@ impl Judge {
             ≡ record self.old { states = first_state ∷ []; verdict = Honest } }
     {
         self.states.clear();
-        self.states.push(KeptState::first());
+        self.states.push(PossibleState::first());
         self.verdict = Verdict::Honest;
     }
 
@@ -217,23 +218,23 @@ impl Judge {
 
     /// Whether one state alone is left, of which all devices do the same on these octets.
     fn is_alone(&self, sent: &[u8]) -> bool
-        ensures { IsTrue result → (kept : KnownState) × (self.now.states ≡ kept ∷ [])
-            × (parts kept sent.now ≡ kept ∷ []) }
+        ensures { IsTrue result → (state : KnownState) × (self.now.states ≡ state ∷ [])
+            × (parts state sent.now ≡ state ∷ []) }
     {
         match self.states.as_slice() {
-            [kept] => !kept.tells_apart(sent),
+            [state] => !state.tells_apart(sent),
             _ => false,
         }
     }
 
     /// That state hears the reply where it lies.
     fn hear_alone(&mut self, sent: &[u8], octets: &[u8])
-        requires { (kept : KnownState) × (self.old.states ≡ kept ∷ [])
-            × (parts kept sent.now ≡ kept ∷ []) }
+        requires { (state : KnownState) × (self.old.states ≡ state ∷ [])
+            × (parts state sent.now ≡ state ∷ []) }
         ensures { self.new ≡ judge_after_reply self.old sent.now octets.now }
     {
-        let (layouts, seen) = (&self.layouts, &self.seen);
-        match explain_alone(&mut self.states, layouts, self.odd, seen, sent, octets) {
+        let (layouts, observed) = (&self.layouts, &self.observed);
+        match explain_alone(&mut self.states, layouts, self.odd, observed, sent, octets) {
             Err(why) => self.verdict = Verdict::CantSay(self.exchanges, why),
             Ok(Heard::Refused(reason)) => self.blame(Reason::NotTaken.or_later(reason)),
             Ok(Heard::Explained(oddity)) => {
@@ -252,7 +253,7 @@ impl Judge {
             &self.states,
             &self.layouts,
             self.odd,
-            &self.seen,
+            &self.observed,
             sent,
             octets,
             &mut self.next,
@@ -295,22 +296,24 @@ impl Judge {
     /// The octet of the page that a reply brings.
     fn note(&mut self, sent: &[u8], octets: &[u8])
         ensures { self.new
-            ≡ record self.old { seen = page_after_reply self.old.seen sent.now octets.now } }
+            ≡ record self.old {
+              observed = page_after_reply self.old.observed sent.now octets.now;
+            } }
     {
         let mc = Mc::from_octet(first_octet(sent));
         if mc.read && mc.channel == Channel::Page {
-            let mut seen = self.seen;
-            seen.note_reply(mc, octets);
-            self.see(seen);
+            let mut observed = self.observed;
+            observed.note_reply(mc, octets);
+            self.observe(observed);
         }
     }
 
     /// This is known of the page.
-    fn see(&mut self, seen: SeenPage)
-        ensures { self.new ≡ record self.old { seen = seen } }
+    fn observe(&mut self, observed: ObservedPage)
+        ensures { self.new ≡ record self.old { observed = observed } }
     {
-        self.seen = seen;
-        self.layouts = seen.layouts();
+        self.observed = observed;
+        self.layouts = observed.layouts();
     }
 }
 
@@ -319,27 +322,27 @@ fn explain_alone(
     states: &mut States,
     layouts: &KnownLayouts,
     odd: Odd,
-    seen: &SeenPage,
+    observed: &ObservedPage,
     sent: &[u8],
     octets: &[u8],
 ) -> Result<Heard, Open>
     requires { length states.old.items ≡ 1 }
-    ensures { (kept : KnownState) → states.old.items ≡ kept ∷ []
+    ensures { (state : KnownState) → states.old.items ≡ state ∷ []
         → (left : KnownState) × (states.new.items ≡ left ∷ [])
-        × (explained_as result left ≡ and_then (taken_by_state layouts.now kept sent.now)
-        (λ taken. Ok (explanation_of odd seen.now taken octets.now)))
-        × OnErr result (left ≡ kept) }
+        × (explained_as result left ≡ and_then (taken_by_state layouts.now state sent.now)
+        (λ taken. Ok (explanation_of odd observed.now taken octets.now)))
+        × OnErr result (left ≡ state) }
 {
-    states[0].explain(layouts, odd, seen, sent, octets)
+    states[0].explain(layouts, odd, observed, sent, octets)
 }
 
 /// The kinds that states stand for.
-fn kinds_of(states: &[KeptState]) -> Kinds
+fn kinds_of(states: &[PossibleState]) -> Kinds
     ensures { result ≡ kinds_with no_kinds states.now }
 {
     let mut kinds = Kinds::none();
-    for kept in states {
-        kinds = kinds.with(&kept.kinds);
+    for state in states {
+        kinds = kinds.with(&state.kinds);
     }
     kinds
 }

@@ -1,6 +1,6 @@
 //! How far a master has come, by what it sent and by the good replies that came.
 ghost use Rattle.std.specs.Prelude.{◌≡◌, ◌≤◌, length, OnOk, option_copied};
-ghost use Rattle.iol_judge.specs.Seen.{layouts_seen};
+ghost use Rattle.iol_judge.specs.Observed.{layouts_observed};
 ghost use Rattle.iol_judge.specs.MasterPhases.{allows, allows_cycle};
 ghost use Rattle.iol_judge.specs.BlameResults.{result_or_blame};
 ghost use Rattle.iol_judge.specs.Watched.{asked_instead, checked_instead, checking, command_sent, cycle_sent, master_after_answer, master_without_reply, mode_entered, new_master, master_after_reply, master_after_sending, sent_in_startup, sent_new, sent_on, sent_to_page, master_after_wake};
@@ -11,7 +11,7 @@ use crate::master_output::Output;
 use crate::master_phase::MasterPhase;
 use crate::master_reading::{MasterEvents, Reading};
 use crate::master_transfer::MasterTransfer;
-use crate::seen::SeenPage;
+use crate::observed::ObservedPage;
 use crate::verdict::Wake;
 use iol_far::{command_in, message_in};
 use iol_mseq::{MasterView, Message, ReplyView, first};
@@ -47,7 +47,7 @@ pub(crate) struct MissedMessage {
 pub(crate) struct MasterState {
     pub phase: MasterPhase,
     /// What it knows of the device's page.
-    pub seen: SeenPage,
+    pub observed: ObservedPage,
     pub done: StartUp,
     /// The message that is to be sent again.
     pub out: Option<MissedMessage>,
@@ -63,7 +63,7 @@ impl MasterState {
     {
         MasterState {
             phase: MasterPhase::Down,
-            seen: SeenPage::nothing(),
+            observed: ObservedPage::nothing(),
             done: StartUp {
                 ident: false,
                 cycle: false,
@@ -76,8 +76,8 @@ impl MasterState {
     }
 
     /// Once a wake-up request was made, by what is known of the page.
-    pub fn woken(self, seen: SeenPage, answer: Wake) -> MasterState
-        ensures { result ≡ master_after_wake self seen answer }
+    pub fn woken(self, observed: ObservedPage, answer: Wake) -> MasterState
+        ensures { result ≡ master_after_wake self observed answer }
     {
         let phase = match answer {
             Wake::Answered => MasterPhase::Startup,
@@ -85,7 +85,7 @@ impl MasterState {
         };
         MasterState {
             phase,
-            seen,
+            observed,
             output: self.output.woken(),
             ..MasterState::new()
         }
@@ -219,7 +219,7 @@ impl MasterState {
     fn send_cycle(&mut self, octet: u8) -> Result<(), Blame>
         ensures { result_or_blame result self.new ≡ cycle_sent self.old octet }
     {
-        if !allows_cycle(self.seen.octet(MIN_CYCLE_TIME), octet) {
+        if !allows_cycle(self.observed.octet(MIN_CYCLE_TIME), octet) {
             return Err(Blame::NotStartUp);
         }
         self.done.cycle = true;
@@ -228,10 +228,10 @@ impl MasterState {
 
     /// Whether a new master command is allowed.
     fn allows(&self, command: Option<MasterCommand>) -> bool
-        ensures { result ≡ allows self.now.phase (layouts_seen self.now.seen) self.now.done
+        ensures { result ≡ allows self.now.phase (layouts_observed self.now.observed) self.now.done
             command }
     {
-        let asked = self.seen.layouts();
+        let asked = self.observed.layouts();
         match (&self.phase, command) {
             (MasterPhase::Startup, Some(MasterCommand::MasterIdent | MasterCommand::DeviceIdent)) =>
                 true,
@@ -292,7 +292,7 @@ impl MasterState {
         self.events.flag = reply.event();
         match mc.channel {
             Channel::Process => {}
-            Channel::Page if mc.read => self.seen.note(mc.address, first(reply.od())),
+            Channel::Page if mc.read => self.observed.note(mc.address, first(reply.od())),
             Channel::Page => self.enter(command_in(message)),
             Channel::Diagnosis => self.events.go_on(mc.read, first(reply.od())),
             Channel::Isdu if mc.read => self.transfer.hear(reply),
@@ -304,7 +304,7 @@ impl MasterState {
     fn enter(&mut self, command: Option<MasterCommand>)
         ensures { self.new ≡ mode_entered self.old command }
     {
-        let layouts = self.seen.layouts();
+        let layouts = self.observed.layouts();
         if command.is_some() && !self.phase.in_operate() {
             self.transfer = MasterTransfer::Quiet;
         }

@@ -4,7 +4,7 @@ ghost use Rattle.iol_isdu.specs.Parse.{request_of};
 ghost use Rattle.iol_far.specs.Codec.{flow_of};
 ghost use Rattle.iol_judge.specs.BlameResults.{result_or_blame};
 ghost use Rattle.iol_judge.specs.declared.master_transfer.MasterTransfer.TheVariants.{Quiet};
-ghost use Rattle.iol_judge.specs.MasterTransfers.{abort_sent, answer_begun, answer_joined, transfer_in_answer, transfer_after_repeat, asked_after_reply, asks_instead, request_begun, count_asked, count_sent, transfer_in_doubt, doubted_told, ended_by_zeros, idle_sent, repeated_told, transfer_after_message, start_asked, start_sent, transfer_after_reply, request_joined, transfer_in_request};
+ghost use Rattle.iol_judge.specs.MasterTransfers.{abort_sent, answer_begun, answer_joined, transfer_in_answer, transfer_after_repeat, asked_after_reply, asks_instead, request_begun, count_asked, count_sent, transfer_in_doubt, doubted_updated, ended_by_zeros, idle_sent, repeat_updated, transfer_after_message, start_asked, start_sent, transfer_after_reply, request_joined, transfer_in_request};
 
 use crate::answer::request_of;
 use crate::blame::Blame;
@@ -100,7 +100,7 @@ impl MasterTransfer {
             Flow::Start => self.start_sent(isdu, message.od()),
             Flow::Count(count) if mc.read => self.count_asked(count),
             Flow::Count(count) => self.count_sent(count, message),
-            Flow::Idle1 | Flow::Idle2 => self.kept_if_quiet(),
+            Flow::Idle1 | Flow::Idle2 => self.unchanged_if_quiet(),
             Flow::Abort => self.aborted(),
             Flow::Reserved(_) => Err(Blame::NotDue),
         }
@@ -150,7 +150,7 @@ impl MasterTransfer {
         }
     }
 
-    fn kept_if_quiet(self) -> Result<MasterTransfer, Blame>
+    fn unchanged_if_quiet(self) -> Result<MasterTransfer, Blame>
         ensures { result ≡ idle_sent self }
     {
         match self {
@@ -218,24 +218,24 @@ impl MasterTransfer {
     {
         if !self.is_quiet() {
             let old = replace(self, MasterTransfer::Quiet);
-            *self = old.told(reply);
+            *self = old.updated(reply);
         }
     }
 
     /// Once it did.
-    fn told(self, reply: &ReplyView<'_>) -> MasterTransfer
+    fn updated(self, reply: &ReplyView<'_>) -> MasterTransfer
         ensures { result ≡ transfer_after_reply self reply.now.od.items }
     {
         let octets = reply.od();
         match self {
-            MasterTransfer::Asked(read) => asked_told(read, octets),
-            MasterTransfer::Doubted(read) => doubted_told(read, octets),
+            MasterTransfer::Asked(read) => asked_updated(read, octets),
+            MasterTransfer::Doubted(read) => doubted_updated(read, octets),
             MasterTransfer::Answered(read, text, last) => answered(
                 read,
                 &joined(&text, octets),
                 last,
             ),
-            MasterTransfer::Repeated(read, text, last) => repeated_told(read, &text, last, octets),
+            MasterTransfer::Repeated(read, text, last) => repeat_updated(read, &text, last, octets),
             other => other,
         }
     }
@@ -286,7 +286,7 @@ fn whole(text: &[u8], rest: &[u8]) -> Result<MasterTransfer, Blame>
 }
 
 /// The reply to a START read: busy, no service, or the answer's first segment.
-fn asked_told(read: bool, octets: &[u8]) -> MasterTransfer
+fn asked_updated(read: bool, octets: &[u8]) -> MasterTransfer
     ensures { result ≡ asked_after_reply read octets.now }
 {
     match octets.first() {
@@ -298,25 +298,25 @@ fn asked_told(read: bool, octets: &[u8]) -> MasterTransfer
 
 /// The reply to a START read that went out in place of a START write: where the device has heard
 /// nothing of that, the request goes out anew, or is given up.
-fn doubted_told(read: bool, octets: &[u8]) -> MasterTransfer
-    ensures { result ≡ doubted_told read octets.now }
+fn doubted_updated(read: bool, octets: &[u8]) -> MasterTransfer
+    ensures { result ≡ doubted_updated read octets.now }
 {
     if first(octets) == NO_SERVICE {
         return MasterTransfer::Undecided;
     }
-    asked_told(read, octets)
+    asked_updated(read, octets)
 }
 
 /// The reply to a COUNT read that went out again.
-fn repeated_told(read: bool, text: &Text, last: Option<u8>, octets: &[u8]) -> MasterTransfer
+fn repeat_updated(read: bool, text: &Text, last: Option<u8>, octets: &[u8]) -> MasterTransfer
     requires { length octets.now ≤ 32 }
-    ensures { result ≡ repeated_told read text.now last octets.now }
+    ensures { result ≡ repeat_updated read text.now last octets.now }
 {
-    let told = answered(read, &joined(text, octets), last);
+    let updated = answered(read, &joined(text, octets), last);
     if are_zeros(octets) {
-        told.ended_by_zeros()
+        updated.ended_by_zeros()
     } else {
-        told
+        updated
     }
 }
 

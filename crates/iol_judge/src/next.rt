@@ -3,70 +3,70 @@ ghost use Rattle.std.specs.Prelude.{◌≡◌, ◌≤◌, [], Ok, Err, length};
 ghost use Rattle.iol_judge.specs.State.{all_parts};
 ghost use Rattle.iol_judge.specs.Judged.{states_with, each_in_turn, has_state, lost_into, lost_part, replied_into, replied_part, result_with, uncovered_states, united_state, woken_into};
 
-use crate::kept::KeptState;
+use crate::observed::{KnownLayouts, ObservedPage};
 use crate::open::Open;
+use crate::possible::PossibleState;
 use crate::reason::Reason;
-use crate::seen::{KnownLayouts, SeenPage};
 use crate::taken::{Heard, MAX_STATES, NextStates, States};
 use crate::verdict::{Odd, Wake};
 
 /// Puts a state to the others, where none of them covers it: in the place of those that it covers,
 /// and, for their kinds too, of those that are alike.
-pub(crate) fn add(states: &mut States, mut kept: KeptState) -> Result<(), Open>
-    ensures { result_with result states.new.items ≡ states_with states.old.items kept }
+pub(crate) fn add(states: &mut States, mut state: PossibleState) -> Result<(), Open>
+    ensures { result_with result states.new.items ≡ states_with states.old.items state }
 {
-    if has_state(states, &kept) {
+    if has_state(states, &state) {
         return Ok(());
     }
-    unite(states, &mut kept);
-    remove_covered(states, &kept);
+    unite(states, &mut state);
+    remove_covered(states, &state);
     if states.len() == MAX_STATES {
         return Err(Open::TooManyStates);
     }
-    states.push(kept);
+    states.push(state);
     Ok(())
 }
 
 /// Gives a state the kinds of those that are alike.
-fn unite(states: &[KeptState], kept: &mut KeptState)
-    ensures { kept.new ≡ united_state states.now kept.old }
+fn unite(states: &[PossibleState], state: &mut PossibleState)
+    ensures { state.new ≡ united_state states.now state.old }
 {
     for other in states {
-        if other.is_alike(kept) {
-            kept.kinds = kept.kinds.with(&other.kinds);
+        if other.is_alike(state) {
+            state.kinds = state.kinds.with(&other.kinds);
         }
     }
 }
 
 /// Copies states into the place of others, one by one: most often they are few.
-pub(crate) fn copy_states(from: &[KeptState], into: &mut States)
+pub(crate) fn copy_states(from: &[PossibleState], into: &mut States)
     requires { length from.now ≤ MAX_STATES }
     ensures { into.new.items ≡ from.now }
 {
     into.clear();
-    for kept in from {
-        into.push(kept.copy());
+    for state in from {
+        into.push(state.copy());
     }
 }
 
 /// Whether one of the others covers a state.
-fn has_state(states: &[KeptState], kept: &KeptState) -> bool
-    ensures { result ≡ has_state states.now kept.now }
+fn has_state(states: &[PossibleState], state: &PossibleState) -> bool
+    ensures { result ≡ has_state states.now state.now }
 {
-    states.iter().any(|other| other.covers(kept))
+    states.iter().any(|other| other.covers(state))
 }
 
 /// Takes out those that a state covers.
-fn remove_covered(states: &mut States, kept: &KeptState)
-    ensures { states.new.items ≡ uncovered_states states.old.items kept.now }
+fn remove_covered(states: &mut States, state: &PossibleState)
+    ensures { states.new.items ≡ uncovered_states states.old.items state.now }
 {
-    states.retain(|other| !kept.covers(other));
+    states.retain(|other| !state.covers(other));
 }
 
 /// The states after an exchange without a reply that can be read: each as it was, for the message
 /// may be lost, and with the message worked, for the reply may be.
 pub(crate) fn lose(
-    states: &[KeptState],
+    states: &[PossibleState],
     layouts: &KnownLayouts,
     sent: &[u8],
     next: &mut States,
@@ -74,28 +74,28 @@ pub(crate) fn lose(
     ensures { result_with result next.new.items
         ≡ each_in_turn (lost_into layouts.now sent.now) next.old.items states.now }
 {
-    for kept in states {
-        lose_one(kept, layouts, sent, next)?;
+    for state in states {
+        lose_one(state, layouts, sent, next)?;
     }
     Ok(())
 }
 
 /// One of them.
 fn lose_one(
-    kept: &KeptState,
+    state: &PossibleState,
     layouts: &KnownLayouts,
     sent: &[u8],
     next: &mut States,
 ) -> Result<(), Open>
     ensures { result_with result next.new.items
-        ≡ lost_into layouts.now sent.now next.old.items kept.now }
+        ≡ lost_into layouts.now sent.now next.old.items state.now }
 {
-    let unheard = kept.copy();
+    let unheard = state.copy();
     add(next, unheard)?;
-    if kept.tells_apart(sent) {
-        lose_apart(kept, layouts, sent, next)
+    if state.tells_apart(sent) {
+        lose_apart(state, layouts, sent, next)
     } else {
-        lose_part(kept, layouts, sent, next)
+        lose_part(state, layouts, sent, next)
     }
 }
 
@@ -103,15 +103,15 @@ fn lose_one(
 // Its locals are large, and seldom needed.
 #[inline(never)]
 fn lose_apart(
-    kept: &KeptState,
+    state: &PossibleState,
     layouts: &KnownLayouts,
     sent: &[u8],
     next: &mut States,
 ) -> Result<(), Open>
     ensures { result_with result next.new.items
-        ≡ each_in_turn (lost_part layouts.now sent.now) next.old.items (all_parts kept.now) }
+        ≡ each_in_turn (lost_part layouts.now sent.now) next.old.items (all_parts state.now) }
 {
-    for part in kept.parts().as_slice() {
+    for part in state.parts().as_slice() {
         lose_part(part, layouts, sent, next)?;
     }
     Ok(())
@@ -119,7 +119,7 @@ fn lose_apart(
 
 /// One of them.
 fn lose_part(
-    part: &KeptState,
+    part: &PossibleState,
     layouts: &KnownLayouts,
     sent: &[u8],
     next: &mut States,
@@ -127,9 +127,9 @@ fn lose_part(
     ensures { result_with result next.new.items
         ≡ lost_part layouts.now sent.now next.old.items part.now }
 {
-    let mut kept = part.copy();
-    match kept.work(layouts, sent)? {
-        Some(_) => add(next, kept),
+    let mut state = part.copy();
+    match state.work(layouts, sent)? {
+        Some(_) => add(next, state),
         None => Ok(()),
     }
 }
@@ -159,52 +159,52 @@ impl NextStates {
     }
 
     /// One more state explains the reply, with what is odd then.
-    fn add(&mut self, kept: KeptState, oddity: Option<Reason>) -> Result<(), Open>
-        ensures { result_with result self.new ≡ explained_into self.old (By kept oddity) }
+    fn add(&mut self, state: PossibleState, oddity: Option<Reason>) -> Result<(), Open>
+        ensures { result_with result self.new ≡ explained_into self.old (By state oddity) }
     {
         if self.states.is_empty() || oddity.is_none() {
             self.oddity = oddity;
         }
-        add(&mut self.states, kept)
+        add(&mut self.states, state)
     }
 }
 
 /// The states after a reply that can be read: each that explains it.
 pub(crate) fn reply(
-    states: &[KeptState],
+    states: &[PossibleState],
     layouts: &KnownLayouts,
     odd: Odd,
-    seen: &SeenPage,
+    observed: &ObservedPage,
     sent: &[u8],
     octets: &[u8],
     next: &mut NextStates,
 ) -> Result<(), Open>
     ensures { result_with result next.new ≡ each_in_turn
-        (replied_into layouts.now odd seen.now sent.now octets.now) next.old states.now }
+        (replied_into layouts.now odd observed.now sent.now octets.now) next.old states.now }
 {
-    for kept in states {
-        reply_one(kept, layouts, odd, seen, sent, octets, next)?;
+    for state in states {
+        reply_one(state, layouts, odd, observed, sent, octets, next)?;
     }
     Ok(())
 }
 
 /// One of them.
 fn reply_one(
-    kept: &KeptState,
+    state: &PossibleState,
     layouts: &KnownLayouts,
     odd: Odd,
-    seen: &SeenPage,
+    observed: &ObservedPage,
     sent: &[u8],
     octets: &[u8],
     next: &mut NextStates,
 ) -> Result<(), Open>
     ensures { result_with result next.new
-        ≡ replied_into layouts.now odd seen.now sent.now octets.now next.old kept.now }
+        ≡ replied_into layouts.now odd observed.now sent.now octets.now next.old state.now }
 {
-    if kept.tells_apart(sent) {
-        reply_apart(kept, layouts, odd, seen, sent, octets, next)
+    if state.tells_apart(sent) {
+        reply_apart(state, layouts, odd, observed, sent, octets, next)
     } else {
-        reply_part(kept, layouts, odd, seen, sent, octets, next)
+        reply_part(state, layouts, odd, observed, sent, octets, next)
     }
 }
 
@@ -212,39 +212,40 @@ fn reply_one(
 // Its locals are large, and seldom needed.
 #[inline(never)]
 fn reply_apart(
-    kept: &KeptState,
+    state: &PossibleState,
     layouts: &KnownLayouts,
     odd: Odd,
-    seen: &SeenPage,
+    observed: &ObservedPage,
     sent: &[u8],
     octets: &[u8],
     next: &mut NextStates,
 ) -> Result<(), Open>
     ensures { result_with result next.new ≡ each_in_turn
-        (replied_part layouts.now odd seen.now sent.now octets.now) next.old (all_parts kept.now) }
+        (replied_part layouts.now odd observed.now sent.now octets.now) next.old
+        (all_parts state.now) }
 {
-    for part in kept.parts().as_slice() {
-        reply_part(part, layouts, odd, seen, sent, octets, next)?;
+    for part in state.parts().as_slice() {
+        reply_part(part, layouts, odd, observed, sent, octets, next)?;
     }
     Ok(())
 }
 
 /// One of them.
 fn reply_part(
-    part: &KeptState,
+    part: &PossibleState,
     layouts: &KnownLayouts,
     odd: Odd,
-    seen: &SeenPage,
+    observed: &ObservedPage,
     sent: &[u8],
     octets: &[u8],
     next: &mut NextStates,
 ) -> Result<(), Open>
     ensures { result_with result next.new
-        ≡ replied_part layouts.now odd seen.now sent.now octets.now next.old part.now }
+        ≡ replied_part layouts.now odd observed.now sent.now octets.now next.old part.now }
 {
-    let mut kept = part.copy();
-    match kept.explain(layouts, odd, seen, sent, octets)? {
-        Heard::Explained(oddity) => next.add(kept, oddity),
+    let mut state = part.copy();
+    match state.explain(layouts, odd, observed, sent, octets)? {
+        Heard::Explained(oddity) => next.add(state, oddity),
         Heard::Refused(reason) => {
             next.reason = next.reason.or_later(reason);
             Ok(())
@@ -254,23 +255,23 @@ fn reply_part(
 
 /// The states after a wake-up request: each as woken, as it is or after a power cycle, and, where
 /// it wasn't answered, as it was too, for the request may be lost.
-pub(crate) fn wake(states: &[KeptState], wake: Wake, next: &mut States) -> Result<(), Open>
+pub(crate) fn wake(states: &[PossibleState], wake: Wake, next: &mut States) -> Result<(), Open>
     ensures { result_with result next.new.items
         ≡ each_in_turn (woken_into wake) next.old.items states.now }
 {
-    for kept in states {
-        wake_one(kept, wake, next)?;
+    for state in states {
+        wake_one(state, wake, next)?;
     }
     Ok(())
 }
 
 /// One of them.
-fn wake_one(kept: &KeptState, wake: Wake, next: &mut States) -> Result<(), Open>
-    ensures { result_with result next.new.items ≡ woken_into wake next.old.items kept.now }
+fn wake_one(state: &PossibleState, wake: Wake, next: &mut States) -> Result<(), Open>
+    ensures { result_with result next.new.items ≡ woken_into wake next.old.items state.now }
 {
     if wake == Wake::Unanswered {
-        add(next, kept.copy())?;
+        add(next, state.copy())?;
     }
-    add(next, kept.woken())?;
-    add(next, kept.powered())
+    add(next, state.woken())?;
+    add(next, state.powered())
 }

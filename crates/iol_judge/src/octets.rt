@@ -20,10 +20,10 @@ pub(crate) fn rest_of(octets: &[u8]) -> &[u8]
 }
 
 /// Those from a place on.
-pub(crate) fn from_place(seen: &[Option<u8>], place: usize) -> &[Option<u8>]
-    ensures { result.now ≡ drop place seen.now }
+pub(crate) fn from_place(observed: &[Option<u8>], place: usize) -> &[Option<u8>]
+    ensures { result.now ≡ drop place observed.now }
 {
-    seen.get(place..).unwrap_or(&[])
+    observed.get(place..).unwrap_or(&[])
 }
 
 /// Whether another octet is known.
@@ -37,37 +37,37 @@ pub(crate) fn is_other(known: &Option<u8>, octet: u8) -> bool
 }
 
 /// Whether none of these is known to be another, as far as both go.
-pub(crate) fn are_as_known(seen: &[Option<u8>], octets: &[u8]) -> bool
-    ensures { result ≡ are_as_known seen.now octets.now }
+pub(crate) fn are_as_known(observed: &[Option<u8>], octets: &[u8]) -> bool
+    ensures { result ≡ are_as_known observed.now octets.now }
 {
     match octets {
         [] => true,
-        [octet, octets @ ..] => match seen {
+        [octet, octets @ ..] => match observed {
             [] => true,
-            [known, seen @ ..] => !is_other(known, *octet) && are_as_known(seen, octets),
+            [known, observed @ ..] => !is_other(known, *octet) && are_as_known(observed, octets),
         },
     }
 }
 
 /// These are known, from a place on.
-pub(crate) fn note_octets(seen: &mut [Option<u8>], place: usize, octets: &[u8])
-    ensures { seen.new ≡ with_octets seen.old place octets.now }
+pub(crate) fn note_octets(observed: &mut [Option<u8>], place: usize, octets: &[u8])
+    ensures { observed.new ≡ with_octets observed.old place octets.now }
 {
     let mut place = place;
     for octet in octets {
-        if place < seen.len() {
-            seen[place] = Some(*octet);
+        if place < observed.len() {
+            observed[place] = Some(*octet);
             place += 1;
         }
     }
 }
 
 /// Whether the XOR of octets, with this of others, may be 0: it is, where all of them are known.
-pub(crate) fn may_be_even(sum: u8, seen: &[Option<u8>]) -> bool
-    ensures { result ≡ may_be_even sum seen.now }
+pub(crate) fn may_be_even(sum: u8, observed: &[Option<u8>]) -> bool
+    ensures { result ≡ may_be_even sum observed.now }
 {
     let mut sum = sum;
-    for octet in seen {
+    for octet in observed {
         match octet {
             Some(octet) => sum ^= *octet,
             None => return true,

@@ -5,7 +5,9 @@ use thiserror::Error;
 
 // The numbers: their one table, which the definitions cite.
 const PAGE_UNREAD: u8 = 1;
+
 const PAGE_REFUSED: u8 = 2;
+
 const TOO_MANY_STATES: u8 = 3;
 
 /// Why nothing can be said of a capture from some exchange on.

@@ -2,8 +2,8 @@
 ghost use Rattle.std.specs.Prelude.{◌≡◌};
 ghost use Rattle.iol_judge.specs.Replies.{can_be_read, is_read_in};
 
+use crate::observed::KnownLayouts;
 use crate::open::Open;
-use crate::seen::KnownLayouts;
 use crate::take::layout_in;
 use iol_far::{DeviceMode, message_in};
 use iol_mseq::{Layout, view_reply};

@@ -5,25 +5,45 @@ use thiserror::Error;
 
 // The numbers: their one table, which the definitions cite.
 const NOT_TAKEN: u8 = 1;
+
 const REPLY_LENGTH: u8 = 2;
+
 const STATUS_WITHOUT_DATA: u8 = 3;
+
 const INVALID_NOT_ZERO: u8 = 4;
+
 const FLAG_AT_CONFIRM: u8 = 5;
+
 const FLAG_GONE: u8 = 6;
+
 const STATUS_CODE: u8 = 7;
+
 const EVENT_OCTET: u8 = 8;
+
 const PAGE_CHANGED: u8 = 9;
+
 const PAGE_ZERO: u8 = 10;
+
 const CYCLE_TIME: u8 = 11;
+
 const PROCESS_NOT_ZERO: u8 = 12;
+
 const REST_NOT_ZERO: u8 = 13;
+
 const NO_ANSWER_DUE: u8 = 14;
+
 const NOT_BUSY: u8 = 15;
+
 const BUSY_AGAIN: u8 = 16;
+
 const ANSWER_KIND: u8 = 17;
+
 const ANSWER_LENGTH: u8 = 18;
+
 const ANSWER_SUM: u8 = 19;
+
 const ANSWER_PADDING: u8 = 20;
+
 const SEGMENT_CHANGED: u8 = 21;
 
 /// Why no device by the rules could have sent a reply.

@@ -4,17 +4,17 @@ ghost use Rattle.iol_mseq.specs.Replies.{reply_in};
 ghost use Rattle.iol_judge.specs.Replies.{data_fault, data_oddity, explained_as, explanation_of, explained_by, earlier_reason, explanation_with, held_against, state_after_reply, no_zeros, page_fault, page_oddity, fault_in_reply, reply_oddity};
 ghost use Rattle.iol_judge.specs.Taking.{and_then, taken_by_state};
 
-use crate::kept::KeptState;
+use crate::observed::{KnownLayouts, ObservedPage};
 use crate::octets::{first_octet, rest_of};
 use crate::open::Open;
+use crate::possible::PossibleState;
 use crate::reason::Reason;
-use crate::seen::{KnownLayouts, SeenPage};
 use crate::taken::{Heard, TakenMessage};
 use crate::verdict::Odd;
 use iol_mseq::{Layout, ReplyView, view_reply};
 use iol_octets::{Channel, Mc, are_zeros};
 
-impl KeptState {
+impl PossibleState {
     /// Works what was sent, and hears the reply that came: whether it explains it. Where it doesn't
     /// what is left is no state. Open, and as before, where the page's layouts would have to be
     /// known.
@@ -22,24 +22,30 @@ impl KeptState {
         &mut self,
         layouts: &KnownLayouts,
         odd: Odd,
-        seen: &SeenPage,
+        observed: &ObservedPage,
         sent: &[u8],
         reply: &[u8],
     ) -> Result<Heard, Open>
         ensures value { explained_as result self.new ≡ and_then
             (taken_by_state layouts.now self.old sent.now)
-            (λ taken. Ok (explanation_of odd seen.now taken reply.now)) }
+            (λ taken. Ok (explanation_of odd observed.now taken reply.now)) }
         ensures open { OnErr result (self.new ≡ self.old) }
     {
         match self.work(layouts, sent)? {
             None => Ok(Heard::Refused(Reason::NotTaken)),
-            Some(taken) => Ok(self.hear(odd, seen, &taken, reply)),
+            Some(taken) => Ok(self.hear(odd, observed, &taken, reply)),
         }
     }
 
     /// Once it worked the message: whether it explains the reply.
-    fn hear(&mut self, odd: Odd, seen: &SeenPage, taken: &TakenMessage<'_>, octets: &[u8]) -> Heard
-        ensures { explanation_with result self.new ≡ explained_by odd seen.now self.old
+    fn hear(
+        &mut self,
+        odd: Odd,
+        observed: &ObservedPage,
+        taken: &TakenMessage<'_>,
+        octets: &[u8],
+    ) -> Heard
+        ensures { explanation_with result self.new ≡ explained_by odd observed.now self.old
             taken.now.layout taken.now.message
             (reply_in taken.now.layout taken.now.message.mc.read octets.now) }
     {
@@ -47,7 +53,7 @@ impl KeptState {
         let Ok(reply) = view_reply(&taken.layout, mc.read, octets) else {
             return Heard::Refused(Reason::ReplyLength);
         };
-        let fault = fault_of(seen, self, &taken.layout, mc, &reply);
+        let fault = fault_of(observed, self, &taken.layout, mc, &reply);
         let oddity = oddity_of(self.cycle, mc, &reply);
         match held_against(odd, fault, oddity) {
             Some(reason) => Heard::Refused(reason),
@@ -66,7 +72,7 @@ impl KeptState {
         let octet = first_octet(reply.od());
         match mc.channel {
             Channel::Page if mc.read && mc.address == 1 => self.cycle = self.cycle.or(Some(octet)),
-            Channel::Diagnosis if mc.read => self.events = self.events.told(mc.address, octet),
+            Channel::Diagnosis if mc.read => self.events = self.events.updated(mc.address, octet),
             Channel::Isdu if mc.read => self.transfer.hear(reply),
             _ => {}
         }
@@ -96,51 +102,56 @@ fn first_of(fault: Option<Reason>, oddity: Option<Reason>) -> Option<Reason>
 
 /// Why the state can't have sent the reply, none where it can, but for what is odd.
 fn fault_of(
-    seen: &SeenPage,
-    kept: &KeptState,
+    observed: &ObservedPage,
+    state: &PossibleState,
     layout: &Layout,
     mc: Mc,
     reply: &ReplyView<'_>,
 ) -> Option<Reason>
-    ensures { result ≡ fault_in_reply seen.now kept.now layout.now mc reply.now }
+    ensures { result ≡ fault_in_reply observed.now state.now layout.now mc reply.now }
 {
     if reply.invalid() && layout.pd_in() == 0 {
         return Some(Reason::StatusWithoutData);
     }
-    if let Some(reason) = kept.events.flag_fault(reply.event()) {
+    if let Some(reason) = state.events.flag_fault(reply.event()) {
         return Some(reason);
     }
     if mc.read {
-        data_fault(seen, kept, mc, reply)
+        data_fault(observed, state, mc, reply)
     } else {
         None
     }
 }
 
 /// Why the on-request data can't be those of the reply to a read, but for what is odd.
-fn data_fault(seen: &SeenPage, kept: &KeptState, mc: Mc, reply: &ReplyView<'_>) -> Option<Reason>
-    ensures { result ≡ data_fault seen.now kept.now reply.now.event mc.channel mc.address
+fn data_fault(
+    observed: &ObservedPage,
+    state: &PossibleState,
+    mc: Mc,
+    reply: &ReplyView<'_>,
+) -> Option<Reason>
+    ensures { result ≡ data_fault observed.now state.now reply.now.event mc.channel mc.address
         reply.now.od.items }
 {
     match mc.channel {
         Channel::Process => None,
         Channel::Page if (0x02..=0x0B).contains(&mc.address) => {
-            page_fault(seen, mc.address, first_octet(reply.od()))
+            page_fault(observed, mc.address, first_octet(reply.od()))
         }
         Channel::Page => None,
         Channel::Diagnosis => {
-            let events = kept.events.flag_told(reply.event());
+            let events = state.events.flag_updated(reply.event());
             events.fault(mc.address, first_octet(reply.od()))
         }
-        Channel::Isdu => kept.transfer.fault(reply),
+        Channel::Isdu => state.transfer.fault(reply),
     }
 }
 
 /// Why this can't be the octet of an address of the page.
-fn page_fault(seen: &SeenPage, address: u8, octet: u8) -> Option<Reason>
-    ensures { result ≡ page_fault seen.now address octet }
+fn page_fault(observed: &ObservedPage, address: u8, octet: u8) -> Option<Reason>
+    ensures { result ≡ page_fault observed.now address octet }
 {
-    match seen.octet(address) {
+    match observed.octet(address) {
         Some(known) if known != octet => Some(Reason::PageChanged),
         _ => None,
     }

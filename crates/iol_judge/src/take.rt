@@ -8,16 +8,16 @@ ghost use Rattle.iol_judge.specs.Taking.{cycle_after, mode_known, mode_layout, s
 ghost use Rattle.iol_judge.specs.declared.transfer.Transfer.{Transfer};
 ghost use Rattle.iol_judge.specs.declared.transfer.Transfer.TheVariants.{Quiet};
 
-use crate::kept::KeptState;
+use crate::observed::KnownLayouts;
 use crate::open::Open;
-use crate::seen::KnownLayouts;
+use crate::possible::PossibleState;
 use crate::taken::TakenMessage;
 use crate::transfer::Transfer;
 use iol_far::{DeviceMode, ModeCommand, command_in, is_confirm, message_in, mode_asked};
 use iol_mseq::{Layout, MasterView, Message, first};
 use iol_octets::Channel;
 
-impl KeptState {
+impl PossibleState {
     /// The mode that it changes to before it takes these octets: they aren't those of the command
     /// that waits there.
     fn change_due(&self, octets: &[u8]) -> Option<DeviceMode>

@@ -1,6 +1,6 @@
 //! What comes of a message, and of a reply.
 
-use crate::kept::KeptState;
+use crate::possible::PossibleState;
 use crate::reason::Reason;
 use arrayvec::ArrayVec;
 use iol_mseq::{Layout, MasterView};
@@ -9,7 +9,7 @@ use iol_mseq::{Layout, MasterView};
 pub(crate) const MAX_STATES: usize = 128;
 
 /// The states of a device that the exchanges so far admit.
-pub(crate) type States = ArrayVec<KeptState, MAX_STATES>;
+pub(crate) type States = ArrayVec<PossibleState, MAX_STATES>;
 
 /// A message that a state took, and in which layout.
 #[derive(Drop)]

@@ -4,10 +4,10 @@ ghost use Rattle.iol_isdu.specs.Parse.{request_of};
 ghost use Rattle.iol_judge.specs.declared.transfer.Transfer.TheVariants.{Quiet};
 ghost use Rattle.iol_segment.specs.Join.{next_count};
 ghost use Rattle.iol_far.specs.Codec.{flow_of};
-ghost use Rattle.iol_judge.specs.Transfers.{answered_read, asked_again, transfer_of_request, count_read, count_written, covers_transfer, first_again, goes_further, is_apart_at, is_quiet, transfer_fault, or_ended, perhaps_told, transfer_of_octets, transfer_receiving, sent_again, start_read, transfer_told_by, transfer_after, transfer_on, transfer_unknown, whole_read};
+ghost use Rattle.iol_judge.specs.Transfers.{answered_read, asked_repeated, transfer_of_request, count_read, count_written, covers_transfer, first_resent, goes_further, is_apart_at, is_quiet, transfer_fault, or_ended, perhaps_updated, transfer_of_octets, transfer_receiving, resent, start_read, transfer_updated_by, transfer_after, transfer_on, transfer_unknown, whole_read};
 
-use crate::answer::MOST_HAD;
-use crate::had::{Further, HadSegments, is_busy};
+use crate::answer::MOST_OBSERVED;
+use crate::partial::{Further, PartialAnswer, is_busy};
 use crate::reason::Reason;
 use arrayvec::ArrayVec;
 use iol_far::{HandsOver, Kind, Recalls};
@@ -37,9 +37,9 @@ pub(crate) enum Transfer {
     /// So it is, or the answer's first segment was sent.
     Asked(bool, Option<u8>),
     /// A segment of the answer was sent.
-    Answered(HadSegments),
+    Answered(PartialAnswer),
     /// So it was, or the answer had no more segments, and none is under way.
-    Perhaps(HadSegments),
+    Perhaps(PartialAnswer),
     /// Any of these.
     Free,
 }
@@ -60,11 +60,12 @@ impl Transfer {
                 Transfer::Asked(read, last),
                 Transfer::Handed(reads, other) | Transfer::Asked(reads, other),
             ) => { read == reads && last == other }
-            (Transfer::Asked(read, _), Transfer::Answered(had)) => HadSegments::none(*read).is(had),
-            (Transfer::Answered(had), Transfer::Answered(other))
-            | (Transfer::Perhaps(had), Transfer::Answered(other) | Transfer::Perhaps(other)) => {
-                had.is(other)
-            }
+            (Transfer::Asked(read, _), Transfer::Answered(partial)) => PartialAnswer::none(
+                *read,
+            ).is(partial),
+            (Transfer::Answered(partial), Transfer::Answered(other))
+            | (Transfer::Perhaps(partial), Transfer::Answered(other) | Transfer::Perhaps(other)) =>
+                { partial.is(other) }
             (Transfer::Perhaps(_), Transfer::Quiet) => true,
             _ => false,
         }
@@ -79,8 +80,8 @@ impl Transfer {
             Transfer::Whole(read, last) => Transfer::Whole(*read, *last),
             Transfer::Handed(read, last) => Transfer::Handed(*read, *last),
             Transfer::Asked(read, last) => Transfer::Asked(*read, *last),
-            Transfer::Answered(had) => Transfer::Answered(*had),
-            Transfer::Perhaps(had) => Transfer::Perhaps(*had),
+            Transfer::Answered(partial) => Transfer::Answered(*partial),
+            Transfer::Perhaps(partial) => Transfer::Perhaps(*partial),
             Transfer::Free => Transfer::Free,
         }
     }
@@ -100,8 +101,8 @@ impl Transfer {
                 *last == Some(mc.address) && mc.address < START
             }
             Transfer::Asked(..) => mc.address == START,
-            Transfer::Answered(had) | Transfer::Perhaps(had) if mc.read => {
-                mc.address == START || (mc.address < START && had.was_sent(mc.address))
+            Transfer::Answered(partial) | Transfer::Perhaps(partial) if mc.read => {
+                mc.address == START || (mc.address < START && partial.was_sent(mc.address))
             }
             _ => false,
         }
@@ -198,9 +199,9 @@ impl Transfer {
         match self {
             Transfer::Whole(read, last) => whole_read(kind.hands_over, read, last),
             Transfer::Handed(read, last) => Transfer::Asked(read, last),
-            Transfer::Asked(read, last) => asked_again(kind.recalls, read, last),
-            Transfer::Answered(had) => first_again(kind.recalls, size, had),
-            Transfer::Perhaps(had) => first_again(kind.recalls, size, had).or_ended(),
+            Transfer::Asked(read, last) => asked_repeated(kind.recalls, read, last),
+            Transfer::Answered(partial) => first_resent(kind.recalls, size, partial),
+            Transfer::Perhaps(partial) => first_resent(kind.recalls, size, partial).or_ended(),
             Transfer::Free => Transfer::Free,
             _ => Transfer::Quiet,
         }
@@ -210,10 +211,10 @@ impl Transfer {
         ensures { result ≡ count_read recalls size self count }
     {
         match self {
-            Transfer::Answered(had) => answered_read(recalls, size, had, count),
-            Transfer::Perhaps(had) => answered_read(recalls, size, had, count).or_ended(),
+            Transfer::Answered(partial) => answered_read(recalls, size, partial, count),
+            Transfer::Perhaps(partial) => answered_read(recalls, size, partial, count).or_ended(),
             Transfer::Asked(read, _) => {
-                answered_read(recalls, size, HadSegments::none(read), count).or_ended()
+                answered_read(recalls, size, PartialAnswer::none(read), count).or_ended()
             }
             Transfer::Free => Transfer::Free,
             _ => Transfer::Quiet,
@@ -225,7 +226,7 @@ impl Transfer {
         ensures { result ≡ or_ended self }
     {
         match self {
-            Transfer::Answered(had) => Transfer::Perhaps(had),
+            Transfer::Answered(partial) => Transfer::Perhaps(partial),
             other => other,
         }
     }
@@ -245,12 +246,12 @@ impl Transfer {
             Transfer::Handed(..) if is_busy(od) => None,
             Transfer::Handed(..) => Some(Reason::NotBusy),
             Transfer::Asked(..) if is_busy(od) => None,
-            Transfer::Asked(read, _) => HadSegments::none(*read).fault(reply),
+            Transfer::Asked(read, _) => PartialAnswer::none(*read).fault(reply),
             // A read leaves no text whole.
             Transfer::Free | Transfer::Whole(..) => None,
-            Transfer::Answered(had) => had.fault(reply),
+            Transfer::Answered(partial) => partial.fault(reply),
             Transfer::Perhaps(_) if are_zeros(od) => None,
-            Transfer::Perhaps(had) => had.fault(reply),
+            Transfer::Perhaps(partial) => partial.fault(reply),
             _ if are_zeros(od) => None,
             _ => Some(Reason::NoAnswerDue),
         }
@@ -258,26 +259,26 @@ impl Transfer {
 
     /// A read of the ISDU channel brought this reply.
     pub fn hear(&mut self, reply: &ReplyView<'_>)
-        ensures { self.new ≡ transfer_told_by self.old reply.now.od.items }
+        ensures { self.new ≡ transfer_updated_by self.old reply.now.od.items }
     {
         if matches!(
             self,
             Transfer::Asked(..) | Transfer::Answered(_) | Transfer::Perhaps(_)
         ) {
             let old = replace(self, Transfer::Quiet);
-            *self = old.told(reply);
+            *self = old.updated(reply);
         }
     }
 
     /// Once it did.
-    fn told(self, reply: &ReplyView<'_>) -> Transfer
-        ensures { result ≡ transfer_told_by self reply.now.od.items }
+    fn updated(self, reply: &ReplyView<'_>) -> Transfer
+        ensures { result ≡ transfer_updated_by self reply.now.od.items }
     {
         match self {
             Transfer::Asked(read, last) if is_busy(reply.od()) => Transfer::Handed(read, last),
-            Transfer::Asked(read, _) => Transfer::Answered(HadSegments::none(read).with(reply)),
-            Transfer::Answered(had) => Transfer::Answered(had.with(reply)),
-            Transfer::Perhaps(had) => perhaps_told(had, reply),
+            Transfer::Asked(read, _) => Transfer::Answered(PartialAnswer::none(read).with(reply)),
+            Transfer::Answered(partial) => Transfer::Answered(partial.with(reply)),
+            Transfer::Perhaps(partial) => perhaps_updated(partial, reply),
             other => other,
         }
     }
@@ -295,8 +296,8 @@ fn whole_read(hands_over: HandsOver, read: bool, last: Option<u8>) -> Transfer
 }
 
 /// A START read behind another, where the answer's first segment may have been sent.
-fn asked_again(recalls: Recalls, read: bool, last: Option<u8>) -> Transfer
-    ensures { result ≡ asked_again recalls read last }
+fn asked_repeated(recalls: Recalls, read: bool, last: Option<u8>) -> Transfer
+    ensures { result ≡ asked_repeated recalls read last }
 {
     match recalls {
         Recalls::UntilLeft => Transfer::Asked(read, last),
@@ -305,14 +306,14 @@ fn asked_again(recalls: Recalls, read: bool, last: Option<u8>) -> Transfer
 }
 
 /// A read under COUNT, of an answer of which a segment was sent.
-fn answered_read(recalls: Recalls, size: u8, had: HadSegments, count: u8) -> Transfer
-    ensures { result ≡ answered_read recalls size had count }
+fn answered_read(recalls: Recalls, size: u8, partial: PartialAnswer, count: u8) -> Transfer
+    ensures { result ≡ answered_read recalls size partial count }
 {
-    if had.was_sent(count) {
-        sent_again(recalls, size, had, had.at, had.count)
-    } else if had.is_next(count) {
-        let next = had.at as usize + size as usize;
-        goes_further(next, had, next, count)
+    if partial.was_sent(count) {
+        resent(recalls, size, partial, partial.at, partial.count)
+    } else if partial.is_next(count) {
+        let next = partial.at as usize + size as usize;
+        goes_further(next, partial, next, count)
     } else {
         Transfer::Quiet
     }
@@ -320,47 +321,47 @@ fn answered_read(recalls: Recalls, size: u8, had: HadSegments, count: u8) -> Tra
 
 /// This segment of an answer is sent again. A device that recalls its answer until it was sent has
 /// it only while there is a segment behind the one sent last.
-fn sent_again(recalls: Recalls, size: u8, had: HadSegments, at: u16, count: u8) -> Transfer
-    requires { at ≤ had.at }
-    ensures { result ≡ sent_again recalls size had (record had { at = at; count = count }) }
+fn resent(recalls: Recalls, size: u8, partial: PartialAnswer, at: u16, count: u8) -> Transfer
+    requires { at ≤ partial.at }
+    ensures { result ≡ resent recalls size partial (record partial { at = at; count = count }) }
 {
     match recalls {
-        Recalls::UntilLeft => Transfer::Answered(had.going_on(at, count)),
+        Recalls::UntilLeft => Transfer::Answered(partial.going_on(at, count)),
         Recalls::UntilSent => {
-            let next = had.at as usize + size as usize;
-            goes_further(next, had, at as usize, count)
+            let next = partial.at as usize + size as usize;
+            goes_further(next, partial, at as usize, count)
         }
     }
 }
 
 /// This segment of an answer was sent, where it goes on at the next place; else none is under way.
-fn goes_further(next: usize, had: HadSegments, at: usize, count: u8) -> Transfer
-    requires { at ≤ next }
-    ensures { result ≡ goes_further next had (record had { at = at; count = count }) }
+fn goes_further(end: usize, part: PartialAnswer, at: usize, count: u8) -> Transfer
+    requires { at ≤ end }
+    ensures { result ≡ goes_further end part (record part { at = at; count = count }) }
 {
-    match had.further(next) {
-        Further::GoesOn => Transfer::Answered(had.reaching(next as u16).going_on(at as u16, count)),
-        Further::MayEnd => Transfer::Perhaps(had.reaching(next as u16).going_on(at as u16, count)),
+    match part.further(end) {
+        Further::GoesOn => Transfer::Answered(part.reaching(end as u16).going_on(at as u16, count)),
+        Further::MayEnd => Transfer::Perhaps(part.reaching(end as u16).going_on(at as u16, count)),
         Further::Ends => Transfer::Quiet,
     }
 }
 
 /// A read under START, of an answer of which a segment was sent.
-fn first_again(recalls: Recalls, size: u8, had: HadSegments) -> Transfer
-    ensures { result ≡ first_again recalls size had }
+fn first_resent(recalls: Recalls, size: u8, partial: PartialAnswer) -> Transfer
+    ensures { result ≡ first_resent recalls size partial }
 {
-    sent_again(recalls, size, had, 0, 0)
+    resent(recalls, size, partial, 0, 0)
 }
 
 /// A reply had octets of an answer's segment, or zeros, since there are no more.
-fn perhaps_told(had: HadSegments, reply: &ReplyView<'_>) -> Transfer
-    ensures { result ≡ perhaps_told had reply.now.od.items }
+fn perhaps_updated(partial: PartialAnswer, reply: &ReplyView<'_>) -> Transfer
+    ensures { result ≡ perhaps_updated partial reply.now.od.items }
 {
     if !are_zeros(reply.od()) {
-        return Transfer::Answered(had.with(reply));
+        return Transfer::Answered(partial.with(reply));
     }
-    match had.fault(reply) {
-        None => Transfer::Perhaps(had.with(reply)),
+    match partial.fault(reply) {
+        None => Transfer::Perhaps(partial.with(reply)),
         Some(_) => Transfer::Quiet,
     }
 }
@@ -379,7 +380,7 @@ pub(crate) fn next_count(last: Option<u8>) -> u8
 fn received_more(text: &Text, message: &MasterView<'_>, count: u8) -> Transfer
     ensures { result ≡ transfer_of_octets (text.now.items ++ message.now.od.items) (Some count) }
 {
-    let mut joined: ArrayVec<u8, MOST_HAD> = ArrayVec::new();
+    let mut joined: ArrayVec<u8, MOST_OBSERVED> = ArrayVec::new();
     joined.try_extend_from_slice(text).unwrap();
     joined.try_extend_from_slice(message.od()).unwrap();
     received(&joined, Some(count))

@@ -1,11 +1,11 @@
 //! The watch.
 ghost use Rattle.std.specs.Prelude.{◌≡◌, option_copied};
-ghost use Rattle.iol_judge.specs.Seen.{whole_page};
+ghost use Rattle.iol_judge.specs.Observed.{whole_page};
 ghost use Rattle.iol_judge.specs.Watched.{watch_after_exchange, new_watch, watch_with_page, watch_after_wake};
 
 use crate::master::MasterState;
 use crate::master_verdict::MasterVerdict;
-use crate::seen::SeenPage;
+use crate::observed::ObservedPage;
 use crate::verdict::Wake;
 use std::marker::Model;
 use std::mem::replace;
@@ -17,7 +17,7 @@ use std::mem::replace;
 /// exchanges it was told.
 #[derive(Drop)]
 pub struct Watch {
-    told: SeenPage,
+    preset: ObservedPage,
     master: MasterState,
     verdict: MasterVerdict,
     exchanges: u64,
@@ -29,7 +29,7 @@ impl Model for Watch {
     ghost Value = { WatchState };
 
     ghost view = { λ w. record {
-      told = w.told;
+      preset = w.preset;
       master = w.master;
       verdict = w.verdict;
       exchanges = w.exchanges;
@@ -42,7 +42,7 @@ impl Watch {
         ensures { result ≡ new_watch }
     {
         Watch {
-            told: SeenPage::nothing(),
+            preset: ObservedPage::nothing(),
             master: MasterState::new(),
             verdict: MasterVerdict::Unjudged,
             exchanges: 0,
@@ -54,8 +54,8 @@ impl Watch {
     pub fn page(&mut self, octets: &[u8; 10])
         ensures { self.new ≡ watch_with_page self.old (whole_page octets.now) }
     {
-        self.told = SeenPage::whole(octets);
-        self.master.seen = self.told;
+        self.preset = ObservedPage::whole(octets);
+        self.master.observed = self.preset;
     }
 
     /// A wake-up request was sent. It is by the rules at any time: a restart.
@@ -67,7 +67,7 @@ impl Watch {
         }
         self.verdict = MasterVerdict::ByTheRules;
         let master = replace(&mut self.master, MasterState::new());
-        self.master = master.woken(self.told, answer);
+        self.master = master.woken(self.preset, answer);
     }
 
     /// These octets were sent, and those came in the time of a reply, if any.

@@ -235,24 +235,24 @@ fn lies_about_events_are_found(rt: HostRuntime) {
 }
 
 /// The octets that were sent, and those that came back, if any did.
-type Told = (&'static [u8], Option<&'static [u8]>);
+type Observed = (&'static [u8], Option<&'static [u8]>);
 
-fn tell(judge: &mut Judge, told: &[Told]) {
-    for (sent, answer) in told {
+fn submit(judge: &mut Judge, observed: &[Observed]) {
+    for (sent, answer) in observed {
         judge.exchange(sent, *answer);
     }
 }
 
 /// What is said of these, right behind a wake-up request.
-fn verdict_behind(wake: Wake, told: &[Told]) -> Verdict {
+fn verdict_behind(wake: Wake, observed: &[Observed]) -> Verdict {
     let mut judge = Judge::new(Odd::Blamed);
     judge.wake(wake);
-    tell(&mut judge, told);
+    submit(&mut judge, observed);
     judge.verdict()
 }
 
 /// Other events behind confirms that may have come.
-const CONFIRMED: [Told; 8] = [
+const CONFIRMED: [Observed; 8] = [
     (&[0xC1, 0x0C], Some(&[0x54, 0x9B])),
     (&[0x40, 0x35, 0x00], None),
     (&[0xC1, 0x0C], Some(&[0x55, 0x8A])),
@@ -264,7 +264,7 @@ const CONFIRMED: [Told; 8] = [
 ];
 
 /// Two where none was shown: one is raised at a time.
-const RAISED: [Told; 2] = [
+const RAISED: [Observed; 2] = [
     (&[0xA2, 0x00], Some(&[0x17, 0x1B])),
     (&[0xC0, 0x1D], Some(&[0x83, 0x9D])),
 ];
@@ -293,7 +293,7 @@ const UNKNOWN: [Case; 2] = [
 ];
 
 /// A lie where no wake-up request was answered.
-const UNJUDGED: [Told; 1] = [(&[0xA2, 0x00], Some(&[0x17, 0x43]))];
+const UNJUDGED: [Observed; 1] = [(&[0xA2, 0x00], Some(&[0x17, 0x43]))];
 
 /// Nothing is said where the layouts aren't known, and nothing before a wake-up request.
 #[test]
@@ -303,7 +303,7 @@ fn what_is_unknown_is_open(rt: HostRuntime) {
 }
 
 /// A reply that doesn't come, and one with a wrong checksum; then an octet 00 was lost, and six.
-const LOST: [Told; 5] = [
+const LOST: [Observed; 5] = [
     (&[0x20, 0x36, 0x9A], None),
     (&[0x20, 0x36, 0x9A], Some(&[0x2C])),
     (&[0xF1, 0x64], Some(&[0, 0, 0, 0, 0, 0, 0, 0x2D])),
@@ -315,7 +315,7 @@ const LOST: [Told; 5] = [
 #[test]
 fn losses_are_honest(rt: HostRuntime) {
     let mut judge = judge_of(Odd::Blamed, Some(&PLAIN), &[]);
-    tell(&mut judge, &LOST);
+    submit(&mut judge, &LOST);
     assert!(rt; judge.verdict() == Verdict::Honest);
     // Once it is in PREOPERATE it doesn't take a message of STARTUP.
     judge.exchange(&[0xA2, 0x00], Some(&[0x17, 0x1B]));

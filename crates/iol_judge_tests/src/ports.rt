@@ -159,8 +159,8 @@ fn put(reply: &mut Message, octet: u8) {
 }
 
 /// The octets that came, if any did.
-fn octets_of(came: &Option<Message>) -> Option<&[u8]> {
-    match came {
+fn octets_of(received: &Option<Message>) -> Option<&[u8]> {
+    match received {
         Some(octets) => Some(octets.as_slice()),
         None => None,
     }
@@ -239,9 +239,9 @@ impl<A: Allocator + Copy> WatchedPort<A> {
                 let Asked::Exchange(sent) = self.port.asks() else {
                     return;
                 };
-                let came = self.device.reply(&sent);
-                self.watch.exchange(&sent.octets, octets_of(&came));
-                self.port.receive(&came);
+                let received = self.device.reply(&sent);
+                self.watch.exchange(&sent.octets, octets_of(&received));
+                self.port.receive(&received);
             }
         }
     }

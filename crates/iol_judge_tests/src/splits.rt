@@ -80,12 +80,12 @@ impl Line {
     }
 
     /// A message and its reply, where it has one: what is told of them, told to a judge.
-    fn tell(&mut self, sent: &[u8], reply: &[u8], judge: &mut Judge) -> Result<(), SplitFault> {
+    fn submit(&mut self, sent: &[u8], reply: &[u8], judge: &mut Judge) -> Result<(), SplitFault> {
         if let Some(passed) = self.hear(PAUSE, sent)? {
-            passed.tell(judge);
+            passed.submit(judge);
         }
         if let Some(passed) = self.hear(RESPONSE, reply)? {
-            passed.tell(judge);
+            passed.submit(judge);
         }
         Ok(())
     }
@@ -410,18 +410,18 @@ fn judges_are_told(rt: HostRuntime) -> Result<(), Fail> {
         splitter: Splitter::new(Rate::Com3),
         time: 0,
     };
-    line.tell(&TEST_READ, &TEST_REPLY, &mut judge)?;
+    line.submit(&TEST_READ, &TEST_REPLY, &mut judge)?;
     assert_eq!(rt; judge.verdict(), Verdict::Honest);
     for (sent, reply) in PAGE.iter() {
-        line.tell(sent, reply, &mut judge)?;
+        line.submit(sent, reply, &mut judge)?;
     }
-    line.tell(&TO_PREOPERATE, &WRITTEN, &mut judge)?;
-    line.tell(&TO_OPERATE, &WRITTEN, &mut judge)?;
-    line.tell(&IDLE, &[], &mut judge)?;
-    line.tell(&IDLE, &IDLE_REPLY, &mut judge)?;
+    line.submit(&TO_PREOPERATE, &WRITTEN, &mut judge)?;
+    line.submit(&TO_OPERATE, &WRITTEN, &mut judge)?;
+    line.submit(&IDLE, &[], &mut judge)?;
+    line.submit(&IDLE, &IDLE_REPLY, &mut judge)?;
     assert_eq!(rt; judge.verdict(), Verdict::Honest);
     // No request is under way, and so nothing else than zeros is the answer.
-    line.tell(
+    line.submit(
         &IDLE,
         &[1, 0, 0, 0, 0, 0, 0, 0, 0x01, 0x02, 0x0C],
         &mut judge,

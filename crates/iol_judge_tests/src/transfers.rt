@@ -126,12 +126,12 @@ fn an_answer_at_once_tells_kinds_apart(rt: HostRuntime) {
 }
 
 /// An answer of one segment is read again: a device has it still, or has forgotten it.
-const AGAIN: [Exchange; 3] = [(&START, &BUSY), (&START, &ANSWER), (&START, &ANSWER)];
+const REPEATED: [Exchange; 3] = [(&START, &BUSY), (&START, &ANSWER), (&START, &ANSWER)];
 
 const GONE: [Exchange; 3] = [(&START, &BUSY), (&START, &ANSWER), (&START, &ZEROS)];
 
 /// The first of two segments is known as long as the second wasn't sent.
-const FIRST_AGAIN: [Exchange; 3] = [(&START, &BUSY), (&START, &FIRST), (&START, &FIRST)];
+const FIRST_REPEATED: [Exchange; 3] = [(&START, &BUSY), (&START, &FIRST), (&START, &FIRST)];
 
 const SECOND_GONE: [Exchange; 4] = [
     (&START, &BUSY),
@@ -150,10 +150,10 @@ fn forgets_a_lost_one() -> bool {
 
 #[test]
 fn an_answer_again_tells_kinds_apart(rt: HostRuntime) {
-    assert!(rt; leaves(&AGAIN, [true, false, true, false]));
+    assert!(rt; leaves(&REPEATED, [true, false, true, false]));
     assert!(rt; leaves(&GONE, [false, true, false, true]));
     assert!(rt; forgets_a_lost_one());
-    assert!(rt; leaves(&FIRST_AGAIN, [true, true, true, true]));
+    assert!(rt; leaves(&FIRST_REPEATED, [true, true, true, true]));
     assert!(rt; leaves(&SECOND_GONE, [false, true, false, true]));
 }
 
@@ -240,7 +240,7 @@ fn lies_about_answers_are_found(rt: HostRuntime) {
 }
 
 /// Segments that are read again from any, while they stay; behind the last one there is none.
-const READ_AGAIN: [Case; 2] = [
+const READ_REPEATED: [Case; 2] = [
     (
         &[
             (&START, &BUSY),
@@ -267,5 +267,5 @@ const READ_AGAIN: [Case; 2] = [
 
 #[test]
 fn answers_may_be_read_again(rt: HostRuntime) {
-    assert!(rt; are_judged(&READ_AGAIN));
+    assert!(rt; are_judged(&READ_REPEATED));
 }

@@ -289,7 +289,7 @@ const ASKED_LATER: [Exchange; 5] = [
     (&[0xE2, 0xB0, 0x00], None),
 ];
 
-fn tell(watch: &mut Watch, exchanges: &[Exchange]) {
+fn submit(watch: &mut Watch, exchanges: &[Exchange]) {
     for (sent, answer) in exchanges {
         watch.exchange(sent, *answer);
     }
@@ -300,7 +300,7 @@ fn operating() -> Watch {
     let mut watch = Watch::new();
     watch.page(&PAGE);
     watch.wake(Wake::Answered);
-    tell(&mut watch, &MODES);
+    submit(&mut watch, &MODES);
     watch
 }
 
@@ -310,7 +310,7 @@ fn is_blamed(exchanges: &[Exchange], fault: Blame) -> bool {
     let Some((last, before)) = exchanges.split_last() else {
         return false;
     };
-    tell(&mut watch, before);
+    submit(&mut watch, before);
     let fair = watch.verdict() == MasterVerdict::ByTheRules;
     watch.exchange(last.0, last.1);
     let number = 4 + exchanges.len() as u64;
@@ -331,20 +331,20 @@ fn are_blamed(lists: &[&[Exchange]], fault: Blame) -> bool {
 fn works(watch: &mut Watch) {
     watch.wake(Wake::Unanswered);
     watch.wake(Wake::Answered);
-    tell(watch, &READS);
-    tell(watch, &MODES);
-    tell(watch, &READING);
-    tell(watch, &WRITING);
-    tell(watch, &EVENTS);
-    tell(watch, &ABORTS);
+    submit(watch, &READS);
+    submit(watch, &MODES);
+    submit(watch, &READING);
+    submit(watch, &WRITING);
+    submit(watch, &EVENTS);
+    submit(watch, &ABORTS);
 }
 
 /// Another start-up, behind which the process data out goes on with other octets.
 fn puts_out(watch: &mut Watch) {
     watch.wake(Wake::Answered);
-    tell(watch, &READS);
-    tell(watch, &MODES);
-    tell(watch, &OUTPUTS);
+    submit(watch, &READS);
+    submit(watch, &MODES);
+    submit(watch, &OUTPUTS);
 }
 
 /// A start-up, all work, and a restart.
@@ -365,11 +365,11 @@ fn work_is_by_the_rules(rt: HostRuntime) {
 fn is_due_at_once() -> bool {
     let mut watch = Watch::new();
     watch.wake(Wake::Unanswered);
-    tell(&mut watch, &READS[..1]);
+    submit(&mut watch, &READS[..1]);
     let due = MasterVerdict::NotByTheRules(1, Blame::WakeDue);
     let is_due = watch.verdict() == due;
     watch.wake(Wake::Answered);
-    tell(&mut watch, &SKIPPED);
+    submit(&mut watch, &SKIPPED);
     is_due && watch.verdict() == due
 }
 
@@ -392,8 +392,8 @@ fn is_no_start_up(reads: usize, left_out: usize, number: u64) -> bool {
     let (Some(reads), Some(modes)) = (READS.get(..reads), MODES.get(left_out..)) else {
         return false;
     };
-    tell(&mut watch, reads);
-    tell(&mut watch, modes);
+    submit(&mut watch, reads);
+    submit(&mut watch, modes);
     watch.verdict() == MasterVerdict::NotByTheRules(number, Blame::NotStartUp)
 }
 
@@ -439,17 +439,17 @@ fn messages_are_due(rt: HostRuntime) {
 /// Whether in OPERATE this is by the rules behind those.
 fn is_fair(before: &[Exchange], next: &[Exchange]) -> bool {
     let mut watch = operating();
-    tell(&mut watch, before);
-    tell(&mut watch, next);
+    submit(&mut watch, before);
+    submit(&mut watch, next);
     watch.verdict() == MasterVerdict::ByTheRules
 }
 
 /// Whether it is called not due, where those before are by the rules.
 fn is_not_due(before: &[Exchange], next: &[Exchange]) -> bool {
     let mut watch = operating();
-    tell(&mut watch, before);
+    submit(&mut watch, before);
     let fair = watch.verdict() == MasterVerdict::ByTheRules;
-    tell(&mut watch, next);
+    submit(&mut watch, next);
     fair && matches!(
         watch.verdict(),
         MasterVerdict::NotByTheRules(_, Blame::NotDue)

@@ -5,7 +5,7 @@ use Rattle.iol_mseq.specs.Replies.{reply_in}
 use Rattle.iol_mseq.specs.declared.master.MasterMsg.{MasterMsg}
 use Rattle.iol_mseq.specs.declared.reply.Reply.{Reply}
 use Rattle.iol_link.specs.declared.handler.Attempt.{Attempt}
-use Rattle.iol_link.specs.declared.handler.Attempt.TheVariants.{Got, Again, Lost}
+use Rattle.iol_link.specs.declared.handler.Attempt.TheVariants.{Got, Retry, Lost}
 use Rattle.iol_link.specs.declared.handler.AttemptView.{AttemptView}
 use Rattle.iol_link.specs.declared.handler.AttemptView.TheVariants as view
 
@@ -30,12 +30,12 @@ good_reply layout message answer = option_and_then (reply_in layout message.mc.r
 -- LINK-2, LINK-3
 abbrev pub attempt_of : ℕ → Option Reply → Attempt
 attempt_of tries (Some reply) = Got reply
-attempt_of tries None = if tries == max_retry then Lost else Again
+attempt_of tries None = if tries == max_retry then Lost else Retry
 
 -- the same, whose reply lies in what came
 abbrev pub attempt_in : AttemptView → Attempt
 attempt_in (view.Got reply) = Got reply
-attempt_in view.Again = Again
+attempt_in view.Retry = Retry
 attempt_in view.Lost = Lost
 
 -- after a good reply, and after a loss, the attempts count from 0

@@ -80,8 +80,8 @@ impl Client {
             Urgency::Other
         };
         match submit_so(port, request.clone()?, urgency) {
-            Ok(given) if given.0 == ticket => {}
-            Ok(given) => return Err(Wrong::Number.of(given.0)),
+            Ok(issued) if issued.0 == ticket => {}
+            Ok(issued) => return Err(Wrong::Number.of(issued.0)),
             Err(PortFault::Book(BookFault::JournalFull)) => return Ok(Room::Full),
             Err(fault) => return Err(fault.into()),
         }
@@ -125,7 +125,7 @@ impl Client {
                 return Ok(());
             };
             match port.collect_into(Ticket(ticket), outcome) {
-                Ok(()) => list.told(ticket, outcome)?,
+                Ok(()) => list.reported(ticket, outcome)?,
                 Err(PortFault::Book(BookFault::NotYet)) => self.tickets.push_back(ticket)?,
                 Err(fault) => return Err(fault.into()),
             }

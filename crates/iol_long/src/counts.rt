@@ -22,7 +22,7 @@ pub(crate) struct Counts {
 }
 
 impl Counts {
-    pub(crate) fn told(&mut self, outcome: &Outcome) {
+    pub(crate) fn reported(&mut self, outcome: &Outcome) {
         let count = match outcome {
             Outcome::Done(_) => &mut self.done,
             Outcome::Unknown(_) => &mut self.unknown,
@@ -31,9 +31,9 @@ impl Counts {
         *count = count.saturating_add(1);
     }
 
-    pub(crate) fn carried(&mut self, told: Told) {
+    pub(crate) fn carried(&mut self, reported: Reported) {
         self.carried = self.carried.saturating_add(1);
-        if told == Told::Before {
+        if reported == Reported::Before {
             self.late = self.late.saturating_add(1);
         }
     }
@@ -52,7 +52,7 @@ impl Counts {
 
 /// Whether a client was told the outcome of a request already.
 #[derive(Clone, Copy, Debug, PartialEq, Eq)]
-pub(crate) enum Told {
+pub(crate) enum Reported {
     Before,
     NotYet,
 }

@@ -3,7 +3,7 @@
 use crate::chance::Chance;
 use crate::fault::LongFault;
 use crate::plain::PlainList;
-use iol_device::{Apart, Device, Unkept};
+use iol_device::{Apart, Device, NoRecord};
 use iol_link::Rate;
 use iol_mseq::Message;
 use iol_page::Page;
@@ -38,7 +38,7 @@ enum Fate {
 /// A lossy line to a device, whose application is the plain list.
 #[derive(Drop)]
 pub(crate) struct Line {
-    device: Device<Apart, Unkept>,
+    device: Device<Apart, NoRecord>,
     chance: Chance,
     /// How many exchanges are still lost.
     gap: u64,

@@ -41,7 +41,7 @@ fn work<R: Runtime<A = Global>>(rt: &R) -> Result<(), LongFault> {
     };
     let mut station = Station::open(rt.alloc(), seed, keeps)?;
     station.serve(count)?;
-    println!(rt; "{}", station.told())?;
+    println!(rt; "{}", station.counts())?;
     let _ = rt.read_line(&mut String::new(rt.alloc()))?;
     Ok(())
 }

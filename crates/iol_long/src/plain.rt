@@ -1,5 +1,5 @@
 //! The plain list of what clients asked, the device did, and the drained journals say.
-use crate::counts::{Counts, Told};
+use crate::counts::{Counts, Reported};
 use crate::did::{Did, did_of, ticket_in};
 use crate::fault::{LongFault, Wrong};
 use crate::row::{Chances, Row, Stand, Urgency, answer_to, chances_after, ticket_of};
@@ -80,16 +80,16 @@ impl PlainList {
     }
 
     /// A client was told this outcome.
-    pub(crate) fn told(&mut self, ticket: u64, outcome: &Outcome) -> Result<(), LongFault> {
+    pub(crate) fn reported(&mut self, ticket: u64, outcome: &Outcome) -> Result<(), LongFault> {
         let row = self.row(ticket)?;
-        if row.told.is_some() || !row.can_end(outcome) {
+        if row.reported.is_some() || !row.can_end(outcome) {
             return Err(Wrong::OtherAnswer.of(ticket));
         }
-        row.told = Some(outcome.clone()?);
+        row.reported = Some(outcome.clone()?);
         if chances_after(outcome) == Chances::Over {
             row.chances = Chances::Over;
         }
-        self.counts.told(outcome);
+        self.counts.reported(outcome);
         self.did.push_back(Did::Collected(ticket))?;
         Ok(())
     }
@@ -110,11 +110,11 @@ impl PlainList {
         }
         let answer = answer_to(request, order, ticket);
         row.carried = Some((order, answer.clone()?));
-        let told = match row.told {
-            Some(_) => Told::Before,
-            None => Told::NotYet,
+        let reported = match row.reported {
+            Some(_) => Reported::Before,
+            None => Reported::NotYet,
         };
-        self.counts.carried(told);
+        self.counts.carried(reported);
         Ok(answer)
     }
 
@@ -127,18 +127,18 @@ impl PlainList {
     pub(crate) fn reset(&mut self) {
         self.doubt = Chances::Over;
         for row in self.rows.iter_mut() {
-            if row.told.is_some() {
+            if row.reported.is_some() {
                 row.chances = Chances::Over;
             }
         }
     }
 
     /// No journal says more of the requests whose outcome was told.
-    pub(crate) fn close_told(&mut self) {
+    pub(crate) fn close_reported(&mut self) {
         self.did.clear();
         let mut ended: u64 = 0;
         for row in self.rows.iter_mut() {
-            if row.told.is_some() && row.stand != Stand::Collected {
+            if row.reported.is_some() && row.stand != Stand::Collected {
                 row.stand = Stand::Collected;
                 ended = ended.saturating_add(1);
             }
@@ -178,11 +178,14 @@ impl PlainList {
 
     /// Whether no client was told its outcome, or the device may still carry it out.
     fn is_open(&self, ticket: u64) -> bool {
-        let is_told = match self.place(ticket) {
-            Some(place) => self.rows.get(place).is_none_or(|row| row.told.is_some()),
+        let is_reported = match self.place(ticket) {
+            Some(place) => self
+                .rows
+                .get(place)
+                .is_none_or(|row| row.reported.is_some()),
             None => true,
         };
-        !is_told || self.doubt == Chances::Left && self.last_taken == Some(ticket)
+        !is_reported || self.doubt == Chances::Left && self.last_taken == Some(ticket)
     }
 
     /// Drops the first rows of which nothing can come any more. That of the request that was taken
@@ -218,7 +221,7 @@ impl PlainList {
 
     /// A request entered, by a journal.
     fn enter(&mut self, ticket: u64, request: &Request, urgency: Urgency) -> Result<(), LongFault> {
-        let row = self.row_that_stands(ticket, Stand::Unsaid)?;
+        let row = self.row_that_stands(ticket, Stand::Unrecorded)?;
         if row.request != *request || row.urgency != urgency {
             return Err(Wrong::OtherCall.of(ticket));
         }
@@ -291,7 +294,7 @@ impl PlainList {
     /// An outcome was handed out, by a journal: the one that was told.
     fn collect(&mut self, ticket: u64) -> Result<(), LongFault> {
         let row = self.row_that_stands(ticket, Stand::Ended)?;
-        if row.told.is_none() || row.ended != row.told {
+        if row.reported.is_none() || row.ended != row.reported {
             return Err(Wrong::OtherAnswer.of(ticket));
         }
         row.stand = Stand::Collected;

@@ -23,7 +23,7 @@ pub(crate) enum Urgency {
 /// Where the drained journals say that a ticket stands.
 #[derive(Clone, Copy, Debug, PartialEq, Eq)]
 pub(crate) enum Stand {
-    Unsaid,
+    Unrecorded,
     Waiting,
     Taken,
     Ended,
@@ -49,7 +49,7 @@ pub(crate) struct Row {
     /// How it ended by the drained journals.
     pub(crate) ended: Option<Outcome>,
     /// What its client was told.
-    pub(crate) told: Option<Outcome>,
+    pub(crate) reported: Option<Outcome>,
 }
 
 impl Row {
@@ -57,11 +57,11 @@ impl Row {
         Row {
             request,
             urgency,
-            stand: Stand::Unsaid,
+            stand: Stand::Unrecorded,
             chances: Chances::Left,
             carried: None,
             ended: None,
-            told: None,
+            reported: None,
         }
     }
 

@@ -103,7 +103,7 @@ impl Station {
         self.list.close(count)
     }
 
-    pub(crate) fn told(&self) -> &Counts {
+    pub(crate) fn counts(&self) -> &Counts {
         &self.list.counts
     }
 
@@ -157,9 +157,9 @@ impl Station {
         }
         self.drained.clear();
         let restated = self.port.restated();
-        let said = self.port.drain_into(&mut self.drained)?;
-        if said != restated {
-            return Err(Wrong::Restated.of(said as u64));
+        let reported = self.port.drain_into(&mut self.drained)?;
+        if reported != restated {
+            return Err(Wrong::Restated.of(reported as u64));
         }
         self.list.drained(&self.drained, restated)
     }
@@ -168,7 +168,7 @@ impl Station {
     fn forget(&mut self) -> Result<(), LongFault> {
         match self.port.drain_into(&mut self.drained) {
             Err(PortFault::Book(BookFault::NoJournal)) => {
-                self.list.close_told();
+                self.list.close_reported();
                 Ok(())
             }
             Err(fault) => Err(fault.into()),
@@ -194,8 +194,8 @@ fn turn(port: &mut PortCore, line: &mut Line, list: &mut PlainList) -> Result<()
             port.receive_wake(rate);
         }
         Asked::Exchange(sent) => {
-            let came = line.exchange(&sent.octets, list)?;
-            port.receive(&came);
+            let received = line.exchange(&sent.octets, list)?;
+            port.receive(&received);
         }
     }
     Ok(())

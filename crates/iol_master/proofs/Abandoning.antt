@@ -9,7 +9,7 @@ use Rattle.iol_book.specs.declared.entries.Ticket.{Ticket}
 use Rattle.iol_book.specs.declared.entries.Entry.TheVariants.{Abandoned}
 use Rattle.iol_book.specs.Replay.{Standing, standing_after, same_ticket, is_among, is_taken, without, others_without}
 use Rattle.iol_book.specs.BookModel.{is_awaited, has_outcome, is_outstanding}
-use Rattle.iol_book.specs.Abandoning.{IsToldAlike}
+use Rattle.iol_book.specs.Abandoning.{IsReportedAlike}
 
 module _ {X : Type 0} (t : Ticket) where
   -- a list has no more without a ticket
@@ -81,8 +81,8 @@ module _ (s : Standing) (t : Ticket) where
       [ true ↦ refl | false ↦ among-other u apart ws ]
 
   -- what is told of another is the same
-  pub told_alike : (u : Ticket) → same_ticket t u ≡ false → IsToldAlike s (after s t) u
-  told_alike u apart =
+  pub reported_alike : (u : Ticket) → same_ticket t u ≡ false → IsReportedAlike s (after s t) u
+  reported_alike u apart =
       let urgent = among-other u apart s.urgent in
       let waiting = among-others u apart s.urgent s.waiting in
       let awaited = awaited-other s.taken in

@@ -7,10 +7,10 @@ use Rattle.std.proofs.lemmas.List.Elements.{All-head, All-tail, All-nil, All-con
 use Rattle.iol_book.specs.declared.entries.Ticket.{Ticket}
 use Rattle.iol_book.specs.Replay.{Standing, same_ticket}
 use Rattle.iol_book.specs.BookModel.{is_outstanding}
-use Rattle.iol_book.specs.Abandoning.{IsToldAlike}
+use Rattle.iol_book.specs.Abandoning.{IsReportedAlike}
 use Rattle.iol_master.specs.Ports.{PortFacts, awaits_client}
 use Rattle.iol_master.specs.Left.{IsGone, LeavesNone}
-use Rattle.iol_master.proofs.Abandoning.{after, stays_gone, told_alike, fewer, left_over, folds-append}
+use Rattle.iol_master.proofs.Abandoning.{after, stays_gone, reported_alike, fewer, left_over, folds-append}
 
 module _ {X : Type 0} (Holds : X → Type 0) where
   all_left : (xs ys : List X) → All Holds (xs ++ ys) → All Holds xs
@@ -31,8 +31,8 @@ is_found : (mine out : Bool) → (not mine && out) ≡ true → out ≡ true
 is_found true out e = absurd (cc)
 is_found false out e = e
 
-alike_then : (s m n : Standing) (u : Ticket) → IsToldAlike s m u → IsToldAlike m n u
-    → IsToldAlike s n u
+alike_then : (s m n : Standing) (u : Ticket) → IsReportedAlike s m u → IsReportedAlike m n u
+    → IsReportedAlike s n u
 alike_then s m n u first then = record {
   collect = then.collect ∙ first.collect;
   withdraw = then.withdraw ∙ first.withdraw;
@@ -53,10 +53,10 @@ module _ {P : Type 0} (facts : PortFacts P) where
     stays_out u mine none = rw (stands, mine) (still_none (own p u) (standing p) t u none)
 
     pub alike_too : (s : Standing) (u : Ticket) → same_ticket t u ≡ false
-        → IsToldAlike s (standing p) u → IsToldAlike s (standing q) u
+        → IsReportedAlike s (standing p) u → IsReportedAlike s (standing q) u
     alike_too s u apart first = rw stands
         (alike_then s (standing p) (after (standing p) t) u first
-        (told_alike (standing p) t u apart))
+        (reported_alike (standing p) t u apart))
 
   -- no ticket
   pub none_left : (p : P) → LeavesNone facts p [] p

@@ -10,7 +10,7 @@ module _ {G : Type 0} (pass_gives : GateFacts G) (gate : G) (number made : ℕ) 
   pub one_more : ((turn : ℕ) → turn < made → pass_gives gate number (turn + 1) true)
       → pass_gives gate number (made + 1) true
       → (turn : ℕ) → turn < made + 1 → pass_gives gate number (turn + 1) true
-  one_more before said turn below = elim (cases_lt turn made) [
+  one_more before passes turn below = elim (cases_lt turn made) [
     | inl less ↦ before turn less
-    | inr more ↦ rw (same turn made below more) said
+    | inr more ↦ rw (same turn made below more) passes
   ]

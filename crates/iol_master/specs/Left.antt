@@ -3,7 +3,7 @@ use Rattle.std.specs.Prelude.{◌≡◌, ℕ, List, All, false}
 use Rattle.std.specs.List.{FoldsTo, Contains}
 use Rattle.iol_book.specs.declared.entries.Ticket.{Ticket}
 use Rattle.iol_book.specs.Replay.{same_ticket}
-use Rattle.iol_book.specs.Abandoning.{IsToldAlike}
+use Rattle.iol_book.specs.Abandoning.{IsReportedAlike}
 use Rattle.iol_master.specs.Ports.{PortFacts, awaits_client}
 
 -- a ticket is none of these
@@ -29,7 +29,7 @@ module _ {P : Type 0} (facts : PortFacts P) where
     pub still : (other : Ticket) → IsGone p other → IsGone next other
     -- and of each other ticket is told what was
     pub others : (other : Ticket) → IsNoneOf tickets other
-        → IsToldAlike (standing p) (standing next) other
+        → IsReportedAlike (standing p) (standing next) other
     -- no submit was accepted
     pub counts : (count : ℕ) → holds p count → holds next count
 

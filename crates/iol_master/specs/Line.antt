@@ -30,9 +30,10 @@ pub record LineFacts (P : Type 0) : Type 1 where
 
 -- The calls of a port
 
-pub record CoreReceives (p : PortParts) (came : Option (List ℕ)) (next : PortParts) : Type 0 where
-  pub gives : PortReceiveGives p came next
-  pub does : ReceiveDoes p came next
+pub record CoreReceives (p : PortParts) (received : Option (List ℕ)) (next : PortParts) : Type 0
+  where
+    pub gives : PortReceiveGives p received next
+    pub does : ReceiveDoes p received next
 
 pub record CoreWakes (p : PortParts) (answered : Bool) (next : PortParts) : Type 0 where
   pub gives : WakeGives p answered next
@@ -53,9 +54,10 @@ core_facts = record {
 -- The calls of a port with Data Storage: what comes back, and a restart, go to the port within
 -- alone
 
-pub record StoredReceives (p : StoredParts) (came : Option (List ℕ)) (next : StoredParts) : Type 0
+pub record StoredReceives (p : StoredParts) (received : Option (List ℕ))
+    (next : StoredParts) : Type 0
   where
-    pub within : CoreReceives p.port came next.port
+    pub within : CoreReceives p.port received next.port
     pub rest : next ≡ record p { port = next.port }
 
 pub record StoredWakes (p : StoredParts) (answered : Bool) (next : StoredParts) : Type 0 where
@@ -85,8 +87,8 @@ pub record LineState (P : Type 0) : Type 0 where
 
 -- The port's own call, through which a restart that waits waits
 pub record LineCalled (old new : LineState PortParts) (c : Call) (reply : Answered)
-    (given : Type 0) : Type 0 where
-  pub call : CoreCalled old.port new.port c reply given
+    (effect : Type 0) : Type 0 where
+  pub call : CoreCalled old.port new.port c reply effect
   pub rest : new ≡ record old { port = new.port }
 
 module _ {P : Type 0} (line : LineFacts P) where
@@ -113,10 +115,10 @@ module _ {P : Type 0} (line : LineFacts P) where
     pub rest : next ≡ record p { port = next.port }
 
   -- what came back is taken, which makes one turn more
-  pub record TakesReply (p : LineState P) (came : Option (List ℕ)) (next : LineState P) :
+  pub record TakesReply (p : LineState P) (received : Option (List ℕ)) (next : LineState P) :
       Type 0 where
     pub mid : P
-    pub takes : receives p.port came mid
+    pub takes : receives p.port received mid
     pub restarted : RestartsWhere p.restart_waits mid next.port
     pub waits : next.restart_waits ≡ false
     pub turns : next.turns ≡ p.turns + 1
@@ -173,8 +175,8 @@ module _ {W P : Type 0} (facts : WireFacts W) (line : LineFacts P) where
   Brings asked.Wake old new p next =
       (rate : Option Rate) × wake_gives old rate new × TakesRate line p (is_some rate) next
   Brings (asked.Exchange out) old new p next =
-      (came : Option (ArrayVec ℕ)) × exchange_gives old out.octets.items came new
-      × TakesReply line p (octets_in came) next
+      (received : Option (ArrayVec ℕ)) × exchange_gives old out.octets.items received new
+      × TakesReply line p (octets_in received) next
 
   -- A turn: the line's port, whose lock was held, sent; the wire was called once, as it asked; and
   -- the port, whose lock was held again, awaited that, and took what came. It was the port's next
@@ -185,11 +187,11 @@ module _ {W P : Type 0} (facts : WireFacts W) (line : LineFacts P) where
     pub after : first.turns ≡ old.turns
     pub sent : LineState P
     pub sends : LineSends line first asked sent
-    pub again : LineState P
-    pub awaits : line.awaits again.port ≡ awaited_of asked
-    pub between : again.turns ≡ old.turns
+    pub locked : LineState P
+    pub awaits : line.awaits locked.port ≡ awaited_of asked
+    pub between : locked.turns ≡ old.turns
     pub taken : LineState P
-    pub brings : Brings asked old.wire new.wire again taken
+    pub brings : Brings asked old.wire new.wire locked taken
     pub turns : new.turns ≡ taken.turns
     pub nothing_out : new.out ≡ awaited_number Nothing
 

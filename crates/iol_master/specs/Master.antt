@@ -66,4 +66,4 @@ SettledAs accepted (Last n total) = (n ≡ accepted) × (n ≤ total)
 
 -- some tally, whose lock was held, at which this very desk was settled
 abbrev pub WasSettled : DeskState → Settled → Type 0
-WasSettled desk told = (a : AccountState) × (b : AccountState) × Settles a desk told b
+WasSettled desk settlement = (a : AccountState) × (b : AccountState) × Settles a desk settlement b

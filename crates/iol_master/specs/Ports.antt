@@ -13,7 +13,7 @@ use Rattle.iol_port.specs.View.{PortValue}
 use Rattle.iol_master.specs.declared.ports.DeskUrgency.{DeskUrgency}
 use Rattle.iol_master.specs.declared.fault.MasterFault.{MasterFault}
 use Rattle.iol_master.specs.declared.fault.MasterFault.TheVariants.{Port as OfPort}
-use Rattle.iol_master.specs.Tickets.{HasGiven, SubmitsAs}
+use Rattle.iol_master.specs.Tickets.{HasIssued, SubmitsAs}
 
 -- What a master needs of each of its ports
 pub record PortFacts (P : Type 0) : Type 1 where
@@ -60,7 +60,7 @@ AbandonsOne p ticket next = Abandons (MakesCall p next) p.parts next.parts ticke
 
 abbrev pub port_facts : {W : Type 0} → WireFacts W → PortFacts (PortValue W)
 port_facts facts = record {
-  holds = HasGiven;
+  holds = HasIssued;
   standing = λ p. p.parts.book.state.standing;
   own = λ p ticket. false;
   submits = WireSubmits;

@@ -11,8 +11,8 @@ use Rattle.iol_master.specs.declared.ports.DeskUrgency.{DeskUrgency}
 use Rattle.iol_master.specs.declared.ports.DeskUrgency.TheVariants.{Ordinary, Urgent}
 
 -- so many tickets were given since the port was opened
-abbrev pub HasGiven : {W : Type 0} → PortValue W → ℕ → Type 0
-HasGiven p count = p.parts.book.state.last ≡ p.opening.limits.given + count
+abbrev pub HasIssued : {W : Type 0} → PortValue W → ℕ → Type 0
+HasIssued p count = p.parts.book.state.last ≡ p.opening.limits.given + count
 
 -- the port's own submit, or its urgent one
 abbrev pub SubmitsBy : {W : Type 0} → DeskUrgency → PortValue W → Request → Result Ticket PortFault

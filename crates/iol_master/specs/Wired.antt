@@ -37,8 +37,8 @@ module _ {W P : Type 0} (facts : WireFacts W) (line : LineFacts P) where
   WireBrings asked.Wake old new p next =
       (rate : Option Rate) × wake_gives old rate new × line.wakes p (is_some rate) next
   WireBrings (asked.Exchange out) old new p next =
-      (came : Option (ArrayVec ℕ)) × exchange_gives old out.octets.items came new
-      × line.receives p (octets_in came) next
+      (received : Option (ArrayVec ℕ)) × exchange_gives old out.octets.items received new
+      × line.receives p (octets_in received) next
 
   -- A turn: the port sends, the wire is called once, as it asked, and the port takes what came
   pub record IsWiredTurn (old new : WiredParts W P) : Type 0 where

@@ -249,12 +249,12 @@ impl<L: Ledger, K: Ledger> Accounts<L, K> {
     }
 
     /// The tally, from the shares of all ports and the tickets that these gave.
-    pub(crate) fn close(self, whole: Share<K>, given: u64) -> Tally
+    pub(crate) fn close(self, whole: Share<K>, issued: u64) -> Tally
         requires parts { whole.parts ≡ K.parts }
-        requires amount { whole.amount ≡ given }
+        requires amount { whole.amount ≡ issued }
         ensures desks { result.desks ≡ self.desks }
         ensures settled { result.settled ≡ self.settled }
-        ensures tickets { (result.tickets ≡ given) × (given ≡ self.total) }
+        ensures tickets { (result.tickets ≡ issued) × (issued ≡ self.total) }
         ensures closed { IsClosed result }
     {
         let Accounts {
@@ -271,7 +271,7 @@ impl<L: Ledger, K: Ledger> Accounts<L, K> {
         Tally {
             desks,
             settled,
-            tickets: given,
+            tickets: issued,
         }
     }
 }

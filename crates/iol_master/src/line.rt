@@ -43,9 +43,9 @@ pub trait LineCore: Drop {
         ensures awaits { facts.awaits self.new ≡ awaited_of result };
 
     /// Takes what came back to the octets that were sent, or that nothing did.
-    fn receive(&mut self, came: &Option<Message>)
+    fn receive(&mut self, received: &Option<Message>)
         requires { facts.awaits self.old ≡ AwaitedAnswer.Reply }
-        ensures receives { facts.receives self.old (octets_in came.now) self.new }
+        ensures receives { facts.receives self.old (octets_in received.now) self.new }
         ensures awaits { facts.awaits self.new ≡ AwaitedAnswer.Nothing };
 
     /// Takes what came of a wake-up request: the rate of the device that answered it, or that
@@ -185,11 +185,11 @@ impl<K: Ledger, P: LineCore> LinePort<K, P> {
     }
 
     /// Takes what came back, and makes the restart that waited.
-    fn receive(&mut self, hand: &mut Share<K>, came: &Option<Message>)
+    fn receive(&mut self, hand: &mut Share<K>, received: &Option<Message>)
         requires whole { HasWholeLedger hand.old.parts K.parts }
         requires out { out_in hand.old.amount ≡ awaited_number AwaitedAnswer.Reply }
         ensures awaits { P.facts.awaits self.old.port ≡ AwaitedAnswer.Reply }
-        ensures takes { TakesReply P.facts self.old (octets_in came.now) self.new }
+        ensures takes { TakesReply P.facts self.old (octets_in received.now) self.new }
         ensures whole { HasWholeLedger hand.new.parts K.parts }
         ensures after { self.old.turns ≡ turns_in hand.old.amount }
         ensures turns { self.new.turns ≡ turns_in hand.new.amount }
@@ -198,7 +198,7 @@ impl<K: Ledger, P: LineCore> LinePort<K, P> {
         self.ledger.audit(hand);
         let waited = self.restart_waits;
         self.restart_waits = false;
-        self.port.receive(came);
+        self.port.receive(received);
         self.ledger.add(hand, TURN - REPLY);
         if waited {
             self.port.restart();
@@ -330,8 +330,8 @@ impl<W: Wire, K: Ledger> LineWorker<W, K> {
                 line.port.lock(rt).receive_wake(hand, rate);
             }
             Asked::Exchange(out) => {
-                let came = wire.exchange(out.octets.as_slice());
-                line.port.lock(rt).receive(hand, &came);
+                let received = wire.exchange(out.octets.as_slice());
+                line.port.lock(rt).receive(hand, &received);
             }
         }
     }

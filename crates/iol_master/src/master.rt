@@ -2,7 +2,7 @@
 ghost use Rattle.std.specs.Prelude.{◌≡◌, ◌≤◌, ◌⊎◌, Err, All, vec_len, MatchResult, MatchOption};
 ghost use Rattle.iol_master.specs.declared.fault.MasterFault.TheVariants as fault;
 ghost use Rattle.iol_master.specs.declared.ports.DeskUrgency.TheVariants as urgency;
-ghost use Rattle.iol_master.specs.Tickets.{HasGiven};
+ghost use Rattle.iol_master.specs.Tickets.{HasIssued};
 ghost use Rattle.iol_master.specs.Entered.{WasEntered, WasClosed};
 ghost use Rattle.iol_master.specs.Master.{IsPortNumber, Desks, DeskCountsSubmit, SettledAs};
 ghost use Rattle.iol_master.specs.Master.{WasOpened, WasSettled};
@@ -81,7 +81,7 @@ impl<W: Wire, L: Ledger, K: Ledger, A: Handle> Master<W, L, K, A> {
         requires clients { IsBlankFor clients L.name L.parts 1025 }
         requires tickets { IsBlankFor tickets K.name K.parts (vec_len ports) }
         requires count { (1 ≤ vec_len ports) × (vec_len ports ≤ 32) }
-        requires fresh { All (λ p. HasGiven p 0) ports.items }
+        requires fresh { All (λ p. HasIssued p 0) ports.items }
         ensures { MatchResult result (λ m. m ≡ vec_len ports)
             (λ e. (e.0 ≡ fault.OutOfMemory) × (e.1 ≡ ports)) }
     {
@@ -263,7 +263,7 @@ impl<W: Wire, L: Ledger, K: Ledger, A: Handle, P: MasterPort> Master<W, L, K, A,
     /// [`PortCore::abandon`](iol_port::PortCore::abandon): what nobody will collect keeps no place
     /// there. For that it waits for the port's lock, and has no other then.
     pub fn settle<R: Wait>(&self, rt: &R, desk: Desk<L>) -> Settled
-        ensures told { SettledAs desk.accepted result }
+        ensures settlement { SettledAs desk.accepted result }
         ensures settled { WasSettled desk result }
         ensures left { (¬ IsPortNumber self.now desk.port) ⊎ WasLeft P.facts desk.tickets }
     {

@@ -53,8 +53,8 @@ impl<W: Wire, P: LineCore> Wired<W, P> {
                 self.port.receive_wake(rate);
             }
             Asked::Exchange(out) => {
-                let came = self.wire.exchange(out.octets.as_slice());
-                self.port.receive(&came);
+                let received = self.wire.exchange(out.octets.as_slice());
+                self.port.receive(&received);
             }
         }
     }

@@ -34,7 +34,7 @@ pub fn answer(octets: &[u8]) -> Result<Outcome, Fail> {
 
 /// What is told of a ticket.
 #[derive(Clone, Copy)]
-pub enum Told {
+pub enum Expected {
     /// Its request was a read, and was answered with these octets.
     Reads(&'static [u8]),
     /// The device refused it.
@@ -48,23 +48,24 @@ pub enum Told {
 }
 
 /// Whether this is what is told of a ticket.
-pub fn is_told(came: &Result<Outcome, PortFault>, told: Told) -> bool {
-    match (came, told) {
-        (Err(PortFault::Book(BookFault::NotYet)), Told::NotYet) => true,
-        (Err(PortFault::Book(BookFault::UnknownTicket)), Told::Unknown) => true,
-        (Ok(outcome), _) => is_outcome(outcome, told),
+pub fn is_expected(received: &Result<Outcome, PortFault>, expected: Expected) -> bool {
+    match (received, expected) {
+        (Err(PortFault::Book(BookFault::NotYet)), Expected::NotYet) => true,
+        (Err(PortFault::Book(BookFault::UnknownTicket)), Expected::Unknown) => true,
+        (Ok(outcome), _) => is_outcome(outcome, expected),
         _ => false,
     }
 }
 
-fn is_outcome(outcome: &Outcome, told: Told) -> bool {
-    match (outcome, told) {
-        (Outcome::Done(Answer::Read(octets)), Told::Reads(wanted)) => octets.as_slice() == wanted,
-        (Outcome::Done(Answer::Refused(error, code)), Told::Refused(first, second)) => {
+fn is_outcome(outcome: &Outcome, expected: Expected) -> bool {
+    match (outcome, expected) {
+        (Outcome::Done(Answer::Read(octets)), Expected::Reads(wanted)) => octets.as_slice()
+            == wanted,
+        (Outcome::Done(Answer::Refused(error, code)), Expected::Refused(first, second)) => {
             *error == first && *code == second
         }
-        (Outcome::Withdrawn, Told::Withdrawn) => true,
-        (Outcome::Unknown(cause), Told::CutOff(wanted)) => *cause == wanted,
+        (Outcome::Withdrawn, Expected::Withdrawn) => true,
+        (Outcome::Unknown(cause), Expected::CutOff(wanted)) => *cause == wanted,
         _ => false,
     }
 }
@@ -76,7 +77,7 @@ pub enum Noted {
     Submitted(u64, Place),
     Urgent(u64, Place),
     Taken(u64),
-    Answered(u64, Told),
+    Answered(u64, Expected),
     Collected(u64),
 }
 
@@ -100,8 +101,8 @@ fn is_noted(entry: &Entry, noted: Noted) -> bool {
             *ticket == Ticket(number) && *request == Request::read(place)
         }
         (Entry::Taken(ticket), Noted::Taken(number)) => *ticket == Ticket(number),
-        (Entry::Answered(ticket, outcome), Noted::Answered(number, told)) => {
-            *ticket == Ticket(number) && is_outcome(outcome, told)
+        (Entry::Answered(ticket, outcome), Noted::Answered(number, expected)) => {
+            *ticket == Ticket(number) && is_outcome(outcome, expected)
         }
         (Entry::Collected(ticket), Noted::Collected(number)) => *ticket == Ticket(number),
         _ => false,

@@ -1,7 +1,7 @@
 //! Desks and memory of a master run out, why a submit is refused, and what one counts,
 //! urgent or not.
 ghost use Rattle.std.specs.Prelude.{IfOk};
-ghost use Rattle.iol_master.specs.Tickets.{HasGiven};
+ghost use Rattle.iol_master.specs.Tickets.{HasIssued};
 ghost use Rattle.iol_master.specs.Ledgers.{IsBlankFor};
 
 use crate::calls::{check, gives, of_book, read, serves, turns};
@@ -59,7 +59,7 @@ fn limits() -> Limits {
 }
 
 fn opened_port<A: Handle>(alloc: A, limits: &Limits) -> Result<Port<AnyWire<Nobody>, A>, Fail>
-    ensures { IfOk result (λ p. HasGiven p 0) }
+    ensures { IfOk result (λ p. HasIssued p 0) }
 {
     match Port::open(alloc, AnyWire(Nobody), limits) {
         Ok(port) => Ok(port),
@@ -155,7 +155,7 @@ fn opens_as<W: Wire + Drop, A: Handle, L: Ledger, K: Ledger>(
 ) -> Result<bool, AllocError>
     requires clients { IsBlankFor clients L.name L.parts 1025 }
     requires tickets { IsBlankFor tickets K.name K.parts 1 }
-    requires fresh { HasGiven port 0 }
+    requires fresh { HasIssued port 0 }
 {
     let (refusal, is_refused) = order;
     let ports = alone(alloc, port)?;
@@ -265,9 +265,9 @@ fn waits<W: Wire, L: Ledger, K: Ledger, A: Handle, R: Wait>(
 ) -> bool {
     let not_yet = Err(PortFault::Book(BookFault::NotYet));
     let is_accepted = desk.accepted() == 1;
-    let is_kept = turns(rt, master, 1, 1) && gives(rt, master, 1, Ticket(8), &not_yet);
-    let told = master.settle(rt, desk);
-    is_accepted && is_kept && told == Settled::Last(1, 1)
+    let is_waiting = turns(rt, master, 1, 1) && gives(rt, master, 1, Ticket(8), &not_yet);
+    let settled = master.settle(rt, desk);
+    is_accepted && is_waiting && settled == Settled::Last(1, 1)
 }
 
 /// Submits while each request for memory is refused in turn; no other call makes one.

@@ -1,9 +1,9 @@
 //! Clients that are gone: what became of their tickets once their desks are settled.
 ghost use Rattle.std.specs.Prelude.{◌≤◌, All, vec_len};
-ghost use Rattle.iol_master.specs.Tickets.{HasGiven};
+ghost use Rattle.iol_master.specs.Tickets.{HasIssued};
 ghost use Rattle.iol_master.specs.Ledgers.{IsBlankFor};
 
-use crate::calls::{Told, check};
+use crate::calls::{Expected, check};
 use crate::opening::{numbered, numbered_port, open_master, open_one};
 use crate::scripts::Call;
 use crate::visits::{Desks, Step, Who, answers_locked, goes_on, passes_all};
@@ -28,7 +28,7 @@ const TURNS: u64 = 20;
 const FULL: MasterFault = MasterFault::Port(PortFault::Book(BookFault::Full));
 
 /// What a read of the first port's device comes to.
-const VALUE: Told = Told::Reads(&[0x42, 0]);
+const VALUE: Expected = Expected::Reads(&[0x42, 0]);
 
 /// A client that is gone has all tickets of the port: one has its outcome, one is under way, and
 /// the others wait. Another client has no place, and has one once the first one's desk is settled.
@@ -59,11 +59,11 @@ const LEAVES_THE_OTHERS: [Step; 16] = [
     Step::SubmitMany(Who::Other, 4, 4),
     Step::SubmitMany(Who::One, 5, 5),
     Step::Settle(Who::One, Settled::Part(3)),
-    Step::Call(1, Call::Collect(2, Told::Unknown)),
-    Step::Call(1, Call::Collect(3, Told::Unknown)),
-    Step::Call(1, Call::Collect(5, Told::Unknown)),
-    Step::Call(1, Call::Collect(1, Told::NotYet)),
-    Step::Call(1, Call::Collect(4, Told::NotYet)),
+    Step::Call(1, Call::Collect(2, Expected::Unknown)),
+    Step::Call(1, Call::Collect(3, Expected::Unknown)),
+    Step::Call(1, Call::Collect(5, Expected::Unknown)),
+    Step::Call(1, Call::Collect(1, Expected::NotYet)),
+    Step::Call(1, Call::Collect(4, Expected::NotYet)),
     Step::Call(1, Call::Turns(2 * TURNS)),
     Step::Call(1, Call::Collect(1, VALUE)),
     Step::Call(1, Call::Collect(4, VALUE)),
@@ -92,10 +92,10 @@ const LEAVES_OTHER_PORTS: [Step; 10] = [
     Step::SubmitMany(Who::Other, 1, 2),
     Step::SubmitMany(Who::One, 1, 2),
     Step::Settle(Who::One, Settled::Part(2)),
-    Step::Call(2, Call::Collect(1, Told::Unknown)),
-    Step::Call(2, Call::Collect(2, Told::Unknown)),
-    Step::Call(1, Call::Collect(1, Told::NotYet)),
-    Step::Call(1, Call::Collect(2, Told::NotYet)),
+    Step::Call(2, Call::Collect(1, Expected::Unknown)),
+    Step::Call(2, Call::Collect(2, Expected::Unknown)),
+    Step::Call(1, Call::Collect(1, Expected::NotYet)),
+    Step::Call(1, Call::Collect(2, Expected::NotYet)),
     Step::Settle(Who::Other, Settled::Last(2, 4)),
 ];
 
@@ -106,7 +106,7 @@ fn are_unknown<W: Wire, L: Ledger, K: Ledger, R: Wait>(
     last: u64,
 ) -> bool {
     for number in 1..=last {
-        if !answers_locked(rt, master, 1, &[Call::Collect(number, Told::Unknown)]) {
+        if !answers_locked(rt, master, 1, &[Call::Collect(number, Expected::Unknown)]) {
             return false;
         }
     }
@@ -172,7 +172,7 @@ fn holds_at_two<W: Wire + Drop, L: Ledger, K: Ledger, R: Wait + Abort>(
     requires clients { IsBlankFor clients L.name L.parts 1025 }
     requires tickets { IsBlankFor tickets K.name K.parts (vec_len ports) }
     requires count { (1 ≤ vec_len ports) × (vec_len ports ≤ 32) }
-    requires fresh { All (λ p. HasGiven p 0) ports.items }
+    requires fresh { All (λ p. HasIssued p 0) ports.items }
 {
     let master = open_master::<W, L, K, Global, R>(rt, alloc, ports, clients, tickets);
     check(rt, passes_all(rt, &master, &LEAVES_OTHER_PORTS));
@@ -205,7 +205,7 @@ fn holds<W: Wire + Drop, L: Ledger, K: Ledger, R: Wait + Abort>(
 ) -> Result<(), Fail>
     requires clients { IsBlankFor clients L.name L.parts 1025 }
     requires tickets { IsBlankFor tickets K.name K.parts 1 }
-    requires fresh { HasGiven port 0 }
+    requires fresh { HasIssued port 0 }
 {
     let master = open_one::<W, L, K, Global, R>(rt, alloc, port, clients, tickets)?;
     let holds = match case {

@@ -1,5 +1,5 @@
 //! Lines of a port: its calls under the lock, while a worker makes the turns.
-use crate::calls::{Noted, Told, are_noted, check, is_told};
+use crate::calls::{Expected, Noted, are_noted, check, is_expected};
 use crate::opening::wired;
 use crate::scripts::{
     Call, ENOUGH, Script, Stage, Tested, UNDER_WAY, VALUE_PLACE, Waits, lets_in, lets_in_at_wire,
@@ -42,8 +42,8 @@ impl Tested for PortCore {
 /// The calls that hand something out.
 fn hands_out<K: Ledger>(port: &mut LinePort<K>, call: Call) -> bool {
     match call {
-        Call::Collect(number, told) => is_told(&port.collect(Ticket(number)), told),
-        Call::CollectInto(number, told) => collects_into(port, number, told),
+        Call::Collect(number, expected) => is_expected(&port.collect(Ticket(number)), expected),
+        Call::CollectInto(number, expected) => collects_into(port, number, expected),
         Call::Event(event) => port.take_event() == event,
         Call::Journal(noted) => archives_as(port, noted),
         Call::Archive(count) => archives(port, count),
@@ -52,10 +52,10 @@ fn hands_out<K: Ledger>(port: &mut LinePort<K>, call: Call) -> bool {
     }
 }
 
-fn collects_into<K: Ledger>(port: &mut LinePort<K>, number: u64, told: Told) -> bool {
+fn collects_into<K: Ledger>(port: &mut LinePort<K>, number: u64, expected: Expected) -> bool {
     let mut outcome = Outcome::Withdrawn;
     match port.collect_into(Ticket(number), &mut outcome) {
-        Ok(()) => is_told(&Ok(outcome), told),
+        Ok(()) => is_expected(&Ok(outcome), expected),
         Err(_) => false,
     }
 }
@@ -93,7 +93,7 @@ fn is_set<K: Ledger>(port: &mut LinePort<K>, call: Call) -> bool {
             port.restart();
             true
         }
-        _ => is_seen(port, call),
+        _ => is_observed(port, call),
     }
 }
 
@@ -105,7 +105,7 @@ fn sets_output<K: Ledger>(port: &mut LinePort<K>, octet: u8) -> bool {
 }
 
 /// Those that only look.
-fn is_seen<K: Ledger>(port: &LinePort<K>, call: Call) -> bool {
+fn is_observed<K: Ledger>(port: &LinePort<K>, call: Call) -> bool {
     match call {
         Call::RestartWaits(waits) => port.is_restart_waiting() == waits,
         Call::Mode(mode) => port.status().mode == mode,
@@ -125,7 +125,7 @@ const EACH_CALL: Script = Script {
         Stage::Calls(&[
             Call::Submit(VALUE_PLACE, 1),
             Call::Withdraw(1),
-            Call::Collect(1, Told::Withdrawn),
+            Call::Collect(1, Expected::Withdrawn),
         ]),
         Stage::Turns(START_UP),
         Stage::Calls(&[
@@ -136,14 +136,14 @@ const EACH_CALL: Script = Script {
         ]),
         Stage::Turns(ENOUGH),
         Stage::Calls(&[
-            Call::Collect(2, Told::Reads(&VALUE)),
+            Call::Collect(2, Expected::Reads(&VALUE)),
             Call::Event(Ok(ALARM)),
         ]),
         Stage::Calls(&HANDED_OUT),
         Stage::Turns(UNDER_WAY),
         Stage::Calls(&[Call::Cancel(3)]),
         Stage::Turns(ENOUGH),
-        Stage::Calls(&[Call::CollectInto(3, Told::CutOff(Cause::Cancelled))]),
+        Stage::Calls(&[Call::CollectInto(3, Expected::CutOff(Cause::Cancelled))]),
         Stage::Calls(&[
             Call::Restart,
             Call::RestartWaits(false),
@@ -165,7 +165,7 @@ const HANDED_OUT: [Call; 10] = [
     Call::Restated(1),
     Call::Submit(VALUE_PLACE, 4),
     Call::Abandon(4),
-    Call::Collect(4, Told::Unknown),
+    Call::Collect(4, Expected::Unknown),
 ];
 
 #[test]

@@ -1,9 +1,9 @@
 //! Masters over the simulated wire: workers and clients at once.
 ghost use Rattle.std.specs.Prelude.{◌≤◌, All, vec_len};
-ghost use Rattle.iol_master.specs.Tickets.{HasGiven};
+ghost use Rattle.iol_master.specs.Tickets.{HasIssued};
 ghost use Rattle.iol_master.specs.Ledgers.{IsBlankFor};
 
-use crate::calls::{Told, check, read, serves};
+use crate::calls::{Expected, check, read, serves};
 use crate::opening::{numbered, open_master};
 use crate::scripts::{Call, VALUE_PLACE};
 use crate::slow::is_set;
@@ -150,20 +150,20 @@ fn met<W: Wire, L: Ledger, K: Ledger, R: Wait>(
     visits: Two<Two<Done<L>>>,
 ) -> bool {
     let (((one, a), (two, b)), ((three, c), (four, d))) = visits;
-    let are_given = are_firsts(a, d) && are_firsts(b, c);
+    let are_issued = are_firsts(a, d) && are_firsts(b, c);
     let are_answered = passes_all(rt, master, &ANSWERED);
     let are_settled = are_settled(rt, master, (one, four), (two, three));
-    are_given && are_answered && are_settled
+    are_issued && are_answered && are_settled
 }
 
 /// Each port gave its value for both of its tickets, and knows no third.
 const ANSWERED: [Step; 6] = [
-    Step::Call(1, Call::Collect(1, Told::Reads(&[0x42, 0]))),
-    Step::Call(1, Call::Collect(2, Told::Reads(&[0x42, 0]))),
-    Step::Call(1, Call::Collect(3, Told::Unknown)),
-    Step::Call(2, Call::Collect(1, Told::Reads(&[0x42, 1]))),
-    Step::Call(2, Call::Collect(2, Told::Reads(&[0x42, 1]))),
-    Step::Call(2, Call::Collect(3, Told::Unknown)),
+    Step::Call(1, Call::Collect(1, Expected::Reads(&[0x42, 0]))),
+    Step::Call(1, Call::Collect(2, Expected::Reads(&[0x42, 0]))),
+    Step::Call(1, Call::Collect(3, Expected::Unknown)),
+    Step::Call(2, Call::Collect(1, Expected::Reads(&[0x42, 1]))),
+    Step::Call(2, Call::Collect(2, Expected::Reads(&[0x42, 1]))),
+    Step::Call(2, Call::Collect(3, Expected::Unknown)),
 ];
 
 const TWO_PORTS: [Step; 2] = [
@@ -204,7 +204,7 @@ where
     requires clients { IsBlankFor clients L.name L.parts 1025 }
     requires tickets { IsBlankFor tickets K.name K.parts (vec_len ports) }
     requires count { (1 ≤ vec_len ports) × (vec_len ports ≤ 32) }
-    requires fresh { All (λ p. HasGiven p 0) ports.items }
+    requires fresh { All (λ p. HasIssued p 0) ports.items }
 {
     let master = open_master::<W, L, K, Global, R>(rt, alloc, ports, clients, tickets);
     check(rt, passes_all(rt, &master, &TWO_PORTS));
@@ -237,9 +237,9 @@ const CANCELS: [Step; 13] = [
     Step::Call(SECOND, Call::CancelFails(1, NOT_IN_FLIGHT)),
     Step::Call(SECOND, Call::Cancel(2)),
     Step::Call(SECOND, Call::Turns(1)),
-    Step::Call(SECOND, Call::Collect(2, Told::CutOff(Cause::Cancelled))),
+    Step::Call(SECOND, Call::Collect(2, Expected::CutOff(Cause::Cancelled))),
     Step::Call(SECOND, Call::Turns(3)),
-    Step::Call(SECOND, Call::Collect(1, Told::Reads(&[0x42, 1]))),
+    Step::Call(SECOND, Call::Collect(1, Expected::Reads(&[0x42, 1]))),
     Step::Settle(Who::One, Settled::Part(1)),
     Step::Settle(Who::Other, Settled::Last(1, 2)),
 ];
@@ -254,7 +254,7 @@ fn cancels_at_two<W: Wire + Drop, L: Ledger, K: Ledger, R: Wait + Abort>(
     requires clients { IsBlankFor clients L.name L.parts 1025 }
     requires tickets { IsBlankFor tickets K.name K.parts (vec_len ports) }
     requires count { (1 ≤ vec_len ports) × (vec_len ports ≤ 32) }
-    requires fresh { All (λ p. HasGiven p 0) ports.items }
+    requires fresh { All (λ p. HasIssued p 0) ports.items }
 {
     let master = open_master::<W, L, K, Global, R>(rt, alloc, ports, clients, tickets);
     check(rt, passes_all(rt, &master, &CANCELS));

@@ -1,6 +1,6 @@
 //! Devices, ports and masters, opened where no memory is lacking.
 ghost use Rattle.std.specs.Prelude.{◌≡◌, ◌≤◌, ◌∷◌, [], All, IfOk, vec_len};
-ghost use Rattle.iol_master.specs.Tickets.{HasGiven};
+ghost use Rattle.iol_master.specs.Tickets.{HasIssued};
 ghost use Rattle.iol_master.specs.Ledgers.{IsBlankFor};
 
 use iol_book::Limits;
@@ -43,7 +43,7 @@ pub fn wired(
 
 /// A port over this wire.
 pub fn open_port<W: Wire + Drop>(alloc: Global, wire: W) -> Result<Port<W>, Fail>
-    ensures { IfOk result (λ p. HasGiven p 0) }
+    ensures { IfOk result (λ p. HasIssued p 0) }
 {
     match Port::open(alloc, wire, &Limits::default()) {
         Ok(port) => Ok(port),
@@ -62,7 +62,7 @@ pub fn alone<T: Drop, A: Allocator>(alloc: A, item: T) -> Result<Vec<T, A>, Allo
 
 /// A port whose device has a value of its own: 0x42, and this number.
 pub fn numbered_port(alloc: Global, number: u8) -> Result<Port<Sim<Params>>, Fail>
-    ensures { IfOk result (λ p. HasGiven p 0) }
+    ensures { IfOk result (λ p. HasIssued p 0) }
 {
     let wire = wired(alloc, &PLAIN, &[0x42, number], Vec::new(alloc))?;
     open_port(alloc, wire)
@@ -70,7 +70,7 @@ pub fn numbered_port(alloc: Global, number: u8) -> Result<Port<Sim<Params>>, Fai
 
 /// So many ports, numbered from 0.
 pub fn numbered(alloc: Global, count: u8) -> Result<Vec<Port<Sim<Params>>>, Fail>
-    ensures { IfOk result (λ v. (vec_len v ≡ count) × All (λ p. HasGiven p 0) v.items) }
+    ensures { IfOk result (λ v. (vec_len v ≡ count) × All (λ p. HasIssued p 0) v.items) }
 {
     let mut ports = Vec::new(alloc);
     for index in 0..count {
@@ -90,7 +90,7 @@ pub fn open_master<W: Wire + Drop, L: Ledger, K: Ledger, A: Handle, R: Abort>(
     requires clients { IsBlankFor clients L.name L.parts 1025 }
     requires tickets { IsBlankFor tickets K.name K.parts (vec_len ports) }
     requires count { (1 ≤ vec_len ports) × (vec_len ports ≤ 32) }
-    requires fresh { All (λ p. HasGiven p 0) ports.items }
+    requires fresh { All (λ p. HasIssued p 0) ports.items }
 {
     Master::open(alloc, ports, clients, tickets)
         .ok()
@@ -107,7 +107,7 @@ pub fn open_one<W: Wire + Drop, L: Ledger, K: Ledger, A: Handle, R: Abort>(
 ) -> Result<Master<W, L, K, A>, AllocError>
     requires clients { IsBlankFor clients L.name L.parts 1025 }
     requires tickets { IsBlankFor tickets K.name K.parts 1 }
-    requires fresh { HasGiven port 0 }
+    requires fresh { HasIssued port 0 }
 {
     let ports = alone(alloc, port)?;
     Ok(open_master(rt, alloc, ports, clients, tickets))

@@ -4,7 +4,7 @@
 //! port, and these go through the tables.
 ghost use Rattle.iol_master.specs.Ledgers.{IsBlankFor};
 
-use crate::calls::{Noted, Told, check};
+use crate::calls::{Expected, Noted, check};
 use crate::slow::{Flags, START_UP, is_set, slow_wire};
 use iol_app::{Asked, Mode};
 use iol_event::Event;
@@ -45,8 +45,8 @@ pub enum Call {
     Abandon(u64),
     Cancel(u64),
     CancelFails(u64, PortFault),
-    Collect(u64, Told),
-    CollectInto(u64, Told),
+    Collect(u64, Expected),
+    CollectInto(u64, Expected),
     Event(Result<Event, PortFault>),
     /// The journal, of these entries or of so many.
     Journal(&'static [Noted]),
@@ -246,7 +246,7 @@ static AT_THE_GATE: [&[Call]; 1] = [&[Call::Submit(VALUE_PLACE, 1)]];
 static RESTARTED: [Call; 3] = [
     Call::RestartWaits(false),
     Call::Mode(Mode::Down),
-    Call::Collect(1, Told::NotYet),
+    Call::Collect(1, Expected::NotYet),
 ];
 
 impl Waits {

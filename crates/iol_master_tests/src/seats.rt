@@ -1,6 +1,6 @@
 //! A seat of a port's image cell reads without the port's lock.
 ghost use Rattle.std.specs.Prelude.{IfOk};
-ghost use Rattle.iol_master.specs.Tickets.{HasGiven};
+ghost use Rattle.iol_master.specs.Tickets.{HasIssued};
 ghost use Rattle.iol_master.specs.Ledgers.{IsBlankFor};
 
 use crate::calls::{check, turns};
@@ -23,7 +23,7 @@ use std::thread::Threads;
 
 /// Gives a port a cell for its images, and hands out a seat there.
 fn seat_at<W: Wire, R: Wait>(rt: &R, alloc: Global, port: &mut Port<W>) -> Result<ImageSeat, Fail>
-    ensures { HasGiven port.old 0 → HasGiven port.new 0 }
+    ensures { HasIssued port.old 0 → HasIssued port.new 0 }
 {
     let (writer, mut seats) = image_cell(rt, alloc, 1)?;
     port.publish_to(writer);
@@ -37,7 +37,7 @@ pub fn shown_port<W: Wire + Drop, R: Wait>(
     alloc: Global,
     wire: W,
 ) -> Result<(Port<W>, ImageSeat), Fail>
-    ensures { IfOk result (λ r. HasGiven r.0 0) }
+    ensures { IfOk result (λ r. HasIssued r.0 0) }
 {
     let mut port = open_port(alloc, wire)?;
     let seat = seat_at(rt, alloc, &mut port)?;

@@ -3,7 +3,7 @@
 //! and the journal is looked at afterwards.
 ghost use Rattle.iol_master.specs.Ledgers.{IsBlankFor};
 
-use crate::calls::{Noted, Told, check, serves};
+use crate::calls::{Expected, Noted, check, serves};
 use crate::desks::Open;
 use crate::opening::{open_one, open_port, wired};
 use crate::scripts::{Call, Script, Stage, VALUE_PLACE, run};
@@ -104,14 +104,14 @@ impl Peer for Watched {
     }
 
     fn exchange(&mut self, sent: &[u8]) -> Option<Message> {
-        let came = self.wire.exchange(sent);
+        let received = self.wire.exchange(sent);
         self.watch.calls.fetch_add(1, Ordering::SeqCst);
         self.watch
             .output
             .store(u64::from(output_of(&self.wire)), Ordering::SeqCst);
         match (self.form, sent.first()) {
             (Form::Odd, Some(&READ_STATUS)) => Message::try_from(ODD_STATUS.as_slice()).ok(),
-            _ => came,
+            _ => received,
         }
     }
 }
@@ -177,9 +177,9 @@ const ABSENT: Place = Place { index: 17, sub: 0 };
 
 /// What three requests come to: the link was lost while the urgent one was under way.
 const COLLECTED: [Call; 3] = [
-    Call::Collect(1, Told::Reads(&VALUE)),
-    Call::Collect(2, Told::Refused(0x80, 0x11)),
-    Call::Collect(3, Told::CutOff(Cause::LinkLost)),
+    Call::Collect(1, Expected::Reads(&VALUE)),
+    Call::Collect(2, Expected::Refused(0x80, 0x11)),
+    Call::Collect(3, Expected::CutOff(Cause::LinkLost)),
 ];
 
 /// Their journal.
@@ -188,11 +188,11 @@ const NOTED: [Noted; 12] = [
     Noted::Submitted(2, ABSENT),
     Noted::Urgent(3, VALUE_PLACE),
     Noted::Taken(3),
-    Noted::Answered(3, Told::CutOff(Cause::LinkLost)),
+    Noted::Answered(3, Expected::CutOff(Cause::LinkLost)),
     Noted::Taken(1),
-    Noted::Answered(1, Told::Reads(&VALUE)),
+    Noted::Answered(1, Expected::Reads(&VALUE)),
     Noted::Taken(2),
-    Noted::Answered(2, Told::Refused(0x80, 0x11)),
+    Noted::Answered(2, Expected::Refused(0x80, 0x11)),
     Noted::Collected(1),
     Noted::Collected(2),
     Noted::Collected(3),
@@ -256,7 +256,7 @@ const SILENT: [Act; 7] = [
 ];
 
 /// The link is up again, and the event came where the StatusCode is known.
-const UP_AGAIN: [Call; 4] = [
+const UP_WITH_EVENT: [Call; 4] = [
     Call::Mode(Mode::Operate),
     Call::EventForm(false),
     Call::Event(Ok(ALARM)),
@@ -277,13 +277,13 @@ const DONE: [Act; 4] = [
     Act::Shows(&LATER),
 ];
 
-fn is_up_again<W: Wire, L: Ledger, K: Ledger, R: Wait>(
+fn is_back_up<W: Wire, L: Ledger, K: Ledger, R: Wait>(
     rt: &R,
     master: &Master<W, L, K>,
     form: Form,
 ) -> bool {
     match form {
-        Form::Known => answers_locked(rt, master, 1, &UP_AGAIN),
+        Form::Known => answers_locked(rt, master, 1, &UP_WITH_EVENT),
         Form::Odd => answers_locked(rt, master, 1, &UP_WITHOUT),
     }
 }
@@ -295,7 +295,7 @@ fn through<W: Wire + Send, L: Ledger, K: Ledger + Sync, R: Threads + Wait + Sync
     form: Form,
 ) -> bool {
     passes_all(rt, master, seat, &SILENT)
-        && is_up_again(rt, master, form)
+        && is_back_up(rt, master, form)
         && passes_all(rt, master, seat, &DONE)
 }
 

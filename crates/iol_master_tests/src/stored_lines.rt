@@ -2,7 +2,7 @@
 //! turns.
 ghost use Rattle.iol_master.specs.Ledgers.{IsBlankFor};
 
-use crate::calls::{Told, check, is_told};
+use crate::calls::{Expected, check, is_expected};
 use crate::scripts::{
     Call, ENOUGH, Script, Stage, Tested, UNDER_WAY, Waits, lets_in_at_wire, passes_all, run,
     start_up,
@@ -53,8 +53,8 @@ impl Tested for StoredPort {
 /// The calls that hand something out.
 fn hands_out<K: Ledger>(port: &mut Stored<K>, call: Call) -> bool {
     match call {
-        Call::Collect(number, told) => is_told(&port.collect(Ticket(number)), told),
-        Call::CollectInto(number, told) => collects_into(port, number, told),
+        Call::Collect(number, expected) => is_expected(&port.collect(Ticket(number)), expected),
+        Call::CollectInto(number, expected) => collects_into(port, number, expected),
         Call::Event(event) => port.take_event() == event,
         Call::ArchiveAny => port.archive().is_ok(),
         Call::DrainAny => port.drain().is_ok(),
@@ -62,10 +62,10 @@ fn hands_out<K: Ledger>(port: &mut Stored<K>, call: Call) -> bool {
     }
 }
 
-fn collects_into<K: Ledger>(port: &mut Stored<K>, number: u64, told: Told) -> bool {
+fn collects_into<K: Ledger>(port: &mut Stored<K>, number: u64, expected: Expected) -> bool {
     let mut outcome = Outcome::Withdrawn;
     match port.collect_into(Ticket(number), &mut outcome) {
-        Ok(()) => is_told(&Ok(outcome), told),
+        Ok(()) => is_expected(&Ok(outcome), expected),
         Err(_) => false,
     }
 }
@@ -85,7 +85,7 @@ fn is_set<K: Ledger>(port: &mut Stored<K>, call: Call) -> bool {
         Call::Expect => port.expect(OTHER) == Counting::Later,
         Call::ExpectAny => port.expect_any() == Counting::Later,
         Call::SetCycle => port.set_cycle(None) == Counting::Later,
-        _ => is_kept(port, call),
+        _ => is_stored(port, call),
     }
 }
 
@@ -97,7 +97,7 @@ fn sets_output<K: Ledger>(port: &mut Stored<K>, octet: u8) -> bool {
 }
 
 /// The calls on the set that is kept, and on blocks.
-fn is_kept<K: Ledger>(port: &mut Stored<K>, call: Call) -> bool {
+fn is_stored<K: Ledger>(port: &mut Stored<K>, call: Call) -> bool {
     match call {
         Call::Saved(number, saved) => port.saved(SetNumber(number)) == saved,
         Call::Block(number) => submits_block(port, BlockTicket(number)),
@@ -108,7 +108,7 @@ fn is_kept<K: Ledger>(port: &mut Stored<K>, call: Call) -> bool {
             port.release();
             true
         }
-        _ => is_seen(port, call),
+        _ => is_observed(port, call),
     }
 }
 
@@ -126,7 +126,7 @@ fn loads<K: Ledger>(port: &mut Stored<K>) -> bool {
 }
 
 /// Those that only look.
-fn is_seen<K: Ledger>(port: &Stored<K>, call: Call) -> bool {
+fn is_observed<K: Ledger>(port: &Stored<K>, call: Call) -> bool {
     match call {
         Call::RestartWaits(waits) => port.is_restart_waiting() == waits,
         Call::Mode(mode) => port.port().status().mode == mode,
@@ -143,8 +143,8 @@ fn shows_set<K: Ledger>(port: &Stored<K>, call: Call) -> bool {
             Some((unsaved, _)) => unsaved == SetNumber(number),
             None => false,
         },
-        Call::HasSet(is_kept) => port.kept().is_some() == is_kept,
-        Call::Keeps(octets) => match port.kept() {
+        Call::HasSet(has_backup) => port.backup().is_some() == has_backup,
+        Call::Keeps(octets) => match port.backup() {
             Some(set) => is_image(set, octets),
             None => false,
         },
@@ -170,7 +170,7 @@ const AWAITS_SAVING: [Call; 4] = [
     Call::Unsaved(1),
     Call::Standing(StorageStanding::Awaited),
     Call::HasImage(false),
-    Call::Collect(1, Told::NotYet),
+    Call::Collect(1, Expected::NotYet),
 ];
 
 /// The set is saved, once.
@@ -191,7 +191,7 @@ const FETCHES: Script = Script {
         Stage::Calls(&[
             Call::Standing(StorageStanding::Served(Served::Fetched)),
             Call::HasImage(true),
-            Call::Collect(1, Told::Reads(&[CHANGED])),
+            Call::Collect(1, Expected::Reads(&[CHANGED])),
         ]),
     ],
     last: &[Call::Keeps(&FETCHED)],
@@ -205,7 +205,7 @@ const RESTORES: Script = Script {
         Stage::Calls(&[
             Call::Standing(StorageStanding::Served(Served::Restored)),
             Call::HasImage(true),
-            Call::Collect(1, Told::Reads(&[CHANGED])),
+            Call::Collect(1, Expected::Reads(&[CHANGED])),
         ]),
     ],
     last: &[],
@@ -307,10 +307,10 @@ const FIRST_CALLS: [Stage; 6] = [
     Stage::Calls(&[
         Call::Submit(LIMIT, 13),
         Call::Withdraw(13),
-        Call::Collect(13, Told::Withdrawn),
+        Call::Collect(13, Expected::Withdrawn),
         Call::Urgent(LIMIT, 14),
         Call::Abandon(14),
-        Call::Collect(14, Told::Unknown),
+        Call::Collect(14, Expected::Unknown),
         Call::Expect,
         Call::ExpectAny,
         Call::SetCycle,
@@ -336,7 +336,7 @@ const LAST_CALLS: [Stage; 6] = [
     Stage::Turns(UNDER_WAY),
     Stage::Calls(&[Call::Cancel(15)]),
     Stage::Turns(ENOUGH),
-    Stage::Calls(&[Call::CollectInto(15, Told::CutOff(Cause::Cancelled))]),
+    Stage::Calls(&[Call::CollectInto(15, Expected::CutOff(Cause::Cancelled))]),
 ];
 
 /// The journal is handed out at the end of a list.

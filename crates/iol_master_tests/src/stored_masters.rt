@@ -4,7 +4,7 @@ ghost use Rattle.iol_master.specs.Ledgers.{IsBlankFor};
 ghost use Rattle.iol_port.specs.CorePort.{awaited_answer};
 ghost use Rattle.iol_port.specs.declared.awaited.AwaitedAnswer.TheVariants as AwaitedAnswer;
 
-use crate::calls::{Told, check, is_told};
+use crate::calls::{Expected, check, is_expected};
 use crate::desks::Open;
 use crate::opening::{alone, wired};
 use crate::scripts::{Call, VALUE_PLACE};
@@ -58,7 +58,7 @@ fn turns<W: Wire, K: Ledger>(held: &mut Under<W, K>, count: u64) -> bool {
 /// The calls that hand something out.
 fn hands_out<W: Wire, K: Ledger>(held: &mut Under<W, K>, call: Call) -> bool {
     match call {
-        Call::Collect(number, told) => is_told(&held.collect(Ticket(number)), told),
+        Call::Collect(number, expected) => is_expected(&held.collect(Ticket(number)), expected),
         Call::Event(event) => held.take_event() == event,
         Call::ArchiveAny => held.archive().is_ok(),
         Call::DrainAny => held.drain().is_ok(),
@@ -81,7 +81,7 @@ fn is_set<W: Wire, K: Ledger>(held: &mut Under<W, K>, call: Call) -> bool {
         Call::Expect => held.expect(OTHER) == Counting::Later,
         Call::ExpectAny => held.expect_any() == Counting::Later,
         Call::SetCycle => held.set_cycle(None) == Counting::Later,
-        _ => is_kept(held, call),
+        _ => is_stored(held, call),
     }
 }
 
@@ -93,7 +93,7 @@ fn sets_output<W: Wire, K: Ledger>(held: &mut Under<W, K>, octet: u8) -> bool {
 }
 
 /// The calls on the set that is kept, and on blocks.
-fn is_kept<W: Wire, K: Ledger>(held: &mut Under<W, K>, call: Call) -> bool {
+fn is_stored<W: Wire, K: Ledger>(held: &mut Under<W, K>, call: Call) -> bool {
     match call {
         Call::Saved(number, saved) => held.saved(SetNumber(number)) == saved,
         Call::Block(number) => submits_block(held, BlockTicket(number)),
@@ -104,7 +104,7 @@ fn is_kept<W: Wire, K: Ledger>(held: &mut Under<W, K>, call: Call) -> bool {
             held.release();
             true
         }
-        _ => is_seen(held, call),
+        _ => is_observed(held, call),
     }
 }
 
@@ -122,13 +122,13 @@ fn loads<W: Wire, K: Ledger>(held: &mut Under<W, K>) -> bool {
 }
 
 /// Those that only look.
-fn is_seen<W: Wire, K: Ledger>(held: &Under<W, K>, call: Call) -> bool {
+fn is_observed<W: Wire, K: Ledger>(held: &Under<W, K>, call: Call) -> bool {
     match call {
         Call::Mode(mode) => held.port().status().mode == mode,
         Call::HasImage(is_there) => held.image().is_some() == is_there,
         Call::Restated(count) => held.port().restated() == count,
         Call::Standing(standing) => held.standing() == standing,
-        Call::HasSet(is_kept) => held.kept().is_some() == is_kept,
+        Call::HasSet(has_backup) => held.backup().is_some() == has_backup,
         Call::Unsaved(number) => match held.unsaved() {
             Some((unsaved, _)) => unsaved == SetNumber(number),
             None => false,
@@ -173,7 +173,7 @@ const FETCHES: [Step; 10] = [
         &[
             Call::Standing(StorageStanding::Awaited),
             Call::HasImage(false),
-            Call::Collect(1, Told::NotYet),
+            Call::Collect(1, Expected::NotYet),
             Call::Unsaved(1),
             Call::Saved(1, Ok(())),
             Call::Saved(1, Err(StoredFault::OtherSet)),
@@ -186,11 +186,11 @@ const FETCHES: [Step; 10] = [
         &[
             Call::Standing(StorageStanding::Served(Served::Fetched)),
             Call::HasImage(true),
-            Call::Collect(1, Told::Reads(&[CHANGED])),
+            Call::Collect(1, Expected::Reads(&[CHANGED])),
         ],
     ),
-    Step::Call(1, Call::Collect(2, Told::Unknown)),
-    Step::Call(1, Call::Collect(9, Told::Reads(&[CHANGED]))),
+    Step::Call(1, Call::Collect(2, Expected::Unknown)),
+    Step::Call(1, Call::Collect(9, Expected::Reads(&[CHANGED]))),
     Step::Settle(Who::One, Settled::Last(2, 2)),
 ];
 
@@ -206,13 +206,13 @@ const DESKS: [Step; 14] = [
         &[
             Call::Standing(StorageStanding::Served(Served::Restored)),
             Call::HasImage(true),
-            Call::Collect(1, Told::Reads(&[CHANGED])),
+            Call::Collect(1, Expected::Reads(&[CHANGED])),
         ],
     ),
     Step::NoWrite(Who::One, MasterFault::Stored(StoredFault::OwnedIndex)),
     Step::Submit(Who::One, LIMIT, 9),
     Step::Settle(Who::One, Settled::Last(2, 2)),
-    Step::Call(1, Call::Collect(9, Told::Unknown)),
+    Step::Call(1, Call::Collect(9, Expected::Unknown)),
     Step::Open(Who::One, 1),
     Step::Submit(Who::One, LIMIT, 10),
     Step::Submit(Who::One, LIMIT, 11),
@@ -221,13 +221,13 @@ const DESKS: [Step; 14] = [
         1,
         &[
             Call::Withdraw(12),
-            Call::Collect(12, Told::Withdrawn),
+            Call::Collect(12, Expected::Withdrawn),
             Call::Abandon(11),
-            Call::Collect(11, Told::Unknown),
+            Call::Collect(11, Expected::Unknown),
             Call::Turns(2),
             Call::Cancel(10),
             Call::Turns(MANY),
-            Call::Collect(10, Told::CutOff(Cause::Cancelled)),
+            Call::Collect(10, Expected::CutOff(Cause::Cancelled)),
         ],
     ),
     Step::Settle(Who::One, Settled::Last(3, 5)),
@@ -306,7 +306,7 @@ fn asked<W: Wire + Drop, L: Ledger, K: Ledger, R: Wait + Abort>(
     rt: &R,
     alloc: Global,
     case: Case,
-    kept: Option<Set>,
+    backup: Option<Set>,
     wire: W,
     clients: Blank,
     tickets: Blank,
@@ -314,7 +314,7 @@ fn asked<W: Wire + Drop, L: Ledger, K: Ledger, R: Wait + Abort>(
     requires clients { IsBlankFor clients L.name L.parts 1025 }
     requires tickets { IsBlankFor tickets K.name K.parts 1 }
 {
-    let port = port_with(alloc, kept)?;
+    let port = port_with(alloc, backup)?;
     let master = open_one::<W, L, K, R>(rt, alloc, port, wire, clients, tickets)?;
     check(rt, holds(rt, alloc, &master, case));
     Ok(master.close())
@@ -325,11 +325,11 @@ fn tally_of<W: Wire + Drop, R: Wait + Abort>(
     rt: &R,
     alloc: Global,
     case: Case,
-    kept: Option<Set>,
+    backup: Option<Set>,
     wire: W,
 ) -> Result<Tally, Fail> {
     let (clients, tickets) = (Blank::new(1025), Blank::new(1));
-    asked::<W, Brand, Brand, R>(rt, alloc, case, kept, wire, clients, tickets)
+    asked::<W, Brand, Brand, R>(rt, alloc, case, backup, wire, clients, tickets)
 }
 
 #[test]
@@ -349,8 +349,8 @@ fn a_set_is_fetched_in_a_master(rt: HostRuntime) -> Result<(), Fail> {
 fn a_stored_port_makes_each_call_in_a_master(rt: HostRuntime) -> Result<(), Fail> {
     let table = Table::new(&MEMBERS, &[])?;
     let wire = AnyWire(Unit::new(rt.alloc(), &table)?);
-    let kept = Some(Set::read(&SET)?);
-    let tally = tally_of(&rt, rt.alloc(), Case::EachCall, kept, wire)?;
+    let backup = Some(Set::read(&SET)?);
+    let tally = tally_of(&rt, rt.alloc(), Case::EachCall, backup, wire)?;
     check(&rt, tally.tickets == 5);
     Ok(())
 }
@@ -371,7 +371,7 @@ const SUBMITTED: [Step; 2] = [
 
 /// What it comes to, at a device that has no Data Storage.
 const SERVED: [Step; 3] = [
-    Step::Call(1, Call::Collect(1, Told::Reads(&[0x42, 7]))),
+    Step::Call(1, Call::Collect(1, Expected::Reads(&[0x42, 7]))),
     Step::Call(
         1,
         Call::Standing(StorageStanding::Served(Served::Unsupported)),

@@ -98,9 +98,9 @@ pub fn read_limit() -> Request {
 }
 
 /// A port with this set.
-pub fn port_with(alloc: Global, kept: Option<Set>) -> Result<StoredPort, StoredFault>
+pub fn port_with(alloc: Global, backup: Option<Set>) -> Result<StoredPort, StoredFault>
     ensures { IfOk result (λ p. awaited_answer p.port ≡ AwaitedAnswer.Nothing) }
 {
     let limits = Limits::default();
-    StoredPort::open(alloc, &limits, Devices::Own, StorageMode::Both, kept)
+    StoredPort::open(alloc, &limits, Devices::Own, StorageMode::Both, backup)
 }

@@ -3,7 +3,7 @@
 //!
 //! The prover's work grows with the calls of a function. One function makes each call of a master,
 //! and these go through the tables.
-use crate::calls::{Noted, are_noted, is_told, read};
+use crate::calls::{Noted, are_noted, is_expected, read};
 use crate::scripts::{Call, VALUE_PLACE};
 use iol_book::Ticket;
 use iol_image::Image;
@@ -50,7 +50,7 @@ fn sets_output<W: Wire, K: Ledger>(held: &mut Held<W, K>, octet: u8) -> bool {
 /// The calls that hand something out, and those that only look.
 fn hands_out<W: Wire, K: Ledger>(held: &mut Held<W, K>, call: Call) -> bool {
     match call {
-        Call::Collect(number, told) => is_told(&held.collect(Ticket(number)), told),
+        Call::Collect(number, expected) => is_expected(&held.collect(Ticket(number)), expected),
         Call::Event(event) => held.take_event() == event,
         Call::Journal(noted) => archives(held, noted),
         Call::ArchiveAny => held.archive().is_ok(),
@@ -161,7 +161,7 @@ fn passes<W: Wire, L: Ledger, K: Ledger, P: Visited<W>, R: Wait>(
         Step::Calls(port, calls) => answers_locked(rt, master, port, calls),
         Step::NoDesk(port, fault) => master.desk(rt, port).err() == Some(fault),
         Step::Open(who, port) => opens(rt, master, desks.of(who), port),
-        Step::Settle(who, told) => settles(rt, master, desks.of(who), told),
+        Step::Settle(who, expected) => settles(rt, master, desks.of(who), expected),
         Step::Counts(who, _, _)
         | Step::Submit(who, _, _)
         | Step::Urgent(who, _, _)
@@ -188,10 +188,10 @@ fn settles<W: Wire, L: Ledger, K: Ledger, P: MasterPort, R: Wait>(
     rt: &R,
     master: &Master<W, L, K, Global, P>,
     desk: &mut Option<Desk<L>>,
-    told: Settled,
+    expected: Settled,
 ) -> bool {
     match desk.take() {
-        Some(desk) => master.settle(rt, desk) == told,
+        Some(desk) => master.settle(rt, desk) == expected,
         None => false,
     }
 }
@@ -248,12 +248,12 @@ fn submits_many<W: Wire, L: Ledger, K: Ledger, P: MasterPort, R: Wait>(
     last: u64,
 ) -> bool {
     for number in first..=last {
-        let is_given = if number % 2 == 0 {
+        let is_submitted = if number % 2 == 0 {
             submits_urgent(rt, master, desk, VALUE_PLACE, number)
         } else {
             submits(rt, master, desk, VALUE_PLACE, number)
         };
-        if !is_given {
+        if !is_submitted {
             return false;
         }
     }

@@ -1,10 +1,10 @@
 //! A master of 32 ports with unequal answers, whose gate says no to each at a turn of its own, and
 //! a desk with more than a thousand submits.
 ghost use Rattle.std.specs.Prelude.{◌≤◌, All, vec_len};
-ghost use Rattle.iol_master.specs.Tickets.{HasGiven};
+ghost use Rattle.iol_master.specs.Tickets.{HasIssued};
 ghost use Rattle.iol_master.specs.Ledgers.{IsBlankFor};
 
-use crate::calls::{Told, answer, check, gives, is_told, read, serves};
+use crate::calls::{Expected, answer, check, gives, is_expected, read, serves};
 use crate::opening::{numbered, numbered_port, open_master, open_one};
 use iol_book::{BookFault, Entry, Journal, Ticket};
 use iol_isdu::{Place, Request};
@@ -139,7 +139,7 @@ where
     requires clients { IsBlankFor clients L.name L.parts 1025 }
     requires tickets { IsBlankFor tickets K.name K.parts (vec_len ports) }
     requires count { (1 ≤ vec_len ports) × (vec_len ports ≤ 32) }
-    requires fresh { All (λ p. HasGiven p 0) ports.items }
+    requires fresh { All (λ p. HasIssued p 0) ports.items }
 {
     let master = open_master::<W, L, K, Global, R>(rt, alloc, ports, clients, tickets);
     serve_all(rt, alloc, &master, gate)?;
@@ -218,7 +218,7 @@ fn is_taken_back<W: Wire, K: Ledger>(
 ) -> bool {
     held.withdraw(ticket) == Ok(())
         && is_drained(held, wanted)
-        && is_told(&held.collect(ticket), Told::Withdrawn)
+        && is_expected(&held.collect(ticket), Expected::Withdrawn)
         && held.abandon(ticket) == Err(PortFault::Book(BookFault::UnknownTicket))
         && is_archived(held, wanted)
 }
@@ -255,7 +255,7 @@ fn counts_far<W: Wire + Drop, L: Ledger, K: Ledger, R: Wait + Abort>(
 ) -> Result<(), Fail>
     requires clients { IsBlankFor clients L.name L.parts 1025 }
     requires tickets { IsBlankFor tickets K.name K.parts 1 }
-    requires fresh { HasGiven port 0 }
+    requires fresh { HasIssued port 0 }
 {
     let master = open_one::<W, L, K, Global, R>(rt, alloc, port, clients, tickets)?;
     let mut desk = master.desk(rt, 1)?;

@@ -25,11 +25,11 @@ use Rattle.iol_link.specs.Honest.{HonestExchange}
 use Rattle.iol_mode.specs.Messages.{command_message, stays, stays_by}
 use Rattle.iol_page.specs.Page.{AreLayouts, IsPlain}
 use Rattle.iol_mode.specs.States.{operate_by, OperateFits, sending_after_try, NextMode, OutFits, StateFits, Takes, is_starting, sending_of, outcome_with}
-use Rattle.iol_mode.specs.Stands.{entering_link, operate_link, IsOperating, IsTold, IsAccepted, OperateStands, entering_mode, entering_layout, StateStands, OutcomeStands}
+use Rattle.iol_mode.specs.Stands.{entering_link, operate_link, IsOperating, AreReadFrom, IsAccepted, OperateStands, entering_mode, entering_layout, StateStands, OutcomeStands}
 use Rattle.iol_mode.specs.Turns.{IsMet, IsEnd, IsOperateTurn, IsStartTurn, IsStartTried, IsExchange}
 use Rattle.iol_mode.specs.Laws.{Laws}
 use Rattle.iol_mode.proofs.Controls.{write_parts}
-use Rattle.iol_mode.proofs.Outs.{entering_is, layout_told, missed_by, out_text, outcome_state}
+use Rattle.iol_mode.proofs.Outs.{entering_is, layout_read_from, missed_by, out_text, outcome_state}
 use Rattle.arrayvec.specs.ArrayVec.{ArrayVec}
 use Rattle.iol_far.specs.Octets.{octets_in}
 use Rattle.iol_link.specs.declared.handler.Attempt.{Attempt}
@@ -94,7 +94,8 @@ staying P none operate asked e = absurd (let z : false ≡ true = e in cc)
 abbrev waits_in : DeviceMode → Option WaitingCommand → FarLink
 waits_in mode waits = record { mode = mode; waits = waits }
 
-module _ (laws : Laws) {layouts : Layouts} {m : MasterMsg} (far : Far) (told : IsTold layouts far)
+module _ (laws : Laws) {layouts : Layouts} {m : MasterMsg} (far : Far)
+    (read_from : AreReadFrom layouts far)
     (proper : AreLayouts layouts) (parts : HasMasterParts layouts.run m)
     (stay : stays m ≡ true) where
   abbrev octets : List ℕ
@@ -120,7 +121,7 @@ module _ (laws : Laws) {layouts : Layouts} {m : MasterMsg} (far : Far) (told : I
   run_next : {link : FarLink} → accepting_link link octets ≡ operate_link
       → IsAccepted layouts far.page link m
   run_next e = record {
-    out = out_text laws proper.run parts e (layout_told far told FarOperate);
+    out = out_text laws proper.run parts e (layout_read_from far read_from FarOperate);
     next = inr (rw e (asks
         (λ q. waits_in FarOperate (waits_after FarOperate None octets q) ≡ operate_link) refl
         refl));
@@ -140,7 +141,7 @@ module _ (laws : Laws) {layouts : Layouts} {m : MasterMsg} (far : Far) (told : I
       → IsAccepted layouts far.page (entering_link layouts) m
   unfolding control_of
   run_waits same =
-      let (plain, speaks) = entering_is far told layouts.pre refl proper.pre in
+      let (plain, speaks) = entering_is far read_from layouts.pre refl proper.pre in
       let e = bytes_of octets command_text same in
       let pre_spells : message_in entry octets ≡ Some command =
       rw e (laws.heard entry command
@@ -172,10 +173,10 @@ module _ (laws : Laws) {layouts : Layouts} {m : MasterMsg} (far : Far) (told : I
 -- the message that is out then is accepted
 pub put_accepted : Laws → (s new : State) (far : Far) (m : MasterMsg) → new ≡ state_with_out m s
     → StateFits s → Takes s m → IsTrue (stays m) → AcceptedBy new far
-put_accepted laws (AtOperate s) new far m is fits takes stay = rw is (λ told. (elim (s.out) as
+put_accepted laws (AtOperate s) new far m is fits takes stay = rw is (λ read_from. (elim (s.out) as
     (λ out. OutFits s.layouts.run out → OutAccepted (Some (sending_of out m)) s.layouts far) [
-      | None ↦ λ _. accepted laws far told fits.layouts takes stay
-      | Some sent ↦ λ out. accepted laws far told fits.layouts out.0 out.1
+      | None ↦ λ _. accepted laws far read_from fits.layouts takes stay
+      | Some sent ↦ λ out. accepted laws far read_from fits.layouts out.0 out.1
     ]) fits.out)
 put_accepted laws s new far m is fits takes stay = absurd takes
 
@@ -193,7 +194,7 @@ replaced_on : (laws : Laws) (out : Option Sending) (layouts : Layouts) (m : Mast
     (AtOperate (record { out = instead m out; layouts = layouts }))
 replaced_on laws None layouts m fits far n h = h
 replaced_on laws (Some sent) layouts m fits far n h =
-    let is = accepted laws far h.told fits.layouts fits.out.0 fits.out.1 h.link h.operating in
+    let is = accepted laws far h.read_from fits.layouts fits.out.0 fits.out.1 h.link h.operating in
     elim (laws.links.replaced far.page h.link (master_text layouts.run sent.message) sent.message
     (rw is.out.accepted is.out.spells) sent.tries far h.linked (master_text layouts.run m)) [
       | inl k ↦ stands h.link h.operating k
@@ -207,7 +208,7 @@ replaced_on laws (Some sent) layouts m fits far n h =
         far
     stands link operating k = record {
       tries = h.tries;
-      told = h.told;
+      read_from = h.read_from;
       link = link;
       operating = operating;
       linked = elim k [
@@ -229,10 +230,10 @@ module _ {sent : Sending} {layouts : Layouts} {n n' : ℕ} {far far' : Far} {a :
     (h : OperateStands (record { out = Some sent; layouts = layouts }) n far)
     (x : HonestExchange far n (master_text layouts.run sent.message) a far' n') where
   at : IsAccepted layouts far.page h.link sent.message
-  at = accepted laws far h.told fits.layouts fits.out.0 fits.out.1 h.link h.operating
+  at = accepted laws far h.read_from fits.layouts fits.out.0 fits.out.1 h.link h.operating
 
-  told : IsTold layouts far'
-  told = let e = laws.device.page _ _ _ _ _ _ x in rw e h.told
+  read_from : AreReadFrom layouts far'
+  read_from = let e = laws.device.page _ _ _ _ _ _ x in rw e h.read_from
 
   operate_both : (q : Option Reply) → good_reply layouts.run sent.message a ≡ q
       → IsMet (operate_by (sending_after_try sent q) layouts (attempt_of sent.tries q)) n' far'
@@ -243,7 +244,7 @@ module _ {sent : Sending} {layouts : Layouts} {n n' : ℕ} {far far' : Far} {a :
       record {
         stands = record {
           tries = omega arith;
-          told = told;
+          read_from = read_from;
           link = next;
           operating = operating_next at;
           linked = (laws.links.stays far'.page next []).begins far' met;
@@ -262,7 +263,7 @@ module _ {sent : Sending} {layouts : Layouts} {n n' : ℕ} {far far' : Far} {a :
       (record {
         stands = record {
           tries = more;
-          told = told;
+          read_from = read_from;
           link = h.link;
           operating = h.operating;
           linked = missed.linked;
@@ -275,36 +276,37 @@ module _ {sent : Sending} {layouts : Layouts} {n n' : ℕ} {far far' : Far} {a :
 
 out_gives : (laws : Laws) (out : Option Sending) (layouts : Layouts)
     → OperateFits (record { out = out; layouts = layouts })
-    → IfSome out (λ sent. sent.tries < most_attempts) → (came : Option (List ℕ))
-    → ExchangeGives (AtOperate (record { out = out; layouts = layouts })) came
-    (judged_out out layouts came)
-out_gives laws None layouts fits few came far far' n n' h x = tt
-out_gives laws (Some sent) layouts fits few came far far' n n' h x = (
-  operate_both laws fits few h x (good_reply layouts.run sent.message came) refl,
-  accepted laws far h.told fits.layouts fits.out.0 fits.out.1,
+    → IfSome out (λ sent. sent.tries < most_attempts) → (received : Option (List ℕ))
+    → ExchangeGives (AtOperate (record { out = out; layouts = layouts })) received
+    (judged_out out layouts received)
+out_gives laws None layouts fits few received far far' n n' h x = tt
+out_gives laws (Some sent) layouts fits few received far far' n n' h x = (
+  operate_both laws fits few h x (good_reply layouts.run sent.message received) refl,
+  accepted laws far h.read_from fits.layouts fits.out.0 fits.out.1,
 )
 
-pub exchange_gives : Laws → (c : Configuration) (s : State) (came : Option (List ℕ))
-    (outcome : NextMode) → outcome ≡ mode_after_reply c s came → StateFits s → AreFew s
-    → ExchangeGives s came outcome
-exchange_gives laws c (AtDown s) came outcome is fits few = λ far far' n n' h x. tt
-exchange_gives laws c (AtStartup s) came outcome is fits few = λ far far' n n' h x.
-    rw is (startup_risen laws c fits few h x (good_reply startup_shape s.sent.message came) refl)
-exchange_gives laws c (AtPreoperate s) came outcome is fits few = λ far far' n n' h x.
-    rw is (preoperate_risen laws fits few h x (good_reply s.pre s.sent.message came) refl)
-exchange_gives laws c (AtOperate s) came outcome is fits few =
-    rw is (out_gives laws s.out s.layouts fits few came)
+pub exchange_gives : Laws → (c : Configuration) (s : State) (received : Option (List ℕ))
+    (outcome : NextMode) → outcome ≡ mode_after_reply c s received → StateFits s → AreFew s
+    → ExchangeGives s received outcome
+exchange_gives laws c (AtDown s) received outcome is fits few = λ far far' n n' h x. tt
+exchange_gives laws c (AtStartup s) received outcome is fits few = λ far far' n n' h x.
+    rw is (startup_risen laws c fits few h x (good_reply startup_shape s.sent.message received)
+    refl)
+exchange_gives laws c (AtPreoperate s) received outcome is fits few = λ far far' n n' h x.
+    rw is (preoperate_risen laws fits few h x (good_reply s.pre s.sent.message received) refl)
+exchange_gives laws c (AtOperate s) received outcome is fits few =
+    rw is (out_gives laws s.out s.layouts fits few received)
 
 -- both ends stand afterwards
-given_stands : (s : State) (outcome : NextMode) (far far' : Far) (n' : ℕ) → IsSending s
+gives_outcome : (s : State) (outcome : NextMode) (far far' : Far) (n' : ℕ) → IsSending s
     → StateGives s far outcome n' far' → OutcomeStands outcome n' far'
-given_stands (AtDown s) outcome far far' n' sends h = absurd sends
-given_stands (AtOperate s) outcome far far' n' sends h = (elim (s.out) as (λ out. IsSome out
+gives_outcome (AtDown s) outcome far far' n' sends h = absurd sends
+gives_outcome (AtOperate s) outcome far far' n' sends h = (elim (s.out) as (λ out. IsSome out
     → OutGives out s.layouts far outcome n' far' → OutcomeStands outcome n' far') [
       | None ↦ λ none. absurd (cc)
-      | Some sent ↦ λ _ given. given.0.stands
+      | Some sent ↦ λ _ gives. gives.0.stands
     ]) sends h
-given_stands s outcome far far' n' sends h = h.both.stands
+gives_outcome s outcome far far' n' sends h = h.both.stands
 
 -- the device of a wire that sees each pulse did so before
 pub saw_pulses : {W : Type 0} (facts : WireFacts W) → Laws → (wire new : W) (o : List ℕ)
@@ -323,22 +325,22 @@ module _ {W : Type 0} (facts : WireFacts W) {wire new : W} {attempt : Attempt} {
   after = outcome_with attempt state
 
   -- what an honest wire gives
-  given : (IsHonestFor facts Own wire → StateStands s (silence wire) (far wire))
+  honest_gives : (IsHonestFor facts Own wire → StateStands s (silence wire) (far wire))
       → IsHonestFor facts Own wire → StateGives s (far wire) after (silence new) (far new)
-  given stood h = called.gives _ _ _ _ (stood h) (called.passes h.0)
+  honest_gives stood h = called.gives _ _ _ _ (stood h) (called.passes h.0)
 
   -- both ends stand afterwards
   pub exchange_stands : (IsHonestFor facts Own wire → StateStands s (silence wire) (far wire))
       → IsHonestFor facts Own new → StateStands state (silence new) (far new)
-  exchange_stands stood h = rw outcome_state at (given_stands s after (far wire) (far new)
-      (silence new) called.sends (given stood (called.saw h)))
+  exchange_stands stood h = rw outcome_state at (gives_outcome s after (far wire) (far new)
+      (silence new) called.sends (honest_gives stood (called.saw h)))
 
-  exchange_told : {layout : Shape} {message : MasterMsg} {turned : Option Reply → NextMode}
+  exchange_is : {layout : Shape} {message : MasterMsg} {turned : Option Reply → NextMode}
       → facts.exchange_gives wire (master_text layout message) called.answer new
       → Passes facts wire (master_text layout message) called.answer new
       → after ≡ turned (good_reply layout message (octets_in called.answer))
       → IsExchange facts wire layout message turned after new
-  exchange_told gives passes is = record {
+  exchange_is gives passes is = record {
     answer = called.answer;
     called = gives;
     passes = passes;
@@ -358,8 +360,8 @@ start_turn facts (AtDown s) called starts stood = absurd (let z : false ≡ true
 start_turn facts (AtOperate s) called starts stood = absurd (let z : false ≡ true = starts in cc)
 start_turn facts s called starts stood = (
   record {
-    exchange = exchange_told facts called called.called called.passes called.judged.state;
-    risen = given facts called stood;
+    exchange = exchange_is facts called called.called called.passes called.judged.state;
+    risen = honest_gives facts called stood;
   },
   (called.answer, called.called, called.judged.attempt_is),
 )
@@ -377,9 +379,10 @@ operate_turn facts {wire = wire} (AtOperate s) m called before takes stood on =
     let old = sending_of s.out m in
     let sent = sending_after_try old
     (good_reply s.layouts.run old.message (octets_in called.answer)) in
-    let gives = given facts called (λ h. on (facts.far wire) (facts.silence wire) (stood h)) in (
+    let gives = honest_gives facts called
+    (λ h. on (facts.far wire) (facts.silence wire) (stood h)) in (
       record {
-        exchange = exchange_told facts called called.called called.passes called.judged.state;
+        exchange = exchange_is facts called called.called called.passes called.judged.state;
         both = λ h. (gives h).0;
         fits = before;
         stood = stood;

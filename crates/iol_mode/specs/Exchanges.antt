@@ -10,7 +10,7 @@ use Rattle.iol_far.specs.Far.{Far}
 use Rattle.iol_far.specs.Octets.{octets_in}
 use Rattle.iol_far.specs.Level.{FarLink}
 use Rattle.iol_link.specs.declared.handler.Attempt.{Attempt}
-use Rattle.iol_link.specs.declared.handler.Attempt.TheVariants.{Again}
+use Rattle.iol_link.specs.declared.handler.Attempt.TheVariants.{Retry}
 use Rattle.iol_link.specs.Attempts.{Sending, good_reply, attempt_of, most_attempts}
 use Rattle.iol_link.specs.Honest.{HonestWake, HonestExchange}
 use Rattle.iol_link.specs.WireFacts.{WireFacts, Passes}
@@ -20,7 +20,7 @@ use Rattle.iol_mode.specs.declared.configuration.Devices.TheVariants.{Own}
 use Rattle.iol_mode.specs.declared.states.State.{State}
 use Rattle.iol_mode.specs.declared.states.State.TheVariants.{Down as AtDown, Startup as AtStartup, Preoperate as AtPreoperate, Operate as AtOperate}
 use Rattle.iol_mode.specs.States.{NextMode, InDown, InOperate, StateFits, any_device, is_behind, sending_after_try, operate_by, outcome_with, startup_turned, preoperate_turned, sending_of, next_state, mode_after_wake}
-use Rattle.iol_mode.specs.Stands.{IsOperating, IsAccepted, IsTold, StateStands, text_in, sending_tries}
+use Rattle.iol_mode.specs.Stands.{IsOperating, IsAccepted, AreReadFrom, StateStands, text_in, sending_tries}
 use Rattle.iol_mode.specs.Turns.{IsMet, IsRisen}
 use Rattle.iol_mode.specs.Kinds.{SeesPulses, IsHonestFor}
 
@@ -73,31 +73,31 @@ putting_instead message s = s
 
 -- what is made of what comes back to it
 abbrev pub judged_out : Option Sending → Layouts → Option (List ℕ) → NextMode
-judged_out None layouts came = InOperate (record { out = None; layouts = layouts }) None
-judged_out (Some sent) layouts came =
-    operate_by (sending_after_try sent (good_reply layouts.run sent.message came)) layouts
-    (attempt_of sent.tries (good_reply layouts.run sent.message came))
+judged_out None layouts received = InOperate (record { out = None; layouts = layouts }) None
+judged_out (Some sent) layouts received =
+    operate_by (sending_after_try sent (good_reply layouts.run sent.message received)) layouts
+    (attempt_of sent.tries (good_reply layouts.run sent.message received))
 
 -- what a start-up asks of the device counts where its page becomes whole
 abbrev pub mode_after_reply : Configuration → State → Option (List ℕ) → NextMode
-mode_after_reply c (AtDown s) came = InDown s
-mode_after_reply c (AtStartup s) came =
-    startup_turned c s (good_reply startup_shape s.sent.message came)
-mode_after_reply c (AtPreoperate s) came =
-    preoperate_turned s (good_reply s.pre s.sent.message came)
-mode_after_reply c (AtOperate s) came = judged_out s.out s.layouts came
+mode_after_reply c (AtDown s) received = InDown s
+mode_after_reply c (AtStartup s) received =
+    startup_turned c s (good_reply startup_shape s.sent.message received)
+mode_after_reply c (AtPreoperate s) received =
+    preoperate_turned s (good_reply s.pre s.sent.message received)
+mode_after_reply c (AtOperate s) received = judged_out s.out s.layouts received
 
 -- how the attempt ends
 abbrev pub attempt_at : Option Sending → Shape → Option (List ℕ) → Attempt
-attempt_at None layout came = Again
-attempt_at (Some sent) layout came =
-    attempt_of sent.tries (good_reply layout sent.message came)
+attempt_at None layout received = Retry
+attempt_at (Some sent) layout received =
+    attempt_of sent.tries (good_reply layout sent.message received)
 
 abbrev pub attempt_result : State → Option (List ℕ) → Attempt
-attempt_result (AtDown s) came = Again
-attempt_result (AtStartup s) came = attempt_at (Some s.sent) startup_shape came
-attempt_result (AtPreoperate s) came = attempt_at (Some s.sent) s.pre came
-attempt_result (AtOperate s) came = attempt_at s.out s.layouts.run came
+attempt_result (AtDown s) received = Retry
+attempt_result (AtStartup s) received = attempt_at (Some s.sent) startup_shape received
+attempt_result (AtPreoperate s) received = attempt_at (Some s.sent) s.pre received
+attempt_result (AtOperate s) received = attempt_at s.out s.layouts.run received
 
 -- the attempts at it are fewer than three
 abbrev pub AreFew : State → Type 0
@@ -107,12 +107,12 @@ AreFew (AtPreoperate s) = s.sent.tries < most_attempts
 AreFew (AtOperate s) = IfSome s.out (λ sent. sent.tries < most_attempts)
 
 -- what came back to the message that was out is judged, and this is how the attempt ends
-pub record IsJudged (c : Configuration) (old : State) (came : Option (List ℕ))
+pub record IsJudged (c : Configuration) (old : State) (received : Option (List ℕ))
     (attempt : Attempt) (new : State) : Type 0 where
-  pub state : outcome_with attempt new ≡ mode_after_reply c old came
+  pub state : outcome_with attempt new ≡ mode_after_reply c old received
   pub fits : StateFits new
   pub few : AreFew old
-  pub attempt_is : attempt ≡ attempt_result old came
+  pub attempt_is : attempt ≡ attempt_result old received
 
 -- Over an honest wire, whose far end and silence were and are these
 
@@ -138,9 +138,9 @@ StateGives (AtOperate s) far outcome silence_new far_new =
 
 -- one exchange, of which this came back
 abbrev pub ExchangeGives : State → Option (List ℕ) → NextMode → Type 0
-ExchangeGives s came outcome =
+ExchangeGives s received outcome =
     (far far_new : Far) (silence silence_new : ℕ) → StateStands s silence far
-    → HonestExchange far silence (text_out s) came far_new silence_new
+    → HonestExchange far silence (text_out s) received far_new silence_new
     → StateGives s far outcome silence_new far_new
 
 -- both ends stand as before
@@ -150,7 +150,7 @@ StandsOn old new = (far : Far) (silence : ℕ) → StateStands old silence far
 
 -- a far end whose page asks for the layouts accepts the message that is out
 abbrev pub AcceptedBy : State → Far → Type 0
-AcceptedBy (AtOperate s) far = IsTold s.layouts far → OutAccepted s.out s.layouts far
+AcceptedBy (AtOperate s) far = AreReadFrom s.layouts far → OutAccepted s.out s.layouts far
 AcceptedBy s far = ⊤
 
 -- one wake of a port for these devices, which was answered or not

@@ -133,23 +133,23 @@ impl State {
     #[tactic(auto, using(crate::proofs::Exchanging::exchange_gives))]
     pub fn receives<'a>(
         &mut self,
-        came: &'a Option<Message>,
+        received: &'a Option<Message>,
         configuration: &Configuration,
     ) -> AttemptView<'a>
         requires fits { StateFits self.old }
         requires sends { IsSending self.old }
         ensures state { outcome_with (attempt_in result) self.new
-            ≡ mode_after_reply configuration.now self.old (octets_in came.now) }
+            ≡ mode_after_reply configuration.now self.old (octets_in received.now) }
         ensures fits { StateFits self.new }
         ensures few { AreFew self.old }
-        ensures attempt { attempt_in result ≡ attempt_result self.old (octets_in came.now) }
+        ensures attempt { attempt_in result ≡ attempt_result self.old (octets_in received.now) }
 
         // over an honest wire
-        ensures gives { ExchangeGives self.old (octets_in came.now)
+        ensures gives { ExchangeGives self.old (octets_in received.now)
             (outcome_with (attempt_in result) self.new) }
     {
         laws();
-        received(self, came, configuration)
+        take_reply(self, received, configuration)
     }
 
     /// Whether a wake goes out in place of a message: in Down.
@@ -175,20 +175,20 @@ impl State {
     }
 }
 
-fn received<'a>(
+fn take_reply<'a>(
     state: &mut State,
-    came: &'a Option<Message>,
+    received: &'a Option<Message>,
     configuration: &Configuration,
 ) -> AttemptView<'a>
     requires fits { StateFits state.old }
     requires sends { IsSending state.old }
-    ensures { IsJudged configuration.now state.old (octets_in came.now) (attempt_in result)
+    ensures { IsJudged configuration.now state.old (octets_in received.now) (attempt_in result)
         state.new }
 {
     match state {
-        State::Startup(_) => startup_receives(state, came, configuration),
-        State::Preoperate(_) => preoperate_receives(state, came),
-        State::Operate(_) => operate_receives(state, came),
+        State::Startup(_) => startup_receives(state, received, configuration),
+        State::Preoperate(_) => preoperate_receives(state, received),
+        State::Operate(_) => operate_receives(state, received),
         State::Down(_) => unreachable!(),
     }
 }
@@ -220,46 +220,46 @@ fn put_instead(state: &mut State, message: MasterMsg)
 /// What came back in STARTUP.
 fn startup_receives<'a>(
     state: &mut State,
-    came: &'a Option<Message>,
+    received: &'a Option<Message>,
     configuration: &Configuration,
 ) -> AttemptView<'a>
     requires { IsStartup state.old }
-    ensures { IsJudged configuration.now state.old (octets_in came.now) (attempt_in result)
+    ensures { IsJudged configuration.now state.old (octets_in received.now) (attempt_in result)
         state.new }
 {
     let State::Startup(Startup { sent, .. }) = state else {
         unreachable!()
     };
-    let attempt = sent.judge_in_place(&Layout::startup(), came);
+    let attempt = sent.judge_in_place(&Layout::startup(), received);
     startup_done(state, &attempt, configuration);
     attempt
 }
 
 /// What came back in PREOPERATE.
-fn preoperate_receives<'a>(state: &mut State, came: &'a Option<Message>) -> AttemptView<'a>
+fn preoperate_receives<'a>(state: &mut State, received: &'a Option<Message>) -> AttemptView<'a>
     requires { IsPreoperate state.old }
-    ensures { IsJudged any_device state.old (octets_in came.now) (attempt_in result)
+    ensures { IsJudged any_device state.old (octets_in received.now) (attempt_in result)
         state.new }
 {
     let State::Preoperate(preoperate) = state else {
         unreachable!()
     };
-    let attempt = preoperate.sent.judge_in_place(&preoperate.pre, came);
+    let attempt = preoperate.sent.judge_in_place(&preoperate.pre, received);
     preoperate_done(state, &attempt);
     attempt
 }
 
 /// What came back in OPERATE.
-fn operate_receives<'a>(state: &mut State, came: &'a Option<Message>) -> AttemptView<'a>
+fn operate_receives<'a>(state: &mut State, received: &'a Option<Message>) -> AttemptView<'a>
     requires fits { StateFits state.old }
     requires sends { IsOperateSending state.old }
-    ensures { IsJudged any_device state.old (octets_in came.now) (attempt_in result)
+    ensures { IsJudged any_device state.old (octets_in received.now) (attempt_in result)
         state.new }
 {
     let State::Operate(operate) = state else {
         unreachable!()
     };
-    let attempt = judge_out(&mut operate.out, came, &operate.layouts.run);
+    let attempt = judge_out(&mut operate.out, received, &operate.layouts.run);
     operate_done(state, &attempt);
     attempt
 }
@@ -267,20 +267,20 @@ fn operate_receives<'a>(state: &mut State, came: &'a Option<Message>) -> Attempt
 /// The message is out afterwards only where it is to be sent again.
 fn judge_out<'a>(
     out: &mut Option<Handler>,
-    came: &'a Option<Message>,
+    received: &'a Option<Message>,
     layout: &Layout,
 ) -> AttemptView<'a>
     requires { IsSome out.old }
     ensures { IfSome out.old (λ sent. (sent.tries < most_attempts)
         × (attempt_in result
-        ≡ attempt_of sent.tries (good_reply layout.now sent.message (octets_in came.now)))
+        ≡ attempt_of sent.tries (good_reply layout.now sent.message (octets_in received.now)))
         × (out.new
         ≡ left_by (attempt_in result)
-        (sending_after_try sent (good_reply layout.now sent.message (octets_in came.now))))) }
+        (sending_after_try sent (good_reply layout.now sent.message (octets_in received.now))))) }
 {
     let Some(sent) = out else { unreachable!() };
-    let attempt = sent.judge_in_place(layout, came);
-    if !matches!(attempt, AttemptView::Again) {
+    let attempt = sent.judge_in_place(layout, received);
+    if !matches!(attempt, AttemptView::Retry) {
         *out = None;
     }
     attempt

@@ -11,7 +11,7 @@ ghost use Rattle.iol_mode.specs.declared.configuration.Devices.TheVariants.{Own}
 ghost use Rattle.iol_mode.specs.Kinds.{IsHonestFor};
 ghost use Rattle.iol_mode.specs.Messages.{stays};
 ghost use Rattle.iol_mode.specs.States.{StateFits, IsDown, Takes, is_behind, is_starting, mode_after_wake, next_state, outcome_with, any_device, startup_turned, preoperate_turned};
-ghost use Rattle.iol_mode.specs.Stands.{OutcomeStands, IsTold};
+ghost use Rattle.iol_mode.specs.Stands.{OutcomeStands, AreReadFrom};
 ghost use Rattle.iol_mode.specs.Next.{wire_of, outcome_of, step_layouts, message_out};
 ghost use Rattle.iol_mode.specs.Turns.{IsStartTurn, IsStartTried, IsOperateTurn, IsRise, IsCycle, IsEnd};
 ghost use Rattle.iol_mode.specs.Exchanges.{IsSending, text_out, IsJudged, IsExchanged};
@@ -41,11 +41,11 @@ impl<W: Wire, S: LinkMode> Model for Link<W, S> {
     ghost use Rattle.std.specs.Prelude.{IsTrue};
     ghost use Rattle.iol_mode.specs.declared.configuration.Devices.TheVariants.{Own};
     ghost use Rattle.iol_mode.specs.Kinds.{IsHonestFor};
-    ghost use Rattle.iol_mode.specs.Kept.{LinkValue, kept_code};
+    ghost use Rattle.iol_mode.specs.LinkValues.{LinkValue, link_code};
 
     ghost Value = { LinkValue W S };
 
-    ghost coded = { kept_code W.code S.code };
+    ghost coded = { link_code W.code S.code };
 
     ghost view = { λ link. record { wire = link.wire; state = link.state } };
 
@@ -72,17 +72,17 @@ fn exchanged<W: Wire>(state: &mut State, wire: &mut W) -> Attempt
     ensures { IsExchanged W.facts wire.old state.old wire.new result state.new }
 {
     laws();
-    let came = pass(state, wire);
-    receive(state, &came)
+    let received = pass(state, wire);
+    receive(state, &received)
 }
 
 /// Takes what came back, as it is at a link that expects any device.
-fn receive(state: &mut State, came: &Option<Message>) -> Attempt
+fn receive(state: &mut State, received: &Option<Message>) -> Attempt
     requires fits { StateFits state.old }
     requires sends { IsSending state.old }
-    ensures { IsJudged any_device state.old (octets_in came.now) result state.new }
+    ensures { IsJudged any_device state.old (octets_in received.now) result state.new }
 {
-    state.receives(came, &Configuration::any()).copied()
+    state.receives(received, &Configuration::any()).copied()
 }
 
 /// The message that is out goes out.
@@ -205,7 +205,7 @@ impl<W: Wire> Link<W, State> {
                 let link = Link { wire, state };
                 match attempt {
                     Attempt::Got(reply) => Next::Operate(link, Some(reply)),
-                    Attempt::Again | Attempt::Lost => Next::Operate(link, None),
+                    Attempt::Retry | Attempt::Lost => Next::Operate(link, None),
                 }
             }
         }
@@ -278,7 +278,7 @@ impl<W: Wire> Link<W, Down> {
             state: State::Down(self.state),
         };
         link.wake();
-        link.next(Attempt::Again)
+        link.next(Attempt::Retry)
     }
 }
 
@@ -311,12 +311,12 @@ impl<W: Wire> Link<W, Startup> {
     }
 
     /// The layouts that the page asks for, once this start-up has checked it.
-    pub fn told(&self) -> Option<&Layouts>
-        ensures told { option_copied result ≡ step_layouts self.now.state.step }
+    pub fn layouts_read(&self) -> Option<&Layouts>
+        ensures layouts_read { option_copied result ≡ step_layouts self.now.state.step }
         ensures page { IsHonestFor W.facts Own self.now.wire
-            → IfSome result (λ t. IsTold t.now (W.facts.far self.now.wire)) }
+            → IfSome result (λ t. AreReadFrom t.now (W.facts.far self.now.wire)) }
     {
-        self.state.told()
+        self.state.layouts_read()
     }
 }
 
@@ -346,10 +346,10 @@ impl<W: Wire> Link<W, Preoperate> {
     }
 
     /// The layouts that the page asks for.
-    pub fn told(&self) -> Option<&Layouts>
-        ensures told { option_copied result ≡ Some self.now.state.layouts }
+    pub fn layouts_read(&self) -> Option<&Layouts>
+        ensures layouts_read { option_copied result ≡ Some self.now.state.layouts }
         ensures page { IsHonestFor W.facts Own self.now.wire
-            → IfSome result (λ t. IsTold t.now (W.facts.far self.now.wire)) }
+            → IfSome result (λ t. AreReadFrom t.now (W.facts.far self.now.wire)) }
     {
         Some(&self.state.layouts)
     }
@@ -391,10 +391,10 @@ impl<W: Wire> Link<W, Operate> {
     }
 
     /// The layouts that the page asks for.
-    pub fn told(&self) -> Option<&Layouts>
-        ensures told { option_copied result ≡ Some self.now.state.layouts }
+    pub fn layouts_read(&self) -> Option<&Layouts>
+        ensures layouts_read { option_copied result ≡ Some self.now.state.layouts }
         ensures page { IsHonestFor W.facts Own self.now.wire
-            → IfSome result (λ t. IsTold t.now (W.facts.far self.now.wire)) }
+            → IfSome result (λ t. AreReadFrom t.now (W.facts.far self.now.wire)) }
     {
         Some(&self.state.layouts)
     }

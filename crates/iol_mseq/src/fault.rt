@@ -5,9 +5,13 @@ use thiserror::Error;
 
 // The numbers of the refusals: their one table, which the definitions cite.
 const UNSUPPORTED_CODE: u8 = 2;
+
 const BAD_LENGTH: u8 = 3;
+
 const WRONG_LENGTH: u8 = 4;
+
 const WRONG_TYPE: u8 = 5;
+
 const BAD_CHECKSUM: u8 = 6;
 
 /// Why a code, a length or octets were refused.

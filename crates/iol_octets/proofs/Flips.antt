@@ -1,5 +1,5 @@
 -- One flipped bit is seen by the checksum, and octets have theirs once it is put in. Begin at
--- `flip_is_seen` and `checksums_fit`, the laws; `has_checksum6` needs `has_checksum-is`.
+-- `flip_is_detected` and `checksums_fit`, the laws; `has_checksum6` needs `has_checksum-is`.
 use Rattle.std.proofs.Common.{◌≡◌, ◌≢◌, ℕ, ◌+◌, ◌*◌, ◌/◌, ◌%◌, ◌^◌, ◌<◌, ◌≤◌, inl, inr, zero, suc, Bool, true, not, eqb, ltb, leb, ◌&&◌, ◌||◌, List, [], ◌∷◌, length, get_or, set, fold, refl, sym, ap, ◌∙◌, arith, bit_and, bit_xor}
 use Rattle.std.proofs.lemmas.Bool.Decides.{nat_tests}
 use Rattle.std.proofs.lemmas.Grind.{common_steps}
@@ -105,31 +105,31 @@ module _ (octets : List ℕ) (at place bit : ℕ) (a : AreOctets octets) (h : at
         folded-flip (without_checksum at octets) place bit (rw length-set p),
       ) at bad)) ∙ eqb-true _ _ good)
 
-  seen_elsewhere : place ≢ at → ⊥
-  seen_elsewhere n =
+  found_elsewhere : place ≢ at → ⊥
+  found_elsewhere n =
       let here = get_or-set_other octets place at (bit_xor (get_or octets place 0) (2 ^ bit)) 0
       (λ e. n (sym e)) in
       let there = get_or-set_other octets at place (64 * (get_or octets at 0 / 64)) 0 n in
       sums_differ (rw (here, there) (set_comm octets place at _ _ n)) (rw here refl)
 
   -- in the octet that has the checksum, the bit is one of the checksum's or it isn't
-  seen_low : place ≡ at → bit < 6 → ⊥
+  found_low : place ≡ at → bit < 6 → ⊥
   unfolding has_checksum checksum_of
-  seen_low e low =
+  found_low e low =
       let flip = flip_low (get_or octets at 0) bit (a at) low in
       flip.1 (eqb-true _ _ (rw (get_or-set_same octets at _ 0 h, set-set, flip.0) at (rw e at bad))
       ∙ sym (eqb-true _ _ good))
 
-  seen_high : place ≡ at → 6 ≤ bit → ⊥
-  seen_high e high =
+  found_high : place ≡ at → 6 ≤ bit → ⊥
+  found_high e high =
       let flip = flip_high (get_or octets at 0) bit (a at) b high in
       let put = λ (v : ℕ). get_or-set_same octets at v 0 h in
       sums_differ (rw e (rw (put, put, set-set, set-set, flip.1) refl)) (rw e (rw put flip.0))
 
-  pub flip_is_seen : ⊥
-  flip_is_seen = elim (cases_eq place at) [
-    | inl e ↦ elim (cases_lt bit 6) [ inl low ↦ seen_low e low | inr high ↦ seen_high e high ]
-    | inr n ↦ seen_elsewhere n
+  pub flip_is_detected : ⊥
+  flip_is_detected = elim (cases_eq place at) [
+    | inl e ↦ elim (cases_lt bit 6) [ inl low ↦ found_low e low | inr high ↦ found_high e high ]
+    | inr n ↦ found_elsewhere n
   ]
 
 -- six bits, in octets of any size, which then have them

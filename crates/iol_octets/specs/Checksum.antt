@@ -55,8 +55,8 @@ abbrev pub AreOctets : List ℕ → Type 0
 AreOctets octets = (i : ℕ) → slice_index octets i < 256
 
 -- octets that have their checksum and of which one bit is flipped, wherever it is, don't have it
-abbrev pub FlipIsSeen : Type 0
-FlipIsSeen =
+abbrev pub FlipIsDetected : Type 0
+FlipIsDetected =
     (octets : List ℕ) (checked place bit : ℕ) → AreOctets octets → checked < length octets
     → place < length octets → bit < 8
     → IsTrue (has_checksum checked octets)

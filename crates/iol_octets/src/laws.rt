@@ -1,5 +1,5 @@
 //! Laws of the definitions, each carried by a function that does nothing when it runs.
-ghost use Rattle.iol_octets.specs.Checksum.{ChecksumsFit, FlipIsSeen};
+ghost use Rattle.iol_octets.specs.Checksum.{ChecksumsFit, FlipIsDetected};
 ghost use Rattle.iol_octets.specs.Control.{ControlsAreReadBack};
 
 /// A checksum has six bits, and octets have theirs once it is put where six zeros stand.
@@ -10,9 +10,9 @@ pub fn checksums_fit()
 
 /// Octets that have their checksum and of which one bit is flipped don't have it.
 /// Two flipped bits may go unseen.
-#[tactic(auto, using(crate::proofs::Flips::flip_is_seen))]
+#[tactic(auto, using(crate::proofs::Flips::flip_is_detected))]
 pub fn one_flip_is_seen()
-    ensures { FlipIsSeen }
+    ensures { FlipIsDetected }
 {}
 
 /// What is written of a control octet is read back as it.

@@ -21,7 +21,7 @@ untaken far answer e = by far.isdu e
     by (Receiving octets last) k = refl
     by (Whole request last) k = refl
     by (Handed request) k = rw k refl
-    by (Answered request given last) k = refl
+    by (Answered request held last) k = refl
 
 abbrev after_answer : Running Apart → Answer → Running Apart
 after_answer device answer = record device { far = local device.far (LocalStep.Carry answer) }

@@ -17,9 +17,9 @@ use Rattle.iol_params.specs.Table.{ParamTable}
 use Rattle.iol_params.specs.State.{ParamState, is_at_rest, is_foreign}
 use Rattle.iol_params.specs.Carry.{local_change, local_refusal, local_settled, local_reset, own_command, unless_foreign, with_activity}
 use Rattle.iol_params.specs.Manager.{ManagerValue}
-use Rattle.iol_params.specs.Image.{LastingState, kept_of, kept_in, with_kept, power_up}
+use Rattle.iol_params.specs.Image.{LastingState, lasting_of, lasting_in, with_lasting, power_up}
 use Rattle.iol_param_device.specs.Saved.{SavedValue, SavesUnless, IsSaved, IsSavedIn, opened_manager}
-use Rattle.iol_param_device.specs.Device.{Both, event_told}
+use Rattle.iol_param_device.specs.Device.{Both, event_reported}
 use Rattle.iol_param_device.specs.Laws.{CutChangesAreWhole}
 
 -- a change that is refused changes nothing
@@ -50,40 +50,40 @@ reset_refused table s why e = by s.activity e
 
 -- a state that is what was kept
 abbrev fresh : LastingState → ParamState
-fresh kept = record {
-  values = kept.values;
+fresh lasting = record {
+  values = lasting.values;
   copy = [];
   activity = Idle;
-  locks = kept.locks;
-  flag = kept.flag;
-  event_due = kept.flag;
+  locks = lasting.locks;
+  flag = lasting.flag;
+  event_due = lasting.flag;
   restart = NotDue;
 }
 
 power-up-fresh : (table : ParamTable) (l : Option (List ℕ))
-    → power_up table l ≡ fresh (kept_of (power_up table l))
+    → power_up table l ≡ fresh (lasting_of (power_up table l))
 power-up-fresh table None = refl
-power-up-fresh table (Some octets) = by (kept_in table octets)
+power-up-fresh table (Some octets) = by (lasting_in table octets)
   where
-    by : (k : Option LastingState) → with_kept (power_up table None) k
-        ≡ fresh (kept_of (with_kept (power_up table None) k))
+    by : (k : Option LastingState) → with_lasting (power_up table None) k
+        ≡ fresh (lasting_of (with_lasting (power_up table None) k))
     by None = refl
-    by (Some kept) = refl
+    by (Some lasting) = refl
 
 -- the power fails and comes back: what is newest_content is what was kept
 pub power_same : (table : ParamTable) (s : ParamState) (l : Option (List ℕ))
-    → kept_of s ≡ kept_of (power_up table l)
-    → with_kept s (Some (kept_of s)) ≡ power_up table l
+    → lasting_of s ≡ lasting_of (power_up table l)
+    → with_lasting s (Some (lasting_of s)) ≡ power_up table l
 power_same table s l e = ap fresh e ∙ sym (power-up-fresh table l)
 
 -- wherever the power fails, a change is whole or it isn't there
 pub cut-whole : EachSaveIsWholeOrNothing → CutChangesAreWhole
 cut-whole law table memory old new image count fits says saved =
-    let again : Option (List ℕ) → LastingState = λ l. kept_of (power_up table l) in
+    let restarted : Option (List ℕ) → LastingState = λ l. lasting_of (power_up table l) in
     let first : Option LastingState → LastingState =
-    λ k. kept_of (with_kept (power_up table None) k) in (
-      λ part. ap again ((law memory image count fits).0 part) ∙ sym saved,
-      λ all. ap again ((law memory image count fits).1 all) ∙ ap first says,
+    λ k. lasting_of (with_lasting (power_up table None) k) in (
+      λ part. ap restarted ((law memory image count fits).0 part) ∙ sym saved,
+      λ all. ap restarted ((law memory image count fits).1 all) ∙ ap first says,
     )
 
 -- a manager that is as it was is saved as it was
@@ -95,14 +95,14 @@ same-saved memory old new slots image saved same =
 
 -- what a power cycle makes of a saved manager, by what it is seen as
 pub cycled : {S : Type 0} (memory : S → Memory) (old new : ManagerValue) (slots : S)
-    (seen : SavedValue S) → record { manager = old; slots = slots } ≡ seen
+    (shown : SavedValue S) → record { manager = old; slots = slots } ≡ shown
     → IsSaved memory (record { manager = old; slots = slots })
-    → new ≡ record old { state = with_kept old.state (Some (kept_of old.state)) }
+    → new ≡ record old { state = with_lasting old.state (Some (lasting_of old.state)) }
     → record { manager = new; slots = slots }
-    ≡ record seen { manager = opened_manager seen.manager.table (memory seen.slots) }
-cycled {S} memory old new slots seen view saved restarted =
+    ≡ record shown { manager = opened_manager shown.manager.table (memory shown.slots) }
+cycled {S} memory old new slots shown view saved restarted =
     let made : ManagerValue → SavedValue S = λ m. record { manager = m; slots = slots } in
-    let state : with_kept old.state (Some (kept_of old.state))
+    let state : with_lasting old.state (Some (lasting_of old.state))
     ≡ power_up old.table (newest_content (memory slots)) =
     power_same old.table old.state (newest_content (memory slots)) saved in
     let opened : SavedValue S → SavedValue S =
@@ -110,22 +110,22 @@ cycled {S} memory old new slots seen view saved restarted =
     ap made (restarted ∙ ap (λ s. record old { state = s }) state) ∙ ap opened view
 
 -- an event that was told changes nothing that outlives the power
-pub told_kept : (told : Bool) (b : Both)
-    → kept_of (event_told told b).state ≡ kept_of b.state
-told_kept true b = refl
-told_kept false b = refl
+pub reported_lasting : (reported : Bool) (b : Both)
+    → lasting_of (event_reported reported b).state ≡ lasting_of b.state
+reported_lasting true b = refl
+reported_lasting false b = refl
 
 module _ {S : Type 0} (memory : S → Memory) (gives : S → Store → S → Type 0) where
   -- saved is what outlives the power, whatever else a manager has
-  pub saves_kept : (unless : Bool) (old : S) (mid new : SavedValue S)
+  pub saves_lasting : (unless : Bool) (old : S) (mid new : SavedValue S)
       → SavesUnless memory unless gives old mid
       → new.slots ≡ mid.slots → new.manager.table ≡ mid.manager.table
-      → kept_of new.manager.state ≡ kept_of mid.manager.state
+      → lasting_of new.manager.state ≡ lasting_of mid.manager.state
       → SavesUnless memory unless gives old new
-  saves_kept true old mid new done slots table kept = slots ∙ done
-  saves_kept false old mid new done slots table kept = record {
+  saves_lasting true old mid new done slots table lasting = slots ∙ done
+  saves_lasting false old mid new done slots table lasting = record {
     image = done.image;
-    says = ap (λ t. kept_in t done.image) table ∙ (done.says ∙ ap Some (sym kept));
+    says = ap (λ t. lasting_in t done.image) table ∙ (done.says ∙ ap Some (sym lasting));
     fits = done.fits;
     stores = subst (λ s. AreStored gives old (keeping (memory old) done.image) s) (sym slots)
         done.stores;

@@ -43,13 +43,13 @@ after_request (Some request) table b =
 
 -- the event is raised, if it is due and the memory takes it
 -- DSD-6
-abbrev pub event_told : Bool → Both → Both
-event_told false b = b
-event_told true b =
+abbrev pub event_reported : Bool → Both → Both
+event_reported false b = b
+event_reported true b =
     both (local b.far (Raise upload_event)) (record b.state { event_due = false })
 
 abbrev pub after_event : Both → Both
-after_event b = event_told (b.state.event_due && not (is_full b.far.events)) b
+after_event b = event_reported (b.state.event_due && not (is_full b.far.events)) b
 
 -- what `work` makes of them
 abbrev pub after_work : ParamTable → Both → Both

@@ -5,7 +5,7 @@ use Rattle.iol_slots.specs.Memory.{Memory, AreStored}
 use Rattle.iol_slots.specs.Images.{newest_content, keeping, FitsIn}
 use Rattle.iol_params.specs.Table.{ParamTable}
 use Rattle.iol_params.specs.Manager.{ManagerValue}
-use Rattle.iol_params.specs.Image.{kept_of, kept_in, power_up, image_size}
+use Rattle.iol_params.specs.Image.{lasting_of, lasting_in, power_up, image_size}
 
 pub record SavedValue (S : Type 0) : Type 0 where
   pub manager : ManagerValue
@@ -22,15 +22,15 @@ module _ {S : Type 0} (memory : S → Memory) where
   -- the power undoes nothing: what is newest_content has these values, locks and this flag
   -- SAVE-3
   abbrev pub IsSaved : SavedValue S → Type 0
-  IsSaved m = kept_of m.manager.state
-      ≡ kept_of (power_up m.manager.table (newest_content (memory m.slots)))
+  IsSaved m = lasting_of m.manager.state
+      ≡ lasting_of (power_up m.manager.table (newest_content (memory m.slots)))
 
   -- an image of the state is stored by a save of it, octet by octet, and nothing else is
   -- SAVE-3
   pub record Saves (gives : S → Store → S → Type 0) (old : S) (new : SavedValue S)
       : Type 0 where
     pub image : List ℕ
-    pub says : kept_in new.manager.table image ≡ Some (kept_of new.manager.state)
+    pub says : lasting_in new.manager.table image ≡ Some (lasting_of new.manager.state)
     pub fits : FitsIn (memory old) image
     pub stores : AreStored gives old (keeping (memory old) image) new.slots
 

@@ -23,7 +23,7 @@ ghost use Rattle.iol_param_device.specs.Device.{ParamDeviceValue, both, after_re
 
 use crate::fault::OpenFault;
 use crate::saved::SavedManager;
-use iol_device::{Apart, Device, DeviceFault, DeviceMode, Unkept};
+use iol_device::{Apart, Device, DeviceFault, DeviceMode, NoRecord};
 use iol_event::Event;
 use iol_image::Image;
 use iol_isdu::{Answer, Place};
@@ -46,7 +46,7 @@ pub const UPLOAD_REQUEST: Event = Event {
 /// Its record isn't kept, so it takes no memory but that of its values, however long it runs.
 #[derive(Drop)]
 pub struct ParamDevice<'a, S: Slots, A: Allocator + Copy = Global> {
-    device: Device<Apart, Unkept>,
+    device: Device<Apart, NoRecord>,
     saved: SavedManager<'a, S, A>,
 }
 
@@ -313,7 +313,7 @@ impl<'a, S: Slots, A: Allocator + Copy> ParamDevice<'a, S, A> {
     }
 
     /// Its end of the line.
-    pub fn device(&self) -> &Device<Apart, Unkept>
+    pub fn device(&self) -> &Device<Apart, NoRecord>
         ensures { result.now ≡ self.now.device }
     {
         &self.device
@@ -348,7 +348,7 @@ pub fn goes_back(before: DeviceMode, now: DeviceMode) -> bool
 
 /// The request that is handed over has this answer, if it fits.
 #[tactic(auto, using(crate::proofs::Answering::answered))]
-fn answer_handed(device: &mut Device<Apart, Unkept>, number: u64, answer: Answer)
+fn answer_handed(device: &mut Device<Apart, NoRecord>, number: u64, answer: Answer)
     requires { handed_number device.old ≡ Some number }
     ensures { device.new ≡ record device.old {
       far = local device.old.far (LocalStep.Carry answer);

@@ -5,6 +5,7 @@ use thiserror::Error;
 
 // The numbers of the refusals: their one table, which the definitions cite.
 const OUT_OF_MEMORY: u8 = 24;
+
 const WRONG_SLOT_SIZE: u8 = 59;
 
 /// Why a device with parameters wasn't opened.

@@ -6,7 +6,7 @@ ghost use Rattle.iol_slots.specs.Images.{has_size, FitsIn};
 ghost use Rattle.iol_params.specs.State.{after_end, after_quiet};
 ghost use Rattle.iol_params.specs.Carry.{local_change, local_reset};
 ghost use Rattle.iol_params.specs.Requests.{request_result};
-ghost use Rattle.iol_params.specs.Image.{kept_of, with_kept, image_size};
+ghost use Rattle.iol_params.specs.Image.{lasting_of, with_lasting, image_size};
 ghost use Rattle.iol_param_device.specs.Saved.{SavedValue, Saves, SavesUnless, IsSaved, opened_manager};
 ghost use Rattle.iol_param_device.specs.Faults.{open_fault};
 
@@ -222,7 +222,7 @@ fn zeros<A: Allocator + Copy>(alloc: A, size: usize) -> Result<Vec<u8, A>, Alloc
 fn restart<A: Allocator + Copy>(manager: &mut Manager<A>, image: &mut [u8])
     requires { length image.old ≡ image_size manager.old.table }
     ensures manager { manager.new ≡ record manager.old {
-      state = with_kept manager.old.state (Some (kept_of manager.old.state));
+      state = with_lasting manager.old.state (Some (lasting_of manager.old.state));
     } }
     ensures room { length image.new ≡ length image.old }
 {

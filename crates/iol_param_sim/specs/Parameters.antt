@@ -10,9 +10,9 @@ use Rattle.iol_params.specs.Table.{ParamTable}
 use Rattle.iol_params.specs.State.{ParamState, after_end, after_quiet}
 use Rattle.iol_params.specs.Carry.{local_change}
 use Rattle.iol_params.specs.Requests.{request_result}
-use Rattle.iol_params.specs.Image.{kept_of, with_kept}
+use Rattle.iol_params.specs.Image.{lasting_of, with_lasting}
 use Rattle.iol_params.specs.Manager.{ManagerValue}
-use Rattle.iol_param_device.specs.Device.{Both, both, after_request, event_told, after_event, after_work, goes_back, ended_if, upload_event}
+use Rattle.iol_param_device.specs.Device.{Both, both, after_request, event_reported, after_event, after_work, goes_back, ended_if, upload_event}
 use Rattle.iol_sim.specs.OwnSteps.{Own, own_and}
 use Rattle.iol_sim.specs.Beside.{Stand, BesideFacts}
 
@@ -47,9 +47,9 @@ request_own None table b = record { steps = []; is = refl }
 request_own (Some request) table b =
     record { steps = Carry (request_result table b.state request).0 ∷ []; is = refl }
 
-told_own : (told : Bool) (b : Both) → Own b.far (event_told told b).far
-told_own true b = record { steps = Raise upload_event ∷ []; is = refl }
-told_own false b = record { steps = []; is = refl }
+reported_own : (reported : Bool) (b : Both) → Own b.far (event_reported reported b).far
+reported_own true b = record { steps = Raise upload_event ∷ []; is = refl }
+reported_own false b = record { steps = []; is = refl }
 
 pub work_own : (room : Bool) (table : ParamTable) (b : Both)
     → Own b.far (after_work_by room table b).far
@@ -57,8 +57,8 @@ work_own true table b =
     let mid : Both = after_request (handed_request b.far.isdu) table b in
     own_and b.far mid.far (after_event mid).far
     (request_own (handed_request b.far.isdu) table b)
-    (told_own (mid.state.event_due && not (is_full mid.far.events)) mid)
-work_own false table b = told_own (b.state.event_due && not (is_full b.far.events)) b
+    (reported_own (mid.state.event_due && not (is_full mid.far.events)) mid)
+work_own false table b = reported_own (b.state.event_due && not (is_full b.far.events)) b
 
 -- it may raise an event, too
 pub not_plain : {A : Type 0} → IsTrue false → A
@@ -73,7 +73,8 @@ parameters_facts = record {
   ended = λ p. with_param_state p (after_end p.manager.state);
   silenced = λ p. with_param_state p (after_quiet p.manager.state);
   heard = λ before now p. with_param_state p (ended_if (goes_back before now) p.manager.state);
-  cycled = λ p. with_param_state p (with_kept p.manager.state (Some (kept_of p.manager.state)));
+  cycled = λ p. with_param_state p
+      (with_lasting p.manager.state (Some (lasting_of p.manager.state)));
   changed = λ p place octets.
       with_param_state p (local_change p.manager.table p.manager.state place octets).1;
   is_work = λ old new h. record {

@@ -3,11 +3,11 @@ ghost use Rattle.std.specs.Prelude.{◌≡◌, ◌<◌, Some, IfOk, length};
 ghost use Rattle.iol_far.specs.Local.{local, LocalStep};
 ghost use Rattle.iol_far.specs.Isdu.{handed_request};
 ghost use Rattle.iol_device.specs.Number.{handed_number};
-ghost use Rattle.iol_params.specs.Image.{kept_of, with_kept, image_size};
+ghost use Rattle.iol_params.specs.Image.{lasting_of, with_lasting, image_size};
 ghost use Rattle.iol_params.specs.Manager.{new_manager};
 ghost use Rattle.iol_param_device.specs.Device.{both, after_request, after_event};
 
-use iol_device::{Apart, Device, Kept};
+use iol_device::{Apart, Device, FullRecord};
 use iol_far::DeviceMode;
 use iol_isdu::{Answer, Place};
 use iol_param_device::{UPLOAD_REQUEST, goes_back};
@@ -65,7 +65,7 @@ impl<'t, A: Allocator + Copy> Parameters<'t, A> {
     }
 
     // The request that is handed over, if any, has its answer.
-    fn answer_request<C: Allocator + Copy>(&mut self, device: &mut Device<Apart, Kept<C>>)
+    fn answer_request<C: Allocator + Copy>(&mut self, device: &mut Device<Apart, FullRecord<C>>)
         ensures works { both device.new.far self.new.manager.state
             ≡ after_request (handed_request device.old.far.isdu) self.old.manager.table
             (both device.old.far self.old.manager.state) }
@@ -79,7 +79,7 @@ impl<'t, A: Allocator + Copy> Parameters<'t, A> {
     }
 
     // The event is raised, if it is due and the memory takes it.
-    fn tell_event<C: Allocator + Copy>(&mut self, device: &mut Device<Apart, Kept<C>>)
+    fn tell_event<C: Allocator + Copy>(&mut self, device: &mut Device<Apart, FullRecord<C>>)
         ensures works { both device.new.far self.new.manager.state
             ≡ after_event (both device.old.far self.old.manager.state) }
         ensures device { device.new ≡ record device.old { far = device.new.far } }
@@ -98,7 +98,7 @@ impl<'t, A: Allocator + Copy> Beside<Apart> for Parameters<'t, A> {
 
     /// A request that is handed over is answered by the manager, where the record has room for
     /// it. Then the event of Data Storage is raised, if it is due.
-    fn work<C: Allocator + Copy>(&mut self, device: &mut Device<Apart, Kept<C>>) {
+    fn work<C: Allocator + Copy>(&mut self, device: &mut Device<Apart, FullRecord<C>>) {
         if device.carried().len() < self.room as usize {
             self.answer_request(device);
         }
@@ -137,7 +137,7 @@ impl<'t, A: Allocator + Copy> Beside<Apart> for Parameters<'t, A> {
 /// The request that is handed over has this answer, if it fits.
 #[tactic(auto, using(iol_param_device::proofs::Answering::answered))]
 fn answer_handed<C: Allocator + Copy>(
-    device: &mut Device<Apart, Kept<C>>,
+    device: &mut Device<Apart, FullRecord<C>>,
     number: u64,
     answer: Answer,
 )
@@ -153,7 +153,7 @@ fn answer_handed<C: Allocator + Copy>(
 fn restart<A: Allocator + Copy>(manager: &mut Manager<A>, image: &mut [u8])
     requires { length image.old ≡ image_size manager.old.table }
     ensures manager { manager.new ≡ record manager.old {
-      state = with_kept manager.old.state (Some (kept_of manager.old.state));
+      state = with_lasting manager.old.state (Some (lasting_of manager.old.state));
     } }
     ensures room { length image.new ≡ length image.old }
 {

@@ -135,11 +135,11 @@ fn is_done<A: Allocator + Copy>(manager: &mut Manager<A>, step: Step) -> bool {
             manager.event_raised();
             true
         }
-        _ => is_seen(manager, step),
+        _ => is_as_expected(manager, step),
     }
 }
 
-fn is_seen<A: Allocator + Copy>(manager: &Manager<A>, step: Step) -> bool {
+fn is_as_expected<A: Allocator + Copy>(manager: &Manager<A>, step: Step) -> bool {
     match step {
         Step::Has(place, octet) => octet_at(manager, place) == Some(octet),
         Step::Flag(flag) => manager.flag() == flag,

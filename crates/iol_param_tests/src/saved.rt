@@ -60,7 +60,7 @@ fn is_answered(saved: &mut SavedManager<RamSlots>, step: Step) -> bool {
             saved.power_cycle();
             true
         }
-        _ => is_seen(saved, step),
+        _ => is_as_expected(saved, step),
     }
 }
 
@@ -76,7 +76,7 @@ fn is_written(
     }
 }
 
-fn is_seen(saved: &SavedManager<RamSlots>, step: Step) -> bool {
+fn is_as_expected(saved: &SavedManager<RamSlots>, step: Step) -> bool {
     match step {
         Step::Has(octet) => octet_of(saved) == Some(octet),
         Step::Flag(flag) => saved.manager().flag() == flag,

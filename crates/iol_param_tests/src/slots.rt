@@ -40,7 +40,7 @@ fn is_saved(slots: &mut RamSlots, content: &Content) -> bool {
 }
 
 /// Whether a content is saved, and is what is loaded then.
-fn is_kept(slots: &mut RamSlots, content: &Content) -> bool {
+fn is_retained(slots: &mut RamSlots, content: &Content) -> bool {
     is_saved(slots, content) && load(slots) == Some(&content[..])
 }
 
@@ -72,7 +72,7 @@ fn marks_go_round(rt: HostRuntime) -> Result<(), Fail> {
     let mut slots = RamSlots::open(rt.alloc(), SIZE)?;
     for round in 0..600u16 {
         let [high, low] = round.to_be_bytes();
-        assert!(rt; is_kept(&mut slots, &[high, low, 0]));
+        assert!(rt; is_retained(&mut slots, &[high, low, 0]));
     }
     Ok(())
 }

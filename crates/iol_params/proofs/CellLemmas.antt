@@ -211,8 +211,8 @@ module _ (ms : List Member) (i at : ℕ) (none : Member) (cells : List ℕ)
       ∙ (cells_with-rest at (most_of m) cells value fits-here short
       ∙ (ap (λ k. drop k cells) behind ∙ sym (drop-drop (1 + most_of m) at cells)))
 
-  pub rest-kept : drop (at + (1 + most_of m)) cells ≡ drop (1 + most_of m) (drop at cells)
-  rest-kept = sym (drop-drop (1 + most_of m) at cells)
+  pub rest-same : drop (at + (1 + most_of m)) cells ≡ drop (1 + most_of m) (drop at cells)
+  rest-same = sym (drop-drop (1 + most_of m) at cells)
 
   -- the defaults
   pub defaults-fit : all_fit (drop i ms) (defaults (drop i ms)) ≡ true
@@ -255,14 +255,14 @@ module _ (ms : List Member) (i at : ℕ) (none : Member) (cells : List ℕ)
       let tail : List ℕ → List (List ℕ) = λ octets. reset_left rest octets in
       keep-more (tail (drop (at + (1 + most_of m)) cells))
       ∙ (ap (λ octets. values_in (take i ms) cells
-      ++ (cell_value (most_of m) (drop at cells) ∷ tail octets)) rest-kept
+      ++ (cell_value (most_of m) (drop at cells) ∷ tail octets)) rest-same
       ∙ sym (ap (λ members. values_in (take i ms) cells ++ reset_left members (drop at cells)) left
       ∙ rw fixed refl))
 
   -- a write
   module _ (place : Place) (octets : List ℕ) where
     abbrev written : List Member → List ℕ → List ℕ → List (List ℕ)
-    written members had new = overlay members (values_in members had) place new
+    written members prior new = overlay members (values_in members prior) place new
 
     pub write-put : selects place m ≡ true
         → length (take (most_of m) octets) ≤ most_of m
@@ -273,9 +273,9 @@ module _ (ms : List Member) (i at : ℕ) (none : Member) (cells : List ℕ)
     write-put here short =
         let value = take (most_of m) octets in
         let tail : List ℕ → List (List ℕ) =
-        λ had. written rest had (drop (most_of m) octets) in
+        λ prior. written rest prior (drop (most_of m) octets) in
         put-more value (tail (drop (at + (1 + most_of m)) (cells_with at value cells))) short
-        ∙ (ap (λ had. values_in (take i ms) cells ++ (value ∷ tail had)) (rest-put value short)
+        ∙ (ap (λ prior. values_in (take i ms) cells ++ (value ∷ tail prior)) (rest-put value short)
         ∙ sym (ap (λ members. values_in (take i ms) cells
         ++ written members (drop at cells) octets) left ∙ rw here refl))
 
@@ -284,18 +284,18 @@ module _ (ms : List Member) (i at : ℕ) (none : Member) (cells : List ℕ)
         ++ written rest (drop (at + (1 + most_of m)) cells) octets
         ≡ values_in (take i ms) cells ++ written (drop i ms) (drop at cells) octets
     write-keep other =
-        let tail : List ℕ → List (List ℕ) = λ had. written rest had octets in
+        let tail : List ℕ → List (List ℕ) = λ prior. written rest prior octets in
         keep-more (tail (drop (at + (1 + most_of m)) cells))
-        ∙ (ap (λ had. values_in (take i ms) cells
-        ++ (cell_value (most_of m) (drop at cells) ∷ tail had)) rest-kept
+        ∙ (ap (λ prior. values_in (take i ms) cells
+        ++ (cell_value (most_of m) (drop at cells) ∷ tail prior)) rest-same
         ∙ sym (ap (λ members. values_in (take i ms) cells
         ++ written members (drop at cells) octets) left ∙ rw other refl))
 
 -- what is put behind what was there before is no longer than all of it
-pub within-whole : (had value tail whole : List ℕ) (most : ℕ) → had ++ (value ++ tail) ≡ whole
-    → length whole ≤ most → length had + length value ≤ most
-within-whole had value tail whole most e h =
-    omega (arith, ap length e, length-append had (value ++ tail), length-append value tail)
+pub within-whole : (prior value tail whole : List ℕ) (most : ℕ) → prior ++ (value ++ tail) ≡ whole
+    → length whole ≤ most → length prior + length value ≤ most
+within-whole prior value tail whole most e h =
+    omega (arith, ap length e, length-append prior (value ++ tail), length-append value tail)
 
 module _ (ms : List Member) (i : ℕ) (none : Member) (place : Place) (within : i < length ms)
     (here : selects place (get_or ms i none) ≡ true) where

@@ -122,7 +122,7 @@ module _ (table : ParamTable) (k : ParamState) (scope : Scope) where
       → ((values : List (List ℕ)) → with_write_of table.members values c ≡ values)
       → Leaves table k scope writes copy cs
       → Leaves table k scope writes copy (c ∷ cs)
-  leaves-stay writes copy c cs stays written kept more =
+  leaves-stay writes copy c cs stays written same more =
       let s = downloading k scope writes copy in
       record {
         left = more.left;
@@ -135,7 +135,7 @@ module _ (table : ParamTable) (k : ParamState) (scope : Scope) where
               ∙ (ap (λ (t : ParamState). all_written table t cs) stays ∙ (more.whole all).1),
           (more.whole all).2
               ∙ ap (λ (values : List (List ℕ)). with_writes table.members values cs)
-              (sym (kept copy)),
+              (sym (same copy)),
         );
       }
 

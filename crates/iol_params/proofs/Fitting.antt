@@ -269,36 +269,36 @@ no-read_only m (x ∷ xs) stored same =
 -- the values that are written: those of one device for the parameters of these members, those that
 -- another had for the others
 abbrev pub mixed : List Member → List Member → List (List ℕ) → List (List ℕ) → List (List ℕ)
-mixed done [] from had = []
-mixed done (m ∷ ms) [] had = []
+mixed done [] from prior = []
+mixed done (m ∷ ms) [] prior = []
 mixed done (m ∷ ms) (v ∷ from) [] = []
-mixed done (m ∷ ms) (v ∷ from) (w ∷ had) =
-    (if list_any (is_of_index m.place.index) done then v else w) ∷ mixed done ms from had
+mixed done (m ∷ ms) (v ∷ from) (w ∷ prior) =
+    (if list_any (is_of_index m.place.index) done then v else w) ∷ mixed done ms from prior
 
-pub mixed-none : (ms : List Member) (from had : List (List ℕ)) → all_fit ms from ≡ true
-    → all_fit ms had ≡ true → mixed [] ms from had ≡ had
+pub mixed-none : (ms : List Member) (from prior : List (List ℕ)) → all_fit ms from ≡ true
+    → all_fit ms prior ≡ true → mixed [] ms from prior ≡ prior
 mixed-none [] [] [] f h = refl
-mixed-none [] [] (w ∷ had) f h = absurd (cc)
-mixed-none [] (v ∷ from) had f h = absurd (cc)
-mixed-none (m ∷ ms) [] had f h = absurd (cc)
+mixed-none [] [] (w ∷ prior) f h = absurd (cc)
+mixed-none [] (v ∷ from) prior f h = absurd (cc)
+mixed-none (m ∷ ms) [] prior f h = absurd (cc)
 mixed-none (m ∷ ms) (v ∷ from) [] f h = absurd (cc)
-mixed-none (m ∷ ms) (v ∷ from) (w ∷ had) f h = ap (λ l. w ∷ l)
-    (mixed-none ms from had (and-parts (fits_type m.data_type v) (all_fit ms from) f).1
-    (and-parts (fits_type m.data_type w) (all_fit ms had) h).1)
+mixed-none (m ∷ ms) (v ∷ from) (w ∷ prior) f h = ap (λ l. w ∷ l)
+    (mixed-none ms from prior (and-parts (fits_type m.data_type v) (all_fit ms from) f).1
+    (and-parts (fits_type m.data_type w) (all_fit ms prior) h).1)
 
 -- a write of a parameter more
 pub overlay-mixed : (done : List Member) (first : Member) (ms : List Member)
-    (from had : List (List ℕ)) → all_fit ms from ≡ true → all_fit ms had ≡ true
+    (from prior : List (List ℕ)) → all_fit ms from ≡ true → all_fit ms prior ≡ true
     → Parses (whole first.place.index) ms from
-    → overlay ms (mixed done ms from had) (whole first.place.index)
-    (value_at ms from (whole first.place.index)) ≡ mixed (first ∷ done) ms from had
-overlay-mixed done first [] from had f h parses = refl
-overlay-mixed done first (m ∷ ms) [] had f h parses = absurd (cc)
+    → overlay ms (mixed done ms from prior) (whole first.place.index)
+    (value_at ms from (whole first.place.index)) ≡ mixed (first ∷ done) ms from prior
+overlay-mixed done first [] from prior f h parses = refl
+overlay-mixed done first (m ∷ ms) [] prior f h parses = absurd (cc)
 overlay-mixed done first (m ∷ ms) (v ∷ from) [] f h parses = absurd (cc)
-overlay-mixed done first (m ∷ ms) (v ∷ from) (w ∷ had) f h parses =
-    by (selects place m) refl parses.0 (overlay-mixed done first ms from had
+overlay-mixed done first (m ∷ ms) (v ∷ from) (w ∷ prior) f h parses =
+    by (selects place m) refl parses.0 (overlay-mixed done first ms from prior
     (and-parts (fits_type m.data_type v) (all_fit ms from) f).1
-    (and-parts (fits_type m.data_type w) (all_fit ms had) h).1 parses.1)
+    (and-parts (fits_type m.data_type w) (all_fit ms prior) h).1 parses.1)
   where
     place : Place
     place = whole first.place.index
@@ -310,7 +310,7 @@ overlay-mixed done first (m ∷ ms) (v ∷ from) (w ∷ had) f h parses =
     most = most_of m
 
     old : List (List ℕ)
-    old = mixed done ms from had
+    old = mixed done ms from prior
 
     here : List ℕ
     here = if list_any (is_of_index m.place.index) done then v else w
@@ -326,14 +326,14 @@ overlay-mixed done first (m ∷ ms) (v ∷ from) (w ∷ had) f h parses =
     new : Bool → List (List ℕ)
     new b =
         (if b || list_any (is_of_index m.place.index) done then v else w)
-        ∷ mixed (first ∷ done) ms from had
+        ∷ mixed (first ∷ done) ms from prior
 
     turned : is_of_index m.place.index first ≡ selects place m
     turned = index-back first m ∙ sym (whole-selects first.place.index m)
 
     by : (b : Bool) → selects place m ≡ b
         → (selects place m ≡ true → (take most (v ++ rest) ≡ v) × (drop most (v ++ rest) ≡ rest))
-        → overlay ms old place rest ≡ mixed (first ∷ done) ms from had
+        → overlay ms old place rest ≡ mixed (first ∷ done) ms from prior
         → over (selects place m) ≡ new (is_of_index m.place.index first)
     by true e parts more =
         let got = parts e in
@@ -345,24 +345,24 @@ overlay-mixed done first (m ∷ ms) (v ∷ from) (w ∷ had) f h parses =
 
 -- a place of which each member was written
 pub value-mixed : (done : List Member) (place : Place) (ms : List Member)
-    (from had : List (List ℕ)) → all_fit ms from ≡ true → all_fit ms had ≡ true
+    (from prior : List (List ℕ)) → all_fit ms from ≡ true → all_fit ms prior ≡ true
     → list_all (λ m. not (selects place m) || list_any (is_of_index m.place.index) done) ms ≡ true
-    → value_at ms (mixed done ms from had) place ≡ value_at ms from place
-value-mixed done place [] from had f h all = refl
-value-mixed done place (m ∷ ms) [] had f h all = absurd (cc)
+    → value_at ms (mixed done ms from prior) place ≡ value_at ms from place
+value-mixed done place [] from prior f h all = refl
+value-mixed done place (m ∷ ms) [] prior f h all = absurd (cc)
 value-mixed done place (m ∷ ms) (v ∷ from) [] f h all = absurd (cc)
-value-mixed done place (m ∷ ms) (v ∷ from) (w ∷ had) f h all =
+value-mixed done place (m ∷ ms) (v ∷ from) (w ∷ prior) f h all =
     let test : Member → Bool =
     λ m. not (selects place m) || list_any (is_of_index m.place.index) done in
     let parts = and-parts (test m) (list_all test ms) all in
     by (selects place m) refl
     (or-then (selects place m) (list_any (is_of_index m.place.index) done) parts.0)
-    (value-mixed done place ms from had
+    (value-mixed done place ms from prior
     (and-parts (fits_type m.data_type v) (all_fit ms from) f).1
-    (and-parts (fits_type m.data_type w) (all_fit ms had) h).1 parts.1)
+    (and-parts (fits_type m.data_type w) (all_fit ms prior) h).1 parts.1)
   where
     old : List ℕ
-    old = value_at ms (mixed done ms from had) place
+    old = value_at ms (mixed done ms from prior) place
 
     rest : List ℕ
     rest = value_at ms from place
@@ -397,10 +397,10 @@ or-nothing false = refl
 or-next : (a b c : Bool) → ((a || b) || c) ≡ (b || ((true && a) || c))
 or-next true true c = refl
 or-next true false c = refl
-or-next false b c = or-again b c
+or-next false b c = or-same b c
   where
-    or-again : (b c : Bool) → (b || c) ≡ (b || c)
-    or-again b c = refl
+    or-same : (b c : Bool) → (b || c) ≡ (b || c)
+    or-same b c = refl
 
 pub taken-any : (index : ℕ) (done ms : List Member)
     → list_any (is_of_index index) (taken done ms)
@@ -524,15 +524,15 @@ whole-taken done index (m ∷ ms) h =
         (list_any (is_of_index m.place.index) done) (ap not e)
 
 -- the values of two devices of a table
-module _ (ms : List Member) (from had : List (List ℕ)) (done : List Member)
-    (fit-from : all_fit ms from ≡ true) (fit-had : all_fit ms had ≡ true)
+module _ (ms : List Member) (from prior : List (List ℕ)) (done : List Member)
+    (fit-from : all_fit ms from ≡ true) (fit-prior : all_fit ms prior ≡ true)
     (stored : list_all (λ m. not (is_stored m.access)
     || list_any (is_of_index m.place.index) done) ms ≡ true) where
   -- what Data Storage reads is what was written
   pub set-same : (rest : List Member)
       → list_all (λ m. not (is_stored m.access) || list_any (is_of_index m.place.index) done) rest
       ≡ true
-      → stored_set ms (mixed done ms from had) rest ≡ stored_set ms from rest
+      → stored_set ms (mixed done ms from prior) rest ≡ stored_set ms from rest
   set-same [] all = refl
   set-same (m ∷ rest) all =
       let test : Member → Bool =
@@ -550,23 +550,23 @@ module _ (ms : List Member) (from had : List (List ℕ)) (done : List Member)
 
       by : (b : Bool) → begins_stored m ≡ b
           → (not (is_stored m.access) || list_any (is_of_index m.place.index) done) ≡ true
-          → stored_set ms (mixed done ms from had) rest ≡ stored_set ms from rest
-          → set (mixed done ms from had) (begins_stored m) ≡ set from (begins_stored m)
+          → stored_set ms (mixed done ms from prior) rest ≡ stored_set ms from rest
+          → set (mixed done ms from prior) (begins_stored m) ≡ set from (begins_stored m)
       by true e here more =
-          let kept = (and-parts (is_stored m.access) (nat_le m.place.sub 1) e).0 in
+          let in_set = (and-parts (is_stored m.access) (nat_le m.place.sub 1) e).0 in
           let written = or-then (is_stored m.access)
-          (list_any (is_of_index m.place.index) done) here kept in
-          let same = value-mixed done place ms from had fit-from fit-had
+          (list_any (is_of_index m.place.index) done) here in_set in
+          let same = value-mixed done place ms from prior fit-from fit-prior
           (whole-taken done m.place.index ms written) in
-          ap (set (mixed done ms from had)) e
-          ∙ (ap (λ v. (place, v) ∷ stored_set ms (mixed done ms from had) rest) same
+          ap (set (mixed done ms from prior)) e
+          ∙ (ap (λ v. (place, v) ∷ stored_set ms (mixed done ms from prior) rest) same
           ∙ (ap (λ l. (place, value_at ms from place) ∷ l) more ∙ sym (ap (set from) e)))
-      by false e here more = ap (set (mixed done ms from had)) e
+      by false e here more = ap (set (mixed done ms from prior)) e
           ∙ (more ∙ sym (ap (set from) e))
 
   -- and each order rule holds that held there
   pub rules-same : (row : ℕ) (rules : List OrderRule) → rules_fault ms row rules ≡ None
-      → rules_hold ms rules from ≡ true → rules_hold ms rules (mixed done ms from had) ≡ true
+      → rules_hold ms rules from ≡ true → rules_hold ms rules (mixed done ms from prior) ≡ true
   rules-same row [] none holds = refl
   rules-same row (rule ∷ rules) none holds =
       let parts = fault_or-none row (rule_flaw ms rule) (rules_fault ms (row + 1) rules) none in
@@ -575,19 +575,19 @@ module _ (ms : List Member) (from had : List (List ℕ)) (done : List Member)
       let held = and-parts (holds_rule ms from rule) (rules_hold ms rules from) holds in
       let numbers = λ (place : Place).
       list_all (λ m. not (selects place m) || has_stored_number m) ms in
-      let low = value-mixed done rule.low ms from had fit-from fit-had
+      let low = value-mixed done rule.low ms from prior fit-from fit-prior
       (stored-places done rule.low ms stored
       (stored-all (count_by (selects rule.low) ms == 1) (numbers rule.low) here.0)) in
-      let high = value-mixed done rule.high ms from had fit-from fit-had
+      let high = value-mixed done rule.high ms from prior fit-from fit-prior
       (stored-places done rule.high ms stored
       (stored-all (count_by (selects rule.high) ms == 1) (numbers rule.high) here.1)) in
-      let same : holds_rule ms (mixed done ms from had) rule ≡ holds_rule ms from rule
+      let same : holds_rule ms (mixed done ms from prior) rule ≡ holds_rule ms from rule
       = ap (λ (v : List ℕ). nat_le (big_endian v)
-      (big_endian (value_at ms (mixed done ms from had) rule.high))) low
+      (big_endian (value_at ms (mixed done ms from prior) rule.high))) low
       ∙ ap (λ (v : List ℕ). nat_le (big_endian (value_at ms from rule.low))
       (big_endian v)) high in
-      and-both (holds_rule ms (mixed done ms from had) rule)
-      (rules_hold ms rules (mixed done ms from had)) (same ∙ held.0)
+      and-both (holds_rule ms (mixed done ms from prior) rule)
+      (rules_hold ms rules (mixed done ms from prior)) (same ∙ held.0)
       (rules-same (row + 1) rules parts.1 held.1)
 
 -- a refusal has four reasons
@@ -672,7 +672,7 @@ module _ (table : ParamTable) (from to : ParamState)
   set-written before row (m ∷ rest) done h inside =
       let parts = first-stands rows before row m rest h in
       by (begins_stored m) refl
-      (λ kept. set-step before m done parts.0 kept (inside-first m rest rows inside))
+      (λ in_set. set-step before m done parts.0 in_set (inside-first m rest rows inside))
       (λ next. set-written (before ++ m ∷ []) (row + 1) rest next parts.1
       (inside-rest m rest rows inside))
     where
@@ -701,8 +701,8 @@ module _ (table : ParamTable) (from to : ParamState)
           → (after_changes table (at done) (set (begins_stored m)) ≡ last (begins_stored m))
           × (all_written table (at done) (set (begins_stored m)) ≡ true)
       by true e step all =
-          let kept = (and-parts (is_stored m.access) (nat_le m.place.sub 1) e).0 in
-          let now = step kept in
+          let in_set = (and-parts (is_stored m.access) (nat_le m.place.sub 1) e).0 in
+          let now = step in_set in
           let left = all (m ∷ done) in (
             ap (λ (b : Bool). after_changes table (at done) (set b)) e
                 ∙ (ap (λ (r : Option ErrorType × ParamState). after_changes table r.1 later) now

@@ -76,22 +76,22 @@ module _ (table : ParamTable) (s : ParamState) where
   pub own-flag : (scope : Scope) (asked : Command) → s.flag ≡ true
       → may_clear (Commanding scope asked) ≡ false
       → (own_command table s scope asked).1.flag ≡ true
-  own-flag scope UploadStart h kept = h
-  own-flag Block UploadEnd h kept = upload_end-flag (is_uploading s.activity) s h
-  own-flag Storage UploadEnd h kept = absurd (cc)
-  own-flag scope DownloadStart h kept = h
-  own-flag Block DownloadEnd h kept = settled-flag s (with_flag_cleared Block) s.activity
+  own-flag scope UploadStart h uncleared = h
+  own-flag Block UploadEnd h uncleared = upload_end-flag (is_uploading s.activity) s h
+  own-flag Storage UploadEnd h uncleared = absurd (cc)
+  own-flag scope DownloadStart h uncleared = h
+  own-flag Block DownloadEnd h uncleared = settled-flag s (with_flag_cleared Block) s.activity
       (is_consistent table s.copy) h (λ t same. same)
-  own-flag Storage DownloadEnd h kept = absurd (cc)
-  own-flag scope DownloadStore h kept = settled-flag s with_flag_set s.activity
+  own-flag Storage DownloadEnd h uncleared = absurd (cc)
+  own-flag scope DownloadStore h uncleared = settled-flag s with_flag_set s.activity
       (is_consistent table s.copy) h (λ t same. refl)
-  own-flag scope Break h kept = h
-  own-flag scope ApplicationReset h kept = refl
-  own-flag Block FactoryReset h kept = absurd (cc)
-  own-flag Storage FactoryReset h kept = absurd (cc)
-  own-flag scope DeviceReset h kept = h
-  own-flag Block BackToBox h kept = absurd (cc)
-  own-flag Storage BackToBox h kept = absurd (cc)
+  own-flag scope Break h uncleared = h
+  own-flag scope ApplicationReset h uncleared = refl
+  own-flag Block FactoryReset h uncleared = absurd (cc)
+  own-flag Storage FactoryReset h uncleared = absurd (cc)
+  own-flag scope DeviceReset h uncleared = h
+  own-flag Block BackToBox h uncleared = absurd (cc)
+  own-flag Storage BackToBox h uncleared = absurd (cc)
 
   pub own-refused : (scope : Scope) (asked : Command) (why : ErrorType)
       → (own_command table s scope asked).0 ≡ Some why
@@ -112,8 +112,8 @@ module _ (table : ParamTable) (s : ParamState) where
   pub command-flag : (scope : Scope) (asked : Command) (foreign : Bool) → s.flag ≡ true
       → may_clear (Commanding scope asked) ≡ false
       → (unless_foreign foreign s (own_command table s scope asked)).1.flag ≡ true
-  command-flag scope asked true h kept = h
-  command-flag scope asked false h kept = own-flag scope asked h kept
+  command-flag scope asked true h uncleared = h
+  command-flag scope asked false h uncleared = own-flag scope asked h uncleared
 
   pub command-refused : (scope : Scope) (asked : Command) (foreign : Bool) (why : ErrorType)
       → (unless_foreign foreign s (own_command table s scope asked)).0 ≡ Some why
@@ -132,17 +132,17 @@ module _ (table : ParamTable) (s : ParamState) where
 pub flag-stays : FlagStays
 flag-stays table s (Writing place octets) h =
     let same = write-flag (write_refusal table s place octets) table s place octets ∙ h in
-    (λ kept. same, λ why refusal. same)
+    (λ uncleared. same, λ why refusal. same)
 flag-stays table s (Setting place octets) h =
     let stays = local-flag (local_refusal table s place octets) table s place octets h in
-    (λ kept. stays, λ why refusal. stays)
+    (λ uncleared. stays, λ why refusal. stays)
 flag-stays table s (Commanding scope asked) h = (
-  λ kept. command-flag table s scope asked (is_foreign scope s.activity) h kept,
+  λ uncleared. command-flag table s scope asked (is_foreign scope s.activity) h uncleared,
   λ why refusal. command-refused table s scope asked (is_foreign scope s.activity) why refusal ∙ h,
 )
 flag-stays table s Resetting h = (
-  λ kept. absurd (cc),
+  λ uncleared. absurd (cc),
   λ why refusal. reset-refused table s (is_at_rest s.activity) why refusal ∙ h,
 )
-flag-stays table s Over h = (λ kept. h, λ why refusal. h)
-flag-stays table s Silent h = (λ kept. h, λ why refusal. h)
+flag-stays table s Over h = (λ uncleared. h, λ why refusal. h)
+flag-stays table s Silent h = (λ uncleared. h, λ why refusal. h)

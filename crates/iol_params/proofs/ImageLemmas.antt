@@ -9,15 +9,15 @@ use Rattle.iol_params.specs.Values.{values_in, room_for, all_fit}
 use Rattle.iol_params.specs.Table.{ParamTable}
 use Rattle.iol_params.specs.State.{ParamState, locks_in}
 use Rattle.iol_params.specs.Carry.{is_consistent}
-use Rattle.iol_params.specs.Image.{LastingState, kept_of, kept_octet, image_size, is_image, kept_if, kept_in}
+use Rattle.iol_params.specs.Image.{LastingState, lasting_of, lasting_octet, image_size, is_image, lasting_if, lasting_in}
 
 abbrev locks_of : Bool → Bool → Bool → Bool → Locks
 locks_of p s l u = record { parameters = p; storage = s; local = l; user_interface = u }
 
-pub record OctetSays (had : Locks) (up : Bool) : Type 0 where
-  pub small : nat_lt (kept_octet had up) 32 ≡ true
-  pub locks : locks_in (kept_octet had up) ≡ had
-  pub flag : nat_le 16 (kept_octet had up) ≡ up
+pub record OctetSays (prior : Locks) (up : Bool) : Type 0 where
+  pub small : nat_lt (lasting_octet prior up) 32 ≡ true
+  pub locks : locks_in (lasting_octet prior up) ≡ prior
+  pub flag : nat_le 16 (lasting_octet prior up) ≡ up
 
 says : (p s l u f : Bool) → OctetSays (locks_of p s l u) f
 says true true true true true = record { small = refl; locks = refl; flag = refl }
@@ -67,7 +67,7 @@ module _ (table : ParamTable) (s : ParamState) (cells : List ℕ)
     (fit : all_fit table.members s.values ≡ true)
     (rules : is_consistent table s.values ≡ true) where
   abbrev octets : List ℕ
-  octets = kept_octet s.locks s.flag ∷ cells
+  octets = lasting_octet s.locks s.flag ∷ cells
 
   says-all : OctetSays s.locks s.flag
   says-all = octet-says s.locks s.flag
@@ -76,26 +76,26 @@ module _ (table : ParamTable) (s : ParamState) (cells : List ℕ)
   good =
       let long : length octets ≡ image_size table = omega (arith, size) in
       let whole : (length octets == image_size table) ≡ true = grind (arith, long) in
-      all-true (length octets == image_size table) (nat_lt (kept_octet s.locks s.flag) 32)
+      all-true (length octets == image_size table) (nat_lt (lasting_octet s.locks s.flag) 32)
       (all_fit table.members (values_in table.members cells))
       (is_consistent table (values_in table.members cells))
       whole says-all.small (ap (all_fit table.members) values ∙ fit)
       (ap (is_consistent table) values ∙ rules)
 
   -- the image of a state, by its cells
-  pub image-says : kept_in table octets ≡ Some (kept_of s)
+  pub image-says : lasting_in table octets ≡ Some (lasting_of s)
   image-says =
-      let kept : List (List ℕ) → Locks → Bool → Option LastingState =
+      let lasting : List (List ℕ) → Locks → Bool → Option LastingState =
       λ v l f. Some (record { values = v; locks = l; flag = f }) in
-      ap (λ b. kept_if b table octets) good
-      ∙ (ap (λ v. kept v (locks_in (kept_octet s.locks s.flag))
-      (nat_le 16 (kept_octet s.locks s.flag))) values
-      ∙ (ap (λ l. kept s.values l (nat_le 16 (kept_octet s.locks s.flag))) says-all.locks
-      ∙ ap (λ f. kept s.values s.locks f) says-all.flag))
+      ap (λ b. lasting_if b table octets) good
+      ∙ (ap (λ v. lasting v (locks_in (lasting_octet s.locks s.flag))
+      (nat_le 16 (lasting_octet s.locks s.flag))) values
+      ∙ (ap (λ l. lasting s.values l (nat_le 16 (lasting_octet s.locks s.flag))) says-all.locks
+      ∙ ap (λ f. lasting s.values s.locks f) says-all.flag))
 
 -- the octets of an image, once the first and the others are written
-pub image-octets : (had cells : List ℕ) (head : ℕ) → length had ≡ 1 + length cells
-    → put_mid 1 (length (slice_set had 0 head) - 1) (slice_set had 0 head) cells ≡ head ∷ cells
+pub image-octets : (prior cells : List ℕ) (head : ℕ) → length prior ≡ 1 + length cells
+    → put_mid 1 (length (slice_set prior 0 head) - 1) (slice_set prior 0 head) cells ≡ head ∷ cells
 image-octets [] cells head e = absurd (omega (arith, e))
 image-octets (x ∷ xs) cells head e =
     let size : length (head ∷ xs) - 1 ≡ length xs = omega arith in

@@ -15,15 +15,15 @@ pub record LastingState : Type 0 where
   pub locks : Locks
   pub flag : Bool
 
-abbrev pub kept_of : ParamState → LastingState
-kept_of s = record { values = s.values; locks = s.locks; flag = s.flag }
+abbrev pub lasting_of : ParamState → LastingState
+lasting_of s = record { values = s.values; locks = s.locks; flag = s.flag }
 
 -- an octet of the locks and the flag, and the cells of the values
 abbrev pub image_size : ParamTable → ℕ
 image_size table = 1 + room_for table.members
 
-abbrev pub kept_octet : Locks → Bool → ℕ
-kept_octet locks flag = locks_octet locks + 16 * bit_of flag
+abbrev pub lasting_octet : Locks → Bool → ℕ
+lasting_octet locks flag = locks_octet locks + 16 * bit_of flag
 
 -- whether octets are an image of values that this table allows
 -- SAVE-2
@@ -32,28 +32,28 @@ is_image table octets = (length octets == image_size table) && nat_lt (slice_ind
     && all_fit table.members (values_in table.members (drop 1 octets))
     && is_consistent table (values_in table.members (drop 1 octets))
 
-abbrev pub kept_if : Bool → ParamTable → List ℕ → Option LastingState
-kept_if false table octets = None
-kept_if true table octets = Some (record {
+abbrev pub lasting_if : Bool → ParamTable → List ℕ → Option LastingState
+lasting_if false table octets = None
+lasting_if true table octets = Some (record {
   values = values_in table.members (drop 1 octets);
   locks = locks_in (slice_index octets 0);
   flag = nat_le 16 (slice_index octets 0);
 })
 
 -- what an image says
-abbrev pub kept_in : ParamTable → List ℕ → Option LastingState
-kept_in table octets = kept_if (is_image table octets) table octets
+abbrev pub lasting_in : ParamTable → List ℕ → Option LastingState
+lasting_in table octets = lasting_if (is_image table octets) table octets
 
 -- a manager with what was kept; a flag that is set asks for its event again
-abbrev pub with_kept : ParamState → Option LastingState → ParamState
-with_kept s None = s
-with_kept s (Some kept) = record {
-  values = kept.values;
+abbrev pub with_lasting : ParamState → Option LastingState → ParamState
+with_lasting s None = s
+with_lasting s (Some lasting) = record {
+  values = lasting.values;
   copy = [];
   activity = Idle;
-  locks = kept.locks;
-  flag = kept.flag;
-  event_due = kept.flag;
+  locks = lasting.locks;
+  flag = lasting.flag;
+  event_due = lasting.flag;
   restart = NotDue;
 }
 
@@ -61,4 +61,4 @@ with_kept s (Some kept) = record {
 -- SAVE-2
 abbrev pub power_up : ParamTable → Option (List ℕ) → ParamState
 power_up table None = (new_manager table).state
-power_up table (Some octets) = with_kept (new_manager table).state (kept_in table octets)
+power_up table (Some octets) = with_lasting (new_manager table).state (lasting_in table octets)

@@ -49,8 +49,8 @@ abbrev pub IsFitting : ManagerValue → Place → List ℕ → Type 0
 IsFitting m place octets = content_refusal m.table.members place octets ≡ None
 
 -- what a download writes to, none outside of one
-abbrev pub copy_seen : Activity → List (List ℕ) → List (List ℕ)
-copy_seen activity copy = if is_downloading activity then copy else []
+abbrev pub copy_view : Activity → List (List ℕ) → List (List ℕ)
+copy_view activity copy = if is_downloading activity then copy else []
 
 -- cells of values and of a copy, as they fit a table and what is under way
 pub record AreSound (table : ParamTable) (values copy : List ℕ) (activity : Activity)
@@ -66,12 +66,12 @@ pub record AreSound (table : ParamTable) (values copy : List ℕ) (activity : Ac
 
 module _ {A : Type 0} where
   -- what the parts of a manager are beside a table
-  abbrev pub parts_seen : ParamTable → ManagerParts A → ManagerValue
-  parts_seen table parts = record {
+  abbrev pub parts_view : ParamTable → ManagerParts A → ManagerValue
+  parts_view table parts = record {
     table = table;
     state = record {
       values = values_in table.members parts.values.items;
-      copy = copy_seen parts.activity (values_in table.members parts.copy.items);
+      copy = copy_view parts.activity (values_in table.members parts.copy.items);
       activity = parts.activity;
       locks = parts.locks;
       flag = parts.flag;
@@ -89,7 +89,7 @@ module _ {A : Type 0} where
     table = m.table.now;
     state = record {
       values = values_in m.table.now.members m.values.items;
-      copy = copy_seen m.activity (values_in m.table.now.members m.copy.items);
+      copy = copy_view m.activity (values_in m.table.now.members m.copy.items);
       activity = m.activity;
       locks = m.locks;
       flag = m.flag;

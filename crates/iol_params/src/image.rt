@@ -1,6 +1,6 @@
 //! The image of what outlives the power: the values, the locks and the flag.
 ghost use Rattle.std.specs.Prelude.{◌≡◌, ◌≤◌, Some, length};
-ghost use Rattle.iol_params.specs.Image.{kept_of, kept_octet, image_size, is_image, kept_in, with_kept};
+ghost use Rattle.iol_params.specs.Image.{lasting_of, lasting_octet, image_size, is_image, lasting_in, with_lasting};
 
 use crate::cells;
 use crate::manager::Manager;
@@ -28,15 +28,15 @@ impl<'a, A: Allocator + Copy> Manager<'a, A> {
     /// Rule SAVE-1.
     pub fn image_into(&self, image: &mut [u8])
         requires { length image.old ≡ image_size self.now.table }
-        ensures { kept_in self.now.table image.new ≡ Some (kept_of self.now.state) }
+        ensures { lasting_in self.now.table image.new ≡ Some (lasting_of self.now.state) }
     {
-        image[0] = self.kept_octet();
+        image[0] = self.lasting_octet();
         image[1..].copy_from_slice(self.cells());
     }
 
     /// The first octet of an image: the locks and the flag.
-    fn kept_octet(&self) -> u8
-        ensures { result ≡ kept_octet self.now.state.locks self.now.state.flag }
+    fn lasting_octet(&self) -> u8
+        ensures { result ≡ lasting_octet self.now.state.locks self.now.state.flag }
     {
         self.locks().octet() + FLAG * u8::from(self.flag())
     }
@@ -47,11 +47,11 @@ impl<'a, A: Allocator + Copy> Manager<'a, A> {
     /// Rule SAVE-2.
     pub fn restore(&mut self, image: &[u8])
         ensures { self.new ≡ record self.old {
-          state = with_kept self.old.state (kept_in self.old.table image.now);
+          state = with_lasting self.old.state (lasting_in self.old.table image.now);
         } }
     {
         if self.is_image(image) {
-            self.set_kept(&image[1..], Locks::of(image[0]), image[0] >= FLAG);
+            self.set_lasting(&image[1..], Locks::of(image[0]), image[0] >= FLAG);
         }
     }
 

@@ -6,8 +6,8 @@ ghost use Rattle.iol_params.specs.Table.{is_of_index};
 ghost use Rattle.iol_params.specs.State.{is_uploading, after_end, after_quiet, with_flag_cleared, with_flag_set};
 ghost use Rattle.iol_params.specs.Carry.{write, command, upload_settled, place_refusal, access_refusal, content_refusal, alone_refusal, write_refusal, local_change, local_refusal, local_reset, download_end, with_reset, rules_hold, is_consistent};
 ghost use Rattle.iol_params.specs.Storage.{storage_value, state_octet};
-ghost use Rattle.iol_params.specs.Image.{with_kept};
-ghost use Rattle.iol_params.specs.Manager.{new_manager, read_answer, IsFitting, parts_seen, ArePartsOf};
+ghost use Rattle.iol_params.specs.Image.{with_lasting};
+ghost use Rattle.iol_params.specs.Manager.{new_manager, read_answer, IsFitting, parts_view, ArePartsOf};
 
 use crate::error_type::ErrorType;
 use crate::parts::ManagerParts;
@@ -71,7 +71,7 @@ impl<'a, A: Allocator + Copy> Manager<'a, A> {
     /// A manager of these parts beside the table that they are of. It takes no memory.
     pub(crate) fn of_parts(table: &'a Table<'a>, parts: ManagerParts<A>) -> Manager<'a, A>
         requires { ArePartsOf table.now parts }
-        ensures { result ≡ parts_seen table.now parts }
+        ensures { result ≡ parts_view table.now parts }
     {
         let ManagerParts {
             values,
@@ -97,7 +97,7 @@ impl<'a, A: Allocator + Copy> Manager<'a, A> {
     /// Its parts, without its table.
     pub(crate) fn into_parts(self) -> ManagerParts<A>
         ensures sound { ArePartsOf self.entry.table result }
-        ensures seen { parts_seen self.entry.table result ≡ self.entry }
+        ensures value { parts_view self.entry.table result ≡ self.entry }
     {
         let Manager {
             table: _,
@@ -284,14 +284,14 @@ impl<'a, A: Allocator + Copy> Manager<'a, A> {
 
     /// The values in these cells are in force, with these locks and this flag; nothing is under
     /// way, and a flag that is set asks for its event again.
-    pub(crate) fn set_kept(&mut self, cells: &[u8], locks: Locks, flag: bool)
+    pub(crate) fn set_lasting(&mut self, cells: &[u8], locks: Locks, flag: bool)
         requires room { length cells.now ≡ room_for self.old.table.members }
         requires fit { all_fit self.old.table.members
             (values_in self.old.table.members cells.now) ≡ true }
         requires rules { is_consistent self.old.table
             (values_in self.old.table.members cells.now) ≡ true }
         ensures { self.new ≡ record self.old {
-          state = with_kept self.old.state (Some (record {
+          state = with_lasting self.old.state (Some (record {
             values = values_in self.old.table.members cells.now;
             locks = locks;
             flag = flag;
@@ -373,13 +373,13 @@ impl<'a, A: Allocator + Copy> Manager<'a, A> {
             self.new ≡ record self.old { state = after.1 } }
         ensures refusal { result_err result ≡ (local_reset self.old.table self.old.state).0 }
     {
-        let kept = self.activity;
-        if !kept.is_at_rest() {
+        let before = self.activity;
+        if !before.is_at_rest() {
             return Err(ErrorType::FunctionUnavailable);
         }
         self.reset();
         self.clear_flag(Scope::Storage);
-        self.activity = kept;
+        self.activity = before;
         Ok(())
     }
 

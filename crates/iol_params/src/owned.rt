@@ -4,8 +4,8 @@ ghost use Rattle.std.specs.Result.{result_err};
 ghost use Rattle.iol_params.specs.State.{after_end, after_quiet};
 ghost use Rattle.iol_params.specs.Carry.{command, local_change, local_reset};
 ghost use Rattle.iol_params.specs.Requests.{request_result};
-ghost use Rattle.iol_params.specs.Image.{kept_of, kept_in, image_size, with_kept};
-ghost use Rattle.iol_params.specs.Manager.{new_manager, read_answer, parts_seen, ArePartsOf};
+ghost use Rattle.iol_params.specs.Image.{lasting_of, lasting_in, image_size, with_lasting};
+ghost use Rattle.iol_params.specs.Manager.{new_manager, read_answer, parts_view, ArePartsOf};
 
 use crate::error_type::ErrorType;
 use crate::manager::Manager;
@@ -45,12 +45,12 @@ impl<A: Allocator + Copy> OwnedTable<A> {
         members: Vec<Member<'static>, A>,
         rules: Vec<OrderRule, A>,
     ) -> Result<OwnedTable<A>, TableFault>
-        ensures table { let given = members.entry.items in IfOk result (λ t. t
-            ≡ record { members = given; rules = rules.items }) }
-        ensures sound { let given = members.entry.items in
-            IfOk result (λ t. table_fault given rules.items ≡ None) }
-        ensures fault { let given = members.entry.items in
-            IfErr result (λ why. table_fault given rules.items ≡ Some why) }
+        ensures table { let submitted = members.entry.items in IfOk result (λ t. t
+            ≡ record { members = submitted; rules = rules.items }) }
+        ensures sound { let submitted = members.entry.items in
+            IfOk result (λ t. table_fault submitted rules.items ≡ None) }
+        ensures fault { let submitted = members.entry.items in
+            IfErr result (λ why. table_fault submitted rules.items ≡ Some why) }
     {
         Table::new(&members, &rules)?;
         Ok(OwnedTable { members, rules })
@@ -73,11 +73,11 @@ pub struct OwnedManager<A: Allocator + Copy = Global> {
 }
 
 impl<A: Allocator + Copy> Model for OwnedManager<A> {
-    ghost use Rattle.iol_params.specs.Manager.{ManagerValue, parts_seen, ArePartsOf};
+    ghost use Rattle.iol_params.specs.Manager.{ManagerValue, parts_view, ArePartsOf};
 
     ghost Value = { ManagerValue };
 
-    ghost view = { λ m. parts_seen m.table m.parts };
+    ghost view = { λ m. parts_view m.table m.parts };
 
     ghost invariant = { λ m. ArePartsOf m.table m.parts };
 }
@@ -180,7 +180,7 @@ impl<A: Allocator + Copy> OwnedManager<A> {
     /// The power is back: what an image keeps is in force, as by [`Manager::restore`].
     pub fn restore(&mut self, image: &[u8])
         ensures { self.new ≡ record self.old {
-          state = with_kept self.old.state (kept_in self.old.table image.now);
+          state = with_lasting self.old.state (lasting_in self.old.table image.now);
         } }
     {
         let parts = replace(&mut self.parts, ManagerParts::none(self.alloc));
@@ -207,7 +207,7 @@ impl<A: Allocator + Copy> OwnedManager<A> {
     pub fn image_into(&mut self, image: &mut [u8])
         requires { length image.old ≡ image_size self.old.table }
         ensures same { self.new ≡ self.old }
-        ensures image { kept_in self.old.table image.new ≡ Some (kept_of self.old.state) }
+        ensures image { lasting_in self.old.table image.new ≡ Some (lasting_of self.old.state) }
     {
         let parts = replace(&mut self.parts, ManagerParts::none(self.alloc));
         let table = self.table.table();

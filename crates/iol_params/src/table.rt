@@ -16,13 +16,21 @@ use thiserror::Error;
 
 // The numbers of the refusals: their one table, which the definitions cite.
 const TOO_MANY_MEMBERS: u8 = 50;
+
 const MANAGED_INDEX: u8 = 51;
+
 const SUBINDEX_OUT_OF_TURN: u8 = 52;
+
 const MIXED_ACCESS: u8 = 53;
+
 const BAD_LENGTH: u8 = 54;
+
 const BAD_DEFAULT: u8 = 55;
+
 const NO_STORED_NUMBER: u8 = 56;
+
 const BROKEN_AT_FIRST: u8 = 57;
+
 const TOO_MUCH_STORED: u8 = 58;
 
 /// The most members that a table has.

@@ -13,10 +13,10 @@ use Rattle.iol_port.proofs.OwnerRuns.{each_done_has_its_pair, opened_sound, runs
 use Rattle.iol_port.proofs.PieceLemmas.{runs_join}
 use Rattle.iol_port.proofs.HistoryRuns.{each_fits_history}
 
-frozen_are : (events : List Event) (told : Bool)
-    → frozen_events (frozen_of events told) ≡ events
-frozen_are [] told = refl
-frozen_are (event ∷ events) told = refl
+frozen_are : (events : List Event) (reported : Bool)
+    → frozen_events (frozen_of events reported) ≡ events
+frozen_are [] reported = refl
+frozen_are (event ∷ events) reported = refl
 
 module _ {W : Type 0} (facts : WireFacts W) (o : Opening W) (q : PortOver W) where
   open facts use {far}
@@ -25,7 +25,7 @@ module _ {W : Type 0} (facts : WireFacts W) (o : Opening W) (q : PortOver W) whe
   has_it a (up, stands) = let (c, shows, same) = stands in rw same
       record {
         book = refl;
-        kept = refl;
+        queued = refl;
         image = refl;
         input = refl;
         output = refl;
@@ -33,7 +33,7 @@ module _ {W : Type 0} (facts : WireFacts W) (o : Opening W) (q : PortOver W) whe
         carried = refl;
         history = refl;
         waiting = refl;
-        frozen = sym (frozen_are (far q.wire).events.frozen c.ghost.events.told);
+        frozen = sym (frozen_are (far q.wire).events.frozen c.ghost.events.reported);
         mode = refl;
         why = refl;
         wanted = refl;

@@ -22,22 +22,22 @@ use Rattle.iol_far.specs.Laws.{IsSized, MuchStays}
 use Rattle.iol_mode.specs.Stands.{operate_link, IsOperating, IsAccepted}
 use Rattle.iol_mode.specs.Kinds.{SeesPulses}
 use Rattle.iol_mode.specs.declared.configuration.Devices.{Devices}
-use Rattle.iol_app.specs.declared.said.Said.{Said}
+use Rattle.iol_app.specs.declared.report.Said.{Said}
 use Rattle.iol_app.specs.declared.event_work.EventRoom.{EventRoom}
 use Rattle.iol_app.specs.declared.event_work.EventRoom.TheVariants.{Left}
 use Rattle.iol_app.specs.declared.request.Current.{Current}
 use Rattle.iol_app.specs.declared.request.RequestProgress.{RequestProgress}
 use Rattle.iol_app.specs.declared.session.Purpose.{Purpose}
 use Rattle.iol_app.specs.declared.session.Purpose.TheVariants.{Request as NextMessage, Idle}
-use Rattle.iol_app.specs.Requests.{current_after, IsSaid}
+use Rattle.iol_app.specs.Requests.{current_after, IsReport}
 use Rattle.iol_app.specs.Due.{due_of, is_ready, may_follow}
 use Rattle.iol_app.specs.Messages.{Head, head_of, progress_head, head_for, progress_data, request_head, request_data}
-use Rattle.iol_app.specs.State.{SessionState, session_sending, session_after_exchange, IsMessageFor, IsExchangeSaid}
+use Rattle.iol_app.specs.State.{SessionState, session_sending, session_after_exchange, IsMessageFor, IsExchangeReport}
 use Rattle.iol_app.specs.Core.{CoreState}
 use Rattle.iol_app.specs.CoreTurns.{core_out}
 use Rattle.iol_app.specs.Pieces.{NewOut, IsPassed, IsWholeTurn}
-use Rattle.iol_app.specs.Seen.{LinkStands}
-use Rattle.iol_app.specs.declared.brought.WireResult.{WireResult}
+use Rattle.iol_app.specs.CallSteps.{LinkStands}
+use Rattle.iol_app.specs.declared.wire_result.WireResult.{WireResult}
 use Rattle.iol_mode.specs.Stands.{StateStands}
 use Rattle.iol_mode.specs.States.{IsDown}
 use Rattle.iol_mode.specs.declared.states.State.{State}
@@ -70,7 +70,7 @@ ready_any s room e = grind (arith, common_steps)
 
 -- and a calm session without a request would send it
 pub calm_ready : (s : SessionState) (room : EventRoom) → IsCalm s → s.current ≡ None
-    → may_follow s.configuration.devices s.clear ≡ true → is_ready s room ≡ true
+    → may_follow s.configuration.devices s.idle ≡ true → is_ready s room ≡ true
 calm_ready s room calm free follows = grind (arith, common_steps)
 
 -- and with a request begun it is calm too
@@ -148,7 +148,7 @@ exchange_misses : MuchStays → (far next : Far) (n m : ℕ) (sent : List ℕ) (
     → HonestExchange far n sent answer next m → next.misses_pulses ≡ far.misses_pulses
 exchange_misses much far next n m sent answer x =
     ap (λ (f : Far). f.misses_pulses) x.far_is
-    ∙ after_misses much x.passage (locals far x.steps) sent ∙ much.misses_kept far x.steps
+    ∙ after_misses much x.passage (locals far x.steps) sent ∙ much.misses_stay far x.steps
 
 sees_on : (devices : Devices) (far next : Far) → next.misses_pulses ≡ far.misses_pulses
     → SeesPulses devices far → SeesPulses devices next
@@ -159,8 +159,8 @@ sees_on devices far next same sees = grind (arith, common_steps)
 -- from this core over this wire, which it stood to before, to those
 abbrev pub IsTurn : {W : Type 0} → WireFacts W → EventRoom → CoreState → W → Said → CoreState → W
     → Type 0
-IsTurn facts room old wire said new wire' = (brought : WireResult)
-    × IsWholeTurn facts room wire wire' old said brought new × LinkStands facts wire old
+IsTurn facts room old wire report new wire' = (wire_result : WireResult)
+    × IsWholeTurn facts room wire wire' old report wire_result new × LinkStands facts wire old
 
 module _ {W : Type 0} (facts : WireFacts W) where
   open facts use {far, silence}
@@ -176,7 +176,7 @@ module _ {W : Type 0} (facts : WireFacts W) where
 
   -- What a turn gives that sends a message of the ISDU channel
   pub record Exchanged (kind : Kind) (layouts : Layouts) (exchange : Purpose)
-      (old : CoreState) (wire : W) (said : Said) (new : CoreState) (wire' : W) : Type 0 where
+      (old : CoreState) (wire : W) (report : Said) (new : CoreState) (wire' : W) : Type 0 where
     pub stood : Stood facts kind layouts operate_link new wire'
     pub message : MasterMsg
     pub for : IsMessageFor exchange (session_sending exchange old.session) message
@@ -188,39 +188,41 @@ module _ {W : Type 0} (facts : WireFacts W) where
     pub heard_as : HeardWell kind layouts message ready (far wire') answer reply
     pub session : new.session ≡ session_after_exchange exchange reply
         (session_sending exchange old.session)
-    pub said_is : IsExchangeSaid exchange reply.od.items (session_sending exchange old.session) said
+    pub report_is : IsExchangeReport exchange reply.od.items
+        (session_sending exchange old.session) report
 
   -- and one of the request
   pub record Turned (kind : Kind) (layouts : Layouts) (old : CoreState) (wire : W)
-      (c : Current) (said : Said) (new : CoreState) (wire' : W) : Type 0 where
-    pub turn : Exchanged kind layouts NextMessage old wire said new wire'
+      (c : Current) (report : Said) (new : CoreState) (wire' : W) : Type 0 where
+    pub turn : Exchanged kind layouts NextMessage old wire report new wire'
     pub head : head_of turn.message.mc ≡ progress_head c.progress
     pub octets : turn.message.od.items ≡ progress_data c.progress
     pub current : new.session.current
         ≡ current_after NextMessage old.session.limit turn.reply.od.items (Some c)
     pub limit : new.session.limit ≡ old.session.limit
-    pub clear : new.session.clear ≡ false
-    pub said_is : IsSaid NextMessage old.session.limit turn.reply.od.items (Some c) said
+    pub idle : new.session.idle ≡ false
+    pub report_is : IsReport NextMessage old.session.limit turn.reply.od.items (Some c) report
 
   -- a new message of a session went out, and what came back was taken up
   record Goes (layouts : Layouts) (exchange : Purpose) (s : SessionState) (wire wire' : W)
-      (said : Said) (new : CoreState) : Type 0 where
+      (report : Said) (new : CoreState) : Type 0 where
     message : MasterMsg
     for : IsMessageFor exchange (session_sending exchange s) message
     parts : HasMasterParts layouts.run message
-    came : Option (ArrayVec ℕ)
-    called : facts.exchange_gives wire (master_text layouts.run message) came wire'
-    passes : Passes facts wire (master_text layouts.run message) came wire'
+    received : Option (ArrayVec ℕ)
+    called : facts.exchange_gives wire (master_text layouts.run message) received wire'
+    passes : Passes facts wire (master_text layouts.run message) received wire'
     honesty : facts.honest wire' ≡ facts.honest wire
     accepted : (link : FarLink) → IsOperating layouts link
         → IsAccepted layouts (far wire).page link message
-    settled : (reply : Reply) → good_reply layouts.run message (octets_in came) ≡ Some reply
+    settled : (reply : Reply) → good_reply layouts.run message (octets_in received) ≡ Some reply
         → (new.state ≡ resting_in layouts)
         × (new.session ≡ session_after_exchange exchange reply (session_sending exchange s))
-        × IsExchangeSaid exchange reply.od.items (session_sending exchange s) said
+        × IsExchangeReport exchange reply.od.items (session_sending exchange s) report
 
   module _ (layouts : Layouts) (exchange : Purpose) (s : SessionState) (wire wire' : W)
-      (said : Said) (brought : WireResult) (new : CoreState) (up : IsTrue (facts.honest wire)) where
+      (report : Said) (wire_result : WireResult) (new : CoreState)
+      (up : IsTrue (facts.honest wire)) where
     abbrev free : CoreState
     free = record { state = resting_in layouts; session = s }
 
@@ -229,13 +231,13 @@ module _ {W : Type 0} (facts : WireFacts W) where
         → let mid : CoreState =
         core_out layouts (new_sending m) (session_sending exchange s) exchange s.current in
         StateStands mid.state (silence wire) (far wire)
-        → IsPassed facts wire wire' mid said brought new
-        → Goes layouts exchange s wire wire' said new
+        → IsPassed facts wire wire' mid report wire_result new
+        → Goes layouts exchange s wire wire' report new
     passed_goes m for parts stands p = record {
       message = m;
       for = for;
       parts = parts;
-      came = p.came;
+      received = p.received;
       called = p.called;
       passes = p.passes;
       honesty = p.honesty;
@@ -245,14 +247,14 @@ module _ {W : Type 0} (facts : WireFacts W) where
           let is = rw good at p.taken.is in (
             ap (λ (c : CoreState). c.state) is,
             ap (λ (c : CoreState). c.session) is,
-            rw good at p.taken.settled.said_is,
+            rw good at p.taken.settled.report_is,
           );
     }
 
     goes : (room : EventRoom) → due_of s room ≡ exchange
-        → IsWholeTurn facts room wire wire' free said brought new
+        → IsWholeTurn facts room wire wire' free report wire_result new
         → StateStands free.state (silence wire) (far wire)
-        → Goes layouts exchange s wire wire' said new
+        → Goes layouts exchange s wire wire' report new
     goes room due t stands =
         let n : NewOut layouts s room t.mid = t.puts.sent in
         let mid : CoreState =
@@ -268,19 +270,19 @@ module _ {W : Type 0} (facts : WireFacts W) where
         ])
 
   module _ (cleanly : ExchangesCleanly facts) (laws : CleanLaws) {kind : Kind} {layouts : Layouts}
-      {link : FarLink} {old : CoreState} {wire wire' : W} {said : Said} {new : CoreState}
+      {link : FarLink} {old : CoreState} {wire wire' : W} {report : Said} {new : CoreState}
       (room : EventRoom) (stood : Stood facts kind layouts link old wire)
-      (turn : IsTurn facts room old wire said new wire') where
+      (turn : IsTurn facts room old wire report new wire') where
     exchanged_by : (exchange : Purpose) → channel_for exchange old.session ≡ Isdu
-        → Goes layouts exchange old.session wire wire' said new
-        → Exchanged kind layouts exchange old wire said new wire'
+        → Goes layouts exchange old.session wire wire' report new
+        → Exchanged kind layouts exchange old wire report new wire'
     exchanged_by exchange channel_is t =
         let s : SessionState = old.session in
         let m : MasterMsg = t.message in
         let channel : m.mc.channel ≡ Isdu =
         ap (λ (h : Head). h.channel) t.for.head ∙ channel_is in
         let (x, clean) =
-        cleanly wire (master_text layouts.run m) t.came wire' stood.is_clean t.called in
+        cleanly wire (master_text layouts.run m) t.received wire' stood.is_clean t.called in
         let same = work_same (far wire) x.ready (handed_request (far wire).isdu) x.work in
         let accepted : IsAccepted layouts x.ready.page link m =
         rw same.page (t.accepted link stood.operating) in
@@ -302,7 +304,7 @@ module _ {W : Type 0} (facts : WireFacts W) where
             );
             is_clean = clean;
             calm = rw session_is (absorbed_calm exchange s reply stood.calm channel_is well.event);
-            told = rw session_is stood.told;
+            isdu_is = rw session_is stood.isdu_is;
             operating = inr refl;
             awake = well.awake;
             kind_is = well.kind_is;
@@ -315,27 +317,27 @@ module _ {W : Type 0} (facts : WireFacts W) where
           parts = t.parts;
           ready = x.ready;
           work = x.work;
-          answer = octets_in t.came;
+          answer = octets_in t.received;
           reply = reply;
           heard_as = well;
           session = session_is;
-          said_is = heard_is;
+          report_is = heard_is;
         }
 
     pub exchanged : (exchange : Purpose) → due_of old.session room ≡ exchange
         → channel_for exchange old.session ≡ Isdu
-        → Exchanged kind layouts exchange old wire said new wire'
+        → Exchanged kind layouts exchange old wire report new wire'
     exchanged exchange due channel_is =
         let s : SessionState = old.session in
-        let (brought, t, stands) =
-        subst (λ (x : State). IsTurn facts room (record { state = x; session = s }) wire said new
+        let (wire_result, t, stands) =
+        subst (λ (x : State). IsTurn facts room (record { state = x; session = s }) wire report new
         wire') stood.state_is turn in
         exchanged_by exchange channel_is
-        (goes layouts exchange s wire wire' said brought new stood.is_honest.0 room due t
+        (goes layouts exchange s wire wire' report wire_result new stood.is_honest.0 room due t
         (stands stood.is_honest))
 
     pub turned : {c : Current} → old.session.current ≡ Some c → c.abort ≡ None
-        → Turned kind layouts old wire c said new wire'
+        → Turned kind layouts old wire c report new wire'
     turned {c = c} is abort =
         let x = exchanged NextMessage (request_due old.session room c stood.calm is abort)
         (rw is (progress_channel c.progress)) in
@@ -346,7 +348,7 @@ module _ {W : Type 0} (facts : WireFacts W) where
           current = ap (λ (z : SessionState). z.current) x.session
               ∙ ap (current_after NextMessage old.session.limit x.reply.od.items) is;
           limit = ap (λ (z : SessionState). z.limit) x.session;
-          clear = ap (λ (z : SessionState). z.clear) x.session;
-          said_is = subst (λ (q : Option Current). IsSaid NextMessage old.session.limit
-              x.reply.od.items q said) is x.said_is;
+          idle = ap (λ (z : SessionState). z.idle) x.session;
+          report_is = subst (λ (q : Option Current). IsReport NextMessage old.session.limit
+              x.reply.od.items q report) is x.report_is;
         }

@@ -28,9 +28,9 @@ use Rattle.iol_app.specs.declared.event_work.EventRoom.{EventRoom}
 use Rattle.iol_app.specs.declared.request.Current.{Current}
 use Rattle.iol_app.specs.declared.request.RequestProgress.{RequestProgress}
 use Rattle.iol_app.specs.declared.request.RequestProgress.TheVariants.{Sending, Asking, Receiving}
-use Rattle.iol_app.specs.Requests.{current_after_segment, GoesOn, HasText, effect_of_segment, effect_of_start_read, effect_of_count_read, IsEffectSaid, ReplyEffect, effect_of_reply, current_of_effect}
-use Rattle.iol_app.specs.declared.said.Said.{Said}
-use Rattle.iol_app.specs.declared.said.Said.TheVariants.{Answered as SaidAnswered, Busy as SaidBusy}
+use Rattle.iol_app.specs.Requests.{current_after_segment, GoesOn, HasText, effect_of_segment, effect_of_start_read, effect_of_count_read, IsEffectReport, ReplyEffect, effect_of_reply, current_of_effect}
+use Rattle.iol_app.specs.declared.report.Said.{Said}
+use Rattle.iol_app.specs.declared.report.Said.TheVariants.{Answered as ReportAnswered, Busy as ReportBusy}
 use Rattle.iol_port.specs.Turns.{current_at, RequestStage, Written, Waiting, Reading, Ended, busy_replies, turns_at, once_written, StageFits}
 use Rattle.iol_page.specs.declared.page.Layouts.{Layouts}
 use Rattle.iol_far.specs.declared.carried.Carried.{Carried}
@@ -89,7 +89,7 @@ sends request size i = current_at request size (suc i)
     (Sending (flow_at i) (record { items = segment size (request_text request) i }))
 
 abbrev asks : Request → ℕ → ℕ → ℕ → Current
-asks request size given busy = current_at request size given (Asking busy)
+asks request size issued busy = current_at request size issued (Asking busy)
 
 -- which of them it is
 sends_is : {current : Option Current} (request : Request) (size i : ℕ)
@@ -158,20 +158,20 @@ read_next recalls size request answer j more =
 
 -- the cursor behind a segment of the answer
 abbrev gets : Request → ℕ → Answer → ℕ → ℕ → Current
-gets request size answer given j = current_at request size given
+gets request size answer issued j = current_at request size issued
     (Receiving (joiner_at size (answer_text_to request answer) j) j)
 
 -- what the reply with a segment makes of the request
 abbrev comes : ℕ → Request → Answer → ℕ → RequestProgress → ℕ → ReplyEffect
-comes size request answer given p j = effect_of_segment j
+comes size request answer issued p j = effect_of_segment j
     (Ok (took_at size (answer_text_to request answer) j))
-    (joiner_at size (answer_text_to request answer) j) (current_at request size given p)
+    (joiner_at size (answer_text_to request answer) j) (current_at request size issued p)
 
 -- a segment before the last is kept
-joined_more : (size : ℕ) (request : Request) (answer : Answer) (given j : ℕ) (p : RequestProgress)
+joined_more : (size : ℕ) (request : Request) (answer : Answer) (issued j : ℕ) (p : RequestProgress)
     → suc j * size < length (answer_text_to request answer)
-    → comes size request answer given p j ≡ GoesOn (gets request size answer given j)
-joined_more size request answer given j p more = grind (arith, nat_tests)
+    → comes size request answer issued p j ≡ GoesOn (gets request size answer issued j)
+joined_more size request answer issued j p more = grind (arith, nat_tests)
 
 module _ (laws : CleanLaws) (size : ℕ) (low : 1 ≤ size) (request : Request) (answer : Answer)
     (fitting : IsTrue (fits request answer)) where
@@ -185,35 +185,35 @@ module _ (laws : CleanLaws) (size : ℕ) (low : 1 ≤ size) (request : Request) 
   holds = (laws.texts size low).answers _ answer fits_answer
 
   -- with the last one the text is whole
-  joined_last : (given j : ℕ) (p : RequestProgress) → length text ≤ suc j * size
-      → comes size request answer given p j ≡ HasText text
-  joined_last given j p all =
+  joined_last : (issued j : ℕ) (p : RequestProgress) → length text ≤ suc j * size
+      → comes size request answer issued p j ≡ HasText text
+  joined_last issued j p all =
       let whole = (laws.joins size low).whole text j all in
       let fine = (laws.texts size low).accepted (is_read request) answer fits_answer in
       grind (arith, nat_tests, common_steps, whole, fine)
 
-  first_joined : (given busy limit : ℕ)
-      → effect_of_start_read busy limit (segment size text 0) (asks request size given busy)
-      ≡ comes size request answer given (Asking busy) 0
-  first_joined given busy limit =
+  first_joined : (issued busy limit : ℕ)
+      → effect_of_start_read busy limit (segment size text 0) (asks request size issued busy)
+      ≡ comes size request answer issued (Asking busy) 0
+  first_joined issued busy limit =
       rw (
         (laws.texts size low).busy _ answer fits_answer,
         (laws.texts size low).silent _ answer fits_answer,
         (laws.joins size low).first empty text holds,
       ) refl
 
-  next_joined : (given j : ℕ) → suc j * size < length text
+  next_joined : (issued j : ℕ) → suc j * size < length text
       → effect_of_count_read false (joiner_at size text j) (j + 1) (segment size text (suc j))
-      (gets request size answer given j)
-      ≡ comes size request answer given (Receiving (joiner_at size text j) j) (suc j)
-  next_joined given j more =
+      (gets request size answer issued j)
+      ≡ comes size request answer issued (Receiving (joiner_at size text j) j) (suc j)
+  next_joined issued j more =
       let took = rw (flow_next j) at ((laws.joins size low).next text j holds more) in
       rw (add-one j, took) refl
 
   -- what is said of a whole text
-  said_last : {said : Said} → IsEffectSaid (is_read request) (HasText text) said
-      → said ≡ SaidAnswered answer
-  said_last h = h.only answer (record {
+  report_last : {report : Said} → IsEffectReport (is_read request) (HasText text) report
+      → report ≡ ReportAnswered answer
+  report_last h = h.only answer (record {
     text = text;
     rest = [];
     spells = (laws.one _ answer fits_answer text).1 refl;
@@ -223,9 +223,9 @@ module _ (laws : CleanLaws) (size : ℕ) (low : 1 ≤ size) (request : Request) 
 -- One turn over a clean wire brings a request one stage on.
 
 -- what is said of a request that is there
-abbrev pub SaidAt : RequestStage → Said → Type 0
-SaidAt (Ended answer) said = said ≡ SaidAnswered answer
-SaidAt stage said = said ≡ SaidBusy
+abbrev pub ReportAt : RequestStage → Said → Type 0
+ReportAt (Ended answer) report = report ≡ ReportAnswered answer
+ReportAt stage report = report ≡ ReportBusy
 
 -- The work
 
@@ -256,18 +256,18 @@ module _ {W : Type 0} (facts : WireFacts W) where
   open facts use {far}
 
   pub record Next (kind : Kind) (layouts : Layouts) (request : Request) (base : List Carried)
-      (turns : ℕ) (said : Said) (new : CoreState) (wire' : W) : Type 0 where
+      (turns : ℕ) (report : Said) (new : CoreState) (wire' : W) : Type 0 where
     pub stage : RequestStage
     pub at : At facts kind layouts request base stage new wire'
     pub turns_are : turns_at kind.hands_over layouts.run.od request stage ≡ suc turns
-    pub said_is : SaidAt stage said
+    pub report_is : ReportAt stage report
 
   module _ (laws : CleanLaws) (cleanly : ExchangesCleanly facts) {kind : Kind} {layouts : Layouts}
       (low : 1 ≤ layouts.run.od) (request : Request) (valid : IsRequest request)
       (base : List Carried) (room : EventRoom) {link : FarLink} {old : CoreState}
-      {wire wire' : W} (said : Said) (new : CoreState)
+      {wire wire' : W} (report : Said) (new : CoreState)
       (stood : Stood facts kind layouts link old wire)
-      (turn : IsTurn facts room old wire said new wire')
+      (turn : IsTurn facts room old wire report new wire')
       (some : takes_more (far wire).room base ≡ true)
       (limit : 2 ≤ old.session.limit) where
     abbrev size : ℕ
@@ -278,14 +278,14 @@ module _ {W : Type 0} (facts : WireFacts W) where
     delivered = segments size (request_text request) + busy_replies kind.hands_over
 
     abbrev Goes : ℕ → Type 0
-    Goes n = Next kind layouts request base n said new wire'
+    Goes n = Next kind layouts request base n report new wire'
 
     abbrev Fits : RequestStage → Type 0
     Fits stage = StageFits kind.hands_over size request base stage old.session.current
         (far wire).isdu (far wire).carried
 
     abbrev Turns : Current → Type 0
-    Turns c = Turned facts kind layouts old wire c said new wire'
+    Turns c = Turned facts kind layouts old wire c report new wire'
 
     takes : {c : Current} → old.session.current ≡ Some c → c.abort ≡ None → Turns c
     takes is free = turned facts cleanly laws room stood turn is free
@@ -323,21 +323,21 @@ module _ {W : Type 0} (facts : WireFacts W) where
           → effect_of_reply old.session.limit
           (if (progress_head c.progress).read then isdu_data size state else []) c ≡ o
           → (new.session.current ≡ current_of_effect o)
-          × IsEffectSaid (is_read c.cutter.source) o said
+          × IsEffectReport (is_read c.cutter.source) o report
       comes_to {state = state} state_now o e =
           let od : t.turn.reply.od.items
           ≡ (if (progress_head c.progress).read then isdu_data size state else []) =
           rw (t.turn.heard_as.od, ap (λ (h : Head). h.read) t.head, state_now) refl in
           let o_is : effect_of_reply old.session.limit t.turn.reply.od.items c ≡ o = rw od e in (
             t.current ∙ ap current_of_effect o_is,
-            subst (λ (x : ReplyEffect). IsEffectSaid (is_read c.cutter.source) x said) o_is
-                t.said_is,
+            subst (λ (x : ReplyEffect). IsEffectReport (is_read c.cutter.source) x report) o_is
+                t.report_is,
           )
 
       -- the request goes on, or has its answer
       next_is : {n : ℕ} (stage : RequestStage) → StageFits kind.hands_over size request base stage
           new.session.current (far wire').isdu (far wire').carried
-          → turns_at kind.hands_over size request stage ≡ suc n → SaidAt stage said → Goes n
+          → turns_at kind.hands_over size request stage ≡ suc n → ReportAt stage report → Goes n
       next_is stage fits turns is = record {
         stage = stage;
         at = grind (
@@ -347,15 +347,15 @@ module _ {W : Type 0} (facts : WireFacts W) where
           t.turn.heard_as.room,
           same.room,
           t.limit,
-          t.clear,
+          t.idle,
         );
         turns_are = turns;
-        said_is = is;
+        report_is = is;
       }
 
     -- one more segment of the answer was had
-    had_step : {n : ℕ} (given j : ℕ) (progress : RequestProgress)
-        (t : Turns (current_at request size given progress)) (answer : Answer)
+    reading_step : {n : ℕ} (issued j : ℕ) (progress : RequestProgress)
+        (t : Turns (current_at request size issued progress)) (answer : Answer)
         (fitting : IsTrue (fits request answer))
         → (far wire').isdu ≡ Answered request answer (Some j)
         → (far wire').carried ≡ grown_by base request answer
@@ -363,36 +363,36 @@ module _ {W : Type 0} (facts : WireFacts W) where
         → effect_of_reply old.session.limit
         (if (progress_head progress).read then segment size (answer_text_to request answer) j
         else [])
-        (current_at request size given progress) ≡ comes size request answer given progress j
+        (current_at request size issued progress) ≡ comes size request answer issued progress j
         → suc n ≡ delivered + suc j → Goes n
-    had_step given j progress t answer fitting state carried begins outcome count =
+    reading_step issued j progress t answer fitting state carried begins outcome count =
         elim (cases_lt (suc j * size) (length (answer_text_to request answer))) [
           | inl more ↦
-              let goes = comes_to t state (GoesOn (gets request size answer given j))
-              (outcome ∙ joined_more size request answer given j progress more) in
-              next_is t (Reading answer (suc j)) (given, goes.0, state, carried, fitting, more)
+              let goes = comes_to t state (GoesOn (gets request size answer issued j))
+              (outcome ∙ joined_more size request answer issued j progress more) in
+              next_is t (Reading answer (suc j)) (issued, goes.0, state, carried, fitting, more)
               (sym count) goes.1
           | inr all ↦
               let goes = comes_to t state (HasText (answer_text_to request answer))
-              (outcome ∙ joined_last laws size low request answer fitting given j progress all) in
+              (outcome ∙ joined_last laws size low request answer fitting issued j progress all) in
               let last = segments_last (laws.texts size low) (answer_text_to request answer) j
               begins all in
               next_is t (Ended answer) (goes.0, carried, fitting, (j, state))
-              (omega (arith, count, last)) (said_last laws size low request answer fitting goes.1)
+              (omega (arith, count, last)) (report_last laws size low request answer fitting goes.1)
         ]
 
     module _ (calm : link.waits ≡ None) where
       -- the answer's first segment, of a request that was handed over
-      first_step : (given busy n : ℕ) → old.session.current ≡ Some (asks request size given busy)
+      first_step : (issued busy n : ℕ) → old.session.current ≡ Some (asks request size issued busy)
           → (far wire).isdu ≡ Handed request → (far wire).carried ≡ base → n ≡ delivered → Goes n
-      first_step given busy n is handed_is carried count =
+      first_step issued busy n is handed_is carried count =
           let t = takes is refl in
           let (answer, fitting, ready, grown) =
           work_done (far wire) t.turn.ready request base handed_is carried some t.turn.work in
-          had_step given 0 (Asking busy) t answer fitting
+          reading_step issued 0 (Asking busy) t answer fitting
           (state_is t calm ready ∙ read_start kind.recalls size (Answered request answer None) refl)
           (t.turn.heard_as.carried ∙ grown) (answer_some request answer size)
-          (first_joined laws size low request answer fitting given busy old.session.limit)
+          (first_joined laws size low request answer fitting issued busy old.session.limit)
           (omega (arith, count))
 
       -- another segment of the request
@@ -452,7 +452,7 @@ module _ {W : Type 0} (facts : WireFacts W) where
       step (Reading answer (suc j)) at goes =
           let t = takes at.1 refl in
           let still = stays t (ap handed_request at.2) in
-          had_step at.0 (suc j) (Receiving (joiner_at size (answer_text_to request answer) j) j)
+          reading_step at.0 (suc j) (Receiving (joiner_at size (answer_text_to request answer) j) j)
           t answer at.4
           (state_is t calm (still.0 ∙ at.2)
           ∙ read_next kind.recalls size request answer j at.5)

@@ -11,13 +11,13 @@ use Rattle.iol_mode.specs.declared.states.State.{State}
 use Rattle.iol_mode.specs.States.{IsDown, is_reset}
 use Rattle.iol_mode.specs.Exchanges.{IsSending}
 use Rattle.iol_app.specs.declared.mode.Mode.TheVariants.{Operate}
-use Rattle.iol_app.specs.declared.said.Said.{Said}
-use Rattle.iol_app.specs.declared.said.Said.TheVariants.{Idle}
+use Rattle.iol_app.specs.declared.report.Said.{Said}
+use Rattle.iol_app.specs.declared.report.Said.TheVariants.{Idle}
 use Rattle.iol_app.specs.Abstract.Steps.{PortStep, Make, Reset, WireCall, Moment, through_steps, TakesSteps}
 use Rattle.iol_app.specs.Abstract.OfMaster.{resets, book_said}
 use Rattle.iol_app.specs.Abstract.Session.{MaySession, session_after}
 use Rattle.iol_app.specs.declared.event_work.EventRoom.{EventRoom}
-use Rattle.iol_app.specs.declared.brought.WireResult.{WireResult}
+use Rattle.iol_app.specs.declared.wire_result.WireResult.{WireResult}
 use Rattle.iol_app.specs.State.{session_expecting, session_with_cycle}
 use Rattle.iol_app.specs.StationState.{mode_in}
 use Rattle.iol_app.specs.Core.{CoreState, Ghost, session_in, frozen_in, images_in}
@@ -25,7 +25,7 @@ use Rattle.iol_app.specs.CoreStands.{BothEndsStand, IsAttempted}
 use Rattle.iol_app.specs.CoreGives.{TermsStay, ordered_output, moment_of}
 use Rattle.iol_app.specs.CoreTurns.{made_ghost}
 use Rattle.iol_app.specs.Pieces.{SendsMessage, IsWholeTurn, SendSteps, WakeSteps, ReceiveSteps, TakeUpGives}
-use Rattle.iol_app.specs.Seen.{WantSteps}
+use Rattle.iol_app.specs.CallSteps.{WantSteps}
 use Rattle.iol_port.specs.declared.call.Call.{Call}
 use Rattle.iol_port.specs.declared.call.Answered.{Answered}
 use Rattle.iol_port.specs.declared.call.Answered.TheVariants as answered
@@ -39,7 +39,7 @@ use Rattle.iol_port.specs.Run.{counting_of, PortState, Pending, SendOf, PieceOf,
 use Rattle.iol_port.specs.declared.awaited.AwaitedAnswer.TheVariants.{Nothing, Wake, Reply}
 use Rattle.iol_port.specs.View.{PortParts, PortValue, Choice, IsOutInOperate, IsTied, PendingAt, StandsFor, IsAbstractCall, Does, BeginsNext, abstract_port, on_wire, over}
 use Rattle.iol_port.specs.CorePort.{IsCoreCall, awaited_answer, CoreDoes, PieceDoes, SendDoes, ReceiveDoes, WakeDoes}
-use Rattle.iol_port.proofs.Filters.{book_through-filter, MayBookAll-filter, kept_through-filter, may_book_said}
+use Rattle.iol_port.proofs.Filters.{book_through-filter, MayBookAll-filter, queued_through-filter, may_book_report}
 use Rattle.iol_port.proofs.TurnLemmas.{Begun, Settles, under, begun, none_down, terms_of, page_read_of}
 use Rattle.iol_port.proofs.CallLemmas.{none_pending, expect_does, set_cycle_does}
 use Rattle.iol_app.specs.Abstract.Images.{MayImages, images_after}
@@ -52,7 +52,7 @@ abbrev pub parts_in : {A : Type 0} → Inside A → PortParts
 parts_in inside = record {
   core = inside.core;
   book = inside.book;
-  kept = inside.kept.items;
+  queued = inside.queued.items;
   sent = inside.sent;
   counters = inside.counters;
   last_loss = inside.last_loss;
@@ -98,7 +98,7 @@ is_sent : {mid k : CoreState} {g : Ghost} {far : Far} {n : ℕ} → SendSteps mi
 unfolding SendSteps
 is_sent {mid = mid} {g = g} {far = far} {n = n} sends tried stands =
     elim (sends g far n stands) [
-      | inl again ↦ (g, false, rw again.same (grind (arith, common_steps, again.asks tried)))
+      | inl repeat ↦ (g, false, rw repeat.same (grind (arith, common_steps, repeat.asks tried)))
       | inr s ↦ (
         made_ghost mid.session g,
         true,
@@ -121,14 +121,15 @@ made_sends (x ∷ xs) made h = grind (arith, common_steps, made_sends xs made)
 
 -- where nothing was out
 goes_out : {s : CoreState} {start : BookState} {after : Ghost} {made : Bool}
-    (p next : PortParts) (far : Far) (n : ℕ) (u : Choice) → u.pending ≡ None → next.kept ≡ p.kept
+    (p next : PortParts) (far : Far) (n : ℕ) (u : Choice) → u.pending ≡ None
+    → next.queued ≡ p.queued
     → next.sent ≡ true → next.book.state ≡ start
     → (b : Begun p.core p.book.state s start u.ghost far n)
     → Sent (under b.current p.core) next.core
     (record u.ghost { request = b.request }) after far n made
     → (m : PortState) × PieceOf (abstract_port far n p u) Send answered.Nothing m
     × StandsFor far n next m
-goes_out {start = start} {after = after} {made = made} p next far n u none kept sent book_is b s =
+goes_out {start = start} {after = after} {made = made} p next far n u none queued sent book_is b s =
     let before : PortState = abstract_port far n p u in
     let steps : List PortStep = b.first ++ make_of made in
     let c : Choice = record {
@@ -154,7 +155,7 @@ goes_out {start = start} {after = after} {made = made} p next far n u none kept 
               (b.images m before.images) (s.images call);
           owners = refl;
           frozen = s.frozen;
-          kept = kept;
+          queued = queued;
           past = refl;
           silence = refl;
           terms = terms_of s.terms;
@@ -174,38 +175,38 @@ goes_out {start = start} {after = after} {made = made} p next far n u none kept 
 pub send_does : (p next : PortParts) (s : CoreState) (start : BookState)
     → p.sent ≡ false → BeginsNext p.core p.book.state s start
     → SendSteps s next.core → next.book.state ≡ start
-    → next.kept ≡ p.kept → next.sent ≡ true → SendDoes p next
+    → next.queued ≡ p.queued → next.sent ≡ true → SendDoes p next
 unfolding SendDoes
-send_does p next s start free begins sends book kept sent = λ far n a for_a.
+send_does p next s start free begins sends book queued sent = λ far n a for_a.
     let (u, shows, is) = for_a in
     let none = none_pending u.pending p.sent p.core n free shows.out in
     let b = begun begins shows.both in
-    let (m, piece, after) = goes_out p next far n u none kept sent book b
+    let (m, piece, after) = goes_out p next far n u none queued sent book b
     (is_sent (rw b.is at sends) (rw none at shows.out).1 b.stands).2 in
     (m, subst (λ (x : PortState). PieceOf x Send answered.Nothing m) (sym is) piece, after)
 
 -- what is out goes out again
-pub again_does : (p : PortParts) → p.sent ≡ true → SendDoes p p
+pub resend_does : (p : PortParts) → p.sent ≡ true → SendDoes p p
 unfolding SendDoes
-again_does p sent = λ far n a for_a.
+resend_does p sent = λ far n a for_a.
     let (u, shows, is) = for_a in
     (a, (refl, inr (rw is (grind (arith, common_steps, shows.out)), refl)), for_a)
 
 -- What comes back
 
 -- to what is out
-module _ (p next : PortParts) (far far' : Far) (n n' : ℕ) (said : Said) (free : next.sent ≡ false)
-    (settles : Settles p next said (is_reset p.core.state) p.book.state) where
+module _ (p next : PortParts) (far far' : Far) (n n' : ℕ) (report : Said) (free : next.sent ≡ false)
+    (settles : Settles p next report (is_reset p.core.state) p.book.state) where
   abbrev Receives : PortState → Type 0
   Receives a = (b : PortState) × PieceOf a Receive answered.Nothing b
       × StandsFor far' n' next b
 
   receives : (u : Choice) (out : Pending) → u.pending ≡ Some out
       → PendingAt (Some out) p.sent p.core n
-      → TakeUpGives p.core u.ghost far n said next.core far' n'
+      → TakeUpGives p.core u.ghost far n report next.core far' n'
       → Receives (abstract_port far n p u)
   receives u out was shown r =
-      let x = r.given in
+      let x = r.gives in
       let began : Bool = is_reset p.core.state in
       let ended : Bool = is_reset next.core.state in
       let c : Choice = record {
@@ -230,9 +231,9 @@ module _ (p next : PortParts) (far far' : Far) (n n' : ℕ) (said : Said) (free 
             work = record {
               book = (
                 MayBookAll-filter x.steps p.book.state
-                    (rw x.said_book (may_book_said began ended said p.book.state)),
+                    (rw x.book_steps_are (may_book_report began ended report p.book.state)),
                 sym (settles.posts
-                    ∙ (rw (← x.said_book) (sym (book_through-filter x.steps p.book.state)))),
+                    ∙ (rw (← x.book_steps_are) (sym (book_through-filter x.steps p.book.state)))),
               );
               session = x.session;
               owners = refl;
@@ -242,8 +243,8 @@ module _ (p next : PortParts) (far far' : Far) (n n' : ℕ) (said : Said) (free 
             events = record {
               frozen = x.frozen;
               was_frozen = x.was_frozen;
-              kept = sym (settles.keeps
-                  ∙ (rw (← x.said_reports) (sym (kept_through-filter x.steps p.kept))));
+              queued = sym (settles.keeps
+                  ∙ (rw (← x.report_steps_are) (sym (queued_through-filter x.steps p.queued))));
               past = x.past;
             };
             images = record {
@@ -260,7 +261,7 @@ module _ (p next : PortParts) (far far' : Far) (n n' : ℕ) (said : Said) (free 
 
   -- with whatever was out
   taken_up : p.sent ≡ true → ((g : Ghost) → BothEndsStand p.core g far n
-      → TakeUpGives p.core g far n said next.core far' n')
+      → TakeUpGives p.core g far n report next.core far' n')
       → PieceDoes p far n Receive next far' n'
   taken_up sent gives = λ a for_a.
       let (u, shows, is) = for_a in
@@ -268,25 +269,25 @@ module _ (p next : PortParts) (far far' : Far) (n n' : ℕ) (said : Said) (free 
     where
       by : (u : Choice) (x : Option Pending) → u.pending ≡ x
           → PendingAt x p.sent p.core n
-          → TakeUpGives p.core u.ghost far n said next.core far' n'
+          → TakeUpGives p.core u.ghost far n report next.core far' n'
           → Receives (abstract_port far n p u)
       by u None was shown r = absurd (let k : true ≡ false = sym sent ∙ shown.0 in cc)
       by u (Some out) was shown r = receives u out was shown r
 
 -- the book heard of a reset where both states say so
-pub heard_reset : {reset began ended : Bool} (old new : State) (said : Said) (b : BookState)
+pub heard_reset : {reset began ended : Bool} (old new : State) (report : Said) (b : BookState)
     {after : BookState} → began ≡ is_reset old → ended ≡ is_reset new
     → reset ≡ (not began && ended)
-    → after ≡ through_steps book_after (cond reset (Reset ∷ []) [] ++ book_said said) b
-    → after ≡ through_steps book_after (resets (is_reset old) (is_reset new) ++ book_said said) b
-heard_reset old new said b from to is told = rw (is, from, to) at told
+    → after ≡ through_steps book_after (cond reset (Reset ∷ []) [] ++ book_said report) b
+    → after ≡ through_steps book_after (resets (is_reset old) (is_reset new) ++ book_said report) b
+heard_reset old new report b from to is book_is = rw (is, from, to) at book_is
 
-pub receive_does : (p next : PortParts) (came : Option (List ℕ)) (said : Said) → p.sent ≡ true
-    → ReceiveSteps p.core came said next.core → next.sent ≡ false
-    → Settles p next said (is_reset p.core.state) p.book.state → ReceiveDoes p came next
+pub receive_does : (p next : PortParts) (received : Option (List ℕ)) (report : Said) → p.sent ≡ true
+    → ReceiveSteps p.core received report next.core → next.sent ≡ false
+    → Settles p next report (is_reset p.core.state) p.book.state → ReceiveDoes p received next
 unfolding ReceiveSteps ReceiveDoes
-receive_does p next came said sent steps free settles = λ far far' n n' x.
-    taken_up p next far far' n n' said free settles sent
+receive_does p next received report sent steps free settles = λ far far' n n' x.
+    taken_up p next far far' n n' report free settles sent
     (λ g stands. steps g far far' n n' stands x)
 
 pub wake_does : (p next : PortParts) (answered : Bool) → p.sent ≡ true
@@ -349,8 +350,8 @@ port_call_over facts old new c reply does same =
 
 -- nothing was out, so a message is sent, and not again
 send_of : {a m : PortState} → a.pending ≡ None → PieceOf a Send answered.Nothing m → SendOf a m
-send_of none (said, inl sends) = sends
-send_of none (said, inr again) = absurd (let k : false ≡ true = rw none at again.0 in cc)
+send_of none (report, inl sends) = sends
+send_of none (report, inr repeat) = absurd (let k : false ≡ true = rw none at repeat.0 in cc)
 
 -- a message that goes out leaves whether the device was reset
 sent_reset : (room : EventRoom) (old mid : CoreState) → SendsMessage room old mid
@@ -360,20 +361,20 @@ sent_reset room old mid sent = grind (arith, common_steps)
 module _ {W : Type 0} (facts : WireFacts W) (wire wire' : W) where
   open facts use {honest, far, silence}
 
-  pub turn_does : (p next : PortParts) (room : EventRoom) (said : Said) (brought : WireResult)
+  pub turn_does : (p next : PortParts) (room : EventRoom) (report : Said) (wire_result : WireResult)
       (s : CoreState) (start : BookState)
       → p.sent ≡ false → next.sent ≡ false → BeginsNext p.core p.book.state s start
-      → IsWholeTurn facts room wire wire' s said brought next.core
-      → honest wire' ≡ honest wire → Settles p next said (is_reset s.state) start
+      → IsWholeTurn facts room wire wire' s report wire_result next.core
+      → honest wire' ≡ honest wire → Settles p next report (is_reset s.state) start
       → IsAbstractCall facts (on_wire p wire) call.Turn answered.Nothing (on_wire next wire')
   unfolding IsAbstractCall SendDoes
-  turn_does p next room said brought s start free after begins t honesty settles = λ a for_a.
+  turn_does p next room report wire_result s start free after begins t honesty settles = λ a for_a.
       let (up, here) = for_a in
       let (u, shows, is) = here in
       let between : PortParts = record {
         core = t.mid;
         book = record p.book { state = start };
-        kept = p.kept;
+        queued = p.queued;
         sent = true;
         counters = p.counters;
         last_loss = p.last_loss;
@@ -384,7 +385,7 @@ module _ {W : Type 0} (facts : WireFacts W) (wire wire' : W) where
       send_does p between s start free begins t.puts.steps refl refl refl (far wire)
       (silence wire) a (u, shows, is) in
       let (b, receives, for_b) =
-      taken_up between next (far wire) (far wire') (silence wire) (silence wire') said after
+      taken_up between next (far wire) (far wire') (silence wire) (silence wire') report after
       (rw (sent_reset room s t.mid t.puts.sent)
       (record { posts = settles.posts; keeps = settles.keeps })) refl
       (t.takes up) m for_m in (

@@ -10,7 +10,7 @@ use Rattle.iol_book.specs.declared.entries.Outcome.{Outcome}
 use Rattle.iol_book.specs.declared.entries.Outcome.TheVariants.{NoIsdu}
 use Rattle.iol_book.specs.Replay.{same_ticket}
 use Rattle.iol_book.specs.BookModel.{BookState, next_taken, book_after_denial, book_after_post}
-use Rattle.iol_app.specs.declared.said.Said.{Said}
+use Rattle.iol_app.specs.declared.report.Said.{Said}
 use Rattle.iol_app.specs.Abstract.Steps.{Reset, through_steps}
 use Rattle.iol_app.specs.Abstract.OfMaster.{book_said}
 use Rattle.iol_port.specs.Asks.{lacks_isdu}
@@ -31,45 +31,45 @@ lookup-entered (e ∷ es) t k o = grind (arith, common_steps, lookup-entered es 
 
 posted_none : (b : BookState) (o : Outcome) (k : Ticket) → (o ≡ NoIsdu → ⊥)
     → HasNoIsdu (book_after_post b o) k → HasNoIsdu b k
-posted_none b o k differs given = grind (arith, common_steps, lookup-entered)
+posted_none b o k differs premise = grind (arith, common_steps, lookup-entered)
 
-said_none : (said : Said) (b : BookState) (k : Ticket)
-    → HasNoIsdu (through_steps book_after (book_said said) b) k → HasNoIsdu b k
-said_none said b k given = grind (arith, common_steps, posted_none)
+report_none : (report : Said) (b : BookState) (k : Ticket)
+    → HasNoIsdu (through_steps book_after (book_said report) b) k → HasNoIsdu b k
+report_none report b k premise = grind (arith, common_steps, posted_none)
 
-module _ (old next : PortParts) (mid : BookState) (reset : Bool) (said : Said)
-    (asks : Asks said mid.standing.taken)
+module _ (old next : PortParts) (mid : BookState) (reset : Bool) (report : Said)
+    (asks : Asks report mid.standing.taken)
     (book : next.book.state ≡ through_steps book_after
-    (cond reset (Reset ∷ []) [] ++ book_said said) mid)
+    (cond reset (Reset ∷ []) [] ++ book_said report) mid)
     (k : Ticket) (has : HasNoIsdu next.book.state k) where
   abbrev b : BookState
   b = old.book.state
 
-  had : HasNoIsdu mid k
-  had = let now = rw book at has in grind (arith, common_steps, said_none)
+  mid_has : HasNoIsdu mid k
+  mid_has = let now = rw book at has in grind (arith, common_steps, report_none)
 
   -- where this turn denied one, it is that of the ticket, or another
   denied_one : (t : Ticket) (q : Request) → next_taken b ≡ Some (t, q)
       → old.core.session.isdu ≡ Some false → reset ≡ false → mid ≡ book_after_denial b t
       → HasNoIsdu b k ⊎ IsDenied old next k
-  denied_one t q head told asleep is = by (same_ticket t k) refl
+  denied_one t q head isdu_is asleep is = by (same_ticket t k) refl
     where
       by : (c : Bool) → same_ticket t k ≡ c → HasNoIsdu b k ⊎ IsDenied old next k
       by true e =
           let first = next_is b t q head in
           let none : mid.standing.taken ≡ None = rw is first.free in
-          let quiet : through_steps book_after (cond reset (Reset ∷ []) [] ++ book_said said)
+          let quiet : through_steps book_after (cond reset (Reset ∷ []) [] ++ book_said report)
           mid ≡ mid =
           let asks_none = rw none at asks in rw asleep (grind (arith, common_steps)) in
           inr (rw (ticket_is t k e) (record {
-            told = told;
+            isdu_is = isdu_is;
             waited = first.waits;
             free = first.free;
             book = book ∙ quiet ∙ is;
           }))
       by false e =
           let apart : same_ticket k t ≡ false = grind (arith, nat_tests) in
-          inl (rw (lookup-entered b.standing.outcomes t k NoIsdu, apart) at (rw is at had))
+          inl (rw (lookup-entered b.standing.outcomes t k NoIsdu, apart) at (rw is at mid_has))
 
   pub turn_denies : (ready : Bool)
       → mid ≡ book_after_taking ready (lacks_isdu old.core.session.isdu)
@@ -81,6 +81,6 @@ module _ (old next : PortParts) (mid : BookState) (reset : Bool) (said : Said)
       by : (head : Option (Ticket × Request)) (r lacks : Bool) → next_taken b ≡ head
           → ready ≡ r → lacks_isdu old.core.session.isdu ≡ lacks
           → mid ≡ book_after_taking r lacks head b → HasNoIsdu b k ⊎ IsDenied old next k
-      by (Some (t, q)) true true head is_ready told is =
+      by (Some (t, q)) true true head is_ready isdu_is is =
           denied_one t q head (grind arith) (asleep is_ready) is
-      by _ _ _ head is_ready told is = inl (rw is at had)
+      by _ _ _ head is_ready isdu_is is = inl (rw is at mid_has)

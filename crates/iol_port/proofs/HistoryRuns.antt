@@ -9,11 +9,11 @@ use lib.Seq.{drop-append_seam}
 use Rattle.iol_event.specs.declared.event.Event.{Event}
 use Rattle.iol_far.specs.History.{HistoryEntry, Raised, InputSet, PowerCycled}
 use Rattle.iol_app.specs.declared.output.OutputFault.TheVariants.{WrongImageLength}
-use Rattle.iol_app.specs.Abstract.Steps.{PortStep, Take, Deny, Carry, Again, Done, Unknown, LateCarry, Start, Reset, Raise, Freeze, Report, Confirm, Untell, ShowImage, DropImage, Make, OutputOn, OutputOff, Input, PowerLoss, TellLength, Busy, Move, Moment, ImageOctets, Exchanged, through_steps, MayAll}
-use Rattle.iol_app.specs.Abstract.Events.{Frozen, MayFrozen, frozen_after, untold_events, frozen_events, unreported_events}
+use Rattle.iol_app.specs.Abstract.Steps.{PortStep, Take, Deny, Carry, Redeliver, Done, Unknown, LateCarry, Start, Reset, Raise, Freeze, Report, Confirm, Unreport, ShowImage, DropImage, Make, OutputOn, OutputOff, Input, PowerLoss, PageRead, Busy, Move, Moment, ImageOctets, Exchanged, through_steps, MayAll}
+use Rattle.iol_app.specs.Abstract.Events.{Frozen, MayFrozen, frozen_after, marked_unreported, frozen_events, unreported_events}
 use Rattle.iol_app.specs.Abstract.Images.{Images, images_after}
 use Rattle.iol_app.specs.Abstract.Past.{Past, MayPast, past_after}
-use Rattle.iol_port.specs.Steps.{kept_after}
+use Rattle.iol_port.specs.Steps.{queued_after}
 use Rattle.iol_port.specs.declared.call.Call.{Call}
 use Rattle.iol_port.specs.declared.call.Call.TheVariants as call
 use Rattle.iol_port.specs.declared.call.Answered.{Answered}
@@ -21,7 +21,7 @@ use Rattle.iol_port.specs.declared.call.Answered.TheVariants as answered
 use Rattle.iol_port.specs.declared.fault.PortFault.TheVariants as fault
 use Rattle.iol_port.specs.Owners.{IsOneOf}
 use Rattle.iol_port.specs.CarriesOut.{Happens}
-use Rattle.iol_port.specs.History.{input_behind, WasInput, raised_in, events_handed_out, held_events, EachFitsHistory, IsPartOf, nothing, takes, leaves, reports_again, receives_again, does_again, is_again_in, unreported_in, EachIsReportedOnce}
+use Rattle.iol_port.specs.History.{input_behind, WasInput, raised_in, events_handed_out, held_events, EachFitsHistory, IsPartOf, nothing, takes, leaves, step_may_repeat, receive_may_repeat, piece_may_repeat, run_may_repeat, unreported_in, EachIsReportedOnce}
 use Rattle.iol_port.specs.Run.{PortState, port_at_opening, SendOf, ReceiveOf, is_sending_step, moment_by, Is, set_output_of, take_event_of, CallOf, Piece, Whole, Send, Receive, PieceOf, Pieces}
 
 -- Lists
@@ -90,7 +90,7 @@ module _ {X : Type 0} where
       on : IsOneOf x (h1 ++ e2) → IsOneOf x (h0 ++ (e1 ++ e2))
       on is = elim (one_of x h1 e2 is) [
         | inl held ↦ wide (first x (one_last x r1 h1 held))
-        | inr came ↦ one_last x h0 (e1 ++ e2) (one_last x e1 e2 came)
+        | inr received ↦ one_last x h0 (e1 ++ e2) (one_last x e1 e2 received)
       ]
 
   part_both : (r1 r2 h0 h1 h2 e1 e2 : List X) → IsPartOf (r1 ++ h1) (h0 ++ e1)
@@ -152,16 +152,16 @@ history_steps (step ∷ steps) p =
     ∙ ap (λ (l : List HistoryEntry). l ++ entries_in steps) (history_step step p)
     ∙ append_assoc p.history (entries_of step) (entries_in steps)
 
-kept_steps : (steps : List PortStep) (kept : List Event)
-    → through_steps kept_after steps kept ≡ kept ++ reported_in steps
-kept_steps [] kept = sym (append-nil kept)
-kept_steps (step ∷ steps) kept =
-    kept_steps steps (kept_after step kept)
-    ∙ ap (λ (l : List Event). l ++ reported_in steps) (step_kept step)
-    ∙ append_assoc kept (reported_by step) (reported_in steps)
+queued_steps : (steps : List PortStep) (queued : List Event)
+    → through_steps queued_after steps queued ≡ queued ++ reported_in steps
+queued_steps [] queued = sym (append-nil queued)
+queued_steps (step ∷ steps) queued =
+    queued_steps steps (queued_after step queued)
+    ∙ ap (λ (l : List Event). l ++ reported_in steps) (step_queued step)
+    ∙ append_assoc queued (reported_by step) (reported_in steps)
   where
-    step_kept : (step : PortStep) → kept_after step kept ≡ kept ++ reported_by step
-    step_kept step = grind (arith, common_steps, append-nil kept)
+    step_queued : (step : PortStep) → queued_after step queued ≡ queued ++ reported_by step
+    step_queued step = grind (arith, common_steps, append-nil queued)
 
 -- Images
 
@@ -253,9 +253,9 @@ frozen_waited events others waiting is =
     ∙ ap (λ (l : List Event). events ++ l) (drop-append_seam events others) ∙ sym is
 
 -- what is reported, and what is held behind a step, was held before, or is raised in it
-untold_same : (f : Option Frozen) → frozen_events (untold_events f) ≡ frozen_events f
-untold_same None = refl
-untold_same (Some frozen) = refl
+unreported_same : (f : Option Frozen) → frozen_events (marked_unreported f) ≡ frozen_events f
+unreported_same None = refl
+unreported_same (Some frozen) = refl
 
 held_step : (step : PortStep) (f : Option Frozen) (p : Past) → MayFrozen step f → MayPast step p
     → AreOf (reported_by step ++ Held (frozen_after step f) (past_after step p))
@@ -274,16 +274,16 @@ held_step Confirm f p may waits x one =
 held_step (Raise event) f p may waits x one =
     subst (IsOneOf x) (sym (append_assoc (frozen_events f) p.waiting (event ∷ []))) one
 held_step PowerLoss f p may waits x one = absurd one
-held_step Untell f p may waits x one = one_first x (Held f p) []
-    (subst (λ (l : List Event). IsOneOf x (l ++ p.waiting)) (untold_same f) one)
+held_step Unreport f p may waits x one = one_first x (Held f p) []
+    (subst (λ (l : List Event). IsOneOf x (l ++ p.waiting)) (unreported_same f) one)
 held_step Start f p may waits x one = one_first x (Held f p) []
-    (subst (λ (l : List Event). IsOneOf x (l ++ p.waiting)) (untold_same f) one)
+    (subst (λ (l : List Event). IsOneOf x (l ++ p.waiting)) (unreported_same f) one)
 held_step Reset f p may waits x one = one_first x (Held f p) []
-    (subst (λ (l : List Event). IsOneOf x (l ++ p.waiting)) (untold_same f) one)
+    (subst (λ (l : List Event). IsOneOf x (l ++ p.waiting)) (unreported_same f) one)
 held_step (Take ticket request) f p may waits x one = one_first x (Held f p) [] one
 held_step (Deny ticket) f p may waits x one = one_first x (Held f p) [] one
 held_step (Carry answer) f p may waits x one = one_first x (Held f p) [] one
-held_step Again f p may waits x one = one_first x (Held f p) [] one
+held_step Redeliver f p may waits x one = one_first x (Held f p) [] one
 held_step (Done answer) f p may waits x one = one_first x (Held f p) [] one
 held_step (Unknown cause) f p may waits x one = one_first x (Held f p) [] one
 held_step (LateCarry answer) f p may waits x one = one_first x (Held f p) [] one
@@ -293,13 +293,13 @@ held_step Make f p may waits x one = one_first x (Held f p) [] one
 held_step OutputOn f p may waits x one = one_first x (Held f p) [] one
 held_step OutputOff f p may waits x one = one_first x (Held f p) [] one
 held_step (Input input) f p may waits x one = one_first x (Held f p) [] one
-held_step TellLength f p may waits x one = one_first x (Held f p) [] one
+held_step PageRead f p may waits x one = one_first x (Held f p) [] one
 held_step Busy f p may waits x one = one_first x (Held f p) [] one
 held_step (Move mode why) f p may waits x one = one_first x (Held f p) [] one
 
 -- where nothing counts as unreported again, what is reported comes once, and in order
 order_step : (step : PortStep) (f : Option Frozen) (p : Past) → MayFrozen step f → MayPast step p
-    → reports_again step ≡ false
+    → step_may_repeat step ≡ false
     → IsPartOf (reported_by step ++ Unreported (frozen_after step f) (past_after step p))
     (Unreported f p ++ raised_in (entries_of step))
 order_step (Freeze events) f p may waits once =
@@ -315,13 +315,13 @@ order_step (Raise event) f p may waits once =
     subst (IsPartOf (unreported_events f ++ (p.waiting ++ event ∷ [])))
     (sym (append_assoc (unreported_events f) p.waiting (event ∷ []))) (part_same _)
 order_step PowerLoss f p may waits once = part_none _
-order_step Untell f p may waits once = cc
+order_step Unreport f p may waits once = cc
 order_step Start f p may waits once = cc
 order_step Reset f p may waits once = cc
 order_step (Take ticket request) f p may waits once = part_end (part_same _)
 order_step (Deny ticket) f p may waits once = part_end (part_same _)
 order_step (Carry answer) f p may waits once = part_end (part_same _)
-order_step Again f p may waits once = part_end (part_same _)
+order_step Redeliver f p may waits once = part_end (part_same _)
 order_step (Done answer) f p may waits once = part_end (part_same _)
 order_step (Unknown cause) f p may waits once = part_end (part_same _)
 order_step (LateCarry answer) f p may waits once = part_end (part_same _)
@@ -331,7 +331,7 @@ order_step Make f p may waits once = part_end (part_same _)
 order_step OutputOn f p may waits once = part_end (part_same _)
 order_step OutputOff f p may waits once = part_end (part_same _)
 order_step (Input input) f p may waits once = part_end (part_same _)
-order_step TellLength f p may waits once = part_end (part_same _)
+order_step PageRead f p may waits once = part_end (part_same _)
 order_step Busy f p may waits once = part_end (part_same _)
 order_step (Move mode why) f p may waits once = part_end (part_same _)
 
@@ -354,13 +354,13 @@ held_steps (step ∷ steps) f p may waits =
 
 order_steps : (steps : List PortStep) (f : Option Frozen) (p : Past)
     → MayAll MayFrozen frozen_after steps f → MayAll MayPast past_after steps p
-    → list_any reports_again steps ≡ false
+    → list_any step_may_repeat steps ≡ false
     → IsPartOf (reported_in steps
     ++ Unreported (through_steps frozen_after steps f) (through_steps past_after steps p))
     (Unreported f p ++ raised_in (entries_in steps))
 order_steps [] f p may waits once = part_end (part_same _)
 order_steps (step ∷ steps) f p may waits once =
-    let (first, others) = none_of (reports_again step) (list_any reports_again steps) once in
+    let (first, others) = none_of (step_may_repeat step) (list_any step_may_repeat steps) once in
     subst (λ (l : List Event). IsPartOf ((reported_by step ++ reported_in steps)
     ++ Unreported (through_steps frozen_after steps (frozen_after step f))
     (through_steps past_after steps (past_after step p))) (Unreported f p ++ l))
@@ -374,7 +374,7 @@ order_steps (step ∷ steps) f p may waits once =
 
 -- which events it handed out, which output it set, which image it showed, and whether what was
 -- reported counts as unreported again
-record Goes (handed : List Event) (sets shows : ImageOctets → Type 0) (again : Bool)
+record Goes (handed : List Event) (sets shows : ImageOctets → Type 0) (repeat : Bool)
     (a b : PortState) : Type 0 where
   entries : List HistoryEntry
   reported : List Event
@@ -383,9 +383,9 @@ record Goes (handed : List Event) (sets shows : ImageOctets → Type 0) (again :
   image : (image : ImageOctets) → b.images.image ≡ Some image → WasShown entries a.images image
   looks : (image : ImageOctets) → shows image → WasShown entries a.images image
   output : (image : ImageOctets) → IsOutput b.images image → IsOutput a.images image ⊎ sets image
-  reported_is : a.kept ++ reported ≡ handed ++ b.kept
+  reported_is : a.queued ++ reported ≡ handed ++ b.queued
   held : AreOf (reported ++ held_events b) (held_events a ++ raised_in entries)
-  in_order : again ≡ false
+  in_order : repeat ≡ false
       → IsPartOf (reported ++ unreported_in b) (unreported_in a ++ raised_in entries)
 
 -- one behind the other
@@ -412,10 +412,10 @@ goes_on {h1} {h2} {s1} {s2} {l1} {l2} {g1} {g2} {a} {m} {b} x y =
         ]
         | inr set ↦ inr (inr set)
       ];
-      reported_is = sym (append_assoc a.kept x.reported y.reported)
+      reported_is = sym (append_assoc a.queued x.reported y.reported)
           ∙ ap (λ (l : List Event). l ++ y.reported) x.reported_is
-          ∙ append_assoc h1 m.kept y.reported ∙ ap (λ (l : List Event). h1 ++ l) y.reported_is
-          ∙ sym (append_assoc h1 h2 b.kept);
+          ∙ append_assoc h1 m.queued y.reported ∙ ap (λ (l : List Event). h1 ++ l) y.reported_is
+          ∙ sym (append_assoc h1 h2 b.queued);
       held = subst (λ (l : List Event).
           AreOf ((x.reported ++ y.reported) ++ held_events b) (held_events a ++ l)) raised
           (of_both x.reported y.reported (held_events a) (held_events m) (held_events b)
@@ -446,7 +446,7 @@ goes_as : {h1 h2 : List Event} {s1 s2 l1 l2 : ImageOctets → Type 0} {g1 g2 : B
     {a b : PortState} → h1 ≡ h2 → ((image : ImageOctets) → s1 image → s2 image)
     → ((image : ImageOctets) → l2 image → l1 image) → g1 ≡ g2 → Goes h1 s1 l1 g1 a b
     → Goes h2 s2 l2 g2 a b
-goes_as {a = a} {b = b} handed sets shows again x = record {
+goes_as {a = a} {b = b} handed sets shows repeat x = record {
   entries = x.entries;
   reported = x.reported;
   history = x.history;
@@ -458,8 +458,8 @@ goes_as {a = a} {b = b} handed sets shows again x = record {
     | inl before ↦ inl before
     | inr set ↦ inr (sets image set)
   ];
-  reported_is = x.reported_is ∙ ap (λ (l : List Event). l ++ b.kept) handed;
-  in_order = λ once. x.in_order (again ∙ once);
+  reported_is = x.reported_is ∙ ap (λ (l : List Event). l ++ b.queued) handed;
+  in_order = λ once. x.in_order (repeat ∙ once);
 }
 
 -- A call that is no turn
@@ -468,7 +468,7 @@ record Leaves (handed : List Event) (sets shows : ImageOctets → Type 0) (a b :
     Type 0 where
   past : b.past ≡ a.past
   frozen : b.frozen ≡ a.frozen
-  kept : a.kept ≡ handed ++ b.kept
+  queued : a.queued ≡ handed ++ b.queued
   input : b.images.input ≡ a.images.input
   image : (b.images.image ≡ a.images.image) ⊎ (b.images.image ≡ None)
   looks : (image : ImageOctets) → shows image → a.images.image ≡ Some image
@@ -498,7 +498,7 @@ left {handed} {sets} {shows} {a} {b} x = record {
       ]
     ]
   ];
-  reported_is = append-nil a.kept ∙ x.kept;
+  reported_is = append-nil a.queued ∙ x.queued;
   held = λ event one. one_first event (held_events a) []
       (rw (x.past, x.frozen) at one);
   in_order = λ once. part_end (rw (x.past, x.frozen) (part_same (unreported_in a)));
@@ -518,15 +518,15 @@ PieceLeaves piece reply a b =
 -- a call that leaves events and images as they are, and hands out no event
 abbrev Rests : PortState → Answered → PortState → Type 0
 Rests a reply b = (events_handed_out (reply ∷ []) ≡ []) × (b.past ≡ a.past)
-    × (b.frozen ≡ a.frozen) × (b.kept ≡ a.kept) × (b.images ≡ a.images)
+    × (b.frozen ≡ a.frozen) × (b.queued ≡ a.queued) × (b.images ≡ a.images)
 
 rests : {a b : PortState} {piece : Piece} {reply : Answered}
     → ((image : ImageOctets) → ShownBy piece reply image → a.images.image ≡ Some image)
     → Rests a reply b → PieceLeaves piece reply a b
-rests {a} {b} looks (none, past, frozen, kept, images) = record {
+rests {a} {b} looks (none, past, frozen, queued, images) = record {
   past = past;
   frozen = frozen;
-  kept = sym kept ∙ ap (λ (l : List Event). l ++ b.kept) (sym none);
+  queued = sym queued ∙ ap (λ (l : List Event). l ++ b.queued) (sym none);
   input = ap (λ (i : Images). i.input) images;
   image = inl (ap (λ (i : Images). i.image) images);
   looks = looks;
@@ -574,7 +574,7 @@ unmoved none other same = rests (λ image shown. absurd (other shown.0))
 sets_output : (a b : PortState) (image : ImageOctets) (reply : Answered)
     → CallOf a (call.SetOutput image) reply b
     → PieceLeaves (Whole (call.SetOutput image)) reply a b
-sets_output a b image reply e = by_told a.images.told e
+sets_output a b image reply e = by_known a.images.known_length e
   where
     by_length : (fits : Bool) → Is reply b (if fits
         then (answered.Nothing, record a { images = record a.images { wanted = Some image } })
@@ -583,7 +583,7 @@ sets_output a b image reply e = by_told a.images.told e
     by_length true (is, next) = rw (is, next) (record {
       past = refl;
       frozen = refl;
-      kept = refl;
+      queued = refl;
       input = refl;
       image = inl refl;
       looks = λ image shown. absurd (cc (shown.0));
@@ -592,22 +592,22 @@ sets_output a b image reply e = by_told a.images.told e
     })
     by_length false (is, next) = rw is (unmoved refl (λ look. cc) next)
 
-    by_told : (told : Option ℕ) → Is reply b (set_output_of a image told)
+    by_known : (known_length : Option ℕ) → Is reply b (set_output_of a image known_length)
         → PieceLeaves (Whole (call.SetOutput image)) reply a b
-    by_told None (is, next) = rw is (unmoved refl (λ look. cc) next)
-    by_told (Some told) e = by_length (length image == told) e
+    by_known None (is, next) = rw is (unmoved refl (λ look. cc) next)
+    by_known (Some known_length) e = by_length (length image == known_length) e
 
 takes_event : (a b : PortState) (reply : Answered) → CallOf a call.TakeEvent reply b
     → PieceLeaves (Whole call.TakeEvent) reply a b
-takes_event a b reply e = by_kept a.kept refl e
+takes_event a b reply e = by_queued a.queued refl e
   where
-    by_kept : (kept : List Event) → a.kept ≡ kept → Is reply b (take_event_of a kept)
+    by_queued : (queued : List Event) → a.queued ≡ queued → Is reply b (take_event_of a queued)
         → PieceLeaves (Whole call.TakeEvent) reply a b
-    by_kept [] same (is, next) = rw is (unmoved refl (λ look. cc) next)
-    by_kept (event ∷ events) same (is, next) = rw (is, next) (record {
+    by_queued [] same (is, next) = rw is (unmoved refl (λ look. cc) next)
+    by_queued (event ∷ events) same (is, next) = rw (is, next) (record {
       past = refl;
       frozen = refl;
-      kept = same;
+      queued = same;
       input = refl;
       image = inl refl;
       looks = λ image shown. absurd (cc (shown.0));
@@ -622,7 +622,7 @@ call_leaves a b call.Turn reply other e = absurd (other refl)
 call_leaves a b call.Restart reply other (free, (is, next)) = rw (is, next) (record {
   past = refl;
   frozen = refl;
-  kept = refl;
+  queued = refl;
   input = refl;
   image = inr refl;
   looks = λ image shown. absurd (cc (shown.0));
@@ -633,7 +633,7 @@ call_leaves a b (call.SetOutput image) reply other e = sets_output a b image rep
 call_leaves a b call.ClearOutput reply other (is, next) = rw (is, next) (record {
   past = refl;
   frozen = refl;
-  kept = refl;
+  queued = refl;
   input = refl;
   image = inl refl;
   looks = λ image shown. absurd (cc (shown.0));
@@ -670,12 +670,12 @@ sends a m s =
       looks = λ image e. absurd e;
       output = λ image e. inl (output_steps moment s.steps a.images image
           (subst (λ (i : Images). IsOutput i image) (sym images) e));
-      reported_is = append-nil a.kept ∙ sym s.kept;
+      reported_is = append-nil a.queued ∙ sym s.queued;
       held = λ event one. one_first event (held_events a) [] (rw (s.past, s.frozen) at one);
       in_order = λ once. part_end (rw (s.past, s.frozen) (part_same (unreported_in a)));
     }
 
-receives : (m b : PortState) (r : ReceiveOf m b) → Goes [] Never Never (receives_again r) m b
+receives : (m b : PortState) (r : ReceiveOf m b) → Goes [] Never Never (receive_may_repeat r) m b
 receives m b r =
     let moment : Moment = moment_by m r.turn.call in
     let steps : List PortStep = r.turn.steps in
@@ -690,7 +690,7 @@ receives m b r =
       looks = λ image e. absurd e;
       output = λ image e. inl (output_steps moment steps m.images image
           (subst (λ (i : Images). IsOutput i image) (sym images) e));
-      reported_is = sym (kept_steps steps m.kept) ∙ r.events.kept;
+      reported_is = sym (queued_steps steps m.queued) ∙ r.events.queued;
       held = rw (r.events.frozen.1, r.events.past.1) at (held_steps steps m.frozen m.past
           r.events.frozen.0 r.events.past.0);
       in_order = λ once. rw (r.events.frozen.1, r.events.past.1) at (order_steps steps m.frozen
@@ -700,19 +700,19 @@ receives m b r =
 -- Any piece
 
 calm_call : (a b : PortState) (c : Call) (reply : Answered) (p : CallOf a c reply b)
-    → (c ≡ call.Turn → ⊥) → does_again a (Whole c) reply b p ≡ false
+    → (c ≡ call.Turn → ⊥) → piece_may_repeat a (Whole c) reply b p ≡ false
 calm_call a b c reply p other = grind (arith, common_steps)
 
 left_call : (a b : PortState) (c : Call) (reply : Answered) (p : CallOf a c reply b)
     → (c ≡ call.Turn → ⊥)
     → Goes (events_handed_out (reply ∷ [])) (SetBy (Whole c) reply) (ShownBy (Whole c) reply)
-    (does_again a (Whole c) reply b p) a b
+    (piece_may_repeat a (Whole c) reply b p) a b
 left_call a b c reply p other = goes_as refl (λ image e. e) (λ image e. e)
     (sym (calm_call a b c reply p other)) (left (call_leaves a b c reply other p))
 
 piece_goes : (a b : PortState) (piece : Piece) (reply : Answered) (p : PieceOf a piece reply b)
     → Goes (events_handed_out (reply ∷ [])) (SetBy piece reply) (ShownBy piece reply)
-    (does_again a piece reply b p) a b
+    (piece_may_repeat a piece reply b p) a b
 piece_goes a b (Whole call.Turn) reply (is, (m, s, r)) =
     goes_as (rw is refl) (λ image e. absurd (elim e [ inl x ↦ x | inr x ↦ x ]))
     (λ image shown. absurd (cc (shown.0))) refl (goes_on (sends a m s) (receives m b r))
@@ -738,11 +738,11 @@ runs_go : (a b : PortState) (pieces : List Piece) (replies : List Answered)
     → Goes (events_handed_out replies)
     (λ image. Happens pieces replies (Whole (call.SetOutput image)) answered.Nothing)
     (λ image. Happens pieces replies (Whole call.Look) (answered.Image (Some image)))
-    (is_again_in a pieces replies b run) a b
+    (run_may_repeat a pieces replies b run) a b
 runs_go a b [] [] same = left (record {
   past = rw same refl;
   frozen = rw same refl;
-  kept = rw same refl;
+  queued = rw same refl;
   input = rw same refl;
   image = inl (rw same refl);
   looks = λ image e. absurd e;

@@ -59,12 +59,12 @@ pub sent : (p : HonestParts) (next : PortParts) → IsRunInPieces p → SendDoes
 unfolding SendDoes
 sent p next is does = goes_on p next p.at Send answered.Nothing is (does p.at.far p.at.silence)
 
-pub received : (p : HonestParts) (next : PortParts) (came : Option (List ℕ))
-    (after : LinePosition) → IsRunInPieces p → ReceiveDoes p.parts came next
-    → Exchanges p came after
+pub received : (p : HonestParts) (next : PortParts) (answer : Option (List ℕ))
+    (after : LinePosition) → IsRunInPieces p → ReceiveDoes p.parts answer next
+    → Exchanges p answer after
     → IsRunInPieces (record p { parts = next; at = after })
 unfolding ReceiveDoes
-received p next came after is does premise =
+received p next answer after is does premise =
     goes_on p next after Receive answered.Nothing is
     (does p.at.far after.far p.at.silence after.silence premise)
 
@@ -73,7 +73,7 @@ pub woken : (p : HonestParts) (next : PortParts) (answered : Bool) (after : Far)
     → WakeDoes p.parts answered next → HonestWake p.at.far answered after
     → IsRunInPieces (record p { parts = next; at = record p.at { far = after } })
 unfolding WakeDoes
-woken p next came after is does premise =
+woken p next answer after is does premise =
     goes_on p next (record p.at { far = after }) Receive answered.Nothing is
     (does p.at.far after p.at.silence premise)
 
@@ -92,9 +92,10 @@ began p devices limits from opens = record {
 }
 
 -- of each run of the one that was opened the record fits the journal
-pub record_kept : OpensSound → PiecesSound → (p : HonestParts) → CoreKeeps p.parts → IsRunInPieces p
+pub record_preserved : OpensSound → PiecesSound → (p : HonestParts) → CoreKeeps p.parts
+    → IsRunInPieces p
     → BeganWell p → RecordFitsJournal p × IsLevelBetween p.at.far p.parts
-record_kept opens stay p keeps is well =
+record_preserved opens stay p keeps is well =
     let (pieces, replies, b, run, stands) = is.runs well in
     let first : PortIsSound (port_at_opening p.devices p.limits p.from.far p.from.silence) =
     opens p.devices p.limits p.from.far p.from.silence in

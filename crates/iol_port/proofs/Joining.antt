@@ -28,10 +28,10 @@ takings_from-push s ts (x ∷ es) e =
 -- One more entry, and the standing is the replay of the journal with it
 
 module _ {drained : List Entry} {b : BookState} (next : BookState) (e : Entry)
-    (is : next.journal ≡ b.journal ++ e ∷ []) (kept : next.restated ≡ b.restated)
+    (is : next.journal ≡ b.journal ++ e ∷ []) (unchanged : next.restated ≡ b.restated)
     (replayed : IsReplayed next) (says : SaysWhere drained b) where
   whole_grows : drained ++ entries_since next ≡ (drained ++ entries_since b) ++ e ∷ []
-  whole_grows = rw (is, kept, drop-append-le b.restated b.journal (e ∷ []) says.head)
+  whole_grows = rw (is, unchanged, drop-append-le b.restated b.journal (e ∷ []) says.head)
       (sym (append_assoc drained (entries_since b) (e ∷ [])))
 
   stands : next.standing ≡ standing_after b.standing e
@@ -43,7 +43,7 @@ module _ {drained : List Entry} {b : BookState} (next : BookState) (e : Entry)
     replayed = replayed;
     whole = stands ∙ (ap (λ s. standing_after s e) says.whole
         ∙ sym (ap replay whole_grows ∙ replay_from-push nothing (drained ++ entries_since b) e));
-    head = rw (is, kept) (omega (arith, length-append b.journal (e ∷ []), says.head));
+    head = rw (is, unchanged) (omega (arith, length-append b.journal (e ∷ []), says.head));
   }
 
   pub grown_takings : takings (drained ++ entries_since next)

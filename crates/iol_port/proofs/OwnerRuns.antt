@@ -30,11 +30,11 @@ use Rattle.iol_port.specs.declared.call.Answered.TheVariants as answered
 use Rattle.iol_port.specs.Owners.{Owner, Owners, all, pairs_of, owner_with_answer, owner_with_outcome, owners_after, owners_after_late, IsOneOf, Fits, HasEnded, allowance_of, times_of}
 use Rattle.iol_port.specs.Steps.{ticket_of, MayBook, book_after}
 use Rattle.iol_port.specs.Run.{PortState, Piece, Whole, PieceOf, Pieces, port_at_opening, job_request}
-use Rattle.iol_port.specs.Sound.{Each, IsOutcome, LastIsOpen, IsToldLast, PortIsSound, times_ever}
+use Rattle.iol_port.specs.Sound.{Each, IsOutcome, LastIsOpen, IsRecordedLast, PortIsSound, times_ever}
 use Rattle.iol_port.specs.CarriesOut.{CarriesOut, GrewBy, IsSubmitted, IsCutOff, Happens, EachDoneHasItsPair, LeavesOut, IsBelow, LateEnds, CutForGoodStaysOut}
 use Rattle.iol_port.specs.Denials.{CarriesNone, IsDeniedWithoutIsdu}
 use Rattle.iol_port.specs.Promises.{OpensSound, PiecesSound, RunsSound}
-use Rattle.iol_port.proofs.PieceLemmas.{Did, Stays, Submits, Urges, Collects, Withdraws, Cancels, Abandons, Serves, Restarts, Archives, Drains, Moves, piece_did, told_outcome, pieces_join}
+use Rattle.iol_port.proofs.PieceLemmas.{Did, Stays, Submits, Urges, Collects, Withdraws, Cancels, Abandons, Serves, Restarts, Archives, Drains, Moves, piece_did, outcome_reported, pieces_join}
 use Rattle.iol_port.proofs.Replaying.{entered_replayed, free_archive, next_is, steps_keep}
 use Rattle.iol_port.proofs.Joining.{grown_says, grown_takings, last_pushed}
 use Rattle.iol_port.proofs.PairLists.{each_removed, each_push, each_inserted, each_looked, waiting_push, waiting_left, counted}
@@ -87,12 +87,12 @@ piece_leads a b c reply is sound = by b (piece_did a b c reply is)
     Stands t out = IsOutcome (allowance_of a.terms).isdu (all a.owners) t out
 
     by : (b : PortState) → Did a c reply b → Leads a b
-    by _ (Submits q e told) = let t : Ticket = next_ticket a.book in record {
+    by _ (Submits q e reply_is) = let t : Ticket = next_ticket a.book in record {
       terms_are = refl;
       goes = entry_goes a (Submitted t q) refl refl refl
           (λ n. grind (arith, nat_tests, waiting_push n waiting (t, q))) sound.outcomes sound;
     }
-    by _ (Urges q e told) = let t : Ticket = next_ticket a.book in record {
+    by _ (Urges q e reply_is) = let t : Ticket = next_ticket a.book in record {
       terms_are = refl;
       goes = entry_goes a (Urgent t q) refl refl refl
           (λ n. grind (arith, nat_tests, waiting_push n urgent (t, q))) sound.outcomes sound;
@@ -143,7 +143,7 @@ piece_leads a b c reply is sound = by b (piece_did a b c reply is)
           next may g.sound))
           steps a.book a.session a.owners w.book.0 w.session.0 (goes_itself (rw w.at sound)));
     }
-    by _ (Stays kept images expected) = record { terms_are = refl; goes = goes_itself sound }
+    by _ (Stays queued images expected) = record { terms_are = refl; goes = goes_itself sound }
 
 -- A run, and what was told in it
 
@@ -156,14 +156,14 @@ run_leads a b [] [] run sound =
     (rw run (record { terms_are = refl; goes = goes_itself sound }), λ t out no. absurd no)
 run_leads a b (c ∷ pieces) (reply ∷ replies) (mid, first, rest) sound =
     let one = piece_leads a mid c reply first sound in
-    let (more, told) = run_leads mid b pieces replies rest (leads_sound one) in (
+    let (more, outcome_is) = run_leads mid b pieces replies rest (leads_sound one) in (
       leads_then one more,
       λ t out happens. elim happens [
         | inl is ↦ outcome_on _ (go_on_then one.goes.on more.goes.on) t out
             (each_looked _ a.book.standing.outcomes t out
-            (told_outcome a mid t out (rw (is.0, is.1) at first)) sound.outcomes)
+            (outcome_reported a mid t out (rw (is.0, is.1) at first)) sound.outcomes)
         | inr later ↦ subst (λ isdu. IsOutcome isdu (all b.owners) t out)
-            (ap (λ x. x.isdu) one.terms_are) (told t out later)
+            (ap (λ x. x.isdu) one.terms_are) (outcome_is t out later)
       ],
     )
 run_leads a b _ _ run sound = absurd run
@@ -180,7 +180,7 @@ held_opens : (repeats : Request → Bool) (late : Option Request)
 held_opens repeats None = refl
 held_opens repeats (Some q) = (refl, refl, refl, refl)
 
-held_last : (late : Option Request) → IsToldLast None late None []
+held_last : (late : Option Request) → IsRecordedLast None late None []
 held_last None = tt
 held_last (Some q) = tt
 
@@ -303,10 +303,13 @@ module _ (P : Ticket → Request → Type 0) where
           (asked_urgent, asked_waiting, taken)
 
       by : (b : PortState) → Did a c reply b → Asked P b.book b.owners
-      by _ (Submits q e told) =
-          (asked_urgent, each_push P waiting t q (submits t q told (inl e)) asked_waiting, taken)
-      by _ (Urges q e told) =
-          (each_push P urgent t q (submits t q told (inr e)) asked_urgent, asked_waiting, taken)
+      by _ (Submits q e reply_is) = (
+        asked_urgent,
+        each_push P waiting t q (submits t q reply_is (inl e)) asked_waiting,
+        taken,
+      )
+      by _ (Urges q e reply_is) =
+          (each_push P urgent t q (submits t q reply_is (inr e)) asked_urgent, asked_waiting, taken)
       by _ (Collects k is) = rw is (asked_urgent, asked_waiting, taken)
       by _ (Withdraws k is) =
           let left = asked_left k a.book.standing (asked_urgent, asked_waiting) in
@@ -328,9 +331,9 @@ asked_run : (pieces more : List Piece) (replies others : List Answered) (a b : P
 asked_run pieces [] replies [] a b run are asked = rw run asked
 asked_run pieces (c ∷ more) replies (r ∷ others) a b (mid, first, rest) are asked =
     asked_run pieces more replies others mid b rest (λ d x i. are d x (inr i))
-    (asked_piece (IsSubmitted pieces replies) a mid c r first (λ t q told is. elim is [
-      | inl e ↦ inl (are _ _ (inl (e, told)))
-      | inr e ↦ inr (are _ _ (inl (e, told)))
+    (asked_piece (IsSubmitted pieces replies) a mid c r first (λ t q reply_is is. elim is [
+      | inl e ↦ inl (are _ _ (inl (e, reply_is)))
+      | inr e ↦ inr (are _ _ (inl (e, reply_is)))
     ]) asked)
 asked_run pieces _ replies _ a b run are asked = absurd run
 
@@ -340,17 +343,17 @@ pub each_done_has_its_pair : EachDoneHasItsPair
 each_done_has_its_pair devices limits far silence pieces replies b run =
     let from = port_at_opening devices limits far silence in
     let sound = opened_sound devices limits far silence in
-    let (leads, told) = run_leads from b pieces replies run sound in
+    let (leads, outcome_is) = run_leads from b pieces replies run sound in
     let goes = leads.goes in
     record {
       before = grew_by goes.before;
       record_is = goes.sound.fits.record_is;
       once = λ n. omega (arith, goes.sound.once n);
-      above = λ n low. omega (arith, goes.sound.above n (rw goes.given low));
+      above = λ n low. omega (arith, goes.sound.above n (rw goes.issued low));
       fits = goes.sound.fits.fit;
       asked = (asked_run pieces pieces replies replies from b run (λ c r i. i)
           (tt, tt, λ x i. absurd i)).2;
-      done = λ t answer happens. told t (outcome.Done answer) happens;
+      done = λ t answer happens. outcome_is t (outcome.Done answer) happens;
     }
 
 -- a number that stands once is that of one owner

@@ -18,19 +18,19 @@ use Rattle.iol_book.specs.BookModel.{BookState, IsReplayed, next_taken, book_aft
 use Rattle.iol_book.specs.Takings.{takings, taking_of, first_with, taking_with_outcome}
 use Rattle.iol_book.specs.Drained.{last_taken, in_doubt, is_still_open, book_after_drain}
 use Rattle.iol_book.specs.OneJournal.{entries_since}
-use Rattle.iol_app.specs.Abstract.Steps.{PortStep, Take, Deny, Carry, Again, Done, Unknown, LateCarry, Start, Reset, Busy, Move, Moment, may_repeat, may_misread, through_steps}
+use Rattle.iol_app.specs.Abstract.Steps.{PortStep, Take, Deny, Carry, Redeliver, Done, Unknown, LateCarry, Start, Reset, Busy, Move, Moment, may_repeat, may_misread, through_steps}
 use Rattle.iol_app.specs.Abstract.Session.{Job, Session, MaySession, session_after, cut_for, unanswered_request, job_to_cancel}
 use Rattle.iol_app.specs.Abstract.OfMaster.{restart_steps}
 use Rattle.iol_app.specs.declared.mode.Mode.{Mode}
 use Rattle.iol_app.specs.declared.mode.Mode.TheVariants.{Down, Startup}
 use Rattle.iol_mode.specs.declared.why.Why.{Why}
-use Rattle.iol_port.specs.Owners.{Owner, Owners, all, pairs_of, owner_with_answer, owner_with_outcome, owners_after, owners_after_archive, owners_after_drain, Allowance, IsOneOf, IsToldAs, EndsAs, Fits, allowance_of}
+use Rattle.iol_port.specs.Owners.{Owner, Owners, all, pairs_of, owner_with_answer, owner_with_outcome, owners_after, owners_after_archive, owners_after_drain, Allowance, IsOneOf, IsReportedAs, EndsAs, Fits, allowance_of}
 use Rattle.iol_port.specs.Steps.{ticket_of, MayBook, book_after}
 use Rattle.iol_port.specs.Run.{job_request}
-use Rattle.iol_port.specs.Sound.{not_under_way, Each, AnswersFitJob, LastTakenIsOpen, LastIsOpen, IsToldLast, SaysWhere, IsOutcome, times_ever, Sound}
+use Rattle.iol_port.specs.Sound.{not_under_way, Each, AnswersFitJob, LastTakenIsOpen, LastIsOpen, IsRecordedLast, SaysWhere, IsOutcome, times_ever, Sound}
 use Rattle.iol_port.specs.CarriesOut.{GrewBy, OwnerGoesOn, GoOn}
 use Rattle.iol_port.proofs.PairLists.{ticket_is, each_more, each_inserted, each_ended, waiting_next, waiting_left}
-use Rattle.iol_port.proofs.Replaying.{told_for, LeavesWaiting, next_ticket_is}
+use Rattle.iol_port.proofs.Replaying.{reported_for, LeavesWaiting, next_ticket_is}
 use Rattle.iol_port.proofs.Joining.{took_says, took_takings, denied_says, denied_takings, posted_says, posted_takings, last_pushed, posted_last, last_stays, drained_says, drained_whole}
 use Rattle.iol_port.proofs.OwnersGoOn.{go_on_behind, go_on_itself, go_on_first, go_on_then, outcome_on, closed, closed_same, others_rest, others_all, BeforeGoes, before_then}
 
@@ -39,7 +39,7 @@ use Rattle.iol_port.proofs.OwnersGoOn.{go_on_behind, go_on_itself, go_on_first, 
 pub record Goes (allowance : Allowance) (s : Session) (l : Owners) (next : BookState)
     (t : Session) (m : Owners) : Type 0 where
   pub sound : Sound allowance next t m
-  pub given : m.given ≡ l.given
+  pub issued : m.issued ≡ l.issued
   pub before : BeforeGoes l m
   pub on : GoOn (all l) (all m)
   pub stays : (x : Owner) → IsOneOf x (closed s l) → IsOneOf x (closed t m)
@@ -48,7 +48,7 @@ pub goes_then : {allowance : Allowance} {s t u : Session} {l m n : Owners} {b c 
     → Goes allowance s l b t m → Goes allowance t m c u n → Goes allowance s l c u n
 goes_then one two = record {
   sound = two.sound;
-  given = two.given ∙ one.given;
+  issued = two.issued ∙ one.issued;
   before = before_then one.before two.before;
   on = go_on_then one.on two.on;
   stays = λ x i. two.stays x (one.stays x i);
@@ -58,7 +58,7 @@ pub goes_itself : {allowance : Allowance} {b : BookState} {s : Session} {l : Own
     → Sound allowance b s l → Goes allowance s l b s l
 goes_itself sound = record {
   sound = sound;
-  given = refl;
+  issued = refl;
   before = inl (refl, refl);
   on = go_on_itself;
   stays = λ x i. i;
@@ -100,11 +100,11 @@ serves_goes which sound = goes_book (record {
 -- The step ends or answers the request that was taken last, or takes one
 
 -- where the journal says that one of them was taken last
-told_last : (job : Option Job) (late : Option Request) (last : Option Ticket) (y : Owner)
-    (xs : List Owner) → last ≡ Some y.taking.ticket → IsToldLast job late last (y ∷ xs)
-told_last None None last y xs is = tt
-told_last None (Some q) last y xs is = is
-told_last (Some job) late last y xs is = is
+recorded_last : (job : Option Job) (late : Option Request) (last : Option Ticket) (y : Owner)
+    (xs : List Owner) → last ≡ Some y.taking.ticket → IsRecordedLast job late last (y ∷ xs)
+recorded_last None None last y xs is = tt
+recorded_last None (Some q) last y xs is = is
+recorded_last (Some job) late last y xs is = is
 
 module _ {allowance : Allowance} {b : BookState} {s : Session} (l : Owners) (x : Owner)
     (xs : List Owner) (sound : Sound allowance b s (record l { late = None; current = x ∷ xs }))
@@ -135,14 +135,14 @@ module _ {allowance : Allowance} {b : BookState} {s : Session} (l : Owners) (x :
           says = says;
           fits = record { takings_are = same; record_is = record_is; fit = by; ended = ended_are };
           opens = opens;
-          last = told_last t.job t.late _ y xs
+          last = recorded_last t.job t.late _ y xs
               (same_last ∙ (last ∙ ap (λ k. Some k) (sym goes.ticket_is)));
           sure = sure;
           once = λ n. omega (arith, fewer n, sound.once n);
           above = λ n low. omega (arith, fewer n, sound.above n low);
           outcomes = outcomes;
         };
-        given = refl;
+        issued = refl;
         before = inl (refl, refl);
         on = go_on_first goes;
         stays = stays;
@@ -186,7 +186,7 @@ module _ {allowance : Allowance} {b : BookState} {s : Session} (l : Owners) (x :
       once : AnswersFitJob (allowance.repeats x.taking.request) None x.answers
           → (length (a ∷ x.answers) ≤ 1) ⊎ IsTrue (allowance.repeats x.taking.request)
       once (inl first) = inl (rw first (omega arith))
-      once (inr again) = inr again
+      once (inr repeat) = inr repeat
 
       ends : (out : Option Outcome) → ((answer : Answer) → out ≡ Some (outcome.Done answer) → ⊥)
           → (out ≡ Some outcome.NoIsdu → ⊥) → EndsAs allowance.misreads out (a ∷ x.answers)
@@ -240,7 +240,7 @@ session_goes : {allowance : Allowance} {b : BookState} {s t : Session} {l : Owne
     → Sound allowance b s l → t.carried ≡ s.carried
     → ((z : Owner) → IsOneOf z (not_under_way t.job (all l)) → IsSome z.taking.outcome)
     → LastIsOpen l.late allowance.repeats t.job t.late b.standing.taken l.current l.archived
-    → IsToldLast t.job t.late (last_taken None b.journal) l.current
+    → IsRecordedLast t.job t.late (last_taken None b.journal) l.current
     → (unsure ≡ false → t.late ≡ l.late)
     → ((z : Owner) → IsOneOf z (closed s l) → IsOneOf z (closed t l))
     → Goes allowance s l (record b { unsure = unsure }) t l
@@ -264,7 +264,7 @@ session_goes sound same ended_are opens last sure stays = record {
     above = sound.above;
     outcomes = sound.outcomes;
   };
-  given = refl;
+  issued = refl;
   before = inl (refl, refl);
   on = go_on_itself;
   stays = stays;
@@ -409,7 +409,7 @@ archive_goes s None None l None xs (free, sure) sound = record {
     above = sound.above;
     outcomes = sound.outcomes;
   };
-  given = refl;
+  issued = refl;
   before = inl (refl, refl);
   on = go_on_itself;
   stays = λ z i. i;
@@ -430,7 +430,7 @@ archive_goes s None (Some q) l (Some f) [] (free, sure) sound = record {
     above = sound.above;
     outcomes = sound.outcomes;
   };
-  given = refl;
+  issued = refl;
   before = inl (refl, refl);
   on = go_on_itself;
   stays = λ z i. i;
@@ -477,7 +477,7 @@ drain_goes {allowance} {b} s job late l first xs replayed sound = record {
     above = sound.above;
     outcomes = sound.outcomes;
   };
-  given = refl;
+  issued = refl;
   before = inl (refl, refl);
   on = go_on_itself;
   stays = λ z i. closed_same job late (record l { late = first; current = xs })
@@ -502,9 +502,9 @@ drain_goes {allowance} {b} s job late l first xs replayed sound = record {
 
     by : (first : Option Request) (job : Option Job) (late : Option Request) (xs : List Owner)
         → LastIsOpen first allowance.repeats job late b.standing.taken xs l.archived
-        → IsToldLast job late (last_taken None b.journal) xs
+        → IsRecordedLast job late (last_taken None b.journal) xs
         → (b.unsure ≡ false → late ≡ first)
-        → IsToldLast job late (last_taken None (book_after_drain b).journal) xs
+        → IsRecordedLast job late (last_taken None (book_after_drain b).journal) xs
     by first None None xs opens last sure = tt
     by None (Some job) None (x ∷ xs) opens last sure = taken_open x job.request opens.taken_is last
     by None None (Some q) (x ∷ xs) opens last sure =
@@ -545,7 +545,7 @@ take_goes {allowance} {b} s l t q next isdu sound = record {
     above = λ n low. omega (arith, fewer n, sound.above n low);
     outcomes = each_more b.standing.outcomes (outcome_on allowance.isdu on) sound.outcomes;
   };
-  given = refl;
+  issued = refl;
   before = inl (refl, refl);
   on = on;
   stays = λ z i. i;
@@ -604,7 +604,7 @@ before_ends s l q f sound mode why unsure carried before grew is = record {
     above = sound.above;
     outcomes = sound.outcomes;
   };
-  given = refl;
+  issued = refl;
   before = inr (record { none = refl; grew = grew });
   on = go_on_itself;
   stays = λ z i. i;
@@ -641,23 +641,23 @@ step_goes m (Carry a) b s (Some job) None l None (x ∷ xs) next none sound =
       answers = refl;
     })
     (λ _. refl) (λ z i. i)
-step_goes m Again b s (Some job) None l None (x ∷ xs) next may sound =
+step_goes m Redeliver b s (Some job) None l None (x ∷ xs) next may sound =
     job_goes s l x xs job (record job { answer = None }) refl
     (λ _. inr may.1) sound
 step_goes m (Done a) b s (Some job) None l None (x ∷ xs) next may sound =
-    let (carried, given, told) = told_for m.terms a job.answer may in
+    let (carried, answered, reported) = reported_for m.terms a job.answer may in
     ends_goes l x xs sound sound.last (outcome.Done a) sound.opens.taken_is sound.opens.none
     (λ t standing. refl)
-    (told_by x.answers carried (rw given at sound.opens.answers) told)
+    (reported_by x.answers carried (rw answered at sound.opens.answers) reported)
     (owner_with_outcome (outcome.Done a) x, inl refl, refl, refl) refl refl (λ _. refl)
     (λ z i. inr i)
   where
-    told_by : (answers : List Answer) (carried : Answer)
+    reported_by : (answers : List Answer) (carried : Answer)
         → AnswersFitJob (may_repeat m.terms job.request) (Some carried) answers
-        → IsToldAs (may_misread m.terms) a carried
+        → IsReportedAs (may_misread m.terms) a carried
         → EndsAs (may_misread m.terms) (Some (outcome.Done a)) answers
-    told_by (last ∷ earlier) carried is told = rw is told
-    told_by [] carried is told = absurd is
+    reported_by (last ∷ earlier) carried is reported = rw is reported
+    reported_by [] carried is reported = absurd is
 step_goes m (Unknown cause) b s (Some job) None l None (x ∷ xs) next may sound =
     unknown_goes s l x xs job sound cause
 step_goes m (LateCarry a) b s None (Some q) l None (x ∷ xs) next may sound =
@@ -697,7 +697,7 @@ step_goes m _ b s (Some job) None l None [] next may sound = absurd sound.opens
 step_goes m _ b s None (Some q) l None [] next may sound = absurd sound.opens
 step_goes m (Take t q) b s job late l first xs next may sound = absurd (grind (arith, common_steps))
 step_goes m (Carry a) b s None late l first xs next may sound = absurd may
-step_goes m Again b s None late l first xs next may sound = absurd may
+step_goes m Redeliver b s None late l first xs next may sound = absurd may
 step_goes m (Done a) b s None late l first xs next may sound = absurd may
 step_goes m (Unknown cause) b s None late l first xs next may sound = absurd may
 step_goes m Busy b s None late l first xs next may sound = absurd may

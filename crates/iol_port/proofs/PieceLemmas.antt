@@ -61,8 +61,12 @@ turned a m b s r =
 -- What a piece did, by the port behind it
 pub data Did (a : PortState) (c : Piece) (reply : Answered) : PortState → Type 0 where
   -- the book and the session stay
-  Stays : (kept : List Event) (images : Images) (expected : Option Identity) → Did a c reply
-      (record a { kept = kept; images = images; terms = record a.terms { expected = expected } })
+  Stays : (queued : List Event) (images : Images) (expected : Option Identity) → Did a c reply
+      (record a {
+        queued = queued;
+        images = images;
+        terms = record a.terms { expected = expected };
+      })
   Submits : (q : Request) → c ≡ Whole (call.Submit q)
       → reply ≡ answered.Ticket (next_ticket a.book)
       → Did a c reply (record a { book = book_after_submit a.book q })
@@ -94,10 +98,10 @@ pub data Did (a : PortState) (c : Piece) (reply : Answered) : PortState → Type
       → Did a c reply b
 
 -- an outcome that a collect hands out was there
-pub told_outcome : (a b : PortState) (t : Ticket) (out : Outcome)
+pub outcome_reported : (a b : PortState) (t : Ticket) (out : Outcome)
     → CallOf a (call.Collect t) (answered.Outcome out) b
     → lookup (same_ticket t) a.book.standing.outcomes ≡ Some out
-told_outcome a b t out e = grind (arith, common_steps)
+outcome_reported a b t out e = grind (arith, common_steps)
 
 module _ (a b : PortState) where
   did : {c : Piece} {reply : Answered} {next : PortState} → Did a c reply next → b ≡ next
@@ -105,7 +109,7 @@ module _ (a b : PortState) where
   did it e = rw e it
 
   stayed : {c : Piece} {reply : Answered} → b ≡ a → Did a c reply b
-  stayed e = did (Stays a.kept a.images a.terms.expected) e
+  stayed e = did (Stays a.queued a.images a.terms.expected) e
 
   -- a call that may be refused
   may_do : {Q : Type 0} {c : Piece} {reply : Answered} {next : PortState}
@@ -128,12 +132,12 @@ module _ (a b : PortState) where
   piece_did (Whole call.Drain) reply (inr (_, e)) = stayed e
   piece_did (Whole call.Restart) reply e = did Restarts e.1.1
   piece_did (Whole (call.SetOutput image)) reply e =
-      did (Stays a.kept b.images a.terms.expected) (grind (arith, common_steps))
+      did (Stays a.queued b.images a.terms.expected) (grind (arith, common_steps))
   piece_did (Whole call.ClearOutput) reply e =
-      did (Stays a.kept (record a.images { wanted = None }) a.terms.expected) e.1
-  piece_did (Whole (call.Expect identity)) reply e = did (Stays a.kept a.images identity) e.1
+      did (Stays a.queued (record a.images { wanted = None }) a.terms.expected) e.1
+  piece_did (Whole (call.Expect identity)) reply e = did (Stays a.queued a.images identity) e.1
   piece_did (Whole call.TakeEvent) reply e =
-      did (Stays (drop 1 a.kept) a.images a.terms.expected) (grind (arith, common_steps))
+      did (Stays (drop 1 a.queued) a.images a.terms.expected) (grind (arith, common_steps))
   piece_did (Whole call.Counters) reply (k, e) = stayed e.1
   piece_did (Whole call.LastLoss) reply (loss, e) = stayed e.1
   piece_did (Whole call.Turn) reply (_, (m, s, r)) =

@@ -15,8 +15,8 @@ use Rattle.iol_book.specs.Replay.{Standing, nothing, request_waiting, is_taken, 
 use Rattle.iol_book.specs.BookModel.{BookState, IsReplayed, book_with_entry, leaves_unsure, book_after_take, book_after_denial, ended_with, book_after_post, is_served, served_waiting, next_taken, may_archive, waits}
 use Rattle.iol_book.proofs.LineLemmas.{find-first, found-waits}
 use Rattle.iol_app.specs.Abstract.Steps.{PortStep, Moment, Terms, may_misread, through_steps, MayAll}
-use Rattle.iol_app.specs.Abstract.Session.{Session, MayTell, MaySession, session_after}
-use Rattle.iol_port.specs.Owners.{Owners, owners_after, IsToldAs}
+use Rattle.iol_app.specs.Abstract.Session.{Session, MayAnswer, MaySession, session_after}
+use Rattle.iol_port.specs.Owners.{Owners, owners_after, IsReportedAs}
 use Rattle.iol_port.specs.Steps.{MayBook, book_after}
 
 pub replay_from-push : (s : Standing) (entries : List Entry) (entry : Entry)
@@ -107,17 +107,19 @@ pub free_archive : (book : BookState) → IsReplayed book → may_archive book �
     → (book.standing ≡ nothing) × (book.unsure ≡ false)
 free_archive book h may = grind (arith, common_steps, unabandoned book h)
 
-told_as : (misreads : Bool) (told a : Answer) → IsTrue misreads ⊎ (a ≡ told)
-    → IsToldAs misreads told a
-told_as misreads told a may = grind (arith, common_steps)
+reported_as : (misreads : Bool) (reported a : Answer) → IsTrue misreads ⊎ (a ≡ reported)
+    → IsReportedAs misreads reported a
+reported_as misreads reported a may = grind (arith, common_steps)
 
 -- an answer that may be told: the device gave one, for which it may be told
-pub told_for : (terms : Terms) (told : Answer) (given : Option Answer) → MayTell terms told given
-    → (a : Answer) × (given ≡ Some a) × IsToldAs (may_misread terms) told a
-told_for terms told given (inl is) = (told, is, told_as (may_misread terms) told told (inr refl))
-told_for terms told None (inr (misreads, some)) = absurd (cc)
-told_for terms told (Some a) (inr (misreads, some)) =
-    (a, refl, told_as (may_misread terms) told a (inl misreads))
+pub reported_for : (terms : Terms) (reported : Answer) (carried : Option Answer)
+    → MayAnswer terms reported carried
+    → (a : Answer) × (carried ≡ Some a) × IsReportedAs (may_misread terms) reported a
+reported_for terms reported carried (inl is) =
+    (reported, is, reported_as (may_misread terms) reported reported (inr refl))
+reported_for terms reported None (inr (misreads, some)) = absurd (cc)
+reported_for terms reported (Some a) (inr (misreads, some)) =
+    (a, refl, reported_as (may_misread terms) reported a (inl misreads))
 
 -- what each step keeps, a list of steps keeps
 pub steps_keep : (P : BookState → Session → Owners → Type 0) (m : Moment)

@@ -14,7 +14,7 @@ of_present : (layouts : Layouts) (present : Option PageFacts) → IsPresent layo
     → IsOfRightDevice present
 unfolding IsPresent
 of_present layouts None right = right
-of_present layouts (Some told) right = right.1.expected
+of_present layouts (Some facts) right = right.1.expected
 
 pub right_device : (state : State) (t : SessionState) → IsRightIn state t
     → IsTrue (operates state) → IsOfRightDevice t.present

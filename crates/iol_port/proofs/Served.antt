@@ -39,11 +39,11 @@ use Rattle.iol_far.specs.declared.kind.Kind.{Kind}
 
 takes_first : (room : Option ℕ) (base : List Carried) (count : ℕ)
     → takes_all room base (suc count) ≡ true → takes_more room base ≡ true
-takes_first room base count given = grind (arith, nat_tests, common_steps)
+takes_first room base count premise = grind (arith, nat_tests, common_steps)
 
 takes_one : (room : Option ℕ) (base : List Carried) → takes_more room base ≡ true
     → takes_all room base 1 ≡ true
-takes_one room base given = grind (arith, nat_tests, common_steps)
+takes_one room base premise = grind (arith, nat_tests, common_steps)
 
 takes_rest : (room : Option ℕ) (base : List Carried) (count : ℕ) (request : Request)
     (answer : Answer) → takes_all room base (suc count) ≡ true
@@ -67,16 +67,16 @@ record Queue (room : Option ℕ) (base : List Carried) (book : BookState)
 first_served : (serve : Serve) (list : List (Ticket × Request)) (first : Ticket × Request)
     (rest : List (Ticket × Request)) → filter (λ w. is_served serve w.0) list ≡ first ∷ rest
     → is_served serve first.0 ≡ true
-first_served serve list first rest given = found-served serve list first
-    (find-first (λ w. is_served serve w.0) list ∙ (rw given refl))
+first_served serve list first rest premise = found-served serve list first
+    (find-first (λ w. is_served serve w.0) list ∙ (rw premise refl))
 
 -- of a list that has one left out, where the first that is served is
 served_rest : (serve : Serve) (list : List (Ticket × Request)) (first : Ticket × Request)
     (rest : List (Ticket × Request)) → filter (λ w. is_served serve w.0) list ≡ first ∷ rest
     → filter (λ w. is_served serve w.0) (without first.0 list) ≡ rest
-served_rest serve [] first rest given = absurd (cc)
-served_rest serve (w ∷ list) first rest given =
-    by (is_served serve w.0) refl (served_rest serve list first rest) given
+served_rest serve [] first rest premise = absurd (cc)
+served_rest serve (w ∷ list) first rest premise =
+    by (is_served serve w.0) refl (served_rest serve list first rest) premise
   where
     by : (b : Bool) → is_served serve w.0 ≡ b
         → (filter (λ w. is_served serve w.0) list ≡ first ∷ rest
@@ -98,9 +98,9 @@ behind : (serve : Serve) (urgent waiting : List (Ticket × Request)) (first : Ti
     → filter (λ w. is_served serve w.0) (urgent ++ waiting) ≡ first ∷ rest
     → filter (λ w. is_served serve w.0)
     (without first.0 urgent ++ others_without first.0 urgent waiting) ≡ rest
-behind serve [] waiting first rest given = served_rest serve waiting first rest given
-behind serve (u ∷ urgent) waiting first rest given =
-    by (is_served serve u.0) refl (behind serve urgent waiting first rest) given
+behind serve [] waiting first rest premise = served_rest serve waiting first rest premise
+behind serve (u ∷ urgent) waiting first rest premise =
+    by (is_served serve u.0) refl (behind serve urgent waiting first rest) premise
   where
     by : (b : Bool) → is_served serve u.0 ≡ b
         → (filter (λ w. is_served serve w.0) (urgent ++ waiting) ≡ first ∷ rest
@@ -138,12 +138,12 @@ queue_rest {room = room} {base = base} {book = book} {first = first} {rest = res
 
 headed : (list : List (Ticket × Request)) (first : Ticket × Request)
     → slice_get list 0 ≡ Some first → list ≡ first ∷ drop 1 list
-headed list first given = grind (arith, common_steps)
+headed list first premise = grind (arith, common_steps)
 
 -- what is taken next heads those that are served, and none is taken
 next_heads : (b : BookState) (first : Ticket × Request) → next_taken b ≡ Some first
     → (is_some b.standing.taken ≡ false) × (served_waiting b ≡ first ∷ drop 1 (served_waiting b))
-next_heads b first given = grind (arith, common_steps, headed (served_waiting b) first)
+next_heads b first premise = grind (arith, common_steps, headed (served_waiting b) first)
 
 -- Calls
 
@@ -236,7 +236,7 @@ module _ {W : Type 0} (facts : WireFacts W) where
     between_at is = record {
       stood = is.at.stood;
       free = is.at.fits.0;
-      clear_is = is.at.after;
+      idle_is = is.at.after;
       level = level_between facts is.at.stood (rw is.at.fits.3.1 refl);
       record_is = is.at.fits.1;
       book_is = is.book_is;
@@ -244,9 +244,9 @@ module _ {W : Type 0} (facts : WireFacts W) where
 
     -- where a request may follow the next one may start
     idle_between : {rest : List (Ticket × Request)} {base : List Carried} {book : BookState}
-        {clear : Bool} {now : PortOver W} → now.parts.core.session.configuration ≡ asks
-        → (1 ≤ length rest → may_follow asks.devices clear ≡ true)
-        → IsBetween facts kind layouts base book clear now → Idle rest base book now
+        {idle : Bool} {now : PortOver W} → now.parts.core.session.configuration ≡ asks
+        → (1 ≤ length rest → may_follow asks.devices idle ≡ true)
+        → IsBetween facts kind layouts base book idle now → Idle rest base book now
     idle_between {now = now} asks_is follows is = record {
       kind_is = is.stood.kind_is;
       record_is = is.record_is;
@@ -256,14 +256,14 @@ module _ {W : Type 0} (facts : WireFacts W) where
         is_honest = is.stood.is_honest;
         is_clean = is.stood.is_clean;
         ready = calm_ready now.parts.core.session Left is.stood.calm is.free
-            (rw (asks_is, is.clear_is) (follows more));
+            (rw (asks_is, is.idle_is) (follows more));
         link = operate_link;
         operating = is.stood.operating;
         level = subst (λ (k : Kind). IsLevelBefore (far now.wire).page k layouts.run.od
             (far now.wire).carried operate_link Quiet (far now.wire)) (sym is.stood.kind_is)
             is.level;
         isdu = is.stood.isdu;
-        told = is.stood.told;
+        isdu_is = is.stood.isdu_is;
         quiet = is.stood.quiet;
         room = room;
         next = is_next;
@@ -378,7 +378,7 @@ module _ {W : Type 0} (facts : WireFacts W) where
       → AreServed facts devices (kind_of_device facts p).hands_over layouts (suc n)
       ((ticket, request) ∷ []) (record_of facts p) p.parts.book.state now
       → IsOnTime facts layouts ticket request p (suc n) now
-  on_time layouts devices ticket request p n now (inl given) = grind (arith, common_steps)
+  on_time layouts devices ticket request p n now (inl premise) = grind (arith, common_steps)
   on_time layouts devices ticket request p n now (inr (answer, few, rest)) =
       by (suc n - (needed + turns_between devices [])) (none_behind devices) refl rest
     where

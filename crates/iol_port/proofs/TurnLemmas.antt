@@ -4,7 +4,7 @@ use Rattle.std.proofs.lemmas.Grind.{common_steps}
 use Rattle.iol_isdu.specs.declared.values.Answer.{Answer}
 use Rattle.iol_book.specs.BookModel.{BookState}
 use Rattle.iol_app.specs.declared.mode.Mode.TheVariants.{Down}
-use Rattle.iol_app.specs.declared.said.Said.{Said}
+use Rattle.iol_app.specs.declared.report.Said.{Said}
 use Rattle.iol_far.specs.Far.{Far}
 use Rattle.iol_app.specs.Abstract.Images.{Images, MayImages, images_after}
 use Rattle.iol_app.specs.declared.request.Current.{Current}
@@ -19,10 +19,10 @@ use Rattle.iol_app.specs.StationState.{SessionFits, mode_in, IsPresent}
 use Rattle.iol_app.specs.Core.{CoreState, Ghost, OfRequest, session_in}
 use Rattle.iol_app.specs.CoreStands.{BothEndsStand}
 use Rattle.iol_app.specs.CoreCalls.{BeginGives, begun_ghost}
-use Rattle.iol_app.specs.Seen.{BeginSteps, DenySteps}
+use Rattle.iol_app.specs.CallSteps.{BeginSteps, DenySteps}
 use Rattle.iol_port.specs.declared.call.Call.{Call}
 use Rattle.iol_port.specs.declared.call.Answered.{Answered}
-use Rattle.iol_port.specs.Steps.{book_after, MayBook, kept_after}
+use Rattle.iol_port.specs.Steps.{book_after, MayBook, queued_after}
 use Rattle.iol_port.specs.View.{PortParts, BeginsNext, BookDoes, KeepsLimits}
 use Rattle.iol_far.specs.declared.kind.Kind.{Kind}
 use Rattle.iol_mode.specs.declared.configuration.Configuration.{Configuration}
@@ -47,16 +47,16 @@ page_of_layouts : (layouts : Layouts) (present : Option PageFacts) (page : List 
     → IsPresent layouts present → IfSome present (λ t. t.page ≡ page)
     → option_map (λ (t : PageFacts). t.page) present ≡ Some page
 unfolding IsPresent
-page_of_layouts layouts None page told same = absurd told
-page_of_layouts layouts (Some t) page told same = ap Some same
+page_of_layouts layouts None page present_is same = absurd present_is
+page_of_layouts layouts (Some t) page present_is same = ap Some same
 
 page_read_in : (state : State) (s : SessionState) (page : List ℕ) → SessionFits state s
     → IfSome s.present (λ t. t.page ≡ page)
     → IsPageRead (mode_in state) page (option_map (λ (t : PageFacts). t.page) s.present)
-page_read_in (AtPreoperate o) s page (still, (run, isdu, told)) same =
-    page_of_layouts o.layouts s.present page told same
+page_read_in (AtPreoperate o) s page (still, (run, isdu, present_is)) same =
+    page_of_layouts o.layouts s.present page present_is same
 page_read_in (AtOperate o) s page fits same =
-    page_of_layouts o.layouts s.present page fits.told.2 same
+    page_of_layouts o.layouts s.present page fits.has_layouts.2 same
 page_read_in state s page fits same = tt
 
 pub page_read_of : {k : CoreState} {g : Ghost} {far : Far} {n : ℕ} → BothEndsStand k g far n
@@ -83,11 +83,11 @@ pub terms_of : {limit was : ℕ} {page old : List ℕ} {asks asked : Configurati
 terms_of same = cc
 
 -- what the words of a turn leave in the book and in the kept events
-pub record Settles (p next : PortParts) (said : Said) (began : Bool) (start : BookState) :
+pub record Settles (p next : PortParts) (report : Said) (began : Bool) (start : BookState) :
     Type 0 where
   pub posts : next.book.state ≡ through_steps book_after
-      (resets began (is_reset next.core.state) ++ book_said said) start
-  pub keeps : next.kept ≡ through_steps kept_after (reports_said said) p.kept
+      (resets began (is_reset next.core.state) ++ book_said report) start
+  pub keeps : next.queued ≡ through_steps queued_after (reports_said report) p.queued
 
 abbrev pub under : Option Current → CoreState → CoreState
 under current s = record s { session = record s.session { current = current } }
@@ -139,7 +139,7 @@ begun {s = s} {g = g} {far = far} {n = n}
       session = λ m page. ((gives.may m t.0 page, tt), gives.is t.0);
       images = λ m i. ((tt, tt), refl);
     }
-begun {s = s} {g = g} {far = far} {n = n} (inr (inr (t, head, b_is, free, is, told, denies)))
+begun {s = s} {g = g} {far = far} {n = n} (inr (inr (t, head, b_is, free, is, isdu_is, denies)))
     stands = record {
       first = Deny t.0 ∷ [];
       only = refl;
@@ -166,9 +166,10 @@ none_through (step ∷ steps) b = grind (arith, common_steps, none_after, none_t
 
 pub turn_gives_none : (s next : CoreState) (b mid after : BookState) (steps : List PortStep)
     → BeginsNext s b next mid → after ≡ through_steps book_after steps mid → GivesNone b after
-turn_gives_none s next b mid after steps given given2 = grind (arith, common_steps, none_through)
+turn_gives_none s next b mid after steps premise premise2 =
+    grind (arith, common_steps, none_through)
 
 -- each call keeps the limits
 pub book_limits : (c : Call) (reply : Answered) (b next : BookState) → BookDoes c reply b next
     → KeepsLimits b next
-book_limits c reply b next given = grind (arith, common_steps, none_through)
+book_limits c reply b next premise = grind (arith, common_steps, none_through)

@@ -7,12 +7,12 @@ use Rattle.std.specs.List.{list_all}
 use Rattle.iol_event.specs.declared.event.Event.{Event}
 use Rattle.iol_app.specs.declared.mode.Mode.{Mode}
 use Rattle.iol_app.specs.declared.mode.Mode.TheVariants.{Down, Startup, Preoperate, Operate}
-use Rattle.iol_app.specs.Abstract.Steps.{PortStep, Again, Confirm, Untell, PowerLoss, OutputOn, OutputOff, ShowImage, DropImage, Busy, Done, Report, Unknown, Move, Start, Reset, TellLength, WireCall, Woke, Exchanged, Moment, CallFits, silence_by, is_report, input_length, through_steps, MayAll, is_right}
+use Rattle.iol_app.specs.Abstract.Steps.{PortStep, Redeliver, Confirm, Unreport, PowerLoss, OutputOn, OutputOff, ShowImage, DropImage, Busy, Done, Report, Unknown, Move, Start, Reset, PageRead, WireCall, Woke, Exchanged, Moment, CallFits, silence_by, is_report, input_length, through_steps, MayAll, is_right}
 use Rattle.iol_app.specs.Abstract.Session.{Session, session_after}
 use Rattle.iol_app.specs.Abstract.Events.{Frozen, MayFrozen, frozen_after}
 use Rattle.iol_app.specs.Abstract.Images.{Images, MayImages, images_after, page_after_wire_call}
 use Rattle.iol_app.specs.Abstract.Turn.{is_own_step, is_handing, is_output_then, is_hearing, wake_brings, loss_brings, startup_brings, preoperate_brings, operate_brings, may_bring, IsInOrder, IsPageRead}
-use Rattle.iol_port.specs.Steps.{kept_after}
+use Rattle.iol_port.specs.Steps.{queued_after}
 use Rattle.iol_port.specs.Run.{PortState, SendOf, ReceiveOf, is_sending_step, moment_by}
 use Rattle.iol_port.specs.Promises.{EventsAreRead, NoneIsSwallowed, AsleepAnswersNothing, ImagesHaveLength, StartsByPage, WrongPagesStayUnread}
 use Rattle.iol_app.proofs.Parts.{through_steps-append}
@@ -21,7 +21,7 @@ use Rattle.iol_port.proofs.PieceLemmas.{sending_mode}
 -- The device's part
 
 abbrev is_far_step : PortStep → Bool
-is_far_step Again = true
+is_far_step Redeliver = true
 is_far_step Confirm = true
 is_far_step OutputOn = true
 is_far_step OutputOff = true
@@ -36,7 +36,7 @@ own_far (step ∷ steps) h = grind (arith, common_steps, own_far steps)
 
 handing_far : (steps : List PortStep) → IsTrue (is_handing steps) → AreFar steps
 handing_far [] h = refl
-handing_far (Again ∷ []) h = refl
+handing_far (Redeliver ∷ []) h = refl
 handing_far steps h = absurd (cc)
 
 output_far : (steps : List PortStep) → IsTrue (is_output_then steps) → AreFar steps
@@ -51,10 +51,10 @@ hearing_far mode (step ∷ steps) h =
     grind (arith, common_steps, output_far steps, output_far (step ∷ steps))
 
 -- it reports nothing, and leaves the mode and the page that was read
-far_kept : (steps : List PortStep) (kept : List Event) → AreFar steps
-    → through_steps kept_after steps kept ≡ kept
-far_kept [] kept h = refl
-far_kept (step ∷ steps) kept h = grind (arith, common_steps, far_kept steps)
+far_queued : (steps : List PortStep) (queued : List Event) → AreFar steps
+    → through_steps queued_after steps queued ≡ queued
+far_queued [] queued h = refl
+far_queued (step ∷ steps) queued h = grind (arith, common_steps, far_queued steps)
 
 far_mode : (steps : List PortStep) (s : Session) → AreFar steps
     → (through_steps session_after steps s).mode ≡ s.mode
@@ -71,16 +71,16 @@ far_page m (step ∷ steps) i h =
 -- and behind it what the answer brings
 record InParts (mode : Mode) (call : WireCall) (steps : List PortStep) : Type 0 where
   far : List PortStep
-  brought : List PortStep
-  is : steps ≡ far ++ brought
+  received : List PortStep
+  is : steps ≡ far ++ received
   are_far : AreFar far
-  brings : IsTrue (may_bring mode call brought)
+  brings : IsTrue (may_bring mode call received)
 
 in_parts : {mode : Mode} {call : WireCall} {steps : List PortStep} → IsInOrder mode call steps
     → InParts mode call steps
 in_parts {mode} o = record {
   far = o.own ++ o.heard;
-  brought = o.brought;
+  received = o.received;
   is = o.is;
   are_far = list_all-append is_far_step o.own o.heard
       ∙ (rw (own_far o.own o.by_itself, hearing_far mode o.heard o.hears) refl);
@@ -89,64 +89,64 @@ in_parts {mode} o = record {
 
 -- What the answer brings
 
-loss_kept : (steps : List PortStep) (kept : List Event) → IsTrue (loss_brings steps)
-    → through_steps kept_after steps kept ≡ kept
-loss_kept [] kept h = refl
-loss_kept (Untell ∷ []) kept h = refl
-loss_kept (Move mode why ∷ []) kept h = refl
-loss_kept (DropImage ∷ Move mode why ∷ []) kept h = refl
-loss_kept (Unknown cause ∷ DropImage ∷ Move mode why ∷ []) kept h = refl
-loss_kept steps kept h = grind (arith, common_steps)
+loss_queued : (steps : List PortStep) (queued : List Event) → IsTrue (loss_brings steps)
+    → through_steps queued_after steps queued ≡ queued
+loss_queued [] queued h = refl
+loss_queued (Unreport ∷ []) queued h = refl
+loss_queued (Move mode why ∷ []) queued h = refl
+loss_queued (DropImage ∷ Move mode why ∷ []) queued h = refl
+loss_queued (Unknown cause ∷ DropImage ∷ Move mode why ∷ []) queued h = refl
+loss_queued steps queued h = grind (arith, common_steps)
 
-wake_kept : (answered : Bool) (steps : List PortStep) (kept : List Event)
-    → IsTrue (wake_brings answered steps) → through_steps kept_after steps kept ≡ kept
-wake_kept answered (Move mode why ∷ []) kept h = refl
-wake_kept answered (Start ∷ []) kept h = refl
-wake_kept answered (Reset ∷ []) kept h = refl
-wake_kept answered steps kept h = grind (arith, common_steps)
+wake_queued : (answered : Bool) (steps : List PortStep) (queued : List Event)
+    → IsTrue (wake_brings answered steps) → through_steps queued_after steps queued ≡ queued
+wake_queued answered (Move mode why ∷ []) queued h = refl
+wake_queued answered (Start ∷ []) queued h = refl
+wake_queued answered (Reset ∷ []) queued h = refl
+wake_queued answered steps queued h = grind (arith, common_steps)
 
-startup_kept : (steps : List PortStep) (kept : List Event) → IsTrue (startup_brings steps)
-    → through_steps kept_after steps kept ≡ kept
-startup_kept [] kept h = refl
-startup_kept (step ∷ []) kept h = grind (arith, common_steps)
-startup_kept steps kept h = grind (arith, common_steps)
+startup_queued : (steps : List PortStep) (queued : List Event) → IsTrue (startup_brings steps)
+    → through_steps queued_after steps queued ≡ queued
+startup_queued [] queued h = refl
+startup_queued (step ∷ []) queued h = grind (arith, common_steps)
+startup_queued steps queued h = grind (arith, common_steps)
 
-preoperate_kept : (steps : List PortStep) (kept : List Event) → IsTrue (preoperate_brings steps)
-    → through_steps kept_after steps kept ≡ kept
-preoperate_kept [] kept h = refl
-preoperate_kept (step ∷ []) kept h = grind (arith, common_steps)
-preoperate_kept steps kept h = grind (arith, common_steps)
+preoperate_queued : (steps : List PortStep) (queued : List Event) → IsTrue (preoperate_brings steps)
+    → through_steps queued_after steps queued ≡ queued
+preoperate_queued [] queued h = refl
+preoperate_queued (step ∷ []) queued h = grind (arith, common_steps)
+preoperate_queued steps queued h = grind (arith, common_steps)
 
 -- in OPERATE it may report
 abbrev ReportedOf : List PortStep → List Event → Type 0
-ReportedOf steps kept = (events : List Event) × (filter is_report steps ≡ Report events ∷ [])
-    × (through_steps kept_after steps kept ≡ kept ++ events)
+ReportedOf steps queued = (events : List Event) × (filter is_report steps ≡ Report events ∷ [])
+    × (through_steps queued_after steps queued ≡ queued ++ events)
 
-operate_kept : (steps : List PortStep) (kept : List Event) → IsTrue (operate_brings steps)
-    → (through_steps kept_after steps kept ≡ kept) ⊎ ReportedOf steps kept
-operate_kept (ShowImage ∷ []) kept h = inl refl
-operate_kept (Busy ∷ ShowImage ∷ []) kept h = inl refl
-operate_kept (Done answer ∷ ShowImage ∷ []) kept h = inl refl
-operate_kept (Unknown cause ∷ ShowImage ∷ []) kept h = inl refl
-operate_kept (Report events ∷ ShowImage ∷ []) kept h = inr (events, refl, refl)
-operate_kept (step ∷ ShowImage ∷ []) kept h = absurd (cc)
-operate_kept steps kept h = absurd (cc)
+operate_queued : (steps : List PortStep) (queued : List Event) → IsTrue (operate_brings steps)
+    → (through_steps queued_after steps queued ≡ queued) ⊎ ReportedOf steps queued
+operate_queued (ShowImage ∷ []) queued h = inl refl
+operate_queued (Busy ∷ ShowImage ∷ []) queued h = inl refl
+operate_queued (Done answer ∷ ShowImage ∷ []) queued h = inl refl
+operate_queued (Unknown cause ∷ ShowImage ∷ []) queued h = inl refl
+operate_queued (Report events ∷ ShowImage ∷ []) queued h = inr (events, refl, refl)
+operate_queued (step ∷ ShowImage ∷ []) queued h = absurd (cc)
+operate_queued steps queued h = absurd (cc)
 
-brought_kept : (mode : Mode) (call : WireCall) (steps : List PortStep) (kept : List Event)
-    → IsTrue (may_bring mode call steps) → (through_steps kept_after steps kept ≡ kept)
-    ⊎ ((mode ≡ Operate) × (call ≡ Exchanged true) × ReportedOf steps kept)
-brought_kept Down (Woke answered) steps kept h = inl (wake_kept answered steps kept h)
-brought_kept Startup (Exchanged true) steps kept h = inl (startup_kept steps kept h)
-brought_kept Preoperate (Exchanged true) steps kept h = inl (preoperate_kept steps kept h)
-brought_kept Operate (Exchanged true) steps kept h = elim (operate_kept steps kept h) [
+received_queued : (mode : Mode) (call : WireCall) (steps : List PortStep) (queued : List Event)
+    → IsTrue (may_bring mode call steps) → (through_steps queued_after steps queued ≡ queued)
+    ⊎ ((mode ≡ Operate) × (call ≡ Exchanged true) × ReportedOf steps queued)
+received_queued Down (Woke answered) steps queued h = inl (wake_queued answered steps queued h)
+received_queued Startup (Exchanged true) steps queued h = inl (startup_queued steps queued h)
+received_queued Preoperate (Exchanged true) steps queued h = inl (preoperate_queued steps queued h)
+received_queued Operate (Exchanged true) steps queued h = elim (operate_queued steps queued h) [
   | inl same ↦ inl same
   | inr more ↦ inr (refl, refl, more)
 ]
-brought_kept Down (Exchanged false) steps kept h = inl (loss_kept steps kept h)
-brought_kept Startup (Exchanged false) steps kept h = inl (loss_kept steps kept h)
-brought_kept Preoperate (Exchanged false) steps kept h = inl (loss_kept steps kept h)
-brought_kept Operate (Exchanged false) steps kept h = inl (loss_kept steps kept h)
-brought_kept mode call steps kept h = absurd (cc)
+received_queued Down (Exchanged false) steps queued h = inl (loss_queued steps queued h)
+received_queued Startup (Exchanged false) steps queued h = inl (loss_queued steps queued h)
+received_queued Preoperate (Exchanged false) steps queued h = inl (loss_queued steps queued h)
+received_queued Operate (Exchanged false) steps queued h = inl (loss_queued steps queued h)
+received_queued mode call steps queued h = absurd (cc)
 
 -- what goes out leaves the mode
 sent_mode : {a m : PortState} → SendOf a m → m.session.mode ≡ a.session.mode
@@ -162,19 +162,20 @@ far_reports (step ∷ steps) more h = grind (arith, common_steps, far_reports st
 pub events_are_read : EventsAreRead
 events_are_read a b (m, s, r) =
     let o = in_parts r.all.order in
-    let same : through_steps kept_after o.brought m.kept ≡ b.kept =
-    ap (through_steps kept_after o.brought) (sym (far_kept o.far m.kept o.are_far))
-    ∙ sym (through_steps-append kept_after o.far o.brought m.kept) ∙ (rw o.is at r.events.kept) in
-    elim (brought_kept m.session.mode r.turn.call o.brought m.kept o.brings) [
-      | inl quiet ↦ inl (sym same ∙ quiet ∙ s.kept)
+    let same : through_steps queued_after o.received m.queued ≡ b.queued =
+    ap (through_steps queued_after o.received) (sym (far_queued o.far m.queued o.are_far))
+    ∙ sym (through_steps-append queued_after o.far o.received m.queued)
+    ∙ (rw o.is at r.events.queued) in
+    elim (received_queued m.session.mode r.turn.call o.received m.queued o.brings) [
+      | inl quiet ↦ inl (sym same ∙ quiet ∙ s.queued)
       | inr (up, replied, (events, reports, more)) ↦ inr (
         sym (sent_mode s) ∙ up,
         r.all.silence ∙ ap (λ (c : WireCall). silence_by c m.silence) replied,
         (
           events,
           sym s.frozen ∙ r.events.was_frozen events
-              (ap (filter is_report) o.is ∙ far_reports o.far o.brought o.are_far ∙ reports),
-          sym same ∙ more ∙ ap (λ (kept : List Event). kept ++ events) s.kept,
+              (ap (filter is_report) o.is ∙ far_reports o.far o.received o.are_far ∙ reports),
+          sym same ∙ more ∙ ap (λ (queued : List Event). queued ++ events) s.queued,
         ),
       )
     ]
@@ -207,10 +208,10 @@ asleep_stays m (step ∷ steps) i no_wake h may off =
 -- What is frozen, and not reported yet
 
 abbrev unreported : List Event → Option Frozen
-unreported events = Some (record { events = events; told = false })
+unreported events = Some (record { events = events; reported = false })
 
 abbrev reported : List Event → Option Frozen
-reported events = Some (record { events = events; told = true })
+reported events = Some (record { events = events; reported = true })
 
 abbrev events_of : Option Frozen → List Event
 events_of None = []
@@ -238,28 +239,28 @@ freezes_behind (x ∷ xs) ys f may =
     (behind, (may.0, first))
 
 abbrev Stays : List PortStep → List Event → List Event → Type 0
-Stays steps events kept =
+Stays steps events queued =
     (through_steps frozen_after steps (unreported events) ≡ unreported events)
     ⊎ ((through_steps frozen_after steps (unreported events) ≡ reported events)
-    × (through_steps kept_after steps kept ≡ kept ++ events))
+    × (through_steps queued_after steps queued ≡ queued ++ events))
 
-brought_frozen : (mode : Mode) (steps : List PortStep) (events kept : List Event)
+received_frozen : (mode : Mode) (steps : List PortStep) (events queued : List Event)
     → IsTrue (may_bring mode (Exchanged true) steps) → MayFreeze steps (unreported events)
-    → Stays steps events kept
-brought_frozen Startup [] events kept h may = inl refl
-brought_frozen Startup (Reset ∷ []) events kept h may = inl refl
-brought_frozen Startup (TellLength ∷ []) events kept h may = inl refl
-brought_frozen Startup (Move mode why ∷ []) events kept h may = inl refl
-brought_frozen Preoperate [] events kept h may = inl refl
-brought_frozen Preoperate (Move mode why ∷ []) events kept h may = inl refl
-brought_frozen Operate (ShowImage ∷ []) events kept h may = inl refl
-brought_frozen Operate (Busy ∷ ShowImage ∷ []) events kept h may = inl refl
-brought_frozen Operate (Done answer ∷ ShowImage ∷ []) events kept h may = inl refl
-brought_frozen Operate (Unknown cause ∷ ShowImage ∷ []) events kept h may = inl refl
-brought_frozen Operate (Report others ∷ ShowImage ∷ []) events kept h (is, rest) =
+    → Stays steps events queued
+received_frozen Startup [] events queued h may = inl refl
+received_frozen Startup (Reset ∷ []) events queued h may = inl refl
+received_frozen Startup (PageRead ∷ []) events queued h may = inl refl
+received_frozen Startup (Move mode why ∷ []) events queued h may = inl refl
+received_frozen Preoperate [] events queued h may = inl refl
+received_frozen Preoperate (Move mode why ∷ []) events queued h may = inl refl
+received_frozen Operate (ShowImage ∷ []) events queued h may = inl refl
+received_frozen Operate (Busy ∷ ShowImage ∷ []) events queued h may = inl refl
+received_frozen Operate (Done answer ∷ ShowImage ∷ []) events queued h may = inl refl
+received_frozen Operate (Unknown cause ∷ ShowImage ∷ []) events queued h may = inl refl
+received_frozen Operate (Report others ∷ ShowImage ∷ []) events queued h (is, rest) =
     let same : events ≡ others = ap events_of is in inr (rw same refl, rw same refl)
-brought_frozen Operate (step ∷ ShowImage ∷ []) events kept h may = absurd (cc)
-brought_frozen mode steps events kept h may = absurd (cc)
+received_frozen Operate (step ∷ ShowImage ∷ []) events queued h may = absurd (cc)
+received_frozen mode steps events queued h may = absurd (cc)
 
 replied_brings : (mode : Mode) (call : WireCall) (steps : List PortStep) → call ≡ Exchanged true
     → IsTrue (may_bring mode call steps) → IsTrue (may_bring mode (Exchanged true) steps)
@@ -276,7 +277,7 @@ good_awake : (m : Moment) (mode : Mode) (steps : List PortStep) (i : Images)
     → (through_steps (images_after m) steps i).awake ≡ i.awake
 good_awake m Startup [] i h = refl
 good_awake m Startup (Reset ∷ []) i h = refl
-good_awake m Startup (TellLength ∷ []) i h = refl
+good_awake m Startup (PageRead ∷ []) i h = refl
 good_awake m Startup (Move mode why ∷ []) i h = refl
 good_awake m Preoperate [] i h = refl
 good_awake m Preoperate (Move mode why ∷ []) i h = refl
@@ -291,21 +292,21 @@ good_awake m mode steps i h = absurd (cc)
 bad_awake : (m : Moment) (steps : List PortStep) (i : Images) → IsTrue (loss_brings steps)
     → (through_steps (images_after m) steps i).awake ≡ i.awake
 bad_awake m [] i h = refl
-bad_awake m (Untell ∷ []) i h = refl
+bad_awake m (Unreport ∷ []) i h = refl
 bad_awake m (Move mode why ∷ []) i h = refl
 bad_awake m (DropImage ∷ Move mode why ∷ []) i h = refl
 bad_awake m (Unknown cause ∷ DropImage ∷ Move mode why ∷ []) i h = refl
 bad_awake m steps i h = grind (arith, common_steps)
 
-brought_awake : (m : Moment) (mode : Mode) (call : WireCall) (steps : List PortStep) (i : Images)
+received_awake : (m : Moment) (mode : Mode) (call : WireCall) (steps : List PortStep) (i : Images)
     → mode ≢ Down → CallFits mode call → IsTrue (may_bring mode call steps)
     → (through_steps (images_after m) steps i).awake ≡ i.awake
-brought_awake m mode (Exchanged true) steps i up fits h = good_awake m mode steps i h
-brought_awake m Startup (Exchanged false) steps i up fits h = bad_awake m steps i h
-brought_awake m Preoperate (Exchanged false) steps i up fits h = bad_awake m steps i h
-brought_awake m Operate (Exchanged false) steps i up fits h = bad_awake m steps i h
-brought_awake m Down call steps i up fits h = absurd (up refl)
-brought_awake m mode call steps i up fits h = absurd fits
+received_awake m mode (Exchanged true) steps i up fits h = good_awake m mode steps i h
+received_awake m Startup (Exchanged false) steps i up fits h = bad_awake m steps i h
+received_awake m Preoperate (Exchanged false) steps i up fits h = bad_awake m steps i h
+received_awake m Operate (Exchanged false) steps i up fits h = bad_awake m steps i h
+received_awake m Down call steps i up fits h = absurd (up refl)
+received_awake m mode call steps i up fits h = absurd fits
 
 may_before : (m : Moment) (xs ys : List PortStep) (i : Images)
     → MayAll (MayImages m) (images_after m) (xs ++ ys) i
@@ -322,8 +323,8 @@ awake_behind {m} r up =
     let o = in_parts r.all.order in
     let at : Moment = moment_by m r.turn.call in
     ap (λ (i : Images). i.awake) (sym (rw o.is at r.images.images.1)
-    ∙ through_steps-append (images_after at) o.far o.brought m.images)
-    ∙ brought_awake at m.session.mode r.turn.call o.brought
+    ∙ through_steps-append (images_after at) o.far o.received m.images)
+    ∙ received_awake at m.session.mode r.turn.call o.received
     (through_steps (images_after at) o.far m.images) up r.all.fits o.brings
 
 pub none_is_swallowed : NoneIsSwallowed
@@ -333,28 +334,29 @@ none_is_swallowed a b (m, s, r) up quiet events frozen =
     let call : r.turn.call ≡ Exchanged true = replied_call m.session.mode r.turn.call m.silence
     b.silence high r.all.fits r.all.silence quiet in
     let was : m.frozen ≡ unreported events = s.frozen ∙ frozen in
-    let (behind, first) = freezes_behind o.far o.brought (unreported events)
+    let (behind, first) = freezes_behind o.far o.received (unreported events)
     (rw (o.is, was) at r.events.frozen.0) in
     let at : Moment = moment_by m r.turn.call in
     let still : through_steps frozen_after o.far (unreported events) ≡ unreported events =
     far_frozen at o.far events m.images
     (unwoken m.session.mode r.turn.call high r.all.fits) o.are_far
-    (may_before at o.far o.brought m.images (rw o.is at r.images.images.0))
+    (may_before at o.far o.received m.images (rw o.is at r.images.images.0))
     (sym (awake_behind r high) ∙ r.images.awake call) first in
-    let ends : through_steps frozen_after o.brought (unreported events) ≡ b.frozen =
-    ap (through_steps frozen_after o.brought) (sym still)
-    ∙ sym (through_steps-append frozen_after o.far o.brought (unreported events))
+    let ends : through_steps frozen_after o.received (unreported events) ≡ b.frozen =
+    ap (through_steps frozen_after o.received) (sym still)
+    ∙ sym (through_steps-append frozen_after o.far o.received (unreported events))
     ∙ (rw (o.is, was) at r.events.frozen.1) in
-    let keeps : through_steps kept_after o.brought m.kept ≡ b.kept =
-    ap (through_steps kept_after o.brought) (sym (far_kept o.far m.kept o.are_far))
-    ∙ sym (through_steps-append kept_after o.far o.brought m.kept) ∙ (rw o.is at r.events.kept) in
-    elim (brought_frozen m.session.mode o.brought events m.kept
-    (replied_brings m.session.mode r.turn.call o.brought call o.brings)
+    let keeps : through_steps queued_after o.received m.queued ≡ b.queued =
+    ap (through_steps queued_after o.received) (sym (far_queued o.far m.queued o.are_far))
+    ∙ sym (through_steps-append queued_after o.far o.received m.queued)
+    ∙ (rw o.is at r.events.queued) in
+    elim (received_frozen m.session.mode o.received events m.queued
+    (replied_brings m.session.mode r.turn.call o.received call o.brings)
     (rw still at behind)) [
       | inl same ↦ inl (sym ends ∙ same ∙ sym frozen)
-      | inr (told, more) ↦ inr (
-        sym ends ∙ told,
-        sym keeps ∙ more ∙ ap (λ (kept : List Event). kept ++ events) s.kept,
+      | inr (ended, more) ↦ inr (
+        sym ends ∙ ended,
+        sym keeps ∙ more ∙ ap (λ (queued : List Event). queued ++ events) s.queued,
       )
     ]
 
@@ -376,7 +378,7 @@ asleep_answers_nothing a b (m, s, r) up off =
     ∙ sending_awake (moment_by a (Exchanged true)) s.steps a.images s.only ∙ off in
     let asleep : b.images.awake ≡ false = awake_behind r high
     ∙ asleep_stays at o.far m.images (unwoken m.session.mode r.turn.call high r.all.fits) o.are_far
-    (may_before at o.far o.brought m.images (rw o.is at r.images.images.0)) was in (
+    (may_before at o.far o.received m.images (rw o.is at r.images.images.0)) was in (
       asleep,
       λ quiet.
           let call : r.turn.call ≡ Exchanged true =
@@ -419,13 +421,13 @@ images_have_length a b (m, s, r) up quiet =
     b.silence mode r.all.fits r.all.silence quiet in
     let at : Moment = moment_by m r.turn.call in
     let between : Images = through_steps (images_after at) o.far m.images in
-    let is : through_steps (images_after at) o.brought between ≡ b.images =
-    sym (through_steps-append (images_after at) o.far o.brought m.images)
+    let is : through_steps (images_after at) o.received between ≡ b.images =
+    sym (through_steps-append (images_after at) o.far o.received m.images)
     ∙ (rw o.is at r.images.images.1) in
     subst (λ (i : Images). IfSome i.image (λ image. length image ≡ input_length b.terms.page)) is
-    (rw r.all.terms (shown_length at o.brought between
-    (good_brings m.session.mode r.turn.call o.brought mode call o.brings)
-    (may_behind at o.far o.brought m.images (rw o.is at r.images.images.0))))
+    (rw r.all.terms (shown_length at o.received between
+    (good_brings m.session.mode r.turn.call o.received mode call o.brings)
+    (may_behind at o.far o.received m.images (rw o.is at r.images.images.0))))
 
 -- A start-up
 
@@ -440,7 +442,7 @@ unread mode page h = absurd (cc h)
 loss_mode : (steps : List PortStep) (s : Session) → IsTrue (loss_brings steps) → s.mode ≡ Startup
     → StaysOrFalls (through_steps session_after steps s).mode
 loss_mode [] s h up = inl up
-loss_mode (Untell ∷ []) s h up = inl up
+loss_mode (Unreport ∷ []) s h up = inl up
 loss_mode (Move Down why ∷ []) s h up = inr refl
 loss_mode (DropImage ∷ Move Down why ∷ []) s h up = inr refl
 loss_mode (Unknown cause ∷ DropImage ∷ Move Down why ∷ []) s h up = inr refl
@@ -452,7 +454,7 @@ startup_mode : (m : Moment) (steps : List PortStep) (s : Session) (i : Images)
     ⊎ ((through_steps (images_after m) steps i).page ≡ None)
 startup_mode m [] s i h up none = inr none
 startup_mode m (Reset ∷ []) s i h up none = inl (inl refl)
-startup_mode m (TellLength ∷ []) s i h up none = inl (inl up)
+startup_mode m (PageRead ∷ []) s i h up none = inl (inl up)
 startup_mode m (Move mode why ∷ []) s i h up none = inr none
 startup_mode m steps s i h up none = absurd (cc)
 
@@ -488,16 +490,16 @@ starts_by_page a b (m, s, r) up none =
     let page : m.images.page ≡ None = sent_page s ∙ none in
     let s1 : Session = through_steps session_after o.far m.session in
     let i1 : Images = through_steps (images_after at) o.far m.images in
-    let session : through_steps session_after o.brought s1 ≡ b.session =
-    sym (through_steps-append session_after o.far o.brought m.session)
+    let session : through_steps session_after o.received s1 ≡ b.session =
+    sym (through_steps-append session_after o.far o.received m.session)
     ∙ (rw o.is at r.work.session.1) in
-    let images : through_steps (images_after at) o.brought i1 ≡ b.images =
-    sym (through_steps-append (images_after at) o.far o.brought m.images)
+    let images : through_steps (images_after at) o.received i1 ≡ b.images =
+    sym (through_steps-append (images_after at) o.far o.received m.images)
     ∙ (rw o.is at r.images.images.1) in
-    let came = started at r.turn.call o.brought s1 i1 (first_brings m.session.mode r.turn.call
-    o.brought mode o.brings) (far_mode o.far m.session o.are_far ∙ mode)
+    let received = started at r.turn.call o.received s1 i1 (first_brings m.session.mode r.turn.call
+    o.received mode o.brings) (far_mode o.far m.session o.are_far ∙ mode)
     (far_page at o.far m.images o.are_far ∙ page) in
-    elim came [
+    elim received [
       | inl left ↦ subst (λ (x : Session). StaysOrFalls x.mode) session left
       | inr still ↦ unread b.session.mode b.terms.page
           (subst (λ (read : Option (List ℕ)). IsPageRead b.session.mode b.terms.page read)
@@ -509,7 +511,7 @@ starts_by_page a b (m, s, r) up none =
 loss_page : (m : Moment) (steps : List PortStep) (i : Images) → IsTrue (loss_brings steps)
     → (through_steps (images_after m) steps i).page ≡ i.page
 loss_page m [] i h = refl
-loss_page m (Untell ∷ []) i h = refl
+loss_page m (Unreport ∷ []) i h = refl
 loss_page m (Move mode why ∷ []) i h = refl
 loss_page m (DropImage ∷ Move mode why ∷ []) i h = refl
 loss_page m (Unknown cause ∷ DropImage ∷ Move mode why ∷ []) i h = refl
@@ -526,7 +528,7 @@ wrong_page : (m : Moment) (call : WireCall) (steps : List PortStep) (i : Images)
 wrong_page m (Exchanged false) steps i h wrong none may = loss_page m steps i h ∙ none
 wrong_page m (Exchanged true) [] i h wrong none may = none
 wrong_page m (Exchanged true) (Reset ∷ []) i h wrong none may = reset_page m.call i.page none
-wrong_page m (Exchanged true) (TellLength ∷ []) i h wrong none ((began, right), rest) =
+wrong_page m (Exchanged true) (PageRead ∷ []) i h wrong none ((began, right), rest) =
     absurd (let z : false ≡ true = sym wrong ∙ right in cc)
 wrong_page m (Exchanged true) (Move mode why ∷ []) i h wrong none may = none
 wrong_page m (Exchanged true) steps i h wrong none may = absurd (cc)
@@ -537,11 +539,11 @@ wrong_pages_stay_unread a b (m, s, r) up none wrong =
     let o = in_parts r.all.order in
     let at : Moment = moment_by m r.turn.call in
     let i1 : Images = through_steps (images_after at) o.far m.images in
-    let images : through_steps (images_after at) o.brought i1 ≡ b.images =
-    sym (through_steps-append (images_after at) o.far o.brought m.images)
+    let images : through_steps (images_after at) o.received i1 ≡ b.images =
+    sym (through_steps-append (images_after at) o.far o.received m.images)
     ∙ (rw o.is at r.images.images.1) in
     ap (λ (i : Images). i.page) (sym images)
-    ∙ wrong_page at r.turn.call o.brought i1 (first_brings m.session.mode r.turn.call
-    o.brought (sent_mode s ∙ up) o.brings) (ap is_right s.terms ∙ wrong)
+    ∙ wrong_page at r.turn.call o.received i1 (first_brings m.session.mode r.turn.call
+    o.received (sent_mode s ∙ up) o.brings) (ap is_right s.terms ∙ wrong)
     (far_page at o.far m.images o.are_far ∙ sent_page s ∙ none)
-    (may_behind at o.far o.brought m.images (rw o.is at r.images.images.0))
+    (may_behind at o.far o.received m.images (rw o.is at r.images.images.0))

@@ -5,7 +5,7 @@ use Rattle.std.proofs.lemmas.Grind.{common_steps}
 use Rattle.std.proofs.lemmas.List.{take_more}
 use Rattle.std.specs.Prelude.{◌⊎◌}
 use Rattle.iol_far.specs.Far.{Far}
-use Rattle.iol_app.specs.Seen.{LinkStands}
+use Rattle.iol_app.specs.CallSteps.{LinkStands}
 use Rattle.iol_mode.specs.Stands.{StateStands}
 use Rattle.iol_mode.specs.declared.configuration.Devices.{Devices}
 use Rattle.iol_mode.specs.declared.states.State.{State}
@@ -27,7 +27,7 @@ use Rattle.iol_port.specs.View.{PortParts, PortOver, Opening, Does, IsPort, IsNe
 use Rattle.iol_port.specs.EveryWire.{PortCallGives, RestartGives, RunGives}
 use Rattle.iol_port.specs.CorePort.{CoreDoes, CoreOpensFor}
 use Rattle.iol_port.proofs.CorePorts.{call_over}
-use Rattle.iol_port.proofs.RunLemmas.{run_kept, run_new}
+use Rattle.iol_port.proofs.RunLemmas.{run_extended, run_new}
 use Rattle.iol_port.proofs.TurnLemmas.{book_limits}
 
 abbrev pub devices_of : PortParts → Devices
@@ -94,14 +94,14 @@ module _ {W : Type 0} (facts : WireFacts W) where
   stands_on wire p next state stands = grind (arith, common_steps, down_stands)
 
   -- each call but a turn keeps what a port keeps
-  pub call_kept : {o : Opening W} {wire : W} {p next : PortParts} {c : Call}
+  pub call_preserves : {o : Opening W} {wire : W} {p next : PortParts} {c : Call}
       {reply : Answered} → IsPort facts o (on_wire p wire) → CoreDoes p c reply next
       → Leaves p next → IsPort facts o (on_wire next wire)
-  call_kept {wire = wire} {p = p} {next = next} {c = c} {reply = reply} is does leaves =
+  call_preserves {wire = wire} {p = p} {next = next} {c = c} {reply = reply} is does leaves =
       let over = call_over facts wire p next c reply does in
       let same = book_limits c reply p.book.state next.book.state over.book in
       record {
-        run = run_kept facts _ _ _ _ _ is.run over;
+        run = run_extended facts _ _ _ _ _ is.run over;
         wire = is.wire;
         limits = (same.0 ∙ is.limits.0, same.1 ∙ is.limits.1);
         free = leaves.sent ∙ is.free;
@@ -114,7 +114,7 @@ module _ {W : Type 0} (facts : WireFacts W) where
       → next.parts.sent ≡ false → LinkStands facts next.wire next.parts.core
       → IsPort facts o next
   port_turned o p next is does one free stands = record {
-    run = run_kept facts o p next call.Turn answered.Nothing is.run does;
+    run = run_extended facts o p next call.Turn answered.Nothing is.run does;
     wire = (
       is.wire.0 ++ asks_of p.parts ∷ [],
       calls_snoc o.wire _ _ is.wire.0 (asks_of p.parts) is.wire.1 one,

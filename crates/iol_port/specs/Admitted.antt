@@ -9,7 +9,7 @@ use Rattle.iol_mode.specs.declared.why.Why.{Why}
 use Rattle.iol_mode.specs.declared.why.Why.TheVariants.{NoWake}
 use Rattle.iol_app.specs.declared.mode.Mode.{Mode}
 use Rattle.iol_app.specs.declared.mode.Mode.TheVariants.{Down, Startup, Preoperate, Operate}
-use Rattle.iol_app.specs.Abstract.Steps.{PortStep, Freeze, Report, ShowImage, OutputOn, Input, PowerLoss, TellLength, Move, WireCall, Woke, Exchanged, Terms, Moment, ImageOctets, CallFits, input_length, output_length, is_right, TakesSteps}
+use Rattle.iol_app.specs.Abstract.Steps.{PortStep, Freeze, Report, ShowImage, OutputOn, Input, PowerLoss, PageRead, Move, WireCall, Woke, Exchanged, Terms, Moment, ImageOctets, CallFits, input_length, output_length, is_right, TakesSteps}
 use Rattle.iol_app.specs.Abstract.Session.{Session, MaySession, session_after}
 use Rattle.iol_app.specs.Abstract.Events.{Frozen, MayFrozen, frozen_after}
 use Rattle.iol_app.specs.Abstract.Images.{Images, MayImages, images_after}
@@ -19,10 +19,10 @@ use Rattle.iol_app.specs.Abstract.Turn.{is_own_step, is_hearing, may_bring, WasF
 pub record TurnParts : Type 0 where
   pub own : List PortStep
   pub heard : List PortStep
-  pub brought : List PortStep
+  pub received : List PortStep
 
 abbrev pub part_steps : TurnParts → List PortStep
-part_steps parts = parts.own ++ parts.heard ++ parts.brought
+part_steps parts = parts.own ++ parts.heard ++ parts.received
 
 -- by which a turn is judged, but for the book, the owners and the device's history
 pub record MayTurn (m : Moment) (parts : TurnParts) (s t : Session) (f g : Option Frozen)
@@ -30,7 +30,7 @@ pub record MayTurn (m : Moment) (parts : TurnParts) (s t : Session) (f g : Optio
   pub fits : CallFits m.began m.call
   pub by_itself : IsTrue (list_all is_own_step parts.own)
   pub hears : IsTrue (is_hearing m.began parts.heard)
-  pub brings : IsTrue (may_bring m.began m.call parts.brought)
+  pub brings : IsTrue (may_bring m.began m.call parts.received)
   pub page_read : IsPageRead t.mode m.terms.page j.page
   pub session : TakesSteps (MaySession m) session_after s (part_steps parts) t
   pub frozen : TakesSteps MayFrozen frozen_after f (part_steps parts) g
@@ -48,7 +48,7 @@ in_mode mode why carried =
     record { job = None; late = None; carried = carried; mode = mode; why = why }
 
 abbrev pub of_event : Event → Bool → Option Frozen
-of_event event told = Some (record { events = event ∷ []; told = told })
+of_event event reported = Some (record { events = event ∷ []; reported = reported })
 
 -- the image shown, the input, and the output, which is wanted and sent
 abbrev pub images_with : Option ImageOctets → Option ImageOctets → Option ImageOctets
@@ -60,7 +60,7 @@ images_with image input output page = record {
   awake = true;
   wanted = output;
   sent = output;
-  told = None;
+  known_length = None;
   isdu = None;
   page = page;
 }
@@ -68,7 +68,7 @@ images_with image input output page = record {
 -- once the page is read
 abbrev pub images_read : Terms → Images
 images_read terms = record (images_with None None None (Some terms.page)) {
-  told = Some (output_length terms.page);
+  known_length = Some (output_length terms.page);
   isdu = Some (knows_isdu terms.page);
 }
 
@@ -77,7 +77,7 @@ abbrev pub WakesAreMissed : Type 0
 WakesAreMissed =
     (terms : Terms) (event : Event) (carried : List Carried)
     → MayTurn (moment_at Down (Woke false) terms)
-    (record { own = Freeze (event ∷ []) ∷ []; heard = []; brought = Move Down (Some NoWake) ∷ [] })
+    (record { own = Freeze (event ∷ []) ∷ []; heard = []; received = Move Down (Some NoWake) ∷ [] })
     (in_mode Down None carried) (in_mode Down (Some NoWake) carried)
     None (of_event event false)
     (images_with None None None None) (images_with None None None None)
@@ -87,7 +87,7 @@ abbrev pub FrozenAreReported : Type 0
 FrozenAreReported =
     (terms : Terms) (event : Event) (carried : List Carried) (output : Option ImageOctets)
     → MayTurn (moment_at Operate (Exchanged true) terms)
-    (record { own = []; heard = OutputOn ∷ []; brought = Report (event ∷ []) ∷ ShowImage ∷ [] })
+    (record { own = []; heard = OutputOn ∷ []; received = Report (event ∷ []) ∷ ShowImage ∷ [] })
     (in_mode Operate None carried) (in_mode Operate None carried)
     (of_event event false) (of_event event true)
     (images_with None None output (Some terms.page))
@@ -99,7 +99,7 @@ abbrev pub PowerIsLost : Type 0
 PowerIsLost =
     (terms : Terms) (event : Event) (carried : List Carried) (image : Option ImageOctets)
     → MayTurn (moment_at Operate (Exchanged false) terms)
-    (record { own = PowerLoss ∷ []; heard = []; brought = [] })
+    (record { own = PowerLoss ∷ []; heard = []; received = [] })
     (in_mode Operate None carried) (in_mode Operate None carried)
     (of_event event false) None
     (images_with image image None (Some terms.page))
@@ -111,7 +111,7 @@ InputsAreShown =
     (terms : Terms) (carried : List Carried) (image : Option ImageOctets) (octets : ImageOctets)
     → length octets ≡ input_length terms.page
     → MayTurn (moment_at Operate (Exchanged true) terms)
-    (record { own = Input (Some octets) ∷ []; heard = OutputOn ∷ []; brought = ShowImage ∷ [] })
+    (record { own = Input (Some octets) ∷ []; heard = OutputOn ∷ []; received = ShowImage ∷ [] })
     (in_mode Operate None carried) (in_mode Operate None carried)
     None None
     (images_with image image None (Some terms.page))
@@ -122,7 +122,7 @@ abbrev pub RightPagesAreRead : Type 0
 RightPagesAreRead =
     (terms : Terms) (carried : List Carried)
     → is_right terms ≡ true → MayTurn (moment_at Startup (Exchanged true) terms)
-    (record { own = []; heard = []; brought = TellLength ∷ [] })
+    (record { own = []; heard = []; received = PageRead ∷ [] })
     (in_mode Startup None carried) (in_mode Startup None carried)
     None None
     (images_with None None None None) (images_read terms)
@@ -132,7 +132,7 @@ abbrev pub PagesLeadOn : Type 0
 PagesLeadOn =
     (terms : Terms) (carried : List Carried)
     → is_present terms.page ≡ true → MayTurn (moment_at Startup (Exchanged true) terms)
-    (record { own = []; heard = []; brought = Move Preoperate None ∷ [] })
+    (record { own = []; heard = []; received = Move Preoperate None ∷ [] })
     (in_mode Startup None carried) (in_mode Preoperate None carried)
     None None
     (images_with None None None (Some terms.page)) (images_with None None None (Some terms.page))

@@ -17,7 +17,7 @@ use Rattle.iol_port.specs.declared.call.Call.TheVariants.{Turn}
 -- events are read only where at most 58 are kept
 -- EVT-5
 abbrev pub event_room : List Event → EventRoom
-event_room kept = if nat_le (length kept) 58 then Left else Full
+event_room queued = if nat_le (length queued) 58 then Left else Full
 
 -- a start-up told that the device has no ISDU
 abbrev pub lacks_isdu : Option Bool → Bool
@@ -36,8 +36,8 @@ begun_next p = to_begin (lacks_isdu p.core.session.isdu) (next_taken p.book.stat
 -- nothing else is due
 -- PORT-2
 abbrev pub asks_of : PortParts → Asked
-asks_of p = asked_by (core_with_request (begun_next p) p.core (event_room p.kept))
-    (event_room p.kept)
+asks_of p = asked_by (core_with_request (begun_next p) p.core (event_room p.queued))
+    (event_room p.queued)
 
 -- a turn makes the call of the wire that was asked, and no other call of the port
 -- touches the wire

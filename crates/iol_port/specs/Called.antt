@@ -121,16 +121,16 @@ module _ (Carries : Carrier) (p : PortParts) where
       (status ≡ status_of p.core)
 
 -- A core's call, with whatever far end
-pub record CoreCalled (old new : PortParts) (c : Call) (reply : Answered) (given : Type 0) :
+pub record CoreCalled (old new : PortParts) (c : Call) (reply : Answered) (effect : Type 0) :
     Type 0 where
   pub does : CoreDoes old c reply new
-  pub gives : given
+  pub gives : effect
 
 -- a port's call changes nothing but its parts: the wire stays as it is
 pub record MakesCall {W : Type 0} (old new : PortValue W) (c : Call) (reply : Answered)
-    (given : Type 0) : Type 0 where
+    (effect : Type 0) : Type 0 where
   pub does : CoreDoes old.parts c reply new.parts
-  pub gives : given
+  pub gives : effect
   pub rest : new ≡ record old { parts = new.parts }
 
 -- a turn makes the one call of the wire that the port asks for

@@ -25,7 +25,7 @@ module _ {W : Type 0} (facts : WireFacts W) where
   -- at it
   pub record Has (a : PortState) (q : PortOver W) : Type 0 where
     pub book : q.parts.book.state ≡ a.book
-    pub kept : q.parts.kept ≡ a.kept
+    pub queued : q.parts.queued ≡ a.queued
     pub image : q.parts.core.session.image ≡ a.images.image
     pub input : (far q.wire).input ≡ a.images.input
     pub output : output_of (far q.wire) ≡ a.images.output

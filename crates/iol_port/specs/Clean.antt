@@ -81,7 +81,7 @@ pub record IsQuiet (memory : Events) : Type 0 where
 -- in a session no message is out, the output is told as wanted, no event is to be read or confirmed
 pub record IsCalm (s : SessionState) : Type 0 where
   pub exchange : s.exchange ≡ None
-  pub output : is_some s.output.wanted ≡ s.output.told
+  pub output : is_some s.output.wanted ≡ s.output.acknowledged
   pub reading : is_under_way s.events.reading ≡ false
   pub confirm : is_confirm_due s.events.reading ≡ false
   pub flag : (is_resting s.events.reading && s.events.flag) ≡ false
@@ -124,7 +124,7 @@ module _ {W : Type 0} (facts : WireFacts W) where
     pub is_honest : IsHonestFor facts core.session.configuration.devices wire
     pub is_clean : IsTrue (clean wire)
     pub calm : IsCalm core.session
-    pub told : core.session.isdu ≡ Some true
+    pub isdu_is : core.session.isdu ≡ Some true
     pub operating : IsOperating layouts link
     pub awake : (far wire).awake ≡ true
     pub kind_is : (far wire).kind ≡ kind
@@ -142,7 +142,7 @@ module _ {W : Type 0} (facts : WireFacts W) where
     pub room : IsTrue (takes_more (far wire).room base)
     pub limit : 2 ≤ core.session.limit
     -- its last good reply was to a message of the request
-    pub after : core.session.clear ≡ false
+    pub after : core.session.idle ≡ false
 
   -- a port at this stage of the request of that ticket
   pub record IsAtStage (kind : Kind) (layouts : Layouts) (ticket : Ticket) (request : Request)
@@ -156,11 +156,11 @@ module _ {W : Type 0} (facts : WireFacts W) where
   -- a port between requests, with this book: none is under way, and the device, whose record is
   -- so, has none in hand
   pub record IsBetween (kind : Kind) (layouts : Layouts) (base : List Carried) (book : BookState)
-      (clear : Bool) (q : PortOver W) : Type 0 where
+      (idle : Bool) (q : PortOver W) : Type 0 where
     pub stood : Stood kind layouts operate_link q.parts.core q.wire
     pub free : q.parts.core.session.current ≡ None
     -- whether the device surely holds no text
-    pub clear_is : q.parts.core.session.clear ≡ clear
+    pub idle_is : q.parts.core.session.idle ≡ idle
     pub level : IsLevelBefore (far q.wire).page kind layouts.run.od (far q.wire).carried
         operate_link Quiet
         (far q.wire)
@@ -182,7 +182,7 @@ module _ {W : Type 0} (facts : WireFacts W) where
     pub level : IsLevelBefore (far q.wire).page (far q.wire).kind layouts.run.od
         (far q.wire).carried link Quiet (far q.wire)
     pub isdu : knows_isdu (far q.wire).page ≡ true
-    pub told : q.parts.core.session.isdu ≡ Some true
+    pub isdu_is : q.parts.core.session.isdu ≡ Some true
     pub quiet : IsQuiet (far q.wire).events
     pub room : IsTrue (has_room (far q.wire))
     pub next : next_taken q.parts.book.state ≡ Some (ticket, request)

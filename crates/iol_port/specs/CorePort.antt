@@ -10,12 +10,12 @@ use Rattle.iol_mode.specs.Kinds.{SeesPulses}
 use Rattle.iol_mode.specs.declared.configuration.Devices.{Devices}
 use Rattle.iol_mode.specs.declared.configuration.Devices.TheVariants.{Own}
 use Rattle.iol_book.specs.declared.limits.Limits.{Limits}
-use Rattle.iol_app.specs.declared.said.Said.{Said}
+use Rattle.iol_app.specs.declared.report.Said.{Said}
 use Rattle.iol_app.specs.Abstract.Steps.{through_steps}
 use Rattle.iol_app.specs.Abstract.OfMaster.{resets, book_said, reports_said}
-use Rattle.iol_app.specs.StationState.{IsSettledSaid}
-use Rattle.iol_app.specs.CoreTurns.{after_exchange, after_wake, came_of}
-use Rattle.iol_app.specs.Brought.{brought_in, woken_by}
+use Rattle.iol_app.specs.StationState.{IsSettledReport}
+use Rattle.iol_app.specs.CoreTurns.{after_exchange, after_wake, received_mode}
+use Rattle.iol_app.specs.WireResults.{wire_result_in, woken_by}
 use Rattle.iol_app.specs.Pieces.{SendsMessage}
 use Rattle.iol_port.specs.declared.awaited.AwaitedAnswer.{AwaitedAnswer}
 use Rattle.iol_port.specs.declared.awaited.AwaitedAnswer.TheVariants.{Nothing, Wake, Reply}
@@ -25,11 +25,11 @@ use Rattle.iol_port.specs.declared.call.Answered.TheVariants as answered
 use Rattle.iol_port.specs.Asks.{event_room}
 use Rattle.iol_port.specs.EveryWire.{KeepsMemory, loss_left, core_begun, book_begun}
 use Rattle.iol_port.specs.Run.{PortState, Piece, Send, Receive, CallOf, PieceOf, port_at_opening}
-use Rattle.iol_port.specs.Counters.{call_counted, said_counted}
+use Rattle.iol_port.specs.Counters.{call_counted, report_counted}
 use Rattle.iol_port.specs.Clean.{IsLevelBetween}
 use Rattle.iol_port.specs.Sound.{PortIsSound}
 use Rattle.iol_port.specs.View.{PortParts, StandsFor, BookDoes, KeepsRecord}
-use Rattle.iol_port.specs.Steps.{book_after, kept_after}
+use Rattle.iol_port.specs.Steps.{book_after, queued_after}
 
 -- what waits for its answer
 abbrev pub awaited_in : State → AwaitedAnswer
@@ -80,9 +80,9 @@ SendDoes p next = (far : Far) (silence : ℕ) → PieceDoes p far silence Send n
 
 -- what came back, where an honest exchange with that far end could bring it
 unfoldable pub ReceiveDoes : PortParts → Option (List ℕ) → PortParts → Type 0
-ReceiveDoes p came next =
+ReceiveDoes p received next =
     (far far_new : Far) (silence silence_new : ℕ)
-    → HonestExchange far silence (text_out p.core.state) came far_new silence_new
+    → HonestExchange far silence (text_out p.core.state) received far_new silence_new
     → PieceDoes p far silence Receive next far_new silence_new
 
 -- what came of a wake, where an honest one could bring it
@@ -98,10 +98,10 @@ WakeDoes p answered next =
 -- PORT-8
 pub record PortSendGives (old new : PortParts) : Type 0 where
   pub core : old.sent ≡ false
-      → SendsMessage (event_room old.kept) (core_begun old) new.core
+      → SendsMessage (event_room old.queued) (core_begun old) new.core
   pub book : old.sent ≡ false → new.book.state ≡ book_begun old
   pub memory : KeepsMemory old new
-  pub kept : new.kept ≡ old.kept
+  pub queued : new.queued ≡ old.queued
   pub sent : new.sent ≡ true
   -- an exchange counts once it is answered
   pub counters : new.counters ≡ old.counters
@@ -111,23 +111,23 @@ pub record PortSendGives (old new : PortParts) : Type 0 where
 -- to the book and to the kept events; both are counted. A reset of the device ends what a request
 -- that was cut off may still do
 -- PORT-9
-pub record PortReceiveGives (old : PortParts) (came : Option (List ℕ))
+pub record PortReceiveGives (old : PortParts) (received : Option (List ℕ))
     (new : PortParts) :
     Type 0 where
-  pub said : Said
+  pub report : Said
   pub core : new.core
-      ≡ after_exchange (came_of old.core came) old.core.session
-  pub said_is : IsSettledSaid (came_of old.core came) old.core.session said
+      ≡ after_exchange (received_mode old.core received) old.core.session
+  pub report_is : IsSettledReport (received_mode old.core received) old.core.session report
   pub book : new.book.state
       ≡ through_steps book_after
       (resets (is_reset old.core.state) (is_reset new.core.state)
-      ++ book_said said)
+      ++ book_said report)
       old.book.state
   pub memory : KeepsMemory old new
-  pub kept : new.kept ≡ through_steps kept_after (reports_said said) old.kept
+  pub queued : new.queued ≡ through_steps queued_after (reports_said report) old.queued
   pub sent : new.sent ≡ false
   pub counters : new.counters
-      ≡ said_counted said (call_counted (brought_in old.core.state came) old.counters)
+      ≡ report_counted report (call_counted (wire_result_in old.core.state received) old.counters)
   pub last_loss : new.last_loss ≡ loss_left old new
 
 -- a start-up begins where the wake was answered, which ends what a request that was cut off
@@ -139,7 +139,7 @@ pub record WakeGives (old : PortParts) (answered : Bool) (new : PortParts) :
       ≡ through_steps book_after
       (resets (is_reset old.core.state) (is_reset new.core.state)) old.book.state
   pub memory : KeepsMemory old new
-  pub kept : new.kept ≡ old.kept
+  pub queued : new.queued ≡ old.queued
   pub sent : new.sent ≡ false
   pub counters : new.counters ≡ call_counted (woken_by answered) old.counters
   pub last_loss : new.last_loss ≡ loss_left old new

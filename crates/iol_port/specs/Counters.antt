@@ -4,12 +4,12 @@ use Rattle.iol_isdu.specs.declared.values.Request.{Request}
 use Rattle.iol_isdu.specs.declared.values.Cause.{Cause}
 use Rattle.iol_isdu.specs.declared.values.Cause.TheVariants as cause
 use Rattle.iol_link.specs.Attempts.{max_retry}
-use Rattle.iol_app.specs.declared.said.Said.{Said}
-use Rattle.iol_app.specs.declared.said.Said.TheVariants as said
-use Rattle.iol_app.specs.declared.brought.WireResult.{WireResult}
-use Rattle.iol_app.specs.declared.brought.WireResult.TheVariants.{NoDevice, Woken, Exchanged}
-use Rattle.iol_app.specs.declared.brought.ReplyVerdict.{ReplyVerdict}
-use Rattle.iol_app.specs.declared.brought.ReplyVerdict.TheVariants.{Good, NoReply, WrongLength, WrongChecksum}
+use Rattle.iol_app.specs.declared.report.Said.{Said}
+use Rattle.iol_app.specs.declared.report.Said.TheVariants as report
+use Rattle.iol_app.specs.declared.wire_result.WireResult.{WireResult}
+use Rattle.iol_app.specs.declared.wire_result.WireResult.TheVariants.{NoDevice, Woken, Exchanged}
+use Rattle.iol_app.specs.declared.wire_result.ReplyVerdict.{ReplyVerdict}
+use Rattle.iol_app.specs.declared.wire_result.ReplyVerdict.TheVariants.{Good, NoReply, WrongLength, WrongChecksum}
 use Rattle.iol_port.specs.declared.counters.Counters.{Counters}
 use Rattle.iol_port.specs.declared.counters.Unknown.{Unknown}
 
@@ -76,13 +76,13 @@ cause_counted cause.Cancelled u = record u { cancelled = next_counter u.cancelle
 
 -- the request that a turn ended, if it ended one
 -- PORT-12
-abbrev pub said_counted : Said → Counters → Counters
-said_counted (said.Answered answer) c = record c { done = next_counter c.done }
-said_counted (said.Cut cause) c = record c { unknown = cause_counted cause c.unknown }
-said_counted other c = c
+abbrev pub report_counted : Said → Counters → Counters
+report_counted (report.Answered answer) c = record c { done = next_counter c.done }
+report_counted (report.Cut cause) c = record c { unknown = cause_counted cause c.unknown }
+report_counted other c = c
 
 -- a restart cuts off the request that was under way
 -- PORT-12
 abbrev pub restart_counted : Option Request → Counters → Counters
 restart_counted None c = c
-restart_counted (Some request) c = said_counted (said.Cut cause.Restarted) c
+restart_counted (Some request) c = report_counted (report.Cut cause.Restarted) c

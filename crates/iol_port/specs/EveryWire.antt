@@ -22,13 +22,13 @@ use Rattle.iol_book.specs.Drained.{book_after_drain}
 use Rattle.iol_mode.specs.States.{is_reset}
 use Rattle.iol_mode.specs.declared.why.Why.{Why}
 use Rattle.iol_app.specs.declared.mode.Mode.TheVariants.{Down}
-use Rattle.iol_app.specs.declared.said.Said.{Said}
+use Rattle.iol_app.specs.declared.report.Said.{Said}
 use Rattle.iol_app.specs.Abstract.Steps.{ImageOctets, through_steps}
 use Rattle.iol_app.specs.Abstract.OfMaster.{restart_steps, resets, book_said, reports_said}
 use Rattle.iol_app.specs.State as session
 use Rattle.iol_app.specs.Due.{is_ready}
 use Rattle.iol_app.specs.Asking.{core_with_request, IsCall}
-use Rattle.iol_app.specs.declared.brought.WireResult.{WireResult}
+use Rattle.iol_app.specs.declared.wire_result.WireResult.{WireResult}
 use Rattle.iol_app.specs.Core.{CoreState}
 use Rattle.iol_app.specs.CoreCalls.{wanting_core}
 use Rattle.iol_app.specs.Pieces.{SendsMessage, IsMade}
@@ -44,10 +44,10 @@ use Rattle.iol_port.specs.Asks.{event_room, asks_of, lacks_isdu, begun_next}
 use Rattle.iol_port.specs.Replies.{by_book, ticket_reply, outcome_reply, nothing_reply, event_reply, archive_reply, drain_reply}
 use Rattle.iol_port.specs.Run.{counting_of}
 use Rattle.iol_port.specs.Sound.{request_taken}
-use Rattle.iol_port.specs.Counters.{call_counted, said_counted, restart_counted}
+use Rattle.iol_port.specs.Counters.{call_counted, report_counted, restart_counted}
 use Rattle.iol_port.specs.LastLoss.{loss_after}
 use Rattle.iol_port.specs.View.{PortParts, PortOver, status_of}
-use Rattle.iol_port.specs.Steps.{book_after, kept_after}
+use Rattle.iol_port.specs.Steps.{book_after, queued_after}
 
 -- the first refusal that holds, or want of memory where a growth was needed
 abbrev pub RefusesSubmit : BookValue → PortFault → Type 0
@@ -165,15 +165,15 @@ pub record DrainIntoGives (old : PortParts) (list list_new : List Entry)
     (result : Result ℕ PortFault) (new : PortParts) : Type 0 where
   pub journal : OnOk result (list_new ≡ list ++ old.book.state.journal)
   pub restated : IfOk result (λ count. count ≡ old.book.state.restated)
-  pub kept : OnErr result (list_new ≡ list)
+  pub unchanged : OnErr result (list_new ≡ list)
   pub leaves : DrainLeaves old result new
 
 -- the event kept longest
 -- PORT-5
 pub record TakeEventGives (old : PortParts) (result : Result Event PortFault)
     (new : PortParts) : Type 0 where
-  pub answer : result ≡ ok_or (slice_get old.kept 0) fault.NoEvent
-  pub rest : new ≡ record old { kept = drop 1 old.kept }
+  pub answer : result ≡ ok_or (slice_get old.queued 0) fault.NoEvent
+  pub rest : new ≡ record old { queued = drop 1 old.queued }
 
 -- refused by the layout that was told last; else it is wanted
 pub record SetOutputGives (old : PortParts) (image : ImageOctets)
@@ -235,7 +235,7 @@ pub record RestartGives (old new : PortParts) : Type 0 where
       ≡ through_steps book_after (restart_steps (request_taken old.book.state.standing.taken))
       old.book.state
   pub memory : KeepsMemory old new
-  pub kept : new.kept ≡ old.kept
+  pub queued : new.queued ≡ old.queued
   pub sent : new.sent ≡ old.sent
   pub counters : new.counters
       ≡ restart_counted (request_taken old.book.state.standing.taken) old.counters
@@ -244,11 +244,11 @@ pub record RestartGives (old new : PortParts) : Type 0 where
 -- whether the next turn would send IDLE 1, so that it takes or denies the next request
 -- REQ-2
 abbrev pub takes_next : PortParts → Bool
-takes_next p = operates p.core.state && is_ready p.core.session (event_room p.kept)
+takes_next p = operates p.core.state && is_ready p.core.session (event_room p.queued)
 
 -- the core and the book with which a turn begins: that request is taken and begun, or denied
 abbrev pub core_begun : PortParts → CoreState
-core_begun p = core_with_request (begun_next p) p.core (event_room p.kept)
+core_begun p = core_with_request (begun_next p) p.core (event_room p.queued)
 
 abbrev pub book_begun : PortParts → BookState
 book_begun p =
@@ -258,7 +258,7 @@ book_begun p =
 -- The ticket's request waited, none was taken, and a start-up told that the device has no
 -- ISDU; all that the turn does in the book is to give it this outcome, without a taking
 pub record IsDenied (old new : PortParts) (ticket : Ticket) : Type 0 where
-  pub told : old.core.session.isdu ≡ Some false
+  pub isdu_is : old.core.session.isdu ≡ Some false
   pub waited : IsTrue (waits old.book.state.standing ticket)
   pub free : old.book.state.standing.taken ≡ None
   pub book : new.book.state ≡ book_after_denial old.book.state ticket
@@ -325,21 +325,24 @@ module _ {W : Type 0} (facts : WireFacts W) where
   -- to the kept events; a reset of the device ends what a request that was cut off may still do
   -- PORT-1
   pub record PortTurnGives (old new : PortOver W) : Type 0 where
-    pub said : Said
-    pub brought : WireResult
+    pub report : Said
+    pub wire_result : WireResult
     -- what goes out
     pub mid : CoreState
-    pub sent : SendsMessage (event_room old.parts.kept) (core_begun old.parts) mid
+    pub sent : SendsMessage (event_room old.parts.queued) (core_begun old.parts) mid
     -- its one call of the wire is the one that the port asks for, and brought this
-    pub made : IsMade facts old.wire new.wire (asks_of old.parts) mid said brought new.parts.core
+    pub made : IsMade facts old.wire new.wire (asks_of old.parts) mid report wire_result
+        new.parts.core
     pub book : new.parts.book.state
         ≡ through_steps book_after
         (resets (is_reset old.parts.core.state) (is_reset new.parts.core.state)
-        ++ book_said said)
+        ++ book_said report)
         (book_begun old.parts)
     pub memory : KeepsMemory old.parts new.parts
-    pub kept : new.parts.kept ≡ through_steps kept_after (reports_said said) old.parts.kept
-    pub counters : new.parts.counters ≡ said_counted said (call_counted brought old.parts.counters)
+    pub queued : new.parts.queued ≡ through_steps queued_after (reports_said report)
+        old.parts.queued
+    pub counters : new.parts.counters
+        ≡ report_counted report (call_counted wire_result old.parts.counters)
     pub last_loss : new.parts.last_loss ≡ loss_left old.parts new.parts
     -- each new outcome NoIsdu is that of a request which this turn denied
     pub denies : (ticket : Ticket) → HasNoIsdu new.parts.book.state ticket

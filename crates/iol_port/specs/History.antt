@@ -5,7 +5,7 @@ use Rattle.std.specs.List.{list_any}
 use Rattle.iol_event.specs.declared.event.Event.{Event}
 use Rattle.iol_far.specs.Far.{Far}
 use Rattle.iol_far.specs.History.{HistoryEntry, Raised, InputSet, PowerCycled}
-use Rattle.iol_app.specs.Abstract.Steps.{PortStep, ImageOctets, Untell, Start, Reset}
+use Rattle.iol_app.specs.Abstract.Steps.{PortStep, ImageOctets, Unreport, Start, Reset}
 use Rattle.iol_app.specs.Abstract.Events.{frozen_events, unreported_events}
 use Rattle.iol_mode.specs.declared.configuration.Devices.{Devices}
 use Rattle.iol_book.specs.declared.limits.Limits.{Limits}
@@ -69,7 +69,7 @@ pub record FitsHistory (from : PortState) (pieces : List Piece) (replies : List 
   pub outputs : (image : ImageOctets) → a.images.output ≡ Some image
       → (from.images.output ≡ Some image)
       ⊎ Happens pieces replies (Whole (call.SetOutput image)) answered.Nothing
-  pub events : (event : Event) → IsOneOf event (events_handed_out replies ++ a.kept)
+  pub events : (event : Event) → IsOneOf event (events_handed_out replies ++ a.queued)
       → IsOneOf event (held_events from ++ raised_in entries)
 
 -- So it is in every run of a port that is opened, across losses, restarts and power cycles
@@ -90,28 +90,29 @@ pub data IsPartOf {X : Type 0} : List X → List X → Type 0 where
 
 -- what was reported counts as unreported again: behind a wake or a reset of the device, and, at a
 -- port for any device, where a confirm had no good reply
-abbrev pub reports_again : PortStep → Bool
-reports_again Untell = true
-reports_again Start = true
-reports_again Reset = true
-reports_again step = false
+abbrev pub step_may_repeat : PortStep → Bool
+step_may_repeat Unreport = true
+step_may_repeat Start = true
+step_may_repeat Reset = true
+step_may_repeat step = false
 
-abbrev pub receives_again : {m b : PortState} → ReceiveOf m b → Bool
-receives_again r = list_any reports_again r.turn.steps
+abbrev pub receive_may_repeat : {m b : PortState} → ReceiveOf m b → Bool
+receive_may_repeat r = list_any step_may_repeat r.turn.steps
 
 -- whether it does in a run
-abbrev pub does_again : (a : PortState) (piece : Piece) (reply : Answered) (b : PortState)
+abbrev pub piece_may_repeat : (a : PortState) (piece : Piece) (reply : Answered) (b : PortState)
     → PieceOf a piece reply b → Bool
-does_again a (Whole call.Turn) reply b (is, (m, sends, receives)) = receives_again receives
-does_again a Receive reply b (is, receives) = receives_again receives
-does_again a piece reply b p = false
+piece_may_repeat a (Whole call.Turn) reply b (is, (m, sends, receives)) =
+    receive_may_repeat receives
+piece_may_repeat a Receive reply b (is, receives) = receive_may_repeat receives
+piece_may_repeat a piece reply b p = false
 
-abbrev pub is_again_in : (a : PortState) (pieces : List Piece) (replies : List Answered)
+abbrev pub run_may_repeat : (a : PortState) (pieces : List Piece) (replies : List Answered)
     (b : PortState) → Pieces a pieces replies b → Bool
-is_again_in a [] [] b run = false
-is_again_in a (piece ∷ pieces) (reply ∷ replies) b (mid, p, run) =
-    does_again a piece reply mid p || is_again_in mid pieces replies b run
-is_again_in a pieces replies b run = false
+run_may_repeat a [] [] b run = false
+run_may_repeat a (piece ∷ pieces) (reply ∷ replies) b (mid, p, run) =
+    piece_may_repeat a piece reply mid p || run_may_repeat mid pieces replies b run
+run_may_repeat a pieces replies b run = false
 
 -- those that the device holds and that were not reported
 abbrev pub unreported_in : PortState → List Event
@@ -123,11 +124,11 @@ pub record ReportsOnce (a : PortState) (replies : List Answered) (b : PortState)
   pub entries : List HistoryEntry
   pub history_is : b.past.history ≡ a.past.history ++ entries
   pub reported : List Event
-  pub reported_is : a.kept ++ reported ≡ events_handed_out replies ++ b.kept
+  pub reported_is : a.queued ++ reported ≡ events_handed_out replies ++ b.queued
   pub in_order : IsPartOf (reported ++ unreported_in b) (unreported_in a ++ raised_in entries)
 
 abbrev pub EachIsReportedOnce : Type 0
 EachIsReportedOnce =
     (a b : PortState) (pieces : List Piece) (replies : List Answered)
-    (run : Pieces a pieces replies b) → is_again_in a pieces replies b run ≡ false
+    (run : Pieces a pieces replies b) → run_may_repeat a pieces replies b run ≡ false
     → ReportsOnce a replies b

@@ -46,14 +46,14 @@ abbrev pub Moves : HonestParts → LinePosition → HonestParts → Type 0
 Moves p after next = next ≡ record p { parts = next.parts; at = after }
 
 -- a call of the port within, which leaves the line where it stands
-pub record Calls (p next : HonestParts) (c : Call) (reply : Answered) (given : Type 0) : Type 0
+pub record Calls (p next : HonestParts) (c : Call) (reply : Answered) (effect : Type 0) : Type 0
   where
-    pub call : CoreCalled p.parts next.parts c reply given
+    pub call : CoreCalled p.parts next.parts c reply effect
     pub moves : Moves p p.at next
 
 -- The premise: this is what an honest exchange of the octets that are out could bring, and the
 -- line stands there then
 abbrev pub Exchanges : HonestParts → Option (List ℕ) → LinePosition → Type 0
-Exchanges p came after =
-    HonestExchange p.at.far p.at.silence (text_out p.parts.core.state) came after.far
+Exchanges p received after =
+    HonestExchange p.at.far p.at.silence (text_out p.parts.core.state) received after.far
     after.silence

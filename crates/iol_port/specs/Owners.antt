@@ -28,7 +28,7 @@ pub record Owner : Type 0 where
 -- handed out since the last archive, each entry once. And the owners, the one taken last first:
 -- those since it, and those before
 pub record Owners : Type 0 where
-  pub given : ℕ
+  pub issued : ℕ
   pub before : List Carried
   pub late : Option Request
   pub drained : List Entry
@@ -120,14 +120,15 @@ allowance_of terms = record {
 }
 
 -- the device gave the answer that is told, unless another may be told
-abbrev pub IsToldAs : Bool → Answer → Answer → Type 0
-IsToldAs true told carried = Unit {0}
-IsToldAs false told carried = carried ≡ told
+abbrev pub IsReportedAs : Bool → Answer → Answer → Type 0
+IsReportedAs true reported carried = Unit {0}
+IsReportedAs false reported carried = carried ≡ reported
 
 -- how a request ended fits the device's last answer: one that is done has one, which is told
 abbrev pub EndsAs : Bool → Option Outcome → List Answer → Type 0
-EndsAs misreads (Some (outcome.Done told)) [] = ⊥
-EndsAs misreads (Some (outcome.Done told)) (answer ∷ earlier) = IsToldAs misreads told answer
+EndsAs misreads (Some (outcome.Done reported)) [] = ⊥
+EndsAs misreads (Some (outcome.Done reported)) (answer ∷ earlier) =
+    IsReportedAs misreads reported answer
 EndsAs misreads (Some NoIsdu) (answer ∷ earlier) = ⊥
 EndsAs misreads result answers = Unit {0}
 

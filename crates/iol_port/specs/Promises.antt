@@ -6,7 +6,7 @@ use Rattle.iol_book.specs.declared.entries.Ticket.{Ticket}
 use Rattle.iol_book.specs.Replay.{is_taken}
 use Rattle.iol_isdu.specs.declared.values.Cause.TheVariants.{Cancelled}
 use Rattle.iol_event.specs.declared.event.Event.{Event}
-use Rattle.iol_app.specs.Abstract.Steps.{PortStep, Unknown, Untell, Exchanged, Moment, MayAll, input_length, is_right}
+use Rattle.iol_app.specs.Abstract.Steps.{PortStep, Unknown, Unreport, Exchanged, Moment, MayAll, input_length, is_right}
 use Rattle.iol_app.specs.Abstract.Session.{Job, Session, MaySession, session_after}
 use Rattle.iol_app.specs.declared.mode.Mode.TheVariants.{Operate, Startup, Down}
 use Rattle.iol_port.specs.declared.call.Call.{Call}
@@ -43,16 +43,17 @@ GoodLinkStays = (a b : PortState) → TurnOf a b → a.session.mode ≡ Operate 
 -- events come with a good reply in OPERATE alone: those that the device had frozen when the turn
 -- began, and that were not reported yet
 abbrev pub EventsAreRead : Type 0
-EventsAreRead = (a b : PortState) → TurnOf a b → (b.kept ≡ a.kept)
+EventsAreRead = (a b : PortState) → TurnOf a b → (b.queued ≡ a.queued)
     ⊎ ((a.session.mode ≡ Operate) × (b.silence ≡ 0) × ((events : List Event)
-    × (a.frozen ≡ Some (record { events = events; told = false })) × (b.kept ≡ a.kept ++ events)))
+    × (a.frozen ≡ Some (record { events = events; reported = false }))
+    × (b.queued ≡ a.queued ++ events)))
 
 -- a turn with a good reply that finds such events leaves them frozen, unless it reports them
 abbrev pub NoneIsSwallowed : Type 0
 NoneIsSwallowed = (a b : PortState) → TurnOf a b → a.session.mode ≢ Down → b.silence ≡ 0
-    → (events : List Event) → a.frozen ≡ Some (record { events = events; told = false })
-    → (b.frozen ≡ a.frozen) ⊎ ((b.frozen ≡ Some (record { events = events; told = true }))
-    × (b.kept ≡ a.kept ++ events))
+    → (events : List Event) → a.frozen ≡ Some (record { events = events; reported = false })
+    → (b.frozen ≡ a.frozen) ⊎ ((b.frozen ≡ Some (record { events = events; reported = true }))
+    × (b.queued ≡ a.queued ++ events))
 
 -- a device that had a power cycle stays asleep, and answers nothing, until a wake
 abbrev pub AsleepAnswersNothing : Type 0
@@ -120,7 +121,7 @@ AskedByCancel =
 -- what was reported counts as unreported again, outside down, only at a port for any device: by an
 -- exchange in OPERATE without a good reply
 -- EVT-9
-abbrev pub OnlyMissesUntell : Type 0
-OnlyMissesUntell = (moment : Moment) (steps : List PortStep) (s : Session)
-    → MayAll (MaySession moment) session_after steps s → IsOneOf Untell steps
+abbrev pub OnlyMissesUnreport : Type 0
+OnlyMissesUnreport = (moment : Moment) (steps : List PortStep) (s : Session)
+    → MayAll (MaySession moment) session_after steps s → IsOneOf Unreport steps
     → (moment.terms.devices ≡ Any) × (moment.call ≡ Exchanged false)

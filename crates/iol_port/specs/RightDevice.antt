@@ -8,7 +8,7 @@ use Rattle.iol_port.specs.View.{PortParts}
 -- a page was read whole, and is that of the device that was expected when it was checked
 abbrev pub IsOfRightDevice : Option PageFacts → Type 0
 IsOfRightDevice None = ⊥
-IsOfRightDevice (Some told) = is_expected told.expected told.page ≡ true
+IsOfRightDevice (Some facts) = is_expected facts.expected facts.page ≡ true
 
 -- in OPERATE, where alone a request is taken and an output goes out, this holds of the page of
 -- the present session

@@ -86,10 +86,10 @@ LastIsOpen (Some request) repeats job late taken current archived =
     (job ≡ None) × (late ≡ Some request) × (taken ≡ None) × (current ++ archived ≡ [])
 
 -- of the request under way, or of the late one, the journal says that it was taken last
-abbrev pub IsToldLast : Option Job → Option Request → Option Ticket → List Owner → Type 0
-IsToldLast None None last owners = Unit {0}
-IsToldLast job late last [] = Unit {0}
-IsToldLast job late last (owner ∷ owners) = last ≡ Some owner.taking.ticket
+abbrev pub IsRecordedLast : Option Job → Option Request → Option Ticket → List Owner → Type 0
+IsRecordedLast None None last owners = Unit {0}
+IsRecordedLast job late last [] = Unit {0}
+IsRecordedLast job late last (owner ∷ owners) = last ≡ Some owner.taking.ticket
 
 -- The journal alone says where each ticket stands, and so does the one journal that it makes with
 -- what drains handed out before
@@ -119,12 +119,12 @@ pub record Sound (allowance : Allowance) (book : BookState) (s : Session) (owner
   pub opens : LastIsOpen owners.late allowance.repeats s.job s.late book.standing.taken
       owners.current owners.archived
   -- so a late request that was taken is the one in doubt
-  pub last : IsToldLast s.job s.late (last_taken None book.journal) owners.current
+  pub last : IsRecordedLast s.job s.late (last_taken None book.journal) owners.current
   -- a request that was taken may be late only while that isn't sure
   pub sure : book.unsure ≡ false → s.late ≡ owners.late
   -- each ticket is that of one request, and above those that were given before
   pub once : (number : ℕ) → times_ever number book owners ≤ 1
-  pub above : (number : ℕ) → number ≤ owners.given → times_ever number book owners ≡ 0
+  pub above : (number : ℕ) → number ≤ owners.issued → times_ever number book owners ≡ 0
   pub outcomes : Each (IsOutcome allowance.isdu (all owners)) book.standing.outcomes
 
 abbrev pub PortIsSound : PortState → Type 0

@@ -1,6 +1,6 @@
 //! What a port counts.
 ghost use Rattle.std.specs.Prelude.{◌≡◌};
-ghost use Rattle.iol_port.specs.Counters.{next_counter, none_counted, call_counted, said_counted};
+ghost use Rattle.iol_port.specs.Counters.{next_counter, none_counted, call_counted, report_counted};
 ghost use Rattle.iol_port.specs.Counters.{verdict_counted, repeat_counted, loss_counted};
 ghost use Rattle.iol_port.specs.Counters.{cause_counted};
 
@@ -78,17 +78,17 @@ impl Counters {
     /// Counts the one call of the wire in a turn, and the request that the turn ended, if any.
     ///
     /// Rule PORT-12.
-    pub(crate) fn turned(&mut self, brought: WireResult, said: &Said)
-        ensures { self.new ≡ said_counted said.now (call_counted brought self.old) }
+    pub(crate) fn turned(&mut self, wire_result: WireResult, report: &Said)
+        ensures { self.new ≡ report_counted report.now (call_counted wire_result self.old) }
     {
-        self.call(brought);
-        self.said(said);
+        self.call(wire_result);
+        self.report(report);
     }
 
-    fn call(&mut self, brought: WireResult)
-        ensures { self.new ≡ call_counted brought self.old }
+    fn call(&mut self, wire_result: WireResult)
+        ensures { self.new ≡ call_counted wire_result self.old }
     {
-        match brought {
+        match wire_result {
             WireResult::NoDevice => {}
             WireResult::Woken => count(&mut self.start_ups),
             WireResult::Exchanged(tries, verdict) => {
@@ -128,10 +128,10 @@ impl Counters {
     }
 
     /// Counts the request that ended, if any.
-    pub(crate) fn said(&mut self, said: &Said)
-        ensures { self.new ≡ said_counted said.now self.old }
+    pub(crate) fn report(&mut self, report: &Said)
+        ensures { self.new ≡ report_counted report.now self.old }
     {
-        match said {
+        match report {
             Said::Idle | Said::Busy | Said::Reported(_) => {}
             Said::Answered(_) => count(&mut self.done),
             Said::Cut(cause) => self.unknown.cut(*cause),

@@ -186,7 +186,7 @@ impl<A: Allocator + Copy> HonestPort<A> {
     pub fn collect_into(&mut self, ticket: Ticket, into: &mut Outcome) -> Result<(), PortFault>
         ensures is { Collects (Calls self.old self.new) self.old.parts self.new.parts
             ticket (in_place into.new result) }
-        ensures kept { IfErr result (λ _. into.new ≡ into.old) }
+        ensures unchanged { IfErr result (λ _. into.new ≡ into.old) }
     {
         self.core.collect_into(ticket, into)
     }
@@ -309,7 +309,7 @@ impl<A: Allocator + Copy> HonestPort<A> {
     pub fn send(&mut self) -> Asked
         ensures says { IsAskedOut result self.new.parts.core.state }
         ensures asked { result ≡ asks_of self.old.parts }
-        ensures again { IsTrue self.old.parts.sent → self.new ≡ self.old }
+        ensures repeat { IsTrue self.old.parts.sent → self.new ≡ self.old }
         ensures gives { PortSendGives self.old.parts self.new.parts }
         ensures does { SendDoes self.old.parts self.new.parts }
         ensures moves { Moves self.old self.old.at self.new }
@@ -319,15 +319,15 @@ impl<A: Allocator + Copy> HonestPort<A> {
 
     /// Takes what came back, as [`PortCore::receive`] does. The line stands at `after` then, which
     /// may speak of `near`: an honest exchange of what was sent could bring this, and lead there.
-    pub fn receive<T>(&mut self, came: &Option<Message>, near: &T)
+    pub fn receive<T>(&mut self, received: &Option<Message>, near: &T)
         ghost after: { LinePosition }
         requires awaited { awaited_answer self.old.parts ≡ AwaitedAnswer.Reply }
-        requires premise { Exchanges self.old (octets_in came.now) after }
-        ensures gives { PortReceiveGives self.old.parts (octets_in came.now) self.new.parts }
-        ensures does { ReceiveDoes self.old.parts (octets_in came.now) self.new.parts }
+        requires premise { Exchanges self.old (octets_in received.now) after }
+        ensures gives { PortReceiveGives self.old.parts (octets_in received.now) self.new.parts }
+        ensures does { ReceiveDoes self.old.parts (octets_in received.now) self.new.parts }
         ensures moves { Moves self.old after self.new }
     {
-        self.core.receive(came);
+        self.core.receive(received);
         self.at = GhostPlace::of(near);
     }
 

@@ -1,5 +1,5 @@
 //! What a client may conclude of a whole run of a port: laws, without code.
-ghost use Rattle.iol_port.specs.Promises.{OpensSound, RunsSound, GoodLinkStays, NothingIsNoTurn, EventsAreRead, NoneIsSwallowed, AsleepAnswersNothing, OnlyMissesUntell, ImagesHaveLength, StartsByPage};
+ghost use Rattle.iol_port.specs.Promises.{OpensSound, RunsSound, GoodLinkStays, NothingIsNoTurn, EventsAreRead, NoneIsSwallowed, AsleepAnswersNothing, OnlyMissesUnreport, ImagesHaveLength, StartsByPage};
 ghost use Rattle.iol_port.specs.Admitted.{WakesAreMissed, FrozenAreReported, PowerIsLost, InputsAreShown, RightPagesAreRead, PagesLeadOn};
 ghost use Rattle.iol_port.specs.Promises.{WrongPagesStayUnread, RunsJoin};
 ghost use Rattle.iol_port.specs.Promises.{PiecesSound, PiecesJoin, HalvesAreTurns};
@@ -53,7 +53,7 @@ pub fn turns_rule_out()
     ensures events { EventsAreRead }
     ensures frozen { NoneIsSwallowed }
     ensures asleep { AsleepAnswersNothing }
-    ensures again { OnlyMissesUntell }
+    ensures repeat { OnlyMissesUnreport }
     ensures images { ImagesHaveLength }
     ensures pages { StartsByPage }
     ensures wrong { WrongPagesStayUnread }

@@ -1,5 +1,5 @@
 //! One port.
-#![tactic(auto, using(crate::proofs::WireLemmas::call_kept, crate::proofs::WireLemmas::stays, crate::proofs::WireLemmas::stays_by, crate::proofs::WireLemmas::stays_down,))]
+#![tactic(auto, using(crate::proofs::WireLemmas::call_preserves, crate::proofs::WireLemmas::stays, crate::proofs::WireLemmas::stays_by, crate::proofs::WireLemmas::stays_down,))]
 
 ghost use Rattle.std.specs.Prelude.{◌≡◌, ◌<◌, ◌≤◌, ◌+◌, None, Some, IfOk, IfErr, OnErr, [], length};
 ghost use Rattle.std.specs.Vec.{vec_capacity};
@@ -164,7 +164,7 @@ impl<W: Wire, A: Handle> Port<W, A> {
     pub fn collect_into(&mut self, ticket: Ticket, into: &mut Outcome) -> Result<(), PortFault>
         ensures is { Collects (MakesCall self.old self.new) self.old.parts self.new.parts
             ticket (in_place into.new result) }
-        ensures kept { IfErr result (λ _. into.new ≡ into.old) }
+        ensures unchanged { IfErr result (λ _. into.new ≡ into.old) }
     {
         self.core.collect_into(ticket, into)
     }
@@ -556,19 +556,19 @@ impl<W: Wire, A: Handle> Port<W, A> {
     }
 }
 
-fn ticket_or(given: Result<Ticket, PortFault>) -> Answered
-    ensures { result ≡ ticket_reply given }
+fn ticket_or(outcome: Result<Ticket, PortFault>) -> Answered
+    ensures { result ≡ ticket_reply outcome }
 {
-    match given {
+    match outcome {
         Ok(ticket) => Answered::Ticket(ticket),
         Err(fault) => Answered::Refused(fault),
     }
 }
 
-fn nothing_or(given: Result<(), PortFault>) -> Answered
-    ensures { result ≡ nothing_reply given }
+fn nothing_or(outcome: Result<(), PortFault>) -> Answered
+    ensures { result ≡ nothing_reply outcome }
 {
-    match given {
+    match outcome {
         Ok(()) => Answered::Nothing,
         Err(fault) => Answered::Refused(fault),
     }

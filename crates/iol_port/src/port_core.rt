@@ -5,7 +5,7 @@ ghost use Rattle.std.specs.Option.{option_copied};
 ghost use Rattle.iol_book.specs.BookModel.{in_place};
 ghost use Rattle.iol_isdu.specs.Texts.{IsRequest};
 ghost use Rattle.iol_far.specs.Octets.{octets_in};
-ghost use Rattle.iol_app.specs.Seen.{LinkStands};
+ghost use Rattle.iol_app.specs.CallSteps.{LinkStands};
 ghost use Rattle.iol_book.specs.declared.fault.BookFault.TheVariants.{OutOfMemory};
 ghost use Rattle.iol_book.specs.BookModel.{IsReplayed, is_outstanding};
 ghost use Rattle.iol_app.specs.Asking.{IsCall};
@@ -32,7 +32,9 @@ use crate::call::Counting;
 use crate::counters::Counters;
 use crate::laws::clean_laws;
 use crate::loss::loss_after;
-use crate::settle::{KEPT, ROOM, begin_next, by_book, by_output, lacks_isdu, resets, settle};
+use crate::settle::{
+    MOST_QUEUED, ROOM, begin_next, by_book, by_output, lacks_isdu, resets, settle,
+};
 use arrayvec::ArrayVec;
 use iol_app::{Asked, Core, EventRoom, Mode, Said, Status, WireResult};
 use iol_book::{Book, Journal, Limits, Outcome, Serve, Ticket};
@@ -69,7 +71,7 @@ use std::marker::Model;
 pub struct PortCore<A: Allocator + Copy = Global> {
     core: Core,
     book: Book<A>,
-    kept: ArrayVec<Event, KEPT>,
+    queued: ArrayVec<Event, MOST_QUEUED>,
     /// What was sent last waits for its answer.
     sent: bool,
     counters: Counters,
@@ -85,7 +87,7 @@ impl<A: Allocator + Copy> Model for PortCore<A> {
     ghost view = { λ p. record {
       core = p.core;
       book = p.book;
-      kept = p.kept.items;
+      queued = p.queued.items;
       sent = p.sent;
       counters = p.counters;
       last_loss = p.last_loss;
@@ -94,7 +96,7 @@ impl<A: Allocator + Copy> Model for PortCore<A> {
     ghost invariant = { λ p. IsTied (record {
       core = p.core;
       book = p.book;
-      kept = p.kept.items;
+      queued = p.queued.items;
       sent = p.sent;
       counters = p.counters;
       last_loss = p.last_loss;
@@ -124,7 +126,7 @@ impl<A: Allocator + Copy> PortCore<A> {
             Ok(book) => Ok(PortCore {
                 core: Core::new(limits.busy.replies(), devices),
                 book,
-                kept: ArrayVec::new(),
+                queued: ArrayVec::new(),
                 sent: false,
                 counters: Counters::zero(),
                 last_loss: None,
@@ -189,7 +191,7 @@ impl<A: Allocator + Copy> PortCore<A> {
     pub fn collect_into(&mut self, ticket: Ticket, into: &mut Outcome) -> Result<(), PortFault>
         ensures is { Collects (CoreCalled self.old self.new) self.old self.new
             ticket (in_place into.new result) }
-        ensures kept { IfErr result (λ _. into.new ≡ into.old) }
+        ensures unchanged { IfErr result (λ _. into.new ≡ into.old) }
     {
         by_book(self.book.collect_into(ticket, into))
     }
@@ -399,7 +401,7 @@ impl<A: Allocator + Copy> PortCore<A> {
         ensures { TakesEvent (CoreCalled self.old self.new) self.old self.new
             result }
     {
-        self.kept.pop_at(0).ok_or(PortFault::NoEvent)
+        self.queued.pop_at(0).ok_or(PortFault::NoEvent)
     }
 
     /// The mode of the link, and why it is down.
@@ -486,9 +488,9 @@ impl<A: Allocator + Copy> PortCore<A> {
     ///
     /// Rule EVT-5.
     fn event_room(&self) -> EventRoom
-        ensures { result ≡ event_room self.now.kept }
+        ensures { result ≡ event_room self.now.queued }
     {
-        if self.kept.len() <= ROOM {
+        if self.queued.len() <= ROOM {
             EventRoom::Left
         } else {
             EventRoom::Full
@@ -509,7 +511,7 @@ impl<A: Allocator + Copy> PortCore<A> {
     pub fn send(&mut self) -> Asked
         ensures says { IsAskedOut result self.new.core.state }
         ensures asked { result ≡ asks_of self.old }
-        ensures again { IsTrue self.old.sent → self.new ≡ self.old }
+        ensures repeat { IsTrue self.old.sent → self.new ≡ self.old }
         ensures begun { self.old.sent ≡ false → IsTrue (takes_next self.old)
             → IfSome (begun_next self.old) IsRequest }
         ensures gives { PortSendGives self.old self.new }
@@ -531,20 +533,20 @@ impl<A: Allocator + Copy> PortCore<A> {
     /// for any device a question in its place; the third time in a row has lost the link.
     ///
     /// Rules PD-7, PORT-9.
-    pub fn receive(&mut self, came: &Option<Message>)
+    pub fn receive(&mut self, received: &Option<Message>)
         requires { awaited_answer self.old ≡ AwaitedAnswer.Reply }
-        ensures gives { PortReceiveGives self.old (octets_in came.now) self.new }
-        ensures does { ReceiveDoes self.old (octets_in came.now) self.new }
+        ensures gives { PortReceiveGives self.old (octets_in received.now) self.new }
+        ensures does { ReceiveDoes self.old (octets_in received.now) self.new }
     {
         let began = self.core.is_reset();
         let mode = self.core.status().mode;
-        let mut said = Said::Idle;
-        let brought = self.core.receive(came, &mut said);
+        let mut report = Said::Idle;
+        let wire_result = self.core.receive(received, &mut report);
         self.sent = false;
         self.last_loss = loss_after(mode, self.core.status(), self.last_loss);
-        self.counters.turned(brought, &said);
+        self.counters.turned(wire_result, &report);
         let reset = resets(began, self.core.is_reset());
-        settle(&mut self.book, &mut self.kept, reset, &mut said);
+        settle(&mut self.book, &mut self.queued, reset, &mut report);
     }
 
     /// Takes what came of a wake-up request: the rate of the device that answered it, or that
@@ -563,7 +565,7 @@ impl<A: Allocator + Copy> PortCore<A> {
         self.last_loss = loss_after(mode, self.core.status(), self.last_loss);
         self.counters.turned(WireResult::of_wake(rate), &Said::Idle);
         let reset = resets(began, self.core.is_reset());
-        settle(&mut self.book, &mut self.kept, reset, &mut Said::Idle);
+        settle(&mut self.book, &mut self.queued, reset, &mut Said::Idle);
     }
 
     /// One turn over this wire, with no call between its pieces.
@@ -587,12 +589,12 @@ impl<A: Allocator + Copy> PortCore<A> {
         let mode = self.core.status().mode;
         begin_next(&mut self.core, &mut self.book, room);
         let began = self.core.is_reset();
-        let mut said = Said::Idle;
-        let brought = self.core.turn(wire, room, &mut said);
+        let mut report = Said::Idle;
+        let wire_result = self.core.turn(wire, room, &mut report);
         self.last_loss = loss_after(mode, self.core.status(), self.last_loss);
-        self.counters.turned(brought, &said);
+        self.counters.turned(wire_result, &report);
         let reset = resets(began, self.core.is_reset());
-        settle(&mut self.book, &mut self.kept, reset, &mut said);
+        settle(&mut self.book, &mut self.queued, reset, &mut report);
     }
 
     /// A law of each port, without code: at every moment the journal says where each ticket

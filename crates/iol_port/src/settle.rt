@@ -5,7 +5,7 @@ ghost use Rattle.iol_isdu.specs.Texts.{IsRequest};
 ghost use Rattle.iol_book.specs.BookModel.{next_taken, book_after_take};
 ghost use Rattle.iol_app.specs.Asking.{core_with_request};
 ghost use Rattle.iol_app.specs.Due.{is_ready};
-ghost use Rattle.iol_app.specs.Seen.{BeginSteps};
+ghost use Rattle.iol_app.specs.CallSteps.{BeginSteps};
 ghost use Rattle.iol_app.specs.State.{session_after_begin};
 ghost use Rattle.iol_app.specs.StationState.{operates, mode_in};
 ghost use Rattle.iol_port.specs.Asks.{lacks_isdu, to_begin};
@@ -15,7 +15,7 @@ ghost use Rattle.iol_app.specs.Abstract.Steps.{Reset, through_steps};
 ghost use Rattle.iol_app.specs.Abstract.OfMaster.{book_said, reports_said};
 ghost use Rattle.iol_port.specs.Replies.{by_book, by_output};
 ghost use Rattle.iol_port.specs.View.{BeginsNext, TakesNext, Asks, ReportHasRoom};
-ghost use Rattle.iol_port.specs.Steps.{book_after, kept_after};
+ghost use Rattle.iol_port.specs.Steps.{book_after, queued_after};
 
 use crate::PortFault;
 use arrayvec::ArrayVec;
@@ -26,7 +26,7 @@ use std::alloc::Allocator;
 use std::mem::replace;
 
 /// How many events a port keeps.
-pub(crate) const KEPT: usize = 64;
+pub(crate) const MOST_QUEUED: usize = 64;
 
 /// How many there may be where it begins to read more.
 pub(crate) const ROOM: usize = 58;
@@ -59,10 +59,10 @@ pub(crate) fn resets(began: bool, ended: bool) -> bool
 }
 
 /// Whether a start-up told that the device has no ISDU.
-pub(crate) fn lacks_isdu(told: Option<bool>) -> bool
-    ensures { result ≡ lacks_isdu told }
+pub(crate) fn lacks_isdu(isdu: Option<bool>) -> bool
+    ensures { result ≡ lacks_isdu isdu }
 {
-    matches!(told, Some(false))
+    matches!(isdu, Some(false))
 }
 
 /// The next request is taken and begun, or denied where the device has no ISDU,
@@ -122,49 +122,53 @@ fn take_next<A: Allocator + Copy>(core: &mut Core, book: &mut Book<A>)
 /// Rule PORT-1.
 pub(crate) fn settle<A: Allocator + Copy>(
     book: &mut Book<A>,
-    kept: &mut ArrayVec<Event, KEPT>,
+    queued: &mut ArrayVec<Event, MOST_QUEUED>,
     reset: bool,
-    said: &mut Said,
+    report: &mut Said,
 )
-    requires asked { Asks said.old book.old.state.standing.taken }
-    requires room { ReportHasRoom said.old kept.old.items }
+    requires asked { Asks report.old book.old.state.standing.taken }
+    requires room { ReportHasRoom report.old queued.old.items }
     ensures book { book.new.state ≡ through_steps book_after
-        (cond reset (Reset ∷ []) [] ++ book_said said.old) book.old.state }
+        (cond reset (Reset ∷ []) [] ++ book_said report.old) book.old.state }
     ensures memory { book.new.memory ≡ book.old.memory }
-    ensures kept { kept.new.items
-        ≡ through_steps kept_after (reports_said said.old) kept.old.items }
+    ensures queued { queued.new.items
+        ≡ through_steps queued_after (reports_said report.old) queued.old.items }
 {
     if reset {
         book.reset();
     }
-    match said {
+    match report {
         Said::Idle | Said::Busy => {}
-        said => tell(book, kept, said),
+        report => deliver(book, queued, report),
     }
 }
 
 /// Out of line, since most turns say nothing, and what the others say is large.
 #[inline(never)]
-fn tell<A: Allocator + Copy>(book: &mut Book<A>, kept: &mut ArrayVec<Event, KEPT>, said: &mut Said)
-    requires asked { Asks said.old book.old.state.standing.taken }
-    requires room { ReportHasRoom said.old kept.old.items }
-    ensures book { book.new.state ≡ through_steps book_after (book_said said.old) book.old.state }
+fn deliver<A: Allocator + Copy>(
+    book: &mut Book<A>,
+    queued: &mut ArrayVec<Event, MOST_QUEUED>,
+    report: &mut Said,
+)
+    requires asked { Asks report.old book.old.state.standing.taken }
+    requires room { ReportHasRoom report.old queued.old.items }
+    ensures book { book.new.state ≡ through_steps book_after (book_said report.old) book.old.state }
     ensures memory { book.new.memory ≡ book.old.memory }
-    ensures kept { kept.new.items
-        ≡ through_steps kept_after (reports_said said.old) kept.old.items }
+    ensures queued { queued.new.items
+        ≡ through_steps queued_after (reports_said report.old) queued.old.items }
 {
-    match replace(said, Said::Idle) {
+    match replace(report, Said::Idle) {
         Said::Idle | Said::Busy => {}
         Said::Answered(answer) => book.post(Outcome::Done(answer)),
         Said::Cut(cause) => book.post(Outcome::Unknown(cause)),
-        Said::Reported(events) => keep(kept, &events),
+        Said::Reported(events) => enqueue(queued, &events),
     }
 }
 
 /// Rules EVT-8, PORT-5.
-fn keep(kept: &mut ArrayVec<Event, KEPT>, events: &EventList)
-    requires { length kept.old.items + 6 ≤ 64 }
-    ensures { kept.new.items ≡ kept.old.items ++ events.now }
+fn enqueue(queued: &mut ArrayVec<Event, MOST_QUEUED>, events: &EventList)
+    requires { length queued.old.items + 6 ≤ 64 }
+    ensures { queued.new.items ≡ queued.old.items ++ events.now }
 {
-    let _fits = kept.try_extend_from_slice(events.as_slice());
+    let _fits = queued.try_extend_from_slice(events.as_slice());
 }

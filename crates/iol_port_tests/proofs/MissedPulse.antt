@@ -75,10 +75,10 @@ answered heard kind request = record {
       is_some (heard_as (misses kind request) test_read q).reply) (accepted_is heard kind request);
 }
 
-kept : TextsAreHeard → (kind : Kind) (request : Request)
+handed : TextsAreHeard → (kind : Kind) (request : Request)
     → (hear (misses kind request) test_read).far.isdu ≡ Handed request
 unfolding control_of
-kept heard kind request = ap (λ (q : Option (Far × MasterMsg)).
+handed heard kind request = ap (λ (q : Option (Far × MasterMsg)).
     (heard_as (misses kind request) test_read q).far.isdu) (accepted_is heard kind request)
 
 pub pulses_are_missed : TextsAreHeard → PulsesAreMissed
@@ -88,5 +88,5 @@ pulses_are_missed heard kind request = (
   refl,
   refl,
   answered heard kind request,
-  kept heard kind request,
+  handed heard kind request,
 )

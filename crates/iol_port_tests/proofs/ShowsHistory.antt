@@ -20,23 +20,24 @@ behind : {X : Type 0} (x : X) (xs ys : List X) → IsOneOf x ys → IsOneOf x (x
 behind x [] ys one = one
 behind x (y ∷ xs) ys one = inr (behind x xs ys one)
 
-frozen_are : (events : List Event) (told : Bool)
-    → frozen_events (frozen_of events told) ≡ events
-frozen_are [] told = refl
-frozen_are (event ∷ events) told = refl
+frozen_are : (events : List Event) (reported : Bool)
+    → frozen_events (frozen_of events reported) ≡ events
+frozen_are [] reported = refl
+frozen_are (event ∷ events) reported = refl
 
 pub shows_history : {W : Type 0} (facts : WireFacts W) (v : PortValue W)
     → Claim facts v.opening [] [] (over v) → ShowsHistory facts v
 shows_history facts v claim =
-    let told = claim.history in
+    let history = claim.history in
     let memory = v.opening.far.events in
     record {
-      entries = told.entries;
-      history_is = claim.has.history ∙ told.history_is;
+      entries = history.entries;
+      history_is = claim.has.history ∙ history.history_is;
       image = where_some v.parts.core.session.image
-          (λ image e. told.shown image (sym claim.has.image ∙ e));
+          (λ image e. history.shown image (sym claim.has.image ∙ e));
       events = λ event one.
-          let kept = subst (IsOneOf event) claim.has.kept one in
-          let all = behind event (events_handed_out (claim.answered ++ [])) claim.port.kept kept in
-          rw (frozen_are memory.frozen false) at (told.events event all);
+          let queued = subst (IsOneOf event) claim.has.queued one in
+          let all = behind event (events_handed_out (claim.answered ++ [])) claim.port.queued
+          queued in
+          rw (frozen_are memory.frozen false) at (history.events event all);
     }

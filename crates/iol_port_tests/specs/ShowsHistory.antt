@@ -14,6 +14,6 @@ pub record ShowsHistory {W : Type 0} (facts : WireFacts W) (v : PortValue W) : T
   pub entries : List HistoryEntry
   pub history_is : (facts.far v.wire).history ≡ v.opening.far.history ++ entries
   pub image : IfSome v.parts.core.session.image (WasInput entries v.opening.far.input)
-  pub events : (event : Event) → IsOneOf event v.parts.kept
+  pub events : (event : Event) → IsOneOf event v.parts.queued
       → IsOneOf event
       ((v.opening.far.events.frozen ++ v.opening.far.events.waiting) ++ raised_in entries)

@@ -69,7 +69,7 @@ fn is_port_refused<W: Wire + PartialEq + Drop, A: Handle>(
 }
 
 /// Whether a port over this wire is opened, down, and hands the wire back.
-fn is_given_back<W: Wire + PartialEq + Drop, A: Handle>(alloc: A, wire: W, wanted: &W) -> bool {
+fn is_returned<W: Wire + PartialEq + Drop, A: Handle>(alloc: A, wire: W, wanted: &W) -> bool {
     let Ok(port) = Port::open(alloc, wire, &Limits::default()) else {
         return false;
     };
@@ -87,7 +87,7 @@ fn a_port_opens_or_hands_its_wire_back(rt: HostRuntime) {
         assert!(rt; is_port_refused(&refusing, &refusing, bare_wire(7), &wire, refusal));
     }
     refusing.order(Refusal::From(2));
-    assert!(rt; is_given_back(&refusing, bare_wire(7), &wire));
+    assert!(rt; is_returned(&refusing, bare_wire(7), &wire));
     assert!(rt; !refusing.has_refused());
 }
 
@@ -178,7 +178,7 @@ fn answers<W: Wire, A: Handle>(
 ) -> bool {
     refusing.order(Refusal::Never);
     match port.run(refusing, calls) {
-        Ok(came) => came.as_slice() == wanted,
+        Ok(received) => received.as_slice() == wanted,
         Err(_) => false,
     }
 }

@@ -1,7 +1,7 @@
 //! A device with one parameter, and a simulated wire to it.
 ghost use Rattle.std.specs.Prelude.{⊤};
 
-use iol_device::{App, Device, Kept};
+use iol_device::{App, Device, FullRecord};
 use iol_isdu::{Answer, Octets, Place, Request};
 use iol_page::Page;
 use iol_sim::{Sim, Step};
@@ -46,7 +46,7 @@ pub fn open_device<P: App, A: Allocator + Copy>(
     alloc: A,
     app: P,
     page: &[u8; 10],
-) -> Option<Device<P, Kept<A>>> {
+) -> Option<Device<P, FullRecord<A>>> {
     let page = Page::from_octets(page);
     if page.layouts().is_err() {
         return None;

@@ -101,8 +101,8 @@ fn meet(port: &mut HonestPort, device: &mut Device<Parameter>, fate: Fate)
             woken_by(port, device);
         }
         Asked::Exchange(sent) => {
-            let came = exchange(device, sent.octets.as_slice(), fate);
-            answered_by(port, &came, device);
+            let received = exchange(device, sent.octets.as_slice(), fate);
+            answered_by(port, &received, device);
         }
     }
 }
@@ -117,15 +117,15 @@ fn woken_by(port: &mut HonestPort, device: &Device<Parameter>)
 }
 
 /// This came back from the device.
-fn answered_by(port: &mut HonestPort, came: &Option<Message>, device: &Device<Parameter>)
+fn answered_by(port: &mut HonestPort, received: &Option<Message>, device: &Device<Parameter>)
     requires awaited { awaited_answer port.old.parts ≡ AwaitedAnswer.Reply }
-    requires premise { Exchanges port.old (octets_in came.now) (record {
+    requires premise { Exchanges port.old (octets_in received.now) (record {
       far = device.now.far;
-      silence = silence_after port.old.at.silence (octets_in came.now);
+      silence = silence_after port.old.at.silence (octets_in received.now);
     }) }
     ensures { port.new.at.far ≡ device.now.far }
 {
-    port.receive(came, device);
+    port.receive(received, device);
 }
 
 /// Nothing else calls an [`HonestPort`]: the proof of this test alone refuses a premise of its

@@ -90,7 +90,7 @@ fn turned_in_place<W: Wire>(wire: W, times: u8) -> AnyLink<W> {
 
 /// The mode, the layouts that the page told, and how many exchanges went by the script.
 #[derive(Clone, Copy, PartialEq)]
-enum Seen {
+enum Observed {
     Down(Option<Why>),
     Startup(Option<Layouts>, usize),
     Preoperate(Option<Layouts>, usize),
@@ -108,22 +108,31 @@ impl<'a> HasScript for AnyWire<Table<'a>> {
     }
 }
 
-fn state_of<W: HasScript>(next: &Next<W>) -> Seen {
+fn state_of<W: HasScript>(next: &Next<W>) -> Observed {
     match next {
-        Next::Down(link) => Seen::Down(link.why()),
-        Next::Startup(link) => Seen::Startup(link.told().copied(), link.wire().followed()),
-        Next::Preoperate(link) => Seen::Preoperate(link.told().copied(), link.wire().followed()),
-        Next::Operate(link, _) => Seen::Operate(link.told().copied(), link.wire().followed()),
+        Next::Down(link) => Observed::Down(link.why()),
+        Next::Startup(link) => Observed::Startup(
+            link.layouts_read().copied(),
+            link.wire().followed(),
+        ),
+        Next::Preoperate(link) => Observed::Preoperate(
+            link.layouts_read().copied(),
+            link.wire().followed(),
+        ),
+        Next::Operate(link, _) => Observed::Operate(
+            link.layouts_read().copied(),
+            link.wire().followed(),
+        ),
     }
 }
 
-fn state_in_place<W: HasScript>(link: &AnyLink<W>) -> Seen {
+fn state_in_place<W: HasScript>(link: &AnyLink<W>) -> Observed {
     let followed = link.wire().followed();
     match link.state() {
-        State::Down(down) => Seen::Down(down.why),
-        State::Startup(startup) => Seen::Startup(startup.told().copied(), followed),
-        State::Preoperate(preoperate) => Seen::Preoperate(Some(preoperate.layouts), followed),
-        State::Operate(operate) => Seen::Operate(Some(operate.layouts), followed),
+        State::Down(down) => Observed::Down(down.why),
+        State::Startup(startup) => Observed::Startup(startup.layouts_read().copied(), followed),
+        State::Preoperate(preoperate) => Observed::Preoperate(Some(preoperate.layouts), followed),
+        State::Operate(operate) => Observed::Operate(Some(operate.layouts), followed),
     }
 }
 
@@ -139,14 +148,14 @@ fn layouts() -> Option<Layouts> {
 #[test]
 fn both_kinds_of_links_start_up(rt: HostRuntime) {
     for (turns, expected) in [
-        (0, Seen::Down(None)),
-        (1, Seen::Startup(None, 0)),
-        (10, Seen::Startup(None, 9)),
-        (11, Seen::Startup(layouts(), 10)),
-        (13, Seen::Preoperate(layouts(), 12)),
-        (15, Seen::Operate(layouts(), 14)),
-        (18, Seen::Operate(layouts(), 17)),
-        (19, Seen::Down(Some(Why::Lost))),
+        (0, Observed::Down(None)),
+        (1, Observed::Startup(None, 0)),
+        (10, Observed::Startup(None, 9)),
+        (11, Observed::Startup(layouts(), 10)),
+        (13, Observed::Preoperate(layouts(), 12)),
+        (15, Observed::Operate(layouts(), 14)),
+        (18, Observed::Operate(layouts(), 17)),
+        (19, Observed::Down(Some(Why::Lost))),
     ] {
         assert!(rt; state_of(&turned_times(scripted(), turns)) == expected);
         assert!(rt; state_in_place(&turned_in_place(scripted(), turns)) == expected);
@@ -170,7 +179,7 @@ fn handed_back<W: HasScript + Drop>(wire: W) -> Option<usize> {
 fn handed_back_in_place<W: HasScript + Drop>(wire: W) -> Option<usize> {
     let mut link = turned_in_place(wire, 17);
     link.leave();
-    if state_in_place(&link) != Seen::Down(None) {
+    if state_in_place(&link) != Observed::Down(None) {
         return None;
     }
     Some(link.close().followed())

@@ -43,9 +43,9 @@ pub fn turn<P: Calls>(port: &mut P, turns: u32) {
 
 /// Whether a read gets this ticket, and comes to this in so many turns.
 fn comes_to<P: Calls>(port: &mut P, ticket: Ticket, turns: u32, outcome: Outcome) -> bool {
-    let is_given = port.call(&Call::Submit(read())) == Answered::Ticket(ticket);
+    let is_issued = port.call(&Call::Submit(read())) == Answered::Ticket(ticket);
     turn(port, turns);
-    is_given && port.call(&Call::Collect(ticket)) == Answered::Outcome(outcome)
+    is_issued && port.call(&Call::Collect(ticket)) == Answered::Outcome(outcome)
 }
 
 /// The wire of a port that gave so many tickets before, over which a read comes to this in so

@@ -20,10 +20,10 @@ const UNKNOWN: Ticket = Ticket(9);
 /// A book in which two requests wait, and an urgent one.
 fn with_three<A: Handle>(alloc: A) -> Option<Book<A>> {
     let mut book = Book::open(alloc, &Limits::default()).ok()?;
-    let are_given = book.submit(read()) == Ok(FIRST)
+    let are_issued = book.submit(read()) == Ok(FIRST)
         && book.submit(read()) == Ok(LATER)
         && book.submit_urgent(read()) == Ok(URGENT);
-    if are_given { Some(book) } else { None }
+    if are_issued { Some(book) } else { None }
 }
 
 /// Whether the next request of a book is this ticket's, once it serves these.

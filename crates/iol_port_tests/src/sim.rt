@@ -3,7 +3,7 @@
 
 use crate::device::{Parameter, open_device};
 use iol_cell::Handle;
-use iol_device::{App, Device, Kept};
+use iol_device::{App, Device, FullRecord};
 use iol_image::Image;
 use iol_link::{Rate, Wire};
 use iol_mseq::Message;
@@ -23,7 +23,7 @@ trait Back {
     fn is_granted(&self, page: &[u8; 10]) -> bool;
 }
 
-impl<A: Handle> Back for Device<Parameter, Kept<A>> {
+impl<A: Handle> Back for Device<Parameter, FullRecord<A>> {
     fn is_granted(&self, page: &[u8; 10]) -> bool {
         self.page() == page && self.app() == &AS_OPENED
     }
@@ -51,14 +51,14 @@ fn is_refused<A: Handle>(
     refusal: Refusal,
 ) -> bool {
     refusing.order(Refusal::Never);
-    let Ok(given) = Vec::from_clones(alloc, steps) else {
+    let Ok(script) = Vec::from_clones(alloc, steps) else {
         return false;
     };
     let Some(device) = open_device(alloc, AS_OPENED, &PLAIN) else {
         return false;
     };
     refusing.order(refusal);
-    let made = Sim::new(alloc, device, given);
+    let made = Sim::new(alloc, device, script);
     refusing.has_refused() && is_back(made, steps)
 }
 
@@ -70,14 +70,14 @@ fn is_granted<A: Handle>(
     refusal: Refusal,
 ) -> bool {
     refusing.order(Refusal::Never);
-    let Ok(given) = Vec::from_clones(alloc, steps) else {
+    let Ok(script) = Vec::from_clones(alloc, steps) else {
         return false;
     };
     let Some(device) = open_device(alloc, AS_OPENED, &PLAIN) else {
         return false;
     };
     refusing.order(refusal);
-    match Sim::new(alloc, device, given) {
+    match Sim::new(alloc, device, script) {
         Ok(mut sim) => !refusing.has_refused() && sim.wake() == Some(Rate::Com2),
         Err(_) => false,
     }
@@ -119,7 +119,7 @@ fn are_refused<A: Handle>(
     refusal: Refusal,
 ) -> bool {
     refusing.order(Refusal::Never);
-    let Ok(given) = Vec::from_clones(alloc, steps) else {
+    let Ok(script) = Vec::from_clones(alloc, steps) else {
         return false;
     };
     let Some(device) = open_device(alloc, AS_OPENED, &PLAIN) else {
@@ -129,7 +129,7 @@ fn are_refused<A: Handle>(
         return false;
     };
     refusing.order(refusal);
-    let made = Sim::with_other(alloc, device, other, given);
+    let made = Sim::with_other(alloc, device, other, script);
     refusing.has_refused() && are_back(made, steps)
 }
 
@@ -141,11 +141,11 @@ fn wire_of_two<A: Handle>(
     refusal: Refusal,
 ) -> Option<Sim<Parameter, A>> {
     refusing.order(Refusal::Never);
-    let given = Vec::from_clones(alloc, steps).ok()?;
+    let script = Vec::from_clones(alloc, steps).ok()?;
     let device = open_device(alloc, AS_OPENED, &PLAIN)?;
     let other = open_device(alloc, AS_OPENED, &ONE_OCTET)?;
     refusing.order(refusal);
-    Sim::with_other(alloc, device, other, given).ok()
+    Sim::with_other(alloc, device, other, script).ok()
 }
 
 /// A wire of two devices asks for memory twice, and hands both back where it is refused.

@@ -25,11 +25,11 @@ fn read() -> Request {
 
 /// Whether the port gives this ticket and no other one before it is withdrawn and collected.
 fn has_one_ticket<A: Handle>(port: &mut PortCore<A>, ticket: Ticket) -> bool {
-    let is_given = port.submit(read()) == Ok(ticket);
+    let is_issued = port.submit(read()) == Ok(ticket);
     let is_full = port.submit(read()).err() == FULL && port.submit_urgent(read()).err() == FULL;
     let is_withdrawn = port.withdraw(ticket).is_ok();
     let is_collected = port.collect(ticket) == Ok(Outcome::Withdrawn);
-    is_given && is_full && is_withdrawn && is_collected
+    is_issued && is_full && is_withdrawn && is_collected
 }
 
 /// How many entries the journal had, which is handed out and given back.

@@ -29,7 +29,7 @@ fn is_entered<P: Calls>(port: &mut P, request: Request) -> bool {
 }
 
 /// The wire of a master that is given up while the device has its request.
-fn given_up<W: Wire + Drop>(alloc: Global, wire: W) -> Option<W> {
+fn returned<W: Wire + Drop>(alloc: Global, wire: W) -> Option<W> {
     let mut port = Port::open(alloc, wire, &Limits::default()).ok()?;
     let is_entered = is_entered(&mut port, before());
     turn(&mut port, HANDED);
@@ -68,7 +68,7 @@ fn has_pairs(carried: &[Carried], count: usize) -> bool {
 /// Whether the record has so many pairs of before in STARTUP, and at the end one more: that of
 /// the port's own read.
 fn has_first<P: App>(alloc: Global, wire: Sim<P>, before: usize, done: Outcome) -> Option<bool> {
-    let wire = given_up(alloc, wire)?;
+    let wire = returned(alloc, wire)?;
     let is_new = has_pairs(wire.device().carried(), 0);
     let port = started(alloc, wire)?;
     let is_first = has_pairs(port.wire().device().carried(), before);

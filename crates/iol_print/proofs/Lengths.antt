@@ -17,7 +17,7 @@ use Rattle.iol_mseq.specs.declared.reply.Reply.{Reply}
 use Rattle.iol_link.specs.declared.wire.Rate.{Rate}
 use Rattle.iol_link.specs.declared.wire.Rate.TheVariants.{Com1, Com2, Com3}
 use Rattle.iol_print.specs.Printed.{hexadecimal, octets_text, part_text, fault_name, refusal_text, channel_text, control_text, written_text, message_text, answered_text, status_text, printed_reply}
-use Rattle.iol_print.specs.Said.{said_room}
+use Rattle.iol_print.specs.Meanings.{meaning_room}
 use Rattle.iol_print.specs.Passing.{PrintsSent, line_front, line_room, rate_name, wake_text}
 use Rattle.iol_print.proofs.PrintedLemmas.{octets_length}
 
@@ -104,11 +104,11 @@ sent_long octets out od control check is = omega (arith, ap length is, length-ap
 
 less : (text octets : List ℕ) (o i : ℕ)
     → length text ≤ 18 + (4 + 3 * o) + (3 + 3 * i) + 1 → 2 + (o + i) ≤ length octets
-    → length text ≤ said_room octets
+    → length text ≤ meaning_room octets
 less text octets o i long are = omega (arith, long, are)
 
 pub message_room : (layout : Shape) (message : MasterMsg) (octets : List ℕ)
-    → SpellsMaster layout message octets → length (message_text message) ≤ said_room octets
+    → SpellsMaster layout message octets → length (message_text message) ≤ meaning_room octets
 message_room layout message octets spells =
     let (check, parts) = spells.parts in
     let out = message.out.items in
@@ -146,32 +146,32 @@ state_room reply =
     (if reply.invalid then codes " pd invalid" else codes " pd valid") 8 11
     (event_room reply.event) (valid_room reply.invalid)
 
-came_long : (octets od input : List ℕ) (last : ℕ) → octets ≡ od ++ input ++ (last ∷ [])
+received_long : (octets od input : List ℕ) (last : ℕ) → octets ≡ od ++ input ++ (last ∷ [])
     → length octets ≡ length od + length input + 1
-came_long octets od input last is = omega (
+received_long octets od input last is = omega (
   arith,
   ap length is,
   length-append (od ++ input) (last ∷ []),
   length-append od input,
 )
 
-said : (text octets : List ℕ) (o i : ℕ)
+meaning : (text octets : List ℕ) (o i : ℕ)
     → length text ≤ 3 + 3 * o + (3 + 3 * i) + 19 + 1 → length octets ≡ o + i + 1
-    → length text ≤ said_room octets
-said text octets o i long are = omega (arith, long, are)
+    → length text ≤ meaning_room octets
+meaning text octets o i long are = omega (arith, long, are)
 
 pub reply_room : (layout : Shape) (read : Bool) (reply : Reply) (octets : List ℕ)
     → SpellsReply layout read reply octets
-    → length (printed_reply read reply) ≤ said_room octets
+    → length (printed_reply read reply) ≤ meaning_room octets
 reply_room layout read reply octets spells =
     let (sum, small, parts) = spells.parts in
     let od = reply.od.items in
     let input = reply.input.items in
-    said (printed_reply read reply) octets (length od) (length input)
+    meaning (printed_reply read reply) octets (length od) (length input)
     (four_room (answered_text read reply) (part_text (codes " in") input) (status_text reply)
     (codes "\n") (3 + 3 * length od) (3 + 3 * length input) 19 1 (answered_room read od)
     (part_room (codes " in") input) (state_room reply) (omega arith))
-    (came_long octets od input _ parts)
+    (received_long octets od input _ parts)
 
 -- A line
 
@@ -206,23 +206,23 @@ wake_room number rate small =
     four_room (decimal number) (codes " wake ") (rate_name rate) (codes "\n") 20 6 4 1
     (number_room number small) (omega arith) (rate_room rate) (omega arith)
 
-said_bound : (layout : Shape) (octets text : List ℕ) (refused : Option MseqFault)
+meaning_bound : (layout : Shape) (octets text : List ℕ) (refused : Option MseqFault)
     → MatchOption refused
     ((message : MasterMsg) × SpellsMaster layout message octets × (text ≡ message_text message))
     (λ fault. text ≡ refusal_text fault)
-    → length text ≤ said_room octets
-said_bound layout octets text None (message, spells, is) =
+    → length text ≤ meaning_room octets
+meaning_bound layout octets text None (message, spells, is) =
     rw is (message_room layout message octets spells)
-said_bound layout octets text (Some fault) is =
+meaning_bound layout octets text (Some fault) is =
     rw is (omega (arith, refusal_room fault))
 
 pub sent_bound : (number : ℕ) (layout : Shape) (octets text : List ℕ) → number < 2 ^ 64
     → PrintsSent number layout octets text → length text ≤ line_room octets
-sent_bound number layout octets text small (said, prints, is) =
+sent_bound number layout octets text small (meaning, prints, is) =
     let front = line_front number (codes ">") octets in
     rw is (omega (
       arith,
-      both_room front said (24 + 3 * length octets) (28 + 3 * length octets)
+      both_room front meaning (24 + 3 * length octets) (28 + 3 * length octets)
           (front_room number (codes ">") octets small refl)
-          (said_bound layout octets said (master_fault layout octets) prints),
+          (meaning_bound layout octets meaning (master_fault layout octets) prints),
     ))

@@ -13,7 +13,8 @@ behind old mid new first later before wrote = rw (wrote, before) (append_assoc o
 
 -- the same of a text of which only something is known
 pub adds_behind : {T E : Type 0} (r : Result T E) (old mid new front : List ℕ)
-    (P Q : List ℕ → Type 0) → mid ≡ old ++ front → ((said : List ℕ) → P said → Q (front ++ said))
+    (P Q : List ℕ → Type 0) → mid ≡ old ++ front
+    → ((meaning : List ℕ) → P meaning → Q (front ++ meaning))
     → OnOk r (Adds mid new P) → OnOk r (Adds old new Q)
 adds_behind r old mid new front P Q before holds =
     on_ok_weaker r (λ more. (

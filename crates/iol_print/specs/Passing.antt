@@ -5,7 +5,7 @@ use Rattle.iol_mseq.specs.Shape.{Shape}
 use Rattle.iol_link.specs.declared.wire.Rate.{Rate}
 use Rattle.iol_link.specs.declared.wire.Rate.TheVariants.{Com1, Com2, Com3}
 use Rattle.iol_print.specs.Printed.{octets_text}
-use Rattle.iol_print.specs.Said.{PrintsMessage, PrintsReply}
+use Rattle.iol_print.specs.Meanings.{PrintsMessage, PrintsReply}
 
 -- the rate that a wake was answered with
 abbrev pub rate_name : Option Rate → List ℕ
@@ -29,22 +29,23 @@ asks_read octets = nat_le 128 (slice_index octets 0)
 
 -- the line of the octets that the master sent: behind them stands what `check` prints of them
 abbrev pub PrintsSent : ℕ → Shape → List ℕ → List ℕ → Type 0
-PrintsSent number layout octets text = (said : List ℕ) × PrintsMessage layout octets said
-    × (text ≡ line_front number (codes ">") octets ++ said)
+PrintsSent number layout octets text = (meaning : List ℕ) × PrintsMessage layout octets meaning
+    × (text ≡ line_front number (codes ">") octets ++ meaning)
 
 -- the line of what came back: behind the octets stands what `check` prints of them
 -- as the reply to a read or to a write
-abbrev pub PrintsCame : ℕ → Shape → Bool → Option (List ℕ) → List ℕ → Type 0
-PrintsCame number layout read None text = text ≡ decimal number ++ codes " < none\n"
-PrintsCame number layout read (Some octets) text = (said : List ℕ)
-    × PrintsReply layout read octets said × (text ≡ line_front number (codes "<") octets ++ said)
+abbrev pub PrintsReceived : ℕ → Shape → Bool → Option (List ℕ) → List ℕ → Type 0
+PrintsReceived number layout read None text = text ≡ decimal number ++ codes " < none\n"
+PrintsReceived number layout read (Some octets) text = (meaning : List ℕ)
+    × PrintsReply layout read octets meaning
+    × (text ≡ line_front number (codes "<") octets ++ meaning)
 
 -- the lines of an exchange, its octets being messages of this layout
 abbrev pub PrintsExchange : ℕ → Shape → List ℕ → Option (List ℕ) → List ℕ → Type 0
 PrintsExchange number layout sent answer text =
     (first : List ℕ) × (later : List ℕ) × (text ≡ first ++ later)
     × PrintsSent number layout sent first
-    × PrintsCame number layout (asks_read sent) answer later
+    × PrintsReceived number layout (asks_read sent) answer later
 
 -- no line of so many octets has more bytes
 abbrev pub line_room : List ℕ → ℕ

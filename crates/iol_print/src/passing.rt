@@ -2,10 +2,10 @@
 ghost use Rattle.std.specs.Prelude.{◌≡◌, ◌+◌, ◌++◌, length, codes, decimal};
 ghost use Rattle.iol_far.specs.Octets.{octets_in};
 ghost use Rattle.iol_print.specs.Sink.{PutsWithin, Puts, PutsSome};
-ghost use Rattle.iol_print.specs.Passing.{rate_name, wake_text, line_front, asks_read, line_room, most_line, PrintsSent, PrintsCame, PrintsExchange};
+ghost use Rattle.iol_print.specs.Passing.{rate_name, wake_text, line_front, asks_read, line_room, most_line, PrintsSent, PrintsReceived, PrintsExchange};
 
+use crate::meaning::{print_message_of, print_reply_of};
 use crate::printing::{print_number, print_octets};
-use crate::said::{print_message_of, print_reply_of};
 use crate::sink::TextSink;
 use iol_link::Rate;
 use iol_mseq::{Layout, Message};
@@ -27,7 +27,7 @@ pub fn print_exchange<S: TextSink>(
         (line_room sent.now + most_line) }
 {
     print_sent(output, number, layout, sent)?;
-    print_came(output, number, layout, asks_read(sent), answer)
+    print_received(output, number, layout, asks_read(sent), answer)
 }
 
 /// The name of a rate.
@@ -113,7 +113,7 @@ fn print_none<S: TextSink>(output: &mut S, number: u64) -> Result<(), S::Error>
 }
 
 /// What came back to a message that reads or writes.
-fn print_came<S: TextSink>(
+fn print_received<S: TextSink>(
     output: &mut S,
     number: u64,
     layout: &Layout,
@@ -121,7 +121,7 @@ fn print_came<S: TextSink>(
     answer: &Option<Message>,
 ) -> Result<(), S::Error>
     ensures text { PutsSome result (S.text output.old) (S.text output.new)
-        (PrintsCame number layout.now read (octets_in answer.now)) }
+        (PrintsReceived number layout.now read (octets_in answer.now)) }
     ensures fits { PutsWithin result S.limit (S.text output.old) most_line }
 {
     let Some(octets) = answer else {

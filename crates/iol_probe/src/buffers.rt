@@ -94,7 +94,7 @@ fn close(buffer: &mut Message, line: &mut Line<'_>) {
 fn part(line: &mut Line<'_>) -> Part {
     let name = line.word();
     if is(name, b"of") {
-        given_part(line)
+        octets_part(line)
     } else if is(name, b"zeros") {
         zeros(size_of_part(line))
     } else if is(name, b"first") {
@@ -106,7 +106,7 @@ fn part(line: &mut Line<'_>) -> Part {
 }
 
 /// Octets, as many as a part may have.
-fn given_part(line: &mut Line<'_>) -> Part {
+fn octets_part(line: &mut Line<'_>) -> Part {
     let octets = line.octets();
     if octets.len() > 32 {
         line.refuse();

@@ -7,7 +7,7 @@ use crate::printing::{
     print_named, print_octets, print_ok, print_pair, print_refused, print_request,
 };
 use crate::reading::{Bytes, Line, is};
-use iol_device::{Apart, App, Carried, Device, DeviceFault, Record, Unkept};
+use iol_device::{Apart, App, Carried, Device, DeviceFault, NoRecord, Record};
 use iol_event::Event;
 use iol_image::Image;
 use iol_isdu::Request;
@@ -24,7 +24,7 @@ enum Held {
     /// Its application has parameters.
     Store(Device<Params>),
     /// The same, which keeps no record in memory.
-    Bare(Device<Params, Unkept>),
+    Bare(Device<Params, NoRecord>),
     /// Its answers come from the lines.
     Apart(Device<Apart>),
 }

@@ -130,7 +130,7 @@ fn act(port: &mut PortCore, name: &[u8], line: &mut Line<'_>) {
 /// What came back to the octets that were sent, at most 66.
 fn receive(port: &mut PortCore, line: &mut Line<'_>) {
     match Message::try_from(line.octets().as_slice()) {
-        Ok(came) if port.awaits() == AwaitedAnswer::Reply => port.receive(&Some(came)),
+        Ok(received) if port.awaits() == AwaitedAnswer::Reply => port.receive(&Some(received)),
         _ => line.refuse(),
     }
 }

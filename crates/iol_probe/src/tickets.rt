@@ -40,11 +40,11 @@ fn queue_limit(line: &mut Line<'_>) -> QueueLimit {
 }
 
 /// The limit that a word says. Where it is none the line is bad, and this one stands in its place.
-fn known<T: Copy>(line: &mut Line<'_>, said: Option<T>, other: T) -> T {
-    if said.is_none() {
+fn known<T: Copy>(line: &mut Line<'_>, parsed: Option<T>, other: T) -> T {
+    if parsed.is_none() {
         line.refuse();
     }
-    said.unwrap_or(other)
+    parsed.unwrap_or(other)
 }
 
 pub(crate) fn ticket(line: &mut Line<'_>) -> Ticket {

@@ -8,15 +8,15 @@ use Rattle.iol_script.specs.Numerals.{octets_of_words, octets_within}
 use Rattle.iol_script.specs.RunLines.{page_octets}
 
 -- octets that are within bounds are those that were given
-pub within-is : (most : ℕ) (items : List ℕ) (given : Option (List ℕ))
-    → Some items ≡ option_and_then (octets_within 0 most) given → given ≡ Some items
-within-is most items given e = grind (arith, nat_tests)
+pub within-is : (most : ℕ) (items : List ℕ) (parsed : Option (List ℕ))
+    → Some items ≡ option_and_then (octets_within 0 most) parsed → parsed ≡ Some items
+within-is most items parsed e = grind (arith, nat_tests)
 
 -- what isn't within wider bounds isn't within narrower ones
-pub not_within : (most : ℕ) (given : Option (List ℕ))
-    → None ≡ option_and_then (octets_within 0 most) given
-    → None ≡ option_and_then (octets_within 1 most) given
-not_within most given e = grind (arith, nat_tests)
+pub not_within : (most : ℕ) (parsed : Option (List ℕ))
+    → None ≡ option_and_then (octets_within 0 most) parsed
+    → None ≡ option_and_then (octets_within 1 most) parsed
+not_within most parsed e = grind (arith, nat_tests)
 
 no_image : (items : List ℕ) → (1 ≤ length items → length items ≤ 32 → ⊥)
     → None ≡ octets_within 1 32 items
@@ -38,5 +38,5 @@ pub page_read : (words : List (List ℕ)) (items page : List ℕ) (good : Bool)
     → Some items ≡ option_and_then (octets_within 0 10) (octets_of_words words) → page ≡ items
     → length items ≡ 10 → good ≡ is_ok (layouts_of page)
     → cond good (Some page) None ≡ page_octets words
-page_read words items page good given same size is =
-    rw (within-is 10 items (octets_of_words words) given, is, same) (grind (arith, nat_tests))
+page_read words items page good parsed same size is =
+    rw (within-is 10 items (octets_of_words words) parsed, is, same) (grind (arith, nat_tests))

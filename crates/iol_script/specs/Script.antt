@@ -18,7 +18,7 @@ use Rattle.iol_sim.specs.declared.script.Step.{Step}
 use Rattle.iol_sim.specs.declared.script.Step.TheVariants.{Change, Fate, Swap}
 use Rattle.iol_script.specs.Text.{line_read}
 use Rattle.iol_script.specs.RunLines.{run_form}
-use Rattle.iol_script.specs.Tables.{TableRules, has_no_table, no_table, with_kept_index, with_range, with_rule}
+use Rattle.iol_script.specs.Tables.{TableRules, has_no_table, no_table, with_stored_index, with_range, with_rule}
 use Rattle.iol_port.specs.declared.call.Call.{Call}
 use Rattle.iol_port.specs.declared.call.Call.TheVariants.{Turn}
 use Rattle.iol_script.specs.declared.setting.Setting.{Setting}
@@ -119,7 +119,7 @@ with_table draft table = option_map (λ t. record draft { table = t }) table
 
 -- a draft, where a setting of it is not given yet
 abbrev pub once : {T : Type 0} → Option T → DraftValue → Option DraftValue
-once given draft = if is_none given then Some draft else None
+once previous draft = if is_none previous then Some draft else None
 
 -- the draft after a setting: each but those of parameters is given at most once
 abbrev pub with_setting : DraftValue → Setting → Option DraftValue
@@ -143,9 +143,9 @@ with_setting draft (setting.Param place writable value) =
           ++ record { place = place; writable = writable; value = value } ∷ [];
     })
     else None
-with_setting draft (setting.Kept index) =
+with_setting draft (setting.Stored index) =
     if has_writable draft.params index
-    then with_table draft (with_kept_index draft.table index) else None
+    then with_table draft (with_stored_index draft.table index) else None
 with_setting draft (setting.Range range) =
     if is_none (number_at_place draft.params range.place) then None
     else with_table draft (with_range draft.table range)

@@ -17,20 +17,20 @@ use Rattle.iol_script.specs.declared.table_lines.NumberOrder.{NumberOrder}
 
 pub record TableRules : Type 0 where
   -- the Indexes that Data Storage keeps
-  pub kept : List ℕ
+  pub stored : List ℕ
   pub ranges : List NumberRange
   pub rules : List NumberOrder
 
 abbrev pub no_table : TableRules
-no_table = record { kept = []; ranges = []; rules = [] }
+no_table = record { stored = []; ranges = []; rules = [] }
 
 -- whether no line says anything of a table
 abbrev pub has_no_table : TableRules → Bool
-has_no_table t = (length t.kept == 0) && (length t.ranges == 0) && (length t.rules == 0)
+has_no_table t = (length t.stored == 0) && (length t.ranges == 0) && (length t.rules == 0)
 
 -- whether Data Storage keeps an Index
-abbrev pub is_kept : TableRules → ℕ → Bool
-is_kept t index = list_any (λ kept. kept == index) t.kept
+abbrev pub is_stored_index : TableRules → ℕ → Bool
+is_stored_index t index = list_any (λ stored. stored == index) t.stored
 
 -- where the range of a place stands among the others
 abbrev pub range_number : List NumberRange → Place → Option ℕ
@@ -47,9 +47,10 @@ one_line_more lines line table =
     if nat_lt (length lines) 32 then Some (table (lines ++ line ∷ [])) else None
 
 -- an Index that Data Storage keeps: each once
-abbrev pub with_kept_index : TableRules → ℕ → Option TableRules
-with_kept_index t index =
-    if is_kept t index then None else one_line_more t.kept index (λ kept. record t { kept = kept })
+abbrev pub with_stored_index : TableRules → ℕ → Option TableRules
+with_stored_index t index =
+    if is_stored_index t index then None else one_line_more t.stored index
+    (λ stored. record t { stored = stored })
 
 -- a range: at most one a place
 abbrev pub with_range : TableRules → NumberRange → Option TableRules
@@ -81,7 +82,8 @@ type_of_param ranges param = type_with param (range_at ranges param.place)
 
 abbrev pub access_of_param : TableRules → ParameterEntry → Access
 access_of_param t param =
-    if param.writable then (if is_kept t param.place.index then Stored else ReadWrite) else ReadOnly
+    if param.writable then (if is_stored_index t param.place.index then Stored else ReadWrite)
+    else ReadOnly
 
 pub record IsMember (t : TableRules) (param : ParameterEntry) (member : Member) : Type 0 where
   pub place : member.place ≡ param.place

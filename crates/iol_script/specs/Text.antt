@@ -29,7 +29,7 @@ line_words line = if nat_le (length line) 1024 then Some (text_words line) else 
 
 -- the lines that an iterator has left, with their numbers
 abbrev pub lines_left : TextLines → List (ℕ × List ℕ)
-lines_left lines = enumerate_from (lines.given + 1) (lines_of lines.left.now)
+lines_left lines = enumerate_from (lines.yielded + 1) (lines_of lines.left.now)
 
 -- the value, where no word is left
 abbrev pub alone : {T : Type 0} → Option T → List (List ℕ) → Option T

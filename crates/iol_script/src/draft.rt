@@ -1,7 +1,7 @@
 //! A script, as far as its lines are read.
 ghost use Rattle.std.specs.Prelude.{◌≡◌, ◌++◌, ◌+◌, ◌≤◌, ℕ, Some, None, Ok, Err, OnOk, option_map, option_and_then, true, length, replicate, vec_len, vec_capacity};
 ghost use Rattle.iol_script.specs.declared.fault.ScriptFault.TheVariants.{Line};
-ghost use Rattle.iol_script.specs.RunLines.{at_most_form, call_form, devices_form, kept_form, kind_form, limits_form, one_call, order_form, page_line, page_octets, param_form, pulses_form, range_form, run_words, turns_form, wire_form};
+ghost use Rattle.iol_script.specs.RunLines.{at_most_form, call_form, devices_form, stored_form, kind_form, limits_form, one_call, order_form, page_line, page_octets, param_form, pulses_form, range_form, run_words, turns_form, wire_form};
 ghost use Rattle.iol_script.specs.Text.{words_left};
 ghost use Rattle.iol_script.specs.Script.{steps_of};
 ghost use Rattle.iol_sim.specs.Params.{number_at_place};
@@ -14,8 +14,8 @@ use crate::fields::{end_of, is};
 use crate::parts::Words;
 use crate::script::Script;
 use crate::setting::{
-    at_most_of, devices_of, kept_of, kind_of, limits_of, order_of, page_of, param_of, pulses_of,
-    range_of,
+    at_most_of, devices_of, kind_of, limits_of, order_of, page_of, param_of, pulses_of, range_of,
+    stored_of,
 };
 use crate::table_lines::TableLines;
 use crate::wire_line::{WireLine, parse_wire};
@@ -143,7 +143,7 @@ impl<A: Allocator> Draft<A> {
         } else if is(name, b"param") {
             self.take_param(number, words)
         } else if is(name, b"kept") {
-            self.take_kept(words).ok_or(bad)
+            self.take_stored(words).ok_or(bad)
         } else if is(name, b"range") {
             self.take_range(words).ok_or(bad)
         } else if is(name, b"atmost") {
@@ -290,11 +290,11 @@ impl<A: Allocator> Draft<A> {
     }
 
     /// The words behind `kept`: Data Storage keeps what can be written.
-    fn take_kept(&mut self, words: Words) -> Option<()>
+    fn take_stored(&mut self, words: Words) -> Option<()>
         ensures { option_map (λ _. self.new) result
-            ≡ after_form RunLine.Setting self.old (kept_form (words_left words.entry)) }
+            ≡ after_form RunLine.Setting self.old (stored_form (words_left words.entry)) }
     {
-        let index = kept_of(words)?;
+        let index = stored_of(words)?;
         if self.begun || !self.has_writable(index) {
             return None;
         }

@@ -49,8 +49,8 @@ fn first_word(line: &[u8]) -> (&[u8], Option<&[u8]>)
 #[derive(Clone, Copy, Debug)]
 pub struct TextLines<'a> {
     left: &'a [u8],
-    given: u64,
-    ghost countable: { given + length left.now < 2 ^ 64 },
+    yielded: u64,
+    ghost countable: { yielded + length left.now < 2 ^ 64 },
 }
 
 impl<'a> TextLines<'a> {
@@ -63,7 +63,7 @@ impl<'a> TextLines<'a> {
     {
         TextLines {
             left: text,
-            given: 0,
+            yielded: 0,
         }
     }
 }
@@ -85,8 +85,8 @@ impl<'a> Iterator for TextLines<'a> {
         }
         let (line, later) = first_line(self.left);
         self.left = later.unwrap_or(&[]);
-        self.given += 1;
-        Some((self.given, line))
+        self.yielded += 1;
+        Some((self.yielded, line))
     }
 }
 

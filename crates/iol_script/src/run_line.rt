@@ -7,8 +7,8 @@ use crate::call_line::{CallLine, parse_call, turns_of};
 use crate::fields::{end_of, is};
 use crate::parts::Words;
 use crate::setting::{
-    Setting, at_most_of, devices_of, kept_of, kind_of, limits_of, order_of, page_of, param_of,
-    pulses_of, range_of,
+    Setting, at_most_of, devices_of, kind_of, limits_of, order_of, page_of, param_of, pulses_of,
+    range_of, stored_of,
 };
 use crate::wire_line::{WireLine, parse_wire};
 use iol_port::Call;
@@ -74,7 +74,7 @@ fn parse_words(mut words: Words) -> Option<RunLine>
             value: param.value,
         }))
     } else if is(name, b"kept") {
-        Some(RunLine::Setting(Setting::Kept(kept_of(words)?)))
+        Some(RunLine::Setting(Setting::Stored(stored_of(words)?)))
     } else if is(name, b"range") {
         Some(RunLine::Setting(Setting::Range(range_of(words)?)))
     } else if is(name, b"atmost") {

@@ -2,7 +2,7 @@
 ghost use Rattle.std.specs.Prelude.{◌≡◌, IfSome, IsOk, option_map};
 ghost use Rattle.iol_page.specs.Page.{layouts_of};
 ghost use Rattle.iol_script.specs.Numerals.{number_in};
-ghost use Rattle.iol_script.specs.RunLines.{access_of, devices_form, devices_named, at_most_form, hands_over_of, kept_form, kind_form, limits_form, order_form, page_octets, param_form, pulses_form, journal_form, queue_form, range_form, recalls_of};
+ghost use Rattle.iol_script.specs.RunLines.{access_of, devices_form, devices_named, at_most_form, hands_over_of, stored_form, kind_form, limits_form, order_form, page_octets, param_form, pulses_form, journal_form, queue_form, range_form, recalls_of};
 ghost use Rattle.iol_script.specs.declared.setting.Setting.{Setting};
 ghost use Rattle.iol_script.specs.Text.{words_left};
 
@@ -43,7 +43,7 @@ pub enum Setting {
         queue: QueueLimit,
     },
     /// Data Storage keeps the parameter of an Index.
-    Kept(u16),
+    Stored(u16),
     /// A parameter is a number in a range.
     Range(NumberRange),
     /// One number is at most another.
@@ -218,8 +218,8 @@ fn access_of(word: &[u8]) -> Option<bool>
 }
 
 /// The word behind `kept`: an Index whose parameter Data Storage keeps.
-pub(crate) fn kept_of(mut words: Words) -> Option<u16>
-    ensures { option_map Setting.Kept result ≡ kept_form (words_left words.entry) }
+pub(crate) fn stored_of(mut words: Words) -> Option<u16>
+    ensures { option_map Setting.Stored result ≡ stored_form (words_left words.entry) }
 {
     let index = decimal_number(words.next()?, 0, 65_535)? as u16;
     end_of(words)?;

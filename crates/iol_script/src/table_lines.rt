@@ -1,6 +1,6 @@
 //! What the lines of a script say of the table of a device's parameters.
 ghost use Rattle.std.specs.Prelude.{◌≡◌, IfOk, map, option_map};
-ghost use Rattle.iol_script.specs.Tables.{access_of_param, AreMembers, has_no_table, is_kept, IsMember, no_table, range_at, range_number, order_rule_of, type_of_param, width_of_param, with_kept_index, with_range, with_rule};
+ghost use Rattle.iol_script.specs.Tables.{access_of_param, AreMembers, has_no_table, is_stored_index, IsMember, no_table, range_at, range_number, order_rule_of, type_of_param, width_of_param, with_stored_index, with_range, with_rule};
 
 use arrayvec::ArrayVec;
 use iol_isdu::Place;
@@ -58,7 +58,7 @@ impl Default for NumberOrder {
 #[derive(Debug, Drop)]
 pub struct TableLines {
     /// The Indexes that Data Storage keeps.
-    kept: ArrayVec<u16, 32>,
+    stored: ArrayVec<u16, 32>,
     /// The ranges of numbers.
     ranges: ArrayVec<NumberRange, 32>,
     /// The order rules.
@@ -71,7 +71,7 @@ impl Model for TableLines {
     ghost Value = { TableRules };
 
     ghost view = { λ t. record {
-      kept = t.kept.items;
+      stored = t.stored.items;
       ranges = t.ranges.items;
       rules = t.rules.items;
     } };
@@ -83,7 +83,7 @@ impl TableLines {
         ensures { result ≡ no_table }
     {
         TableLines {
-            kept: ArrayVec::new(),
+            stored: ArrayVec::new(),
             ranges: ArrayVec::new(),
             rules: ArrayVec::new(),
         }
@@ -93,7 +93,7 @@ impl TableLines {
     pub fn is_empty(&self) -> bool
         ensures { result ≡ has_no_table self.now }
     {
-        self.kept.is_empty() && self.ranges.is_empty() && self.rules.is_empty()
+        self.stored.is_empty() && self.ranges.is_empty() && self.rules.is_empty()
     }
 
     /// The order rules, in the order of their lines.
@@ -108,12 +108,12 @@ impl TableLines {
 
     /// One more Index that Data Storage keeps: each once.
     pub(crate) fn keep(&mut self, index: u16) -> Option<()>
-        ensures { option_map (λ _. self.new) result ≡ with_kept_index self.old index }
+        ensures { option_map (λ _. self.new) result ≡ with_stored_index self.old index }
     {
         if self.keeps(index) {
             return None;
         }
-        self.kept.try_push(index).ok()
+        self.stored.try_push(index).ok()
     }
 
     /// One more range: at most one a place.
@@ -135,9 +135,9 @@ impl TableLines {
 
     /// Whether Data Storage keeps an Index.
     fn keeps(&self, index: u16) -> bool
-        ensures { result ≡ is_kept self.now index }
+        ensures { result ≡ is_stored_index self.now index }
     {
-        self.kept.iter().any(|kept| *kept == index)
+        self.stored.iter().any(|stored| *stored == index)
     }
 
     /// The range of the number at a place, if it has one.

@@ -19,15 +19,16 @@ total_at-front n octets h = absurd (omega arith)
 
 -- what the code finds in the octets, of which it keeps at most so many: those behind the longest
 -- text are none of it
-module _ (most n : ℕ) (octets kept : List ℕ) (enough : 238 ≤ most) (holds : total_at kept ≡ Ok n)
-    (is : kept ≡ take most octets) where
+module _ (most n : ℕ) (octets stored : List ℕ) (enough : 238 ≤ most)
+    (holds : total_at stored ≡ Ok n)
+    (is : stored ≡ take most octets) where
   total : total_at octets ≡ Ok n
   total = sym (total_at-front most octets (omega arith)) ∙ ap total_at (sym is) ∙ holds
 
-  pub grown-whole : n ≤ length kept → Grown (stage octets) octets (Ok Whole) (take n kept)
+  pub grown-whole : n ≤ length stored → Grown (stage octets) octets (Ok Whole) (take n stored)
   grown-whole long = let fits = (total-bounds octets n total).1 in let whole = total in
       grind (arith, nat_tests, common_steps, take-take)
 
-  pub grown-more : length kept < n → Grown (stage octets) octets (Ok More) kept
+  pub grown-more : length stored < n → Grown (stage octets) octets (Ok More) stored
   grown-more short = let fits = (total-bounds octets n total).1 in let whole = total in
       grind (arith, nat_tests, common_steps)

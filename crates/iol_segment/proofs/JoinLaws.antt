@@ -56,10 +56,10 @@ join-next size text i e low =
     (sym (joined-is size text (suc i) (omega arith)))
     ∙ staged-joined (Some (segment_number (suc i))) size text (suc i) e low
 
-pub join-again : (size : ℕ) (text : List ℕ) (i : ℕ) (octets : List ℕ) →
+pub join-repeated : (size : ℕ) (text : List ℕ) (i : ℕ) (octets : List ℕ) →
     join_step (joiner_at size text (suc i)) (flow_at (suc i)) octets
     ≡ record { took = Ok Repeat; joining = joiner_at size text (suc i) }
-join-again size text i octets = grind (arith, nat_tests, common_steps)
+join-repeated size text i octets = grind (arith, nat_tests, common_steps)
 
 -- the joiner gives these answers to the pairs, and is the other one after them
 record Runs (j : Joining) (ps : List (Flow × ArrayVec ℕ)) (rs : List (Result Took JoinFault))
@@ -103,7 +103,7 @@ module _ (size : ℕ) (text : List ℕ) (e : HoldsLength text) where
   run_on i last (n ∷ ns) same low high =
       run_step (rw (took-first (suc i) last ns (omega arith) low high) at
       (join-next size text i e (before i last (length ns) size (length text) same low)))
-      (run_repeats n _ (join-again size text i (segment size text (suc i)))
+      (run_repeats n _ (join-repeated size text i (segment size text (suc i)))
       (run_on (suc i) last ns (omega arith) low high))
 
   -- the whole cut, with as many numbers as it has pairs
@@ -140,6 +140,6 @@ join_laws size low =
       ready = λ text e. rw e (grind (arith, nat_tests));
       first = join-first size;
       next = join-next size;
-      again = join-again size;
+      repeated = join-repeated size;
       whole = λ text i. take_all (suc i * size) text;
     }

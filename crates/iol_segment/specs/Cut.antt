@@ -51,27 +51,27 @@ SegmentsHaveSize = (size : ℕ) (text : List ℕ) (i : ℕ) → length (segment 
 pub record Cutting (S : Type 0) : Type 0 where
   pub source : S
   pub size : ℕ
-  pub given : ℕ
+  pub issued : ℕ
 
 -- what always holds of a cutter of a text: the last segment given begins within it
-pub record IsBeingCut (text : List ℕ) (size given : ℕ) : Type 0 where
+pub record IsBeingCut (text : List ℕ) (size issued : ℕ) : Type 0 where
   pub sized : IsOdLength size
-  pub begins : (given - 1) * size ≤ 237
-  pub within : (given - 1) * size < length text
+  pub begins : (issued - 1) * size ≤ 237
+  pub within : (issued - 1) * size < length text
 
 -- once a segment was given, the head that is kept and the body are the text
 abbrev pub KeepsHead : ℕ → List ℕ → List ℕ → List ℕ → Type 0
-KeepsHead given head body text =
-    1 ≤ given → (head ++ body ≡ text) × (length head + length body ≤ 237)
+KeepsHead issued head body text =
+    1 ≤ issued → (head ++ body ≡ text) × (length head + length body ≤ 237)
 
 -- how many are given after one more call
 abbrev pub after_next : ℕ → List ℕ → ℕ → ℕ
 after_next size text i = if nat_lt (i * size) (length text) then i + 1 else i
 
 -- the last pair given
-abbrev pub last_given : ℕ → List ℕ → ℕ → Option (Flow × ArrayVec ℕ)
-last_given size text zero = None
-last_given size text (suc i) = pair_at size text i
+abbrev pub last_issued : ℕ → List ℕ → ℕ → Option (Flow × ArrayVec ℕ)
+last_issued size text zero = None
+last_issued size text (suc i) = pair_at size text i
 
 -- the segment of a pair is put at the end of octets, which stay where there is none
 abbrev pub IsAppended : Option (Flow × ArrayVec ℕ) → List ℕ → Bool → List ℕ → Type 0

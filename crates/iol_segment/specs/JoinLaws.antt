@@ -85,7 +85,7 @@ pub record JoinLaws (size : ℕ) : Type 0 where
         took = Ok (took_at size text (suc i));
         joining = joiner_at size text (suc i);
       }
-  pub again : (text : List ℕ) (i : ℕ) (octets : List ℕ) →
+  pub repeated : (text : List ℕ) (i : ℕ) (octets : List ℕ) →
       join_step (joiner_at size text (suc i)) (flow_at (suc i)) octets
       ≡ record { took = Ok Repeat; joining = joiner_at size text (suc i) }
   -- with the last segment the joiner has the text

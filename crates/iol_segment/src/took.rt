@@ -5,6 +5,7 @@ use thiserror::Error;
 
 // The numbers of the refusals: their one table, which the definitions cite.
 const BAD_ISDU_LENGTH: u8 = 11;
+
 const WRONG_COUNT: u8 = 15;
 
 /// What became of a segment that a [`Joiner`](crate::Joiner) was given.

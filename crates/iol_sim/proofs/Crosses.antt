@@ -5,9 +5,9 @@ use Rattle.std.specs.contracts.alloc.Global as Heap
 use Rattle.std.specs.contracts.impls.GlobalAllocator.TheImpl.{ghosts}
 use Rattle.std.specs.declared.clone.Clone.{Ghosts as Copies}
 use Rattle.iol_device.specs.contracts.device.Device as Device
-use Rattle.iol_device.specs.contracts.record.Kept as Kept
+use Rattle.iol_device.specs.contracts.record.FullRecord as FullRecord
 use Rattle.iol_device.specs.declared.record.Record.{Ghosts as Records}
-use Rattle.iol_device.proofs.record.Unkept.TheSendSync as unkept
+use Rattle.iol_device.proofs.record.NoRecord.TheSendSync as no_record
 use Rattle.iol_sim.specs.contracts.sim.Sim as Sim
 use Rattle.iol_sim.specs.contracts.params.Params as Params
 use Rattle.iol_sim.specs.contracts.beside.Nothing as Nothing
@@ -15,10 +15,10 @@ use Rattle.iol_sim.specs.declared.beside.Beside.{Ghosts as Besides}
 use Rattle.iol_sim.specs.contracts.params.ParamsApp.TheImpl as params
 
 -- the device itself, however its record is one
-device_send : (records : Records (Kept.the_row Heap.the_row ghosts).Denot)
-    → IsSend (Device.the_row Params.the_row (Kept.the_row Heap.the_row ghosts) params.ghosts
+device_send : (records : Records (FullRecord.the_row Heap.the_row ghosts).Denot)
+    → IsSend (Device.the_row Params.the_row (FullRecord.the_row Heap.the_row ghosts) params.ghosts
     records)
-device_send records = search (unkept.the_send, crosses, sendable) depth 60 fits 20000
+device_send records = search (no_record.the_send, crosses, sendable) depth 60 fits 20000
 
 -- however the heap's handle is copied, and what stands beside the device told
 pub sim_send : (copies : Copies (Heap.the_row).Denot)

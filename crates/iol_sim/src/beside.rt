@@ -2,7 +2,7 @@
 ghost use Rattle.std.specs.Prelude.{◌≡◌};
 ghost use Rattle.iol_sim.specs.Beside.{BesideFacts, stand};
 
-use iol_device::{App, Device, Kept};
+use iol_device::{App, Device, FullRecord};
 use iol_far::DeviceMode;
 use iol_isdu::Place;
 use std::alloc::Allocator;
@@ -15,7 +15,7 @@ pub trait Beside<P: App>: Drop {
     ghost facts: { BesideFacts P Self };
 
     /// The application works: a request that was handed over is carried out, once.
-    fn work<A: Allocator + Copy>(&mut self, device: &mut Device<P, Kept<A>>)
+    fn work<A: Allocator + Copy>(&mut self, device: &mut Device<P, FullRecord<A>>)
         ensures { facts.works (stand device.old self.old) (stand device.new self.new) };
 
     /// A wake-up request came.
@@ -50,7 +50,7 @@ impl<P: App> Beside<P> for Nothing {
 
     ghost facts = { plain_facts P.carry_out_gives };
 
-    fn work<A: Allocator + Copy>(&mut self, device: &mut Device<P, Kept<A>>) {
+    fn work<A: Allocator + Copy>(&mut self, device: &mut Device<P, FullRecord<A>>) {
         device.work();
     }
 

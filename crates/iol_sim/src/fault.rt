@@ -5,6 +5,7 @@ use thiserror::Error;
 
 // The numbers of the refusals: their one table, which the definitions cite.
 const OUT_OF_MEMORY: u8 = 24;
+
 const BAD_PARAM: u8 = 35;
 
 /// Why a call was refused.

@@ -10,7 +10,7 @@ use crate::fault::SimFault;
 use crate::params::Params;
 use crate::script::{Fate, Step};
 use crate::stand::DeviceStand;
-use iol_device::{App, Device, Kept};
+use iol_device::{App, Device, FullRecord};
 use iol_event::Event;
 use iol_far::{page_and_room_stay, replies_are_read};
 use iol_link::{MAX_RETRY, Rate, Wire, damaged_replies_are_unread};
@@ -92,9 +92,9 @@ impl<P: App, A: Allocator + Copy> Sim<P, A> {
     /// there is no memory for the device.
     pub fn new(
         alloc: A,
-        device: Device<P, Kept<A>>,
+        device: Device<P, FullRecord<A>>,
         steps: Vec<Step, A>,
-    ) -> Result<Sim<P, A>, (SimFault, Device<P, Kept<A>>, Vec<Step, A>)>
+    ) -> Result<Sim<P, A>, (SimFault, Device<P, FullRecord<A>>, Vec<Step, A>)>
         ensures value { IfOk result (λ sim. sim
             ≡ first_sim (stand device (record {})) None steps.items) }
         ensures refused { IfErr result (λ e. e.0 ≡ SimFault.OutOfMemory) }
@@ -113,15 +113,15 @@ impl<P: App, A: Allocator + Copy> Sim<P, A> {
     /// there is no memory for the devices.
     pub fn with_other(
         alloc: A,
-        device: Device<P, Kept<A>>,
-        other: Device<P, Kept<A>>,
+        device: Device<P, FullRecord<A>>,
+        other: Device<P, FullRecord<A>>,
         steps: Vec<Step, A>,
     ) -> Result<
         Sim<P, A>,
         (
             SimFault,
-            Device<P, Kept<A>>,
-            Device<P, Kept<A>>,
+            Device<P, FullRecord<A>>,
+            Device<P, FullRecord<A>>,
             Vec<Step, A>,
         ),
     >
@@ -172,10 +172,10 @@ impl<P: App, A: Allocator + Copy, B: Beside<P>> Sim<P, A, B> {
     /// device.
     pub fn beside(
         alloc: A,
-        device: Device<P, Kept<A>>,
+        device: Device<P, FullRecord<A>>,
         beside: B,
         steps: Vec<Step, A>,
-    ) -> Result<Sim<P, A, B>, (SimFault, Device<P, Kept<A>>, B, Vec<Step, A>)>
+    ) -> Result<Sim<P, A, B>, (SimFault, Device<P, FullRecord<A>>, B, Vec<Step, A>)>
         ensures value { IfOk result (λ sim. sim
             ≡ first_sim (stand device beside) None steps.items) }
         ensures refused { IfErr result (λ e. e.0 ≡ SimFault.OutOfMemory) }
@@ -209,7 +209,7 @@ impl<P: App, A: Allocator + Copy, B: Beside<P>> Sim<P, A, B> {
     pub fn add_other(
         &mut self,
         alloc: A,
-        device: Device<P, Kept<A>>,
+        device: Device<P, FullRecord<A>>,
         beside: B,
     ) -> Result<(), SimFault>
         ensures added { OnOk result (self.new
@@ -227,7 +227,7 @@ impl<P: App, A: Allocator + Copy, B: Beside<P>> Sim<P, A, B> {
     }
 
     /// The device at the far end.
-    pub fn device(&self) -> &Device<P, Kept<A>>
+    pub fn device(&self) -> &Device<P, FullRecord<A>>
         ensures { result.now ≡ self.now.device }
     {
         &self.here.device
@@ -241,7 +241,7 @@ impl<P: App, A: Allocator + Copy, B: Beside<P>> Sim<P, A, B> {
     }
 
     /// The device that isn't plugged in, where there is a second one.
-    pub fn away(&self) -> Option<&Device<P, Kept<A>>>
+    pub fn away(&self) -> Option<&Device<P, FullRecord<A>>>
         ensures { option_copied result ≡ option_map (λ stand. stand.device) self.now.away }
     {
         match &self.away {

@@ -9,7 +9,7 @@ ghost use Rattle.iol_far.specs.Orderly.{IsOrderly};
 ghost use Rattle.iol_device.specs.Pulses.{is_orderly};
 
 use crate::beside::Beside;
-use iol_device::{App, Device, DeviceFault, Kept};
+use iol_device::{App, Device, DeviceFault, FullRecord};
 use iol_event::Event;
 use iol_image::Image;
 use iol_isdu::Place;
@@ -20,7 +20,7 @@ use std::marker::Model;
 /// A device, and what stands beside it.
 #[derive(Drop)]
 pub(crate) struct DeviceStand<P: App, A: Allocator + Copy, B: Beside<P>> {
-    pub(crate) device: Device<P, Kept<A>>,
+    pub(crate) device: Device<P, FullRecord<A>>,
     pub(crate) beside: B,
 }
 

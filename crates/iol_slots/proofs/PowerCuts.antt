@@ -26,17 +26,17 @@ module _ (m : Memory) (content : List ℕ) (fit : FitsIn m content) where
   abbrev slot : Slot
   slot = free_slot (newest m)
 
-  abbrev had : List ℕ
-  had = slot_octets m slot
+  abbrev prior : List ℕ
+  prior = slot_octets m slot
 
   abbrev whole : List ℕ
   whole = image (mark_for m (newest m)) content
 
-  size : length had ≡ length content + 2
+  size : length prior ≡ length content + 2
   size = fits-slot m content fit slot
 
   after : (count : ℕ) → after_stores m (take count (saving m content))
-      ≡ with_slot m slot (sets 0 (take count whole) had)
+      ≡ with_slot m slot (sets 0 (take count whole) prior)
   after count = ap (after_stores m) (take-stores slot 0 count whole)
       ∙ after-octets m slot (take count whole)
 
@@ -45,34 +45,34 @@ module _ (m : Memory) (content : List ℕ) (fit : FitsIn m content) where
   torn zero part = ap newest_content (after 0 ∙ with-same m slot)
   torn (suc count) part =
       let mark = mark_for m (newest m) in
-      let differs = fresh-differs (newest_mark m (newest m)) (last_octet had) in
+      let differs = fresh-differs (newest_mark m (newest m)) (last_octet prior) in
       ap newest_content (after (suc count))
-      ∙ torn-loads m (sets 0 (take (suc count) whole) had)
-      (torn-is_whole mark content had count size differs part)
+      ∙ torn-loads m (sets 0 (take (suc count) whole) prior)
+      (torn-is_whole mark content prior count size differs part)
 
-  all-set : sets 0 whole had ≡ whole
+  all-set : sets 0 whole prior ≡ whole
   all-set =
-      let long : length had ≡ length whole =
+      let long : length prior ≡ length whole =
       omega (arith, size, length-image (mark_for m (newest m)) content) in
-      let end : 0 + length whole ≡ length had = omega (arith, long) in
-      let none : drop (0 + length whole) had ≡ [] =
-      ap (λ n. drop n had) end ∙ drop-length had in
-      sets-is 0 whole had (omega (arith, long))
+      let end : 0 + length whole ≡ length prior = omega (arith, long) in
+      let none : drop (0 + length whole) prior ≡ [] =
+      ap (λ n. drop n prior) end ∙ drop-length prior in
+      sets-is 0 whole prior (omega (arith, long))
       ∙ (ap (λ l. whole ++ l) none ∙ append-nil whole)
 
   done : (count : ℕ) → length whole ≤ count
       → newest_content (after_stores m (take count (saving m content))) ≡ Some content
   done count all =
       let octets : take count whole ≡ whole = take_all count whole all in
-      let is : sets 0 (take count whole) had ≡ whole =
-      ap (λ l. sets 0 l had) octets ∙ all-set in
+      let is : sets 0 (take count whole) prior ≡ whole =
+      ap (λ l. sets 0 l prior) octets ∙ all-set in
       ap newest_content (after count ∙ ap (with_slot m slot) is)
       ∙ (done-loads m content ∙ ap Some (image-content (mark_for m (newest m)) content))
 
 is-loaded : (o : Option (List ℕ)) (content : List ℕ) → is_loaded o content ≡ true
     → o ≡ Some content
 is-loaded None content e = absurd (cc)
-is-loaded (Some had) content e = ap Some ((bytes_eq-Decides had content).0 e)
+is-loaded (Some prior) content e = ap Some ((bytes_eq-Decides prior content).0 e)
 
 -- of no stores, and of those of a save
 abbrev WholeOrNothing : Memory → List ℕ → ℕ → List Store → Type 0

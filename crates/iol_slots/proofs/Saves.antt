@@ -12,8 +12,8 @@ use Rattle.iol_slots.specs.Images.{is_mark, last_octet, image, is_whole_image, c
 
 -- octets with others from a place on
 abbrev pub sets : ℕ → List ℕ → List ℕ → List ℕ
-sets at [] had = had
-sets at (x ∷ xs) had = sets (at + 1) xs (slice_set had at x)
+sets at [] prior = prior
+sets at (x ∷ xs) prior = sets (at + 1) xs (slice_set prior at x)
 
 after-first : (m : Memory) (at : ℕ) (octets : List ℕ)
     → after_stores m (stores_of First at octets)
@@ -35,26 +35,26 @@ pub after-octets : (m : Memory) (slot : Slot) (octets : List ℕ)
 after-octets m First octets = after-first m 0 octets
 after-octets m Second octets = after-second m 0 octets
 
-pub sets-is : (at : ℕ) (octets had : List ℕ) → at + length octets ≤ length had
-    → sets at octets had ≡ take at had ++ (octets ++ drop (at + length octets) had)
-sets-is at [] had room =
+pub sets-is : (at : ℕ) (octets prior : List ℕ) → at + length octets ≤ length prior
+    → sets at octets prior ≡ take at prior ++ (octets ++ drop (at + length octets) prior)
+sets-is at [] prior room =
     let none : at + 0 ≡ at = omega arith in
-    sym (ap (λ n. take at had ++ drop n had) none ∙ take-append-drop at had)
-sets-is at (x ∷ xs) had room =
-    let new = slice_set had at x in
-    let here : at < length had = omega arith in
+    sym (ap (λ n. take at prior ++ drop n prior) none ∙ take-append-drop at prior)
+sets-is at (x ∷ xs) prior room =
+    let new = slice_set prior at x in
+    let here : at < length prior = omega arith in
     let behind : at + length (x ∷ xs) ≡ at + 1 + length xs = omega arith in
-    let size : length new ≡ length had = length-set had at x in
+    let size : length new ≡ length prior = length-set prior at x in
     let past : at < at + 1 + length xs = omega arith in
     let next : at + 1 ≡ suc at = omega arith in
-    let front : take (at + 1) new ≡ take at had ++ (x ∷ []) =
-    ap (λ n. take n new) next ∙ take-suc-set had at x here in
-    let back : drop (at + 1 + length xs) new ≡ drop (at + length (x ∷ xs)) had =
-    drop-set-lt (at + 1 + length xs) had at x past ∙ ap (λ n. drop n had) (sym behind) in
+    let front : take (at + 1) new ≡ take at prior ++ (x ∷ []) =
+    ap (λ n. take n new) next ∙ take-suc-set prior at x here in
+    let back : drop (at + 1 + length xs) new ≡ drop (at + length (x ∷ xs)) prior =
+    drop-set-lt (at + 1 + length xs) prior at x past ∙ ap (λ n. drop n prior) (sym behind) in
     sets-is (at + 1) xs new (omega (arith, size, behind))
     ∙ (ap (λ f. f ++ (xs ++ drop (at + 1 + length xs) new)) front
-    ∙ (ap (λ b. (take at had ++ (x ∷ [])) ++ (xs ++ b)) back
-    ∙ append_assoc (take at had) (x ∷ []) (xs ++ drop (at + length (x ∷ xs)) had)))
+    ∙ (ap (λ b. (take at prior ++ (x ∷ [])) ++ (xs ++ b)) back
+    ∙ append_assoc (take at prior) (x ∷ []) (xs ++ drop (at + length (x ∷ xs)) prior)))
 
 -- the first stores of octets are those of the first octets
 pub take-stores : (slot : Slot) (at count : ℕ) (octets : List ℕ)
@@ -178,34 +178,34 @@ image-is_whole mark content good =
     grind (arith, common_steps, good, last, long)
 
 -- an image that isn't finished isn't whole
-pub torn-is_whole : (mark : ℕ) (content had : List ℕ) (count : ℕ)
-    → length had ≡ length content + 2 → (mark == last_octet had) ≡ false
+pub torn-is_whole : (mark : ℕ) (content prior : List ℕ) (count : ℕ)
+    → length prior ≡ length content + 2 → (mark == last_octet prior) ≡ false
     → suc count < length (image mark content)
-    → is_whole_image (sets 0 (take (suc count) (image mark content)) had) ≡ false
-torn-is_whole mark content had count size differs part =
+    → is_whole_image (sets 0 (take (suc count) (image mark content)) prior) ≡ false
+torn-is_whole mark content prior count size differs part =
     let some = mark ∷ take count (content ++ mark ∷ []) in
     let few : length some ≡ suc count =
     length-take-le (suc count) (image mark content) (omega arith) in
     let part_size = 0 + length some in
-    let t = some ++ drop part_size had in
-    let is : sets 0 some had ≡ t =
-    sets-is 0 some had (omega (arith, few, length-image mark content)) in
-    let long : length t ≡ length had = omega (
+    let t = some ++ drop part_size prior in
+    let is : sets 0 some prior ≡ t =
+    sets-is 0 some prior (omega (arith, few, length-image mark content)) in
+    let long : length t ≡ length prior = omega (
       arith,
       few,
       length-image mark content,
-      length-append some (drop part_size had),
-      length-drop part_size had,
+      length-append some (drop part_size prior),
+      length-drop part_size prior,
     ) in
     let place = length t - 1 in
     let behind : length some ≤ place =
     omega (arith, few, long, size, length-image mark content) in
-    let back : part_size + (place - length some) ≡ length had - 1 =
+    let back : part_size + (place - length some) ≡ length prior - 1 =
     omega (arith, behind, long) in
-    let last : last_octet t ≡ last_octet had =
-    get_or-append_right some (drop part_size had) (length some) place 0 refl behind
-    ∙ (get_or-drop part_size had (place - length some) 0
-    ∙ ap (λ n. slice_index had n) back) in
+    let last : last_octet t ≡ last_octet prior =
+    get_or-append_right some (drop part_size prior) (length some) place 0 refl behind
+    ∙ (get_or-drop part_size prior (place - length some) 0
+    ∙ ap (λ n. slice_index prior n) back) in
     ap is_whole_image is ∙ grind (arith, common_steps, last, differs)
 
 -- and one that is finished is what is loaded

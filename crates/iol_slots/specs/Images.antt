@@ -78,7 +78,7 @@ saving m content = saving_to m (newest m) content
 -- whether a content is what is loaded
 abbrev pub is_loaded : Option (List ℕ) → List ℕ → Bool
 is_loaded None content = false
-is_loaded (Some had) content = bytes_eq had content
+is_loaded (Some loaded) content = bytes_eq loaded content
 
 -- nothing, where it is the newest already
 abbrev pub keeping : Memory → List ℕ → List Store

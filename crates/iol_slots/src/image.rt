@@ -50,7 +50,7 @@ fn is_loaded<S: Slots>(slots: &S, content: &[u8]) -> bool
     ensures { result ≡ is_loaded (newest_content (S.memory slots.now)) content.now }
 {
     match load(slots) {
-        Some(had) => had == content,
+        Some(loaded) => loaded == content,
         None => false,
     }
 }

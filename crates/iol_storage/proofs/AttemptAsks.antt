@@ -21,7 +21,7 @@ use Rattle.iol_storage.specs.Downloads.{object_write, place_or, download_request
 use Rattle.iol_storage.specs.Uploads.{storage_place, storage_command, names_more, place_read, upload_stage_asks}
 use Rattle.iol_storage.specs.Laws.{all_asked}
 use Rattle.iol_storage.specs.Attempts.{serial_place, counts_flag, attempt_stage_asks, restore_purpose, restore_asks}
-use Rattle.iol_storage.specs.AttemptLaws.{Values, AttemptEvent, AttemptRun, run_begun, run_asked, run_behind, IsSavedSince, IsOwnPlace, IsNamed, IsAllowed, ToldSetsAreSaved, AttemptsAskNoMore}
+use Rattle.iol_storage.specs.AttemptLaws.{Values, AttemptEvent, AttemptRun, run_begun, run_asked, run_behind, IsSavedSince, IsOwnPlace, IsNamed, IsAllowed, AcknowledgedSetsAreSaved, AttemptsAskNoMore}
 use Rattle.iol_storage.proofs.Attempts.{Asked, IsRestoring, At, runs}
 use Rattle.iol_storage.proofs.Downloads.{asking-taken}
 
@@ -76,12 +76,13 @@ upload-end (upload_stage.Breaking result) list count is =
     let wrong : 5 ≡ 2 = ap octet_of is in absurd (omega (arith, wrong))
 upload-end (upload_stage.Over result) list count is = absurd (cc)
 
-module _ (kept : Option Set) (begun : AttemptRun) (a : StorageAttempt) (k : Option Set) (d : Values)
+module _ (backup : Option Set) (begun : AttemptRun) (a : StorageAttempt) (k : Option Set)
+    (d : Values)
     (asked : Asked) (events : List AttemptEvent) where
   -- so what holds there holds where it is asked
   pub ends-at : (Holds : AttemptStage → Type 0) → Holds Ending → (stage : AttemptStage)
-      → is_no_set kept ≡ false → attempt_stage_asks stage a k d ≡ Some (storage_command 2)
-      → At kept begun stage a k d asked events → Holds stage
+      → is_no_set backup ≡ false → attempt_stage_asks stage a k d ≡ Some (storage_command 2)
+      → At backup begun stage a k d asked events → Holds stage
   ends-at Holds ends State none is at = absurd (cc)
   ends-at Holds ends Size none is at = absurd (cc)
   ends-at Holds ends Checksum none is at = absurd (cc)
@@ -94,8 +95,8 @@ module _ (kept : Option Set) (begun : AttemptRun) (a : StorageAttempt) (k : Opti
   ends-at Holds ends (Restoring stage) none is at =
       absurd (restore-end
       (if counts_flag a.mode a.unit.items at.1.set then Counts else Ignored) stage
-      at.1.set.objects (ap is_no_set (sym at.1.is_kept) ∙ none)
-      (ap (λ x. restore_asks a stage x) (sym (at.0 ∙ at.1.is_kept)) ∙ is))
+      at.1.set.objects (ap is_no_set (sym at.1.is_backup) ∙ none)
+      (ap (λ x. restore_asks a stage x) (sym (at.0 ∙ at.1.is_backup)) ∙ is))
   ends-at Holds ends (Breaking result) none is at =
       let wrong : 5 ≡ 2 = ap octet_of is in absurd (omega (arith, wrong))
   ends-at Holds ends (Over result) none is at = absurd (cc)
@@ -103,7 +104,7 @@ module _ (kept : Option Set) (begun : AttemptRun) (a : StorageAttempt) (k : Opti
   -- Nothing else
 
   abbrev Allowed : Request → Type 0
-  Allowed request = IsAllowed a.mode kept a asked request
+  Allowed request = IsAllowed a.mode backup a asked request
 
   is-allowed : (first request : Request) → Some first ≡ Some request → Allowed first
       → Allowed request
@@ -152,7 +153,7 @@ module _ (kept : Option Set) (begun : AttemptRun) (a : StorageAttempt) (k : Opti
   restore-read flag objects (suc (suc i)) place is = absurd (writes-read objects i place is)
 
   restore-allowed : (stage : DownloadStage) (request : Request)
-      (r : IsRestoring a.mode a.unit.items kept stage asked)
+      (r : IsRestoring a.mode a.unit.items backup stage asked)
       → stage_asks (restore_purpose a.mode a.unit.items r.set) stage r.set.objects ≡ Some request
       → Allowed request
   restore-allowed (download_stage.Asking index) (ReadRequest place) r is =
@@ -164,7 +165,7 @@ module _ (kept : Option Set) (begun : AttemptRun) (a : StorageAttempt) (k : Opti
       let purpose = restore_purpose a.mode a.unit.items r.set in
       inr (record {
         set = r.set;
-        is_kept = r.is_kept;
+        is_backup = r.is_backup;
         count = index;
         behind = record {
           looks = r.looks;
@@ -181,7 +182,7 @@ module _ (kept : Option Set) (begun : AttemptRun) (a : StorageAttempt) (k : Opti
 
   allowed-at : (stage : AttemptStage) (request : Request)
       → attempt_stage_asks stage a k d ≡ Some request
-      → At kept begun stage a k d asked events → Allowed request
+      → At backup begun stage a k d asked events → Allowed request
   allowed-at State request is at = is-allowed (ReadRequest (storage_place 2)) request is
       (own-read 2 (omega arith) (omega arith))
   allowed-at Size request is at = is-allowed (ReadRequest (storage_place 3)) request is
@@ -197,27 +198,27 @@ module _ (kept : Option Set) (begun : AttemptRun) (a : StorageAttempt) (k : Opti
   allowed-at Confirming request is at = is-allowed (ReadRequest (storage_place 4)) request is
       (own-read 4 (omega arith) (omega arith))
   allowed-at (Restoring stage) request is at = restore-allowed stage request at.1
-      (ap (λ x. restore_asks a stage x) (sym (at.0 ∙ at.1.is_kept)) ∙ is)
+      (ap (λ x. restore_asks a stage x) (sym (at.0 ∙ at.1.is_backup)) ∙ is)
   allowed-at (Breaking result) request is at = is-allowed (storage_command 5) request is
       (own-command 5 (omega arith) (omega arith))
   allowed-at (Over result) request is at = absurd (cc)
 
-pub told-saved : ToldSetsAreSaved
-told-saved mode purpose kept draft events none is =
-    let begun = run_begun mode purpose kept draft in
+pub acknowledged-saved : AcknowledgedSetsAreSaved
+acknowledged-saved mode purpose backup draft events none is =
+    let begun = run_begun mode purpose backup draft in
     let run = run_behind begun events in
     let asked = run_asked begun events in
-    let at = (runs mode purpose kept draft events).1 in
-    ends-at kept begun run.attempt run.kept run.draft asked events
-    (λ stage. At kept begun stage run.attempt run.kept run.draft asked events
+    let at = (runs mode purpose backup draft events).1 in
+    ends-at backup begun run.attempt run.backup run.draft asked events
+    (λ stage. At backup begun stage run.attempt run.backup run.draft asked events
     → IsSavedSince begun events) (λ saved. saved) run.attempt.stage none is at at
 
 pub asks-no-more : AttemptsAskNoMore
-asks-no-more mode purpose kept draft events request is =
-    let begun = run_begun mode purpose kept draft in
+asks-no-more mode purpose backup draft events request is =
+    let begun = run_begun mode purpose backup draft in
     let run = run_behind begun events in
     let asked = run_asked begun events in
-    let all = runs mode purpose kept draft events in
-    subst (λ md. IsAllowed md kept run.attempt asked request) all.0
-    (allowed-at kept begun run.attempt run.kept run.draft asked events run.attempt.stage request
+    let all = runs mode purpose backup draft events in
+    subst (λ md. IsAllowed md backup run.attempt asked request) all.0
+    (allowed-at backup begun run.attempt run.backup run.draft asked events run.attempt.stage request
     is all.1)

@@ -16,7 +16,7 @@ use Rattle.iol_storage.specs.Downloads.{behind_answer, behind_cut, behind_outcom
 use Rattle.iol_storage.specs.Laws.{asked_with, upload_begun}
 use Rattle.iol_storage.specs.Objects.{fits_behind, is_command_place}
 use Rattle.iol_storage.specs.Uploads.{place_read, behind_checksum, behind_list, behind_other, behind_read, behind_refused, behind_start, behind_upload, is_list, names_more, objects_with, place_named, stage_with, storage_place, upload_after, upload_stage_asks}
-use Rattle.iol_storage.specs.declared.attempt.AttemptResult.TheVariants.{Again, Fetched, Locked, Same, TooLarge, Unchanged}
+use Rattle.iol_storage.specs.declared.attempt.AttemptResult.TheVariants.{Transient, Fetched, Locked, Same, TooLarge, Unchanged}
 use Rattle.iol_storage.specs.declared.attempt.AttemptStage.TheVariants.{Breaking, Checksum, Confirming, Ending, Fetching, Over, Restoring, SerialNumber, Size, State, Unsaved}
 use Rattle.iol_storage.specs.declared.attempt.AttemptStage.{AttemptStage}
 use Rattle.iol_storage.specs.declared.attempt.AttemptPurpose.{AttemptPurpose}
@@ -77,9 +77,9 @@ abbrev last_of : Option Set → ℕ
 last_of None = 0
 last_of (Some set) = 2 + length set.objects
 
-module _ (kept : Option Set) (few : HasFewObjects kept) where
+module _ (backup : Option Set) (few : HasFewObjects backup) where
   abbrev Looks : ℕ → StorageAttempt → Option Set → ℕ → Type 0
-  Looks most a k n = (k ≡ kept) × (a.fetches ≡ 1) × (a.upload.stage ≡ upload_stage.Starting)
+  Looks most a k n = (k ≡ backup) × (a.fetches ≡ 1) × (a.upload.stage ≡ upload_stage.Starting)
       × (n ≤ most)
 
   abbrev Bound : AttemptStage → StorageAttempt → Option Set → Values → ℕ → Type 0
@@ -91,7 +91,7 @@ module _ (kept : Option Set) (few : HasFewObjects kept) where
   Bound Unsaved a k d n = (a.fetches ≤ 3) × (n ≤ 81 * a.fetches + 2)
   Bound Ending a k d n = (a.fetches ≤ 3) × (n ≤ 81 * a.fetches + 2)
   Bound Confirming a k d n = (a.fetches ≤ 3) × (n ≤ 81 * a.fetches + 3)
-  Bound (Restoring stage) a k d n = (k ≡ kept) × RestoreBound stage (last_of kept) n
+  Bound (Restoring stage) a k d n = (k ≡ backup) × RestoreBound stage (last_of backup) n
   Bound (Breaking result) a k d n = n ≤ 246
   Bound (Over result) a k d n = n ≤ 247
 
@@ -118,9 +118,9 @@ module _ (kept : Option Set) (few : HasFewObjects kept) where
   last-few None few = omega arith
   last-few (Some set) few = omega (arith, few)
 
-  restore-few : (stage : DownloadStage) (n : ℕ) → RestoreBound stage (last_of kept) n → n ≤ 247
+  restore-few : (stage : DownloadStage) (n : ℕ) → RestoreBound stage (last_of backup) n → n ≤ 247
   restore-few (download_stage.Asking index) n (within, is) =
-      omega (arith, last-few kept few, within, is)
+      omega (arith, last-few backup few, within, is)
   restore-few (download_stage.Breaking result) n is = omega (arith, is)
   restore-few (download_stage.Over result) n is = omega (arith, is)
 
@@ -221,14 +221,14 @@ module _ (kept : Option Set) (few : HasFewObjects kept) where
         → n ≤ 81 * a.fetches + 4 → BoundNow (checksum_confirmed a octets)
     confirmed a None most is = omega (arith, most, is)
     confirmed a (Some checksum) most is =
-        let again : StorageAttempt = record a {
+        let refetch : StorageAttempt = record a {
           upload = upload_begun checksum;
           fetches = a.fetches + 1;
           stage = Fetching;
         } in
-        let gives_up : StorageAttempt = with_attempt_stage a (Over Again) in
+        let gives_up : StorageAttempt = with_attempt_stage a (Over Transient) in
         either BoundNow (bytes_eq checksum a.upload.checksum) (with_attempt_stage a (Over Fetched))
-        (if nat_lt a.fetches 3 then again else gives_up) (omega (arith, most, is))
+        (if nat_lt a.fetches 3 then refetch else gives_up) (omega (arith, most, is))
         (by (nat_lt a.fetches 3) refl)
       where
         by : (b : Bool) → nat_lt a.fetches 3 ≡ b
@@ -236,7 +236,7 @@ module _ (kept : Option Set) (few : HasFewObjects kept) where
               upload = upload_begun checksum;
               fetches = a.fetches + 1;
               stage = Fetching;
-            }) (with_attempt_stage a (Over Again)))
+            }) (with_attempt_stage a (Over Transient)))
         by true less = let within : a.fetches < 3 = lt-of less in
             (omega (arith, within), omega (arith, is, within))
         by false less = omega (arith, most, is)
@@ -261,8 +261,8 @@ module _ (kept : Option Set) (few : HasFewObjects kept) where
     ended a (Done Written) most is = (most, is)
     ended a (Done (AnswerRefused error additional)) most is = omega (arith, most, is)
     ended a (Done (Read octets)) most is = omega (arith, most, is)
-    ended a (Unknown cause) most is = either (BoundAt a) (session_lasts cause) (Breaking Again)
-        (Over Again) (omega (arith, most, is)) (omega (arith, most, is))
+    ended a (Unknown cause) most is = either (BoundAt a) (session_lasts cause) (Breaking Transient)
+        (Over Transient) (omega (arith, most, is)) (omega (arith, most, is))
     ended a Withdrawn most is = omega (arith, most, is)
     ended a NoIsdu most is = omega (arith, most, is)
 
@@ -455,17 +455,17 @@ module _ (last n m : ℕ) (few : last ≤ 78) (more : m ≤ n + 1) where
 
 -- One event more
 
-module _ (kept : Option Set) (few : HasFewObjects kept) where
+module _ (backup : Option Set) (few : HasFewObjects backup) where
   abbrev In : StorageAttempt → Option Set → Values → ℕ → Type 0
-  In a k d n = Bound kept few a.stage a k d n
+  In a k d n = Bound backup few a.stage a k d n
 
   restore-bound : (a : StorageAttempt) (stage : DownloadStage) (k : Option Set) (d : Values)
-      (n m : ℕ) (o : Outcome) → m ≤ n + 1 → (restore_asks a stage k ≡ None → m ≤ n) → k ≡ kept
-      → RestoreBound stage (last_of kept) n
-      → Bound kept few (behind_restore a stage k o)
+      (n m : ℕ) (o : Outcome) → m ≤ n + 1 → (restore_asks a stage k ≡ None → m ≤ n) → k ≡ backup
+      → RestoreBound stage (last_of backup) n
+      → Bound backup few (behind_restore a stage k o)
       (with_attempt_stage a (behind_restore a stage k o)) k d m
   restore-bound a stage None d n m o more silent same is =
-      omega (arith, silent refl, restore-few kept few stage n is)
+      omega (arith, silent refl, restore-few backup few stage n is)
   restore-bound a stage (Some set) d n m o more silent same is =
       downloaded a set d m same
       (stage_after (restore_purpose a.mode a.unit.items set) set.objects stage o)
@@ -474,7 +474,7 @@ module _ (kept : Option Set) (few : HasFewObjects kept) where
       (behind stage silent (subst (λ last. RestoreBound stage last n) (ap last_of (sym same)) is)))
     where
       few-here : 2 + length set.objects ≤ 78
-      few-here = last-few kept few (Some set) (subst HasFewObjects (sym same) few)
+      few-here = last-few backup few (Some set) (subst HasFewObjects (sym same) few)
 
       behind : (at : DownloadStage)
           → (stage_asks (restore_purpose a.mode a.unit.items set) at set.objects ≡ None → m ≤ n)
@@ -488,9 +488,9 @@ module _ (kept : Option Set) (few : HasFewObjects kept) where
       behind (download_stage.Breaking result) silent is = omega (arith, more, is)
       behind (download_stage.Over result) silent is = omega (arith, silent refl, is)
 
-      downloaded : (a : StorageAttempt) (set : Set) (d : Values) (m : ℕ) → Some set ≡ kept
-          → (at : DownloadStage) → RestoreBound at (last_of kept) m
-          → Bound kept few (behind_download at) (with_attempt_stage a (behind_download at))
+      downloaded : (a : StorageAttempt) (set : Set) (d : Values) (m : ℕ) → Some set ≡ backup
+          → (at : DownloadStage) → RestoreBound at (last_of backup) m
+          → Bound backup few (behind_download at) (with_attempt_stage a (behind_download at))
           (Some set) d m
       downloaded a set d m same (download_stage.Asking index) is = (same, is)
       downloaded a set d m same (download_stage.Breaking result) is = (same, is)
@@ -498,15 +498,15 @@ module _ (kept : Option Set) (few : HasFewObjects kept) where
 
   heard-bound : (stage : AttemptStage) (a : StorageAttempt) (k : Option Set) (d : Values)
       (n m : ℕ) (o : Outcome) → a.stage ≡ stage → m ≤ n + 1
-      → (attempt_stage_asks stage a k d ≡ None → m ≤ n) → Bound kept few stage a k d n
+      → (attempt_stage_asks stage a k d ≡ None → m ≤ n) → Bound backup few stage a k d n
       → In (behind_attempt stage a k d o).0 k (behind_attempt stage a k d o).1 m
   heard-bound State a k d n m o at more silent is = state-heard o
     where
-      looks : Looks kept few 1 a k m
+      looks : Looks backup few 1 a k m
       looks = (is.0, is.1, is.2, omega (arith, more, is.3))
 
       state-heard : (o : Outcome) → In (after_state a o) k d m
-      state-heard (Done (Read octets)) = state-read kept few k d m a octets.items looks
+      state-heard (Done (Read octets)) = state-read backup few k d m a octets.items looks
       state-heard (Done (AnswerRefused error additional)) = omega (arith, looks.3)
       state-heard (Done Written) = omega (arith, looks.3)
       state-heard (Unknown cause) = omega (arith, looks.3)
@@ -514,12 +514,12 @@ module _ (kept : Option Set) (few : HasFewObjects kept) where
       state-heard NoIsdu = omega (arith, looks.3)
   heard-bound Size a k d n m o at more silent is = size-heard o
     where
-      looks : Looks kept few 2 a k m
+      looks : Looks backup few 2 a k m
       looks = (is.0, is.1, is.2, omega (arith, more, is.3))
 
       size-heard : (o : Outcome)
-          → Bound kept few (behind_size o) (with_attempt_stage a (behind_size o)) k d m
-      size-heard (Done (Read octets)) = size-read kept few k d m a octets.items looks
+          → Bound backup few (behind_size o) (with_attempt_stage a (behind_size o)) k d m
+      size-heard (Done (Read octets)) = size-read backup few k d m a octets.items looks
       size-heard (Done (AnswerRefused error additional)) = omega (arith, looks.3)
       size-heard (Done Written) = omega (arith, looks.3)
       size-heard (Unknown cause) = omega (arith, looks.3)
@@ -527,12 +527,12 @@ module _ (kept : Option Set) (few : HasFewObjects kept) where
       size-heard NoIsdu = omega (arith, looks.3)
   heard-bound Checksum a k d n m o at more silent is = checksum-heard o
     where
-      looks : Looks kept few 3 a k m
+      looks : Looks backup few 3 a k m
       looks = (is.0, is.1, is.2, omega (arith, more, is.3))
 
       checksum-heard : (o : Outcome) → In (after_checksum a k o) k d m
       checksum-heard (Done (Read octets)) =
-          checksum-read kept few k d m a (checksum_octets octets.items) looks
+          checksum-read backup few k d m a (checksum_octets octets.items) looks
       checksum-heard (Done (AnswerRefused error additional)) = omega (arith, looks.3)
       checksum-heard (Done Written) = omega (arith, looks.3)
       checksum-heard (Unknown cause) = omega (arith, looks.3)
@@ -540,27 +540,27 @@ module _ (kept : Option Set) (few : HasFewObjects kept) where
       checksum-heard NoIsdu = omega (arith, looks.3)
   heard-bound SerialNumber a k d n m o at more silent is = serial-heard o
     where
-      looks : Looks kept few 4 a k m
+      looks : Looks backup few 4 a k m
       looks = (is.0, is.1, is.2, omega (arith, more, is.3))
 
       serial-heard : (o : Outcome) → In (after_serial_number a k o) k d m
       serial-heard (Done (Read octets)) =
-          unit-looked kept few k d m a (serial_number_read octets.items) looks
+          unit-looked backup few k d m a (serial_number_read octets.items) looks
       serial-heard (Done (AnswerRefused error additional)) =
-          either (λ x. In x k d m) (passes error additional) (with_attempt_stage a (Over Again))
-          (unit_looked a k []) (omega (arith, looks.3)) (unit-looked kept few k d m a [] looks)
+          either (λ x. In x k d m) (passes error additional) (with_attempt_stage a (Over Transient))
+          (unit_looked a k []) (omega (arith, looks.3)) (unit-looked backup few k d m a [] looks)
       serial-heard (Done Written) = omega (arith, looks.3)
       serial-heard (Unknown cause) = omega (arith, looks.3)
       serial-heard Withdrawn = omega (arith, looks.3)
       serial-heard NoIsdu = omega (arith, looks.3)
   heard-bound Fetching a k d n m o at more silent (most, is) =
       let next = upload_after a.upload d o in
-      fetched kept few k next.1 m a next.0 next.0.stage most refl
+      fetched backup few k next.1 m a next.0 next.0.stage most refl
       (fetch-bound d a.fetches n m more a.upload a.upload.stage o silent is)
   heard-bound Unsaved a k d n m o at more silent (most, is) =
       rw at (most, omega (arith, silent refl, is))
   heard-bound Ending a k d n m o at more silent (most, is) =
-      ended kept few k d m a o most (omega (arith, more, is))
+      ended backup few k d m a o most (omega (arith, more, is))
   heard-bound Confirming a k d n m o at more silent (most, is) = confirmed-heard o
     where
       within : m ≤ 81 * a.fetches + 4
@@ -568,7 +568,7 @@ module _ (kept : Option Set) (few : HasFewObjects kept) where
 
       confirmed-heard : (o : Outcome) → In (after_confirmed a o) k d m
       confirmed-heard (Done (Read octets)) =
-          confirmed kept few k d m a (checksum_octets octets.items) most within
+          confirmed backup few k d m a (checksum_octets octets.items) most within
       confirmed-heard (Done (AnswerRefused error additional)) = omega (arith, most, within)
       confirmed-heard (Done Written) = omega (arith, most, within)
       confirmed-heard (Unknown cause) = omega (arith, most, within)
@@ -580,9 +580,9 @@ module _ (kept : Option Set) (few : HasFewObjects kept) where
   heard-bound (Over result) a k d n m o at more silent is = rw at (omega (arith, silent refl, is))
 
   saved-bound : (stage : AttemptStage) (a : StorageAttempt) (k set : Option Set)
-      (d draft : Values) (n : ℕ) → a.stage ≡ stage → Bound kept few stage a k d n
-      → let run = run_after (record { attempt = a; kept = k; draft = d }) (Saved set draft) in
-      In run.attempt run.kept run.draft n
+      (d draft : Values) (n : ℕ) → a.stage ≡ stage → Bound backup few stage a k d n
+      → let run = run_after (record { attempt = a; backup = k; draft = d }) (Saved set draft) in
+      In run.attempt run.backup run.draft n
   saved-bound State a k set d draft n at is = rw at is
   saved-bound Size a k set d draft n at is = rw at is
   saved-bound Checksum a k set d draft n at is = rw at is
@@ -600,22 +600,22 @@ module _ (kept : Option Set) (few : HasFewObjects kept) where
   nothing-more n request o none = rw none (omega arith)
 
   event-bound : (run : AttemptRun) (e : AttemptEvent) (n : ℕ)
-      → In run.attempt run.kept run.draft n
+      → In run.attempt run.backup run.draft n
       → let next = run_after run e in
-      In next.attempt next.kept next.draft (n + length (event_asked run e))
+      In next.attempt next.backup next.draft (n + length (event_asked run e))
   event-bound run (Heard o) n is =
       let asked = length (asked_with (run_asks run) o) in
-      heard-bound run.attempt.stage run.attempt run.kept run.draft n (n + asked) o refl
+      heard-bound run.attempt.stage run.attempt run.backup run.draft n (n + asked) o refl
       (omega (arith, asked-once (run_asks run) o)) (nothing-more n (run_asks run) o) is
   event-bound run (Saved set draft) n is =
       let next = run_after run (Saved set draft) in
-      subst (λ m. In next.attempt next.kept next.draft m) (sym (plus-zero n))
-      (saved-bound run.attempt.stage run.attempt run.kept set run.draft draft n refl is)
+      subst (λ m. In next.attempt next.backup next.draft m) (sym (plus-zero n))
+      (saved-bound run.attempt.stage run.attempt run.backup set run.draft draft n refl is)
 
   run-bound : (events : List AttemptEvent) (run : AttemptRun) (n : ℕ)
-      → In run.attempt run.kept run.draft n → n + length (run_asked run events) ≤ 247
+      → In run.attempt run.backup run.draft n → n + length (run_asked run events) ≤ 247
   run-bound [] run n is =
-      let bound = bound-few kept few run.attempt.stage run.attempt run.kept run.draft n is in
+      let bound = bound-few backup few run.attempt.stage run.attempt run.backup run.draft n is in
       omega (arith, bound)
   run-bound (e ∷ events) run n is =
       let more = run-bound events (run_after run e) (n + length (event_asked run e))
@@ -625,17 +625,18 @@ module _ (kept : Option Set) (few : HasFewObjects kept) where
       length-append (event_asked run e) (run_asked (run_after run e) events) in
       rw all (omega (arith, more))
 
-begins-bound : (mode : StorageMode) (purpose : AttemptPurpose) (kept : Option Set)
-    (draft : Values) (few : HasFewObjects kept)
-    → let begun = run_begun mode purpose kept draft in
-    In kept few begun.attempt kept draft 0
-begins-bound Off purpose kept draft _ = omega arith
-begins-bound Restore purpose kept draft _ = (refl, refl, refl, omega arith)
-begins-bound Both purpose kept draft _ = (refl, refl, refl, omega arith)
-begins-bound Own purpose kept draft _ = (refl, refl, refl, omega arith)
+begins-bound : (mode : StorageMode) (purpose : AttemptPurpose) (backup : Option Set)
+    (draft : Values) (few : HasFewObjects backup)
+    → let begun = run_begun mode purpose backup draft in
+    In backup few begun.attempt backup draft 0
+begins-bound Off purpose backup draft _ = omega arith
+begins-bound Restore purpose backup draft _ = (refl, refl, refl, omega arith)
+begins-bound Both purpose backup draft _ = (refl, refl, refl, omega arith)
+begins-bound Own purpose backup draft _ = (refl, refl, refl, omega arith)
 
 pub attempts_ask_few : AttemptsAskFew
-attempts_ask_few mode purpose kept draft events short =
-    let begun = run_begun mode purpose kept draft in
-    let most = run-bound kept short events begun 0 (begins-bound mode purpose kept draft short) in
+attempts_ask_few mode purpose backup draft events short =
+    let begun = run_begun mode purpose backup draft in
+    let most = run-bound backup short events begun 0
+    (begins-bound mode purpose backup draft short) in
     omega (arith, most)

@@ -10,7 +10,7 @@ use Rattle.iol_storage.specs.Attempts.{behind_attempt, behind_download, behind_e
 use Rattle.iol_storage.specs.Downloads.{session_lasts, stage_after}
 use Rattle.iol_storage.specs.Laws.{upload_begun}
 use Rattle.iol_storage.specs.Uploads.{upload_after}
-use Rattle.iol_storage.specs.declared.attempt.AttemptResult.TheVariants.{Again, Fetched, Locked, Same, TooLarge, Unchanged}
+use Rattle.iol_storage.specs.declared.attempt.AttemptResult.TheVariants.{Transient, Fetched, Locked, Same, TooLarge, Unchanged}
 use Rattle.iol_storage.specs.declared.attempt.AttemptStage.TheVariants.{Breaking, Checksum, Confirming, Ending, Fetching, Over, Restoring, SerialNumber, Size, State, Unsaved}
 use Rattle.iol_storage.specs.declared.attempt.AttemptStage.{AttemptStage}
 use Rattle.iol_storage.specs.declared.attempt.StorageAttempt.{StorageAttempt}
@@ -65,7 +65,7 @@ decision-without-not Restore = refl
 decision-without-not Both = refl
 decision-without-not Own = refl
 
-decision-not : (a : StorageAttempt) (kept : Option Set) → NotEnding (decision a kept)
+decision-not : (a : StorageAttempt) (backup : Option Set) → NotEnding (decision a backup)
 decision-not a None = decision-without-not a.mode
 decision-not a (Some set) =
     let to : AttemptStage = Restoring (download_stage.Asking 0) in
@@ -77,18 +77,18 @@ decision-not a (Some set) =
     (either-not (is_in_service a.purpose) (Over Unchanged) by_checksum refl
     (either-not (bytes_eq a.upload.checksum set.checksum) (Over Same) to refl refl))
 
-next-look-not : (mode : StorageMode) (a : StorageAttempt) (kept : Option Set)
-    → NotEnding (next_look mode a kept)
-next-look-not Off a kept = decision-not a kept
-next-look-not Restore a kept = decision-not a kept
-next-look-not Both a kept = decision-not a kept
-next-look-not Own a kept = refl
+next-look-not : (mode : StorageMode) (a : StorageAttempt) (backup : Option Set)
+    → NotEnding (next_look mode a backup)
+next-look-not Off a backup = decision-not a backup
+next-look-not Restore a backup = decision-not a backup
+next-look-not Both a backup = decision-not a backup
+next-look-not Own a backup = refl
 
-checksum-not : (a : StorageAttempt) (kept : Option Set) (octets : Option (List ℕ))
-    → NotEnding (checksum_read a kept octets).stage
-checksum-not a kept None = refl
-checksum-not a kept (Some checksum) =
-    next-look-not a.mode (with_upload_begun a checksum) kept
+checksum-not : (a : StorageAttempt) (backup : Option Set) (octets : Option (List ℕ))
+    → NotEnding (checksum_read a backup octets).stage
+checksum-not a backup None = refl
+checksum-not a backup (Some checksum) =
+    next-look-not a.mode (with_upload_begun a checksum) backup
 
 confirmed-not : (a : StorageAttempt) (octets : Option (List ℕ))
     → NotEnding (checksum_confirmed a octets).stage
@@ -99,7 +99,7 @@ confirmed-not a (Some checksum) =
       fetches = a.fetches + 1;
       stage = Fetching;
     } in
-    let gives_up : StorageAttempt = with_attempt_stage a (Over Again) in
+    let gives_up : StorageAttempt = with_attempt_stage a (Over Transient) in
     either-attempt (bytes_eq checksum a.upload.checksum) (with_attempt_stage a (Over Fetched))
     (if nat_lt a.fetches 3 then fetches else gives_up) refl
     (either-attempt (nat_lt a.fetches 3) fetches gives_up refl refl)
@@ -124,8 +124,8 @@ download-not (download_stage.Asking index) = refl
 download-not (download_stage.Breaking result) = refl
 download-not (download_stage.Over result) = refl
 
-restore-not : (a : StorageAttempt) (stage : DownloadStage) (kept : Option Set) (o : Outcome)
-    → NotEnding (behind_restore a stage kept o)
+restore-not : (a : StorageAttempt) (stage : DownloadStage) (backup : Option Set) (o : Outcome)
+    → NotEnding (behind_restore a stage backup o)
 restore-not a stage None o = refl
 restore-not a stage (Some set) o = download-not
     (stage_after (restore_purpose a.mode a.unit.items set) set.objects stage o)
@@ -134,13 +134,14 @@ end-not : (o : Outcome) → NotEnding (behind_end o)
 end-not (Done Written) = refl
 end-not (Done (AnswerRefused error additional)) = refl
 end-not (Done (Read octets)) = refl
-end-not (Unknown cause) = either-not (session_lasts cause) (Breaking Again) (Over Again) refl refl
+end-not (Unknown cause) = either-not (session_lasts cause) (Breaking Transient) (Over Transient)
+    refl refl
 end-not Withdrawn = refl
 end-not NoIsdu = refl
 
-module _ (a : StorageAttempt) (kept : Option Set) (draft : Values) where
+module _ (a : StorageAttempt) (backup : Option Set) (draft : Values) where
   abbrev next_at : AttemptStage → Outcome → AttemptStage
-  next_at stage o = (behind_attempt stage a kept draft o).0.stage
+  next_at stage o = (behind_attempt stage a backup draft o).0.stage
 
   state-heard-not : (o : Outcome) → NotEnding (next_at State o)
   state-heard-not (Done (Read octets)) = state-not a octets.items
@@ -159,7 +160,7 @@ module _ (a : StorageAttempt) (kept : Option Set) (draft : Values) where
   size-heard-not NoIsdu = refl
 
   checksum-heard-not : (o : Outcome) → NotEnding (next_at Checksum o)
-  checksum-heard-not (Done (Read octets)) = checksum-not a kept (checksum_octets octets.items)
+  checksum-heard-not (Done (Read octets)) = checksum-not a backup (checksum_octets octets.items)
   checksum-heard-not (Done (AnswerRefused error additional)) = refl
   checksum-heard-not (Done Written) = refl
   checksum-heard-not (Unknown cause) = refl
@@ -168,11 +169,11 @@ module _ (a : StorageAttempt) (kept : Option Set) (draft : Values) where
 
   serial-heard-not : (o : Outcome) → NotEnding (next_at SerialNumber o)
   serial-heard-not (Done (Read octets)) = decision-not
-      (record a { unit = record { items = serial_number_read octets.items } }) kept
+      (record a { unit = record { items = serial_number_read octets.items } }) backup
   serial-heard-not (Done (AnswerRefused error additional)) =
-      either-attempt (passes error additional) (with_attempt_stage a (Over Again))
-      (unit_looked a kept []) refl
-      (decision-not (record a { unit = record { items = [] } }) kept)
+      either-attempt (passes error additional) (with_attempt_stage a (Over Transient))
+      (unit_looked a backup []) refl
+      (decision-not (record a { unit = record { items = [] } }) backup)
   serial-heard-not (Done Written) = refl
   serial-heard-not (Unknown cause) = refl
   serial-heard-not Withdrawn = refl
@@ -196,6 +197,6 @@ module _ (a : StorageAttempt) (kept : Option Set) (draft : Values) where
   heard-not Unsaved o at = ap is_ending at
   heard-not Ending o at = end-not o
   heard-not Confirming o at = confirmed-heard-not o
-  heard-not (Restoring stage) o at = restore-not a stage kept o
+  heard-not (Restoring stage) o at = restore-not a stage backup o
   heard-not (Breaking result) o at = refl
   heard-not (Over result) o at = ap is_ending at

@@ -22,7 +22,7 @@ use Rattle.iol_storage.specs.declared.attempt.StorageMode.{StorageMode}
 use Rattle.iol_storage.specs.declared.attempt.StorageMode.TheVariants.{Off, Restore, Both, Own}
 use Rattle.iol_storage.specs.declared.attempt.AttemptPurpose.{AttemptPurpose}
 use Rattle.iol_storage.specs.declared.attempt.AttemptResult.{AttemptResult}
-use Rattle.iol_storage.specs.declared.attempt.AttemptResult.TheVariants.{Unsupported, Locked, TooLarge, Same, Unchanged, Restored, Fetched, Refused, Again}
+use Rattle.iol_storage.specs.declared.attempt.AttemptResult.TheVariants.{Unsupported, Locked, TooLarge, Same, Unchanged, Restored, Fetched, Refused, Transient}
 use Rattle.iol_storage.specs.declared.attempt.AttemptStage.{AttemptStage}
 use Rattle.iol_storage.specs.declared.attempt.AttemptStage.TheVariants.{State, Size, Checksum, SerialNumber, Fetching, Unsaved, Ending, Confirming, Restoring, Breaking, Over}
 use Rattle.iol_storage.specs.declared.attempt.StorageAttempt.{StorageAttempt}
@@ -128,10 +128,10 @@ pub record IsFetching (checksum : List ℕ) (u : Upload) (draft : Values) (asked
   at : upload_behind_all (upload_begun checksum) objects outcomes ≡ (u, draft)
 
 -- a restore of this set goes on
-pub record IsRestoring (mode : StorageMode) (unit : List ℕ) (kept : Option Set)
+pub record IsRestoring (mode : StorageMode) (unit : List ℕ) (backup : Option Set)
     (stage : DownloadStage) (asked : Asked) : Type 0 where
   pub set : Set
-  pub is_kept : kept ≡ Some set
+  pub is_backup : backup ≡ Some set
   pub looks : Asked
   pub are : requests_of looks ≡ look_requests mode
   pub outcomes : List Outcome
@@ -140,14 +140,14 @@ pub record IsRestoring (mode : StorageMode) (unit : List ℕ) (kept : Option Set
   pub at : stage_behind_all (restore_purpose mode unit set) set.objects (download_stage.Asking 0)
       outcomes ≡ stage
 
-module _ (kept : Option Set) (begun : AttemptRun) where
+module _ (backup : Option Set) (begun : AttemptRun) where
   abbrev OverAt : AttemptResult → Option Set → StorageMode → List ℕ → Asked → Type 0
-  OverAt Restored k md unit asked = (k ≡ kept) × IsRestored md kept unit asked
+  OverAt Restored k md unit asked = (k ≡ backup) × IsRestored md backup unit asked
   OverAt other k md unit asked = Unit {0}
 
   -- so far these looks were asked
   abbrev Looked : List Request → Option Set → Asked → Type 0
-  Looked looks k asked = (k ≡ kept) × (requests_of asked ≡ looks)
+  Looked looks k asked = (k ≡ backup) × (requests_of asked ≡ looks)
 
   abbrev IsBegun : StorageAttempt → Type 0
   IsBegun a = a.upload ≡ upload_begun a.upload.checksum
@@ -168,7 +168,7 @@ module _ (kept : Option Set) (begun : AttemptRun) where
   At Ending a k d asked events = IsSavedSince begun events
   At Confirming a k d asked events = Unit {0}
   At (Restoring stage) a k d asked events =
-      (k ≡ kept) × IsRestoring a.mode a.unit.items kept stage asked
+      (k ≡ backup) × IsRestoring a.mode a.unit.items backup stage asked
   At (Breaking result) a k d asked events =
       (other : Option Set) (md : StorageMode) (unit : List ℕ) (all : Asked)
       → OverAt result other md unit all
@@ -182,7 +182,7 @@ module _ (kept : Option Set) (begun : AttemptRun) where
   refused-over : (refusal : Refusal) (k : Option Set) (md : StorageMode) (unit : List ℕ)
       (asked : Asked) → OverAt (refusal_result refusal) k md unit asked
   refused-over refusal k md unit asked = either (λ r. OverAt r k md unit asked)
-      (passes refusal.error refusal.additional) Again (Refused refusal) tt tt
+      (passes refusal.error refusal.additional) Transient (Refused refusal) tt tt
 
   look-over : (place : Place) (o : Outcome) (k : Option Set) (md : StorageMode) (unit : List ℕ)
       (asked : Asked) → OverAt (look_result place o) k md unit asked
@@ -213,8 +213,8 @@ module _ (kept : Option Set) (begun : AttemptRun) where
     decided-none Both a asked is = begins-fetch a asked is
     decided-none Own a asked is = begins-fetch a asked is
 
-    decided-some : (a : StorageAttempt) (set : Set) (asked : Asked) → IsBegun a → k ≡ kept
-        → kept ≡ Some set → requests_of asked ≡ look_requests a.mode
+    decided-some : (a : StorageAttempt) (set : Set) (asked : Asked) → IsBegun a → k ≡ backup
+        → backup ≡ Some set → requests_of asked ≡ look_requests a.mode
         → At (decision_beside a set) (with_attempt_stage a (decision_beside a set)) k d asked events
     decided-some a set asked is same stays looks =
         let P = λ (s : AttemptStage). At s (with_attempt_stage a s) k d asked events in
@@ -230,7 +230,7 @@ module _ (kept : Option Set) (begun : AttemptRun) where
           same,
           record {
             set = set;
-            is_kept = stays;
+            is_backup = stays;
             looks = asked;
             are = looks;
             outcomes = [];
@@ -239,8 +239,8 @@ module _ (kept : Option Set) (begun : AttemptRun) where
           },
         )))
 
-    decided-by : (a : StorageAttempt) (other : Option Set) (asked : Asked) → IsBegun a → k ≡ kept
-        → other ≡ kept → requests_of asked ≡ look_requests a.mode
+    decided-by : (a : StorageAttempt) (other : Option Set) (asked : Asked) → IsBegun a → k ≡ backup
+        → other ≡ backup → requests_of asked ≡ look_requests a.mode
         → At (decision a other) (with_attempt_stage a (decision a other)) k d asked events
     decided-by a None asked is same stays looks = decided-none a.mode a asked is
     decided-by a (Some set) asked is same stays looks =
@@ -339,19 +339,19 @@ module _ (kept : Option Set) (begun : AttemptRun) where
     checksum-heard a NoIsdu asked m looks = (m, tt)
 
     unit-looked : (a : StorageAttempt) (unit : List ℕ) (asked : Asked) → a.mode ≡ mode → IsBegun a
-        → k ≡ kept → requests_of asked ≡ look_requests a.mode
+        → k ≡ backup → requests_of asked ≡ look_requests a.mode
         → Holds mode (unit_looked a k unit) k d asked events
     unit-looked a unit asked m is same looks =
         (m, decided-by (record a { unit = record { items = unit } }) k asked is same same looks)
 
     serial-heard : (a : StorageAttempt) (o : Outcome) (asked : Asked) → a.mode ≡ mode → IsBegun a
-        → k ≡ kept → requests_of asked ≡ look_requests a.mode
+        → k ≡ backup → requests_of asked ≡ look_requests a.mode
         → Holds mode (after_serial_number a k o) k d asked events
     serial-heard a (Done (Read octets)) asked m is same looks =
         unit-looked a (serial_number_read octets.items) asked m is same looks
     serial-heard a (Done (AnswerRefused error additional)) asked m is same looks =
         either (λ x. Holds mode x k d asked events) (passes error additional)
-        (with_attempt_stage a (Over Again)) (unit_looked a k []) (m, tt)
+        (with_attempt_stage a (Over Transient)) (unit_looked a k []) (m, tt)
         (unit-looked a [] asked m is same looks)
     serial-heard a (Done Written) asked m is same looks = (m, tt)
     serial-heard a (Unknown cause) asked m is same looks = (m, tt)
@@ -419,7 +419,7 @@ module _ (kept : Option Set) (begun : AttemptRun) where
     end-heard a (Done (Read octets)) asked = λ other md unit all. tt
     end-heard a (Unknown cause) asked =
         either (λ s. At s (with_attempt_stage a s) k d asked events) (session_lasts cause)
-        (Breaking Again) (Over Again) (λ other md unit all. tt) tt
+        (Breaking Transient) (Over Transient) (λ other md unit all. tt) tt
     end-heard a Withdrawn asked = tt
     end-heard a NoIsdu asked = tt
 
@@ -428,15 +428,15 @@ module _ (kept : Option Set) (begun : AttemptRun) where
     checksum-confirmed a None asked m = (m, tt)
     checksum-confirmed a (Some checksum) asked m =
         let P = λ (x : StorageAttempt). Holds mode x k d asked events in
-        let again : StorageAttempt = record a {
+        let refetch : StorageAttempt = record a {
           upload = upload_begun checksum;
           fetches = a.fetches + 1;
           stage = Fetching;
         } in
-        let ended : StorageAttempt = with_attempt_stage a (Over Again) in
+        let ended : StorageAttempt = with_attempt_stage a (Over Transient) in
         either P (bytes_eq checksum a.upload.checksum) (with_attempt_stage a (Over Fetched))
-        (if nat_lt a.fetches 3 then again else ended) (m, tt)
-        (either P (nat_lt a.fetches 3) again ended (m, begins-fetch again asked refl) (m, tt))
+        (if nat_lt a.fetches 3 then refetch else ended) (m, tt)
+        (either P (nat_lt a.fetches 3) refetch ended (m, begins-fetch refetch asked refl) (m, tt))
 
     confirmed-heard : (a : StorageAttempt) (o : Outcome) (asked : Asked) → a.mode ≡ mode
         → Holds mode (after_confirmed a o) k d asked events
@@ -454,16 +454,16 @@ module _ (kept : Option Set) (begun : AttemptRun) where
 
     -- the restore: with one request more it goes on, or ends
     restored-more : (md : StorageMode) (unit : List ℕ) (stage : DownloadStage) (asked : Asked)
-        (o : Outcome) (r : IsRestoring md unit kept stage asked)
+        (o : Outcome) (r : IsRestoring md unit backup stage asked)
         → let purpose = restore_purpose md unit r.set in
-        IsRestoring md unit kept (stage_after purpose r.set.objects stage o)
+        IsRestoring md unit backup (stage_after purpose r.set.objects stage o)
         (asked ++ asked_with (stage_asks purpose stage r.set.objects) o)
     restored-more md unit stage asked o r =
         let purpose = restore_purpose md unit r.set in
         let first : DownloadStage = download_stage.Asking 0 in
         record {
           set = r.set;
-          is_kept = r.is_kept;
+          is_backup = r.is_backup;
           looks = r.looks;
           are = r.are;
           outcomes = r.outcomes ++ o ∷ [];
@@ -476,8 +476,8 @@ module _ (kept : Option Set) (begun : AttemptRun) where
               ∙ ap (λ s. stage_after purpose r.set.objects s o) r.at;
         }
 
-    restore-over : (a : StorageAttempt) (stage : DownloadStage) (asked : Asked) → k ≡ kept
-        → IsRestoring a.mode a.unit.items kept stage asked
+    restore-over : (a : StorageAttempt) (stage : DownloadStage) (asked : Asked) → k ≡ backup
+        → IsRestoring a.mode a.unit.items backup stage asked
         → At (behind_download stage) (with_attempt_stage a (behind_download stage)) k d asked
         events
     restore-over a (download_stage.Asking index) asked same r = (same, r)
@@ -487,7 +487,7 @@ module _ (kept : Option Set) (begun : AttemptRun) where
           same,
           record {
             set = r.set;
-            is_kept = r.is_kept;
+            is_backup = r.is_backup;
             whole = record {
               looks = r.looks;
               are = r.are;
@@ -505,14 +505,14 @@ module _ (kept : Option Set) (begun : AttemptRun) where
     restore-over a (download_stage.Over download.NoIsdu) asked same r = tt
 
     restore-heard : (a : StorageAttempt) (stage : DownloadStage) (o : Outcome) (asked : Asked)
-        → k ≡ kept → IsRestoring a.mode a.unit.items kept stage asked
+        → k ≡ backup → IsRestoring a.mode a.unit.items backup stage asked
         → At (behind_restore a stage k o) (with_attempt_stage a (behind_restore a stage k o)) k d
         (asked ++ asked_with (restore_asks a stage k) o) events
     restore-heard a stage o asked same r =
         let purpose = restore_purpose a.mode a.unit.items r.set in
         subst (λ x. At (behind_restore a stage x o)
         (with_attempt_stage a (behind_restore a stage x o)) k d
-        (asked ++ asked_with (restore_asks a stage x) o) events) (sym (same ∙ r.is_kept))
+        (asked ++ asked_with (restore_asks a stage x) o) events) (sym (same ∙ r.is_backup))
         (restore-over a (stage_after purpose r.set.objects stage o)
         (asked ++ asked_with (stage_asks purpose stage r.set.objects) o) same
         (restored-more a.mode a.unit.items stage asked o r))
@@ -560,18 +560,18 @@ module _ (kept : Option Set) (begun : AttemptRun) where
         (m, nothing-asked (Over result) (with_attempt_stage a (Over result)) asked is)
 
   -- a set that waits is saved
-  saved-again : (past : List AttemptEvent) (e : AttemptEvent)
+  saved-still : (past : List AttemptEvent) (e : AttemptEvent)
       → ((run : AttemptRun) → event_asked run e ≡ []) → IsSavedSince begun past
       → IsSavedSince begun (past ++ e ∷ [])
-  saved-again past e silent s =
-      let from = run_after (run_behind begun s.before) (Saved s.kept s.draft) in
+  saved-still past e silent s =
+      let from = run_after (run_behind begun s.before) (Saved s.backup s.draft) in
       record {
         before = s.before;
-        kept = s.kept;
+        backup = s.backup;
         draft = s.draft;
         after = s.after ++ e ∷ [];
         is = ap (λ x. x ++ e ∷ []) s.is
-            ∙ append_assoc s.before (Saved s.kept s.draft ∷ s.after) (e ∷ []);
+            ∙ append_assoc s.before (Saved s.backup s.draft ∷ s.after) (e ∷ []);
         waited = s.waited;
         silent = run-asked from s.after e
             ∙ (ap (λ x. x ++ event_asked (run_behind from s.after) e) s.silent
@@ -579,10 +579,10 @@ module _ (kept : Option Set) (begun : AttemptRun) where
       }
 
   abbrev run_at : AttemptStage → StorageAttempt → Option Set → Values → AttemptRun
-  run_at stage a k d = record { attempt = with_attempt_stage a stage; kept = k; draft = d }
+  run_at stage a k d = record { attempt = with_attempt_stage a stage; backup = k; draft = d }
 
   abbrev Runs : StorageMode → AttemptRun → Asked → List AttemptEvent → Type 0
-  Runs mode run asked events = Holds mode run.attempt run.kept run.draft asked events
+  Runs mode run asked events = Holds mode run.attempt run.backup run.draft asked events
 
   saved : (mode : StorageMode) (stage : AttemptStage) (a : StorageAttempt) (k : Option Set)
       (d : Values) (asked : Asked) (past : List AttemptEvent) (set : Option Set) (draft : Values)
@@ -599,7 +599,7 @@ module _ (kept : Option Set) (begun : AttemptRun) where
     is.0,
     record {
       before = past;
-      kept = set;
+      backup = set;
       draft = draft;
       after = [];
       is = refl;
@@ -608,7 +608,7 @@ module _ (kept : Option Set) (begun : AttemptRun) where
     },
   )
   saved mode Ending a k d asked past set draft reached is =
-      (is.0, saved-again past (Saved set draft) (λ run. refl) is.1)
+      (is.0, saved-still past (Saved set draft) (λ run. refl) is.1)
   saved mode Confirming a k d asked past set draft reached is = is
   saved mode (Restoring stage) a k d asked past set draft reached is = is
   saved mode (Breaking result) a k d asked past set draft reached is = is
@@ -618,11 +618,11 @@ module _ (kept : Option Set) (begun : AttemptRun) where
       (e : AttemptEvent) → run ≡ run_behind begun past → Runs mode run asked past
       → Runs mode (run_after run e) (asked ++ event_asked run e) (past ++ e ∷ [])
   step mode run asked past (Heard o) reached is =
-      heard mode run.kept run.draft (past ++ Heard o ∷ []) run.attempt.stage run.attempt asked
+      heard mode run.backup run.draft (past ++ Heard o ∷ []) run.attempt.stage run.attempt asked
       past o is.0 is.1
   step mode run asked past (Saved set draft) reached is =
       subst (λ x. Runs mode (run_after run (Saved set draft)) x (past ++ Saved set draft ∷ []))
-      (sym (append-nil asked)) (saved mode run.attempt.stage run.attempt run.kept run.draft asked
+      (sym (append-nil asked)) (saved mode run.attempt.stage run.attempt run.backup run.draft asked
       past set draft reached is)
 
   keeps : (mode : StorageMode) (events : List AttemptEvent) (run : AttemptRun) (asked : Asked)
@@ -642,53 +642,54 @@ module _ (kept : Option Set) (begun : AttemptRun) where
       ++ run_asked (run_after run e) events) x) (append_assoc past (e ∷ []) events) next)
 
 -- what holds of each run from its beginning
-begins : (mode : StorageMode) (purpose : AttemptPurpose) (kept : Option Set) (draft : Values)
-    → Runs kept (run_begun mode purpose kept draft) mode (run_begun mode purpose kept draft) [] []
-begins Off purpose kept draft = (refl, tt)
-begins Restore purpose kept draft = (refl, (refl, refl))
-begins Both purpose kept draft = (refl, (refl, refl))
-begins Own purpose kept draft = (refl, (refl, refl))
+begins : (mode : StorageMode) (purpose : AttemptPurpose) (backup : Option Set) (draft : Values)
+    → Runs backup (run_begun mode purpose backup draft) mode
+    (run_begun mode purpose backup draft) [] []
+begins Off purpose backup draft = (refl, tt)
+begins Restore purpose backup draft = (refl, (refl, refl))
+begins Both purpose backup draft = (refl, (refl, refl))
+begins Own purpose backup draft = (refl, (refl, refl))
 
-pub runs : (mode : StorageMode) (purpose : AttemptPurpose) (kept : Option Set) (draft : Values)
+pub runs : (mode : StorageMode) (purpose : AttemptPurpose) (backup : Option Set) (draft : Values)
     (events : List AttemptEvent)
-    → let begun = run_begun mode purpose kept draft in
-    Runs kept begun mode (run_behind begun events) (run_asked begun events) events
-runs mode purpose kept draft events =
-    let begun = run_begun mode purpose kept draft in
-    keeps kept begun mode events begun [] [] refl (begins mode purpose kept draft)
+    → let begun = run_begun mode purpose backup draft in
+    Runs backup begun mode (run_behind begun events) (run_asked begun events) events
+runs mode purpose backup draft events =
+    let begun = run_begun mode purpose backup draft in
+    keeps backup begun mode events begun [] [] refl (begins mode purpose backup draft)
 
 -- The laws
 
-pub waits-whole : (kept : Option Set) (begun : AttemptRun) (stage : AttemptStage)
+pub waits-whole : (backup : Option Set) (begun : AttemptRun) (stage : AttemptStage)
     (a : StorageAttempt)
     (k : Option Set) (d : Values) (asked : Asked) (events : List AttemptEvent)
-    → is_unsaved stage ≡ true → At kept begun stage a k d asked events
+    → is_unsaved stage ≡ true → At backup begun stage a k d asked events
     → EndsInWholeSet a.upload.checksum d asked
-waits-whole kept begun Unsaved a k d asked events waits is = is
-waits-whole kept begun State a k d asked events waits is = absurd (cc)
-waits-whole kept begun Size a k d asked events waits is = absurd (cc)
-waits-whole kept begun Checksum a k d asked events waits is = absurd (cc)
-waits-whole kept begun SerialNumber a k d asked events waits is = absurd (cc)
-waits-whole kept begun Fetching a k d asked events waits is = absurd (cc)
-waits-whole kept begun Ending a k d asked events waits is = absurd (cc)
-waits-whole kept begun Confirming a k d asked events waits is = absurd (cc)
-waits-whole kept begun (Restoring stage) a k d asked events waits is = absurd (cc)
-waits-whole kept begun (Breaking result) a k d asked events waits is = absurd (cc)
-waits-whole kept begun (Over result) a k d asked events waits is = absurd (cc)
+waits-whole backup begun Unsaved a k d asked events waits is = is
+waits-whole backup begun State a k d asked events waits is = absurd (cc)
+waits-whole backup begun Size a k d asked events waits is = absurd (cc)
+waits-whole backup begun Checksum a k d asked events waits is = absurd (cc)
+waits-whole backup begun SerialNumber a k d asked events waits is = absurd (cc)
+waits-whole backup begun Fetching a k d asked events waits is = absurd (cc)
+waits-whole backup begun Ending a k d asked events waits is = absurd (cc)
+waits-whole backup begun Confirming a k d asked events waits is = absurd (cc)
+waits-whole backup begun (Restoring stage) a k d asked events waits is = absurd (cc)
+waits-whole backup begun (Breaking result) a k d asked events waits is = absurd (cc)
+waits-whole backup begun (Over result) a k d asked events waits is = absurd (cc)
 
 pub unsaved-whole : UnsavedSetsAreWhole
-unsaved-whole mode purpose kept draft events waits =
-    let begun = run_begun mode purpose kept draft in
+unsaved-whole mode purpose backup draft events waits =
+    let begun = run_begun mode purpose backup draft in
     let run = run_behind begun events in
-    waits-whole kept begun run.attempt.stage run.attempt run.kept run.draft
-    (run_asked begun events) events waits (runs mode purpose kept draft events).1
+    waits-whole backup begun run.attempt.stage run.attempt run.backup run.draft
+    (run_asked begun events) events waits (runs mode purpose backup draft events).1
 
 pub restored-taken : RestoredSetsAreTaken
-restored-taken mode purpose kept draft events ends =
-    let begun = run_begun mode purpose kept draft in
+restored-taken mode purpose backup draft events ends =
+    let begun = run_begun mode purpose backup draft in
     let run = run_behind begun events in
     let asked = run_asked begun events in
-    let all = runs mode purpose kept draft events in
+    let all = runs mode purpose backup draft events in
     let (same, restored) =
-    subst (λ s. At kept begun s run.attempt run.kept run.draft asked events) ends all.1 in
-    (same, subst (λ md. IsRestored md kept run.attempt.unit.items asked) all.0 restored)
+    subst (λ s. At backup begun s run.attempt run.backup run.draft asked events) ends all.1 in
+    (same, subst (λ md. IsRestored md backup run.attempt.unit.items asked) all.0 restored)

@@ -127,9 +127,9 @@ module _ (purpose : DownloadPurpose) (objects : List (Place × List ℕ)) where
       ((r, o) ∷ asked-from (stage_after purpose objects (Asking index) o) os)
   applied-more index o os r false more taken lt within next done =
       let failed = failed-step index o taken in
-      let kept = failed-stays (stage_after purpose objects (Asking index) o) os failed in
+      let stays = failed-stays (stage_after purpose objects (Asking index) o) os failed in
       let wrong : false ≡ true =
-      sym (ap (λ s. result_failed (stage_result s)) done) ∙ (ap result_failed kept ∙ failed) in
+      sym (ap (λ s. result_failed (stage_result s)) done) ∙ (ap result_failed stays ∙ failed) in
       absurd (cc)
   applied-more index o os r true true taken lt within next done =
       let step = taken-step index o taken in
@@ -172,7 +172,7 @@ module _ (purpose : DownloadPurpose) (objects : List (Place × List ℕ)) where
       ((r, o) ∷ asked-from (stage_after purpose objects (Asking index) o) os) result
   cut-more index o os r result false more other taken lt within next done =
       let failed = failed-step index o taken in
-      let kept = failed-stays (stage_after purpose objects (Asking index) o) os failed in
+      let stays = failed-stays (stage_after purpose objects (Asking index) o) os failed in
       let here : index ≡ index + 0 = omega arith in
       record {
         count = 0;
@@ -182,7 +182,7 @@ module _ (purpose : DownloadPurpose) (objects : List (Place × List ℕ)) where
         is_next = refl;
         outcome = o;
         brings = subst (λ i. stage_result (stage_behind purpose objects i o) ≡ Some result) here
-            (sym kept ∙ done);
+            (sym stays ∙ done);
         breaks = asked-from (stage_after purpose objects (Asking index) o) os;
         are_breaks = only-breaks (stage_after purpose objects (Asking index) o) os failed;
         is = refl;
@@ -249,9 +249,9 @@ module _ (purpose : DownloadPurpose) (objects : List (Place × List ℕ)) where
       ((r, o) ∷ asked-from (stage_after purpose objects (Asking index) o) os)
   asking-more index until o os r false more taken lt within next done =
       let failed = failed-step index o taken in
-      let kept = failed-stays (stage_after purpose objects (Asking index) o) os failed in
+      let stays = failed-stays (stage_after purpose objects (Asking index) o) os failed in
       let wrong : false ≡ true =
-      sym (ap (λ s. result_failed (stage_result s)) done) ∙ (ap result_failed kept ∙ failed) in
+      sym (ap (λ s. result_failed (stage_result s)) done) ∙ (ap result_failed stays ∙ failed) in
       absurd (cc)
   asking-more index until o os r true true taken lt within next done =
       let step = taken-step index o taken in
@@ -322,9 +322,9 @@ module _ (purpose : DownloadPurpose) (objects : List (Place × List ℕ)) where
       let same : index ≡ until = cc in omega (arith, same, within)
   asking-short index until (o ∷ os) within done = by-outcome index o os within (until ≤ last)
       (λ failed.
-      let kept = failed-stays (stage_after purpose objects (Asking index) o) os failed in
+      let stays = failed-stays (stage_after purpose objects (Asking index) o) os failed in
       let wrong : false ≡ true =
-      sym (ap (λ s. result_failed (stage_result s)) done) ∙ (ap result_failed kept ∙ failed)
+      sym (ap (λ s. result_failed (stage_result s)) done) ∙ (ap result_failed stays ∙ failed)
       in absurd (cc))
       (λ more same. asking-short (index + 1) until os more (sym same ∙ done))
       (λ over. let wrong : Over Applied ≡ Asking until = sym over ∙ done in absurd (cc))
@@ -342,9 +342,9 @@ module _ (purpose : DownloadPurpose) (objects : List (Place × List ℕ)) where
   breaking-from index result (o ∷ os) within done =
       by-outcome index o os within (is_applied result ≡ false)
       (λ failed.
-      let kept = failed-stays (stage_after purpose objects (Asking index) o) os failed in
+      let stays = failed-stays (stage_after purpose objects (Asking index) o) os failed in
       let is : not (is_applied result) ≡ true =
-      sym (ap (λ s. result_failed (stage_result s)) done) ∙ (ap result_failed kept ∙ failed)
+      sym (ap (λ s. result_failed (stage_result s)) done) ∙ (ap result_failed stays ∙ failed)
       in not-true (is_applied result) is)
       (λ more same. breaking-from (index + 1) result os more (sym same ∙ done))
       (λ over. let wrong : Over Applied ≡ Breaking result = sym over ∙ done in absurd (cc))

@@ -11,14 +11,14 @@ use Rattle.iol_storage.specs.AttemptLaws.{AttemptEvent, AttemptRun, EndsInWholeS
 use Rattle.iol_storage.specs.Attempts.{attempt_after, attempt_asks, attempt_saved, first_stage, is_unsaved, result_of_attempt, stage_attempt_result, with_attempt_stage}
 use Rattle.iol_storage.specs.Laws.{asked_with}
 use Rattle.iol_storage.specs.Sets.{is_no_set}
-use Rattle.iol_storage.specs.Stored.{check_end, has_no_job, is_check, is_standing_awaited, job_asks, job_heard, job_saved, no_retry, page_device, settled_standing, standing_behind, stays_served, storage_asks, storage_concluded, storage_ended, storage_heard, storage_keeping, storage_saved, storage_seen, storage_settled}
+use Rattle.iol_storage.specs.Stored.{check_end, has_no_job, is_check, is_standing_awaited, job_asks, job_heard, job_saved, no_retry, page_device, settled_standing, standing_behind, stays_served, storage_asks, storage_concluded, storage_ended, storage_heard, storage_keeping, storage_saved, storage_observed, storage_settled}
 use Rattle.iol_storage.specs.StoredChecks.{CheckGoesOn, EndedUploadsWereSaved, FetchedSetsAreWhole, IsChecking, RestoredStandingsAreTaken, WasSavedSince, check_begun, is_restored, job_waits}
 use Rattle.iol_storage.specs.StoredPort.{to_submit}
-use Rattle.iol_storage.specs.StoredStories.{Heard as StoryHeard, Saved as StorySaved, Asked, Collected, Loaded, Noticed, Released, StorageEvent, Submitted, Watched, goes_again, storage_after, storage_behind, story_behind, story_of}
+use Rattle.iol_storage.specs.StoredStories.{Heard as StoryHeard, Saved as StorySaved, Asked, Collected, Loaded, Noticed, Released, StorageEvent, Submitted, Watched, is_repeated, storage_after, storage_behind, story_behind, story_of}
 use Rattle.iol_storage.specs.Uploads.{storage_command}
 use Rattle.iol_storage.specs.declared.attempt.AttemptPurpose.{AttemptPurpose}
 use Rattle.iol_storage.specs.declared.attempt.AttemptResult.TheVariants as ended
-use Rattle.iol_storage.specs.declared.attempt.AttemptResult.TheVariants.{Again, BadList, Empty, Fetched, Locked, Refused, Restored, Same, TooLarge, Unchanged, Unsupported}
+use Rattle.iol_storage.specs.declared.attempt.AttemptResult.TheVariants.{Transient, BadList, Empty, Fetched, Locked, Refused, Restored, Same, TooLarge, Unchanged, Unsupported}
 use Rattle.iol_storage.specs.declared.attempt.AttemptResult.{AttemptResult}
 use Rattle.iol_storage.specs.declared.attempt.AttemptStage.TheVariants.{Breaking, Checksum, Confirming, Ending, Fetching, Over, Restoring, SerialNumber, Size, State, Unsaved}
 use Rattle.iol_storage.specs.declared.attempt.AttemptStage.{AttemptStage}
@@ -50,12 +50,12 @@ set_of device run = record {
 
 -- the storage has the attempt's draft and kept set; and where its set waits, that one is kept
 abbrev Agrees : Bool → Storage → AttemptRun → Type 0
-Agrees false s run = (run.kept ≡ s.kept) × (run.draft ≡ s.draft)
-Agrees true s run = (s.kept ≡ Some (set_of s.device run)) × (s.asked ≡ None)
+Agrees false s run = (run.backup ≡ s.backup) × (run.draft ≡ s.draft)
+Agrees true s run = (s.backup ≡ Some (set_of s.device run)) × (s.asked ≡ None)
 
 record IsSame (s next : Storage) : Type 0 where
   job : next.job ≡ s.job
-  kept : next.kept ≡ s.kept
+  backup : next.backup ≡ s.backup
   draft : next.draft ≡ s.draft
   device : next.device ≡ s.device
   standing : next.standing ≡ s.standing
@@ -78,9 +78,9 @@ is_saving StorySaved = true
 is_saving other = false
 
 -- where a set waits, the storage asks nothing, and so is asked nothing
-unsaved-asks : (a : StorageAttempt) (kept : Option Set) (draft : Values)
-    → is_unsaved a.stage ≡ true → attempt_asks a kept draft ≡ None
-unsaved-asks a kept draft waits = unsaved-none a kept draft a.stage waits
+unsaved-asks : (a : StorageAttempt) (backup : Option Set) (draft : Values)
+    → is_unsaved a.stage ≡ true → attempt_asks a backup draft ≡ None
+unsaved-asks a backup draft waits = unsaved-none a backup draft a.stage waits
 
 module _ (s : Storage) (run : AttemptRun) (job : s.job ≡ Check run.attempt)
     (agrees : Agrees (is_unsaved run.attempt.stage) s run) where
@@ -88,7 +88,7 @@ module _ (s : Storage) (run : AttemptRun) (job : s.job ≡ Check run.attempt)
   busy = ap has_no_job job
 
   same : IsSame s s
-  same = record { job = refl; kept = refl; draft = refl; device = refl; standing = refl }
+  same = record { job = refl; backup = refl; draft = refl; device = refl; standing = refl }
 
   quiet-same : CheckStep s s run []
   quiet-same = Quiet same (λ none waits. none) refl
@@ -96,17 +96,17 @@ module _ (s : Storage) (run : AttemptRun) (job : s.job ≡ Check run.attempt)
   -- one that hears doesn't wait
   hears : (b : Bool) → is_unsaved run.attempt.stage ≡ b → Agrees b s run
       → is_some s.asked ≡ true
-      → (is_unsaved run.attempt.stage ≡ false) × (run.kept ≡ s.kept) × (run.draft ≡ s.draft)
-  hears true waits (kept, none) asked =
+      → (is_unsaved run.attempt.stage ≡ false) × (run.backup ≡ s.backup) × (run.draft ≡ s.draft)
+  hears true waits (backup, none) asked =
       let clash : false ≡ true = sym (ap is_some none) ∙ asked in absurd (cc)
-  hears false waits (kept, draft) asked = (waits, kept, draft)
+  hears false waits (backup, draft) asked = (waits, backup, draft)
 
   asks-is : is_some s.asked ≡ true → storage_asks s ≡ run_asks run
   asks-is asked =
-      let (free, kept, draft) = hears (is_unsaved run.attempt.stage) refl agrees asked in
-      ap (λ j. job_asks j s.kept s.draft) job
-      ∙ ap (λ k. attempt_asks run.attempt k s.draft) (sym kept)
-      ∙ ap (λ d. attempt_asks run.attempt run.kept d) (sym draft)
+      let (free, backup, draft) = hears (is_unsaved run.attempt.stage) refl agrees asked in
+      ap (λ j. job_asks j s.backup s.draft) job
+      ∙ ap (λ k. attempt_asks run.attempt k s.draft) (sym backup)
+      ∙ ap (λ d. attempt_asks run.attempt run.backup d) (sym draft)
 
   -- what it hears
   abbrev after_hearing : StorageAttempt × Values → Storage
@@ -114,12 +114,12 @@ module _ (s : Storage) (run : AttemptRun) (job : s.job ≡ Check run.attempt)
 
   heard-is : is_some s.asked ≡ true → (o : Outcome)
       → job_heard s.job (record s { asked = None; breaks = 0 }) o
-      ≡ after_hearing (attempt_after run.attempt run.kept run.draft o)
+      ≡ after_hearing (attempt_after run.attempt run.backup run.draft o)
   heard-is asked o =
-      let (free, kept, draft) = hears (is_unsaved run.attempt.stage) refl agrees asked in
+      let (free, backup, draft) = hears (is_unsaved run.attempt.stage) refl agrees asked in
       ap (λ j. job_heard j (record s { asked = None; breaks = 0 }) o) job
-      ∙ ap after_hearing (ap (λ k. attempt_after run.attempt k s.draft o) (sym kept)
-      ∙ ap (λ d. attempt_after run.attempt run.kept d o) (sym draft))
+      ∙ ap after_hearing (ap (λ k. attempt_after run.attempt k s.draft o) (sym backup)
+      ∙ ap (λ d. attempt_after run.attempt run.backup d o) (sym draft))
 
   module _ (asked : is_some s.asked ≡ true) (o : Outcome) where
     abbrev heard : AttemptRun
@@ -128,11 +128,11 @@ module _ (s : Storage) (run : AttemptRun) (job : s.job ≡ Check run.attempt)
     abbrev to : Storage
     to = after_hearing (heard.attempt, heard.draft)
 
-    kept-is : heard.kept ≡ s.kept
-    kept-is = (hears (is_unsaved run.attempt.stage) refl agrees asked).1
+    backup-is : heard.backup ≡ s.backup
+    backup-is = (hears (is_unsaved run.attempt.stage) refl agrees asked).1
 
     not-ending : NotEnding heard.attempt.stage
-    not-ending = heard-not run.attempt run.kept run.draft run.attempt.stage o refl
+    not-ending = heard-not run.attempt run.backup run.draft run.attempt.stage o refl
 
     concludes : (end : Option AttemptResult) (waits : Bool)
         → is_unsaved heard.attempt.stage ≡ waits
@@ -142,18 +142,18 @@ module _ (s : Storage) (run : AttemptRun) (job : s.job ≡ Check run.attempt)
     concludes None true is check =
         Hears o refl (rw is (refl, refl)) refl refl refl not-ending
     concludes None false is check =
-        Hears o refl (rw is (kept-is, refl)) refl refl refl not-ending
+        Hears o refl (rw is (backup-is, refl)) refl refl refl not-ending
 
-    step-again : (b : Bool)
+    step-repeat : (b : Bool)
         → IsTrue (is_check (cond b (record s { asked = None; breaks = s.breaks + 1 })
         (storage_concluded (job_heard s.job (record s { asked = None; breaks = 0 }) o))).job)
         → CheckStep s (cond b (record s { asked = None; breaks = s.breaks + 1 })
         (storage_concluded (job_heard s.job (record s { asked = None; breaks = 0 }) o))) run
         (cond b [] (asked_with (storage_asks s) o))
-    step-again true check = Quiet
-        (record { job = refl; kept = refl; draft = refl; device = refl; standing = refl })
+    step-repeat true check = Quiet
+        (record { job = refl; backup = refl; draft = refl; device = refl; standing = refl })
         (λ none waits. refl) refl
-    step-again false check =
+    step-repeat false check =
         subst (λ story. CheckStep s
         (storage_concluded (job_heard s.job (record s { asked = None; breaks = 0 }) o)) run story)
         (ap (λ q. asked_with q o) (sym (asks-is asked)))
@@ -166,43 +166,43 @@ module _ (s : Storage) (run : AttemptRun) (job : s.job ≡ Check run.attempt)
   step-heard : (o : Outcome) (b : Bool) → is_some s.asked ≡ b
       → IsTrue (is_check (cond b (storage_heard s o) s).job)
       → CheckStep s (cond b (storage_heard s o) s) run
-      (cond b (cond (goes_again s o) [] (asked_with (storage_asks s) o)) [])
-  step-heard o true asked check = step-again asked o (goes_again s o) check
+      (cond b (cond (is_repeated s o) [] (asked_with (storage_asks s) o)) [])
+  step-heard o true asked check = step-repeat asked o (is_repeated s o) check
   step-heard o false asked check = quiet-same
 
-  step-seen : (session : Option (List ℕ)) → IsTrue (is_check (storage_seen s session).job)
-      → CheckStep s (storage_seen s session) run []
-  step-seen None check = absurd (cc)
-  step-seen (Some page) check = rw busy quiet-same
+  step-observed : (session : Option (List ℕ)) → IsTrue (is_check (storage_observed s session).job)
+      → CheckStep s (storage_observed s session) run []
+  step-observed None check = absurd (cc)
+  step-observed (Some page) check = rw busy quiet-same
 
   step-watched : (session : Option (List ℕ)) (b : Bool)
-      → IsTrue (is_check (cond b s (storage_seen s session)).job)
-      → CheckStep s (cond b s (storage_seen s session)) run []
+      → IsTrue (is_check (cond b s (storage_observed s session)).job)
+      → CheckStep s (cond b s (storage_observed s session)) run []
   step-watched session true check = quiet-same
-  step-watched session false check = step-seen session check
+  step-watched session false check = step-observed session check
 
   -- while a set waits nothing is to be submitted
   step-asked : (ticket : Ticket) (b : Bool) → is_some (to_submit s) ≡ b
       → CheckStep s (cond b (record s { asked = Some ticket }) s) run []
   step-asked ticket true asks = Quiet
-      (record { job = refl; kept = refl; draft = refl; device = refl; standing = refl })
+      (record { job = refl; backup = refl; draft = refl; device = refl; standing = refl })
       (λ none waits.
       let nothing : to_submit s ≡ None = rw none
-      (ap (λ j. job_asks j s.kept s.draft) job
-      ∙ unsaved-asks run.attempt s.kept s.draft waits) in
+      (ap (λ j. job_asks j s.backup s.draft) job
+      ∙ unsaved-asks run.attempt s.backup s.draft waits) in
       let clash : false ≡ true = sym (ap is_some nothing) ∙ asks in absurd (cc)) refl
   step-asked ticket false asks = quiet-same
 
   step-noticed : (event : Event) (b : Bool)
       → CheckStep s (cond b (record s { retry = no_retry true }) s) run []
   step-noticed event true = Quiet
-      (record { job = refl; kept = refl; draft = refl; device = refl; standing = refl })
+      (record { job = refl; backup = refl; draft = refl; device = refl; standing = refl })
       (λ none waits. none) refl
   step-noticed event false = quiet-same
 
   step-collected : (b : Bool) → CheckStep s (cond b (record s { ended = None }) s) run []
   step-collected true = Quiet
-      (record { job = refl; kept = refl; draft = refl; device = refl; standing = refl })
+      (record { job = refl; backup = refl; draft = refl; device = refl; standing = refl })
       (λ none waits. none) refl
   step-collected false = quiet-same
 
@@ -215,7 +215,7 @@ module _ (s : Storage) (run : AttemptRun) (job : s.job ≡ Check run.attempt)
   step-of (Asked ticket) other check = step-asked ticket (is_some (to_submit s)) refl
   step-of StorySaved other check = absurd (cc)
   step-of (Noticed event) other check = step-noticed event (event.code == 0xFF91)
-  step-of (Loaded kept) other check = rw busy quiet-same
+  step-of (Loaded backup) other check = rw busy quiet-same
   step-of Released other check = rw (ap is_check job) quiet-same
   step-of (Submitted writes keep) other check = rw busy quiet-same
   step-of (Collected block) other check = step-collected (block.0 == s.blocks)
@@ -250,7 +250,7 @@ module _ (begun : Storage) (start : AttemptRun) where
         ∙ ap (λ t. story_behind begun done ++ (story_of t event ++ [])) now
         ∙ ap (λ y. story_behind begun done ++ y) (append-nil (story_of s event))
 
-    saved-more : story_of s event ≡ [] → (storage_after s event).kept ≡ s.kept
+    saved-more : story_of s event ≡ [] → (storage_after s event).backup ≡ s.backup
         → WasSavedSince begun done → WasSavedSince begun (done ++ event ∷ [])
     saved-more none same w =
         let behind = storage_saved (storage_behind begun w.before) in
@@ -263,8 +263,8 @@ module _ (begun : Storage) (start : AttemptRun) where
           is = ap (λ d. d ++ event ∷ []) w.is
               ∙ append_assoc w.before (StorySaved ∷ w.after) (event ∷ []);
           waited = w.waited;
-          kept = ap (λ (t : Storage). t.kept) now-more ∙ same
-              ∙ ap (λ (t : Storage). t.kept) (sym now) ∙ w.kept;
+          backup = ap (λ (t : Storage). t.backup) now-more ∙ same
+              ∙ ap (λ (t : Storage). t.backup) (sym now) ∙ w.backup;
           silent = story-append behind w.after (event ∷ [])
               ∙ ap (λ y. y ++ story_behind (storage_behind behind w.after) (event ∷ [])) w.silent
               ∙ ap (λ t. story_of t event ++ []) reach ∙ ap (λ y. y ++ []) none;
@@ -273,12 +273,12 @@ module _ (begun : Storage) (start : AttemptRun) where
   agrees-same : (s next : Storage) (run : AttemptRun) → IsSame s next
       → (s.asked ≡ None → is_unsaved run.attempt.stage ≡ true → next.asked ≡ None)
       → (b : Bool) → is_unsaved run.attempt.stage ≡ b → Agrees b s run → Agrees b next run
-  agrees-same s next run same asked true waits (kept, none) = (
-    same.kept ∙ kept ∙ ap (λ d. Some (set_of d run)) (sym same.device),
+  agrees-same s next run same asked true waits (backup, none) = (
+    same.backup ∙ backup ∙ ap (λ d. Some (set_of d run)) (sym same.device),
     asked none waits,
   )
-  agrees-same s next run same asked false waits (kept, draft) =
-      (kept ∙ sym same.kept, draft ∙ sym same.draft)
+  agrees-same s next run same asked false waits (backup, draft) =
+      (backup ∙ sym same.backup, draft ∙ sym same.draft)
 
   checks-step : (done : Upto) (s : Storage) (c : Checks done s) (event : StorageEvent)
       → CheckStep s (storage_after s event) c.run (story_of s event)
@@ -295,7 +295,7 @@ module _ (begun : Storage) (start : AttemptRun) where
         ∙ append-nil (story_behind begun done) ∙ c.story;
     device = same.device ∙ c.device;
     standing = same.standing ∙ c.standing;
-    saved = λ ends. saved-more done s c.now event none same.kept (c.saved ends);
+    saved = λ ends. saved-more done s c.now event none same.backup (c.saved ends);
   }
   checks-step done s c event (Hears o job agrees device standing here not) = record {
     now = now-more done s c.now event;
@@ -321,20 +321,20 @@ module _ (begun : Storage) (start : AttemptRun) where
     saved-waiting : is_unsaved c.run.attempt.stage ≡ true
         → Checks (done ++ StorySaved ∷ []) (storage_saved s)
     saved-waiting waits =
-        let next : AttemptRun = record { attempt = ends; kept = s.kept; draft = s.draft } in
+        let next : AttemptRun = record { attempt = ends; backup = s.backup; draft = s.draft } in
         let saves : attempt_saved c.run.attempt ≡ ends = rw waits refl in
-        let goes : run_after c.run (Saved s.kept s.draft) ≡ next = rw waits refl in
+        let goes : run_after c.run (Saved s.backup s.draft) ≡ next = rw waits refl in
         record {
           now = now-more done s c.now StorySaved;
-          events = c.events ++ Saved s.kept s.draft ∷ [];
+          events = c.events ++ Saved s.backup s.draft ∷ [];
           run = next;
-          reached = run-behind start c.events (Saved s.kept s.draft)
-              ∙ ap (λ r. run_after r (Saved s.kept s.draft)) c.reached ∙ goes;
+          reached = run-behind start c.events (Saved s.backup s.draft)
+              ∙ ap (λ r. run_after r (Saved s.backup s.draft)) c.reached ∙ goes;
           job = ap job_saved c.job ∙ ap Check saves;
           agrees = (refl, refl);
           story = story-more done s c.now StorySaved ∙ append-nil (story_behind begun done)
               ∙ c.story ∙ sym (append-nil (run_asked start c.events))
-              ∙ sym (run-asked start c.events (Saved s.kept s.draft));
+              ∙ sym (run-asked start c.events (Saved s.backup s.draft));
           device = c.device;
           standing = c.standing;
           saved = λ _. record {
@@ -342,8 +342,8 @@ module _ (begun : Storage) (start : AttemptRun) where
             after = [];
             is = refl;
             waited = ap job_waits (ap (λ (t : Storage). t.job) c.now ∙ c.job) ∙ waits;
-            kept = ap (λ (t : Storage). t.kept) (now-more done s c.now StorySaved)
-                ∙ ap (λ (t : Storage). t.kept) (sym c.now);
+            backup = ap (λ (t : Storage). t.backup) (now-more done s c.now StorySaved)
+                ∙ ap (λ (t : Storage). t.backup) (sym c.now);
             silent = refl;
           };
         }
@@ -355,7 +355,7 @@ module _ (begun : Storage) (start : AttemptRun) where
         checks-step done s c StorySaved (Quiet
         (record {
           job = ap job_saved c.job ∙ ap Check stays ∙ sym c.job;
-          kept = refl;
+          backup = refl;
           draft = refl;
           device = refl;
           standing = refl;
@@ -379,7 +379,7 @@ module _ (begun : Storage) (start : AttemptRun) where
     checks-one (Asked ticket) check = checks-quiet (Asked ticket) refl check
     checks-one StorySaved check = checks-saved (is_unsaved c.run.attempt.stage) refl
     checks-one (Noticed event) check = checks-quiet (Noticed event) refl check
-    checks-one (Loaded kept) check = checks-quiet (Loaded kept) refl check
+    checks-one (Loaded backup) check = checks-quiet (Loaded backup) refl check
     checks-one Released check = checks-quiet Released refl check
     checks-one (Submitted writes keep) check = checks-quiet (Submitted writes keep) refl check
     checks-one (Collected block) check = checks-quiet (Collected block) refl check
@@ -400,20 +400,23 @@ module _ (s : Storage) (page : List ℕ) where
   first = check_begun s page
 
   abbrev start : AttemptPurpose → AttemptRun
-  start purpose = run_begun s.mode purpose s.kept s.draft
+  start purpose = run_begun s.mode purpose s.backup s.draft
 
   begins-agree : (purpose : AttemptPurpose) (stage : AttemptStage)
-      → first_stage s.mode ≡ stage → first.kept ≡ s.kept → first.draft ≡ s.draft
+      → first_stage s.mode ≡ stage → first.backup ≡ s.backup → first.draft ≡ s.draft
       → Agrees (is_unsaved stage) first (start purpose)
-  begins-agree purpose stage is kept draft = by s.mode is
+  begins-agree purpose stage is backup draft = by s.mode is
     where
       by : (mode : StorageMode) → first_stage mode ≡ stage
           → Agrees (is_unsaved stage) first (start purpose)
-      by Off is = subst (λ x. Agrees (is_unsaved x) first (start purpose)) is (sym kept, sym draft)
+      by Off is = subst (λ x. Agrees (is_unsaved x) first (start purpose)) is
+          (sym backup, sym draft)
       by Restore is =
-          subst (λ x. Agrees (is_unsaved x) first (start purpose)) is (sym kept, sym draft)
-      by Both is = subst (λ x. Agrees (is_unsaved x) first (start purpose)) is (sym kept, sym draft)
-      by Own is = subst (λ x. Agrees (is_unsaved x) first (start purpose)) is (sym kept, sym draft)
+          subst (λ x. Agrees (is_unsaved x) first (start purpose)) is (sym backup, sym draft)
+      by Both is = subst (λ x. Agrees (is_unsaved x) first (start purpose)) is
+          (sym backup, sym draft)
+      by Own is = subst (λ x. Agrees (is_unsaved x) first (start purpose)) is
+          (sym backup, sym draft)
 
   begins-not : (mode : StorageMode) → NotEnding (first_stage mode)
   begins-not Off = refl
@@ -437,7 +440,7 @@ module _ (s : Storage) (page : List ℕ) where
       run = from;
       reached = refl;
       job = begins.job;
-      agrees = begins-agree begins.purpose (first_stage s.mode) refl begins.kept begins.draft;
+      agrees = begins-agree begins.purpose (first_stage s.mode) refl begins.backup begins.draft;
       story = refl;
       device = refl;
       standing = refl;
@@ -449,25 +452,26 @@ module _ (s : Storage) (page : List ℕ) where
     here = checks-all first from events [] first at-first is.goes_on
 
     -- what holds of its attempt
-    at-run : At s.kept from here.run.attempt.stage here.run.attempt here.run.kept here.run.draft
+    at-run : At s.backup from here.run.attempt.stage here.run.attempt here.run.backup here.run.draft
         (run_asked from here.events) here.events
-    at-run = subst (λ r. At s.kept from r.attempt.stage r.attempt r.kept r.draft
+    at-run = subst (λ r. At s.backup from r.attempt.stage r.attempt r.backup r.draft
         (run_asked from here.events) here.events) here.reached
-        (runs s.mode begins.purpose s.kept s.draft here.events).1
+        (runs s.mode begins.purpose s.backup s.draft here.events).1
 
     fetched : job_waits (storage_behind first events).job ≡ true
-        → (set : Set) × ((storage_behind first events).kept ≡ Some set)
+        → (set : Set) × ((storage_behind first events).backup ≡ Some set)
         × (set.device ≡ page_device page)
         × EndsInWholeSet set.checksum set.objects (story_behind first events)
     fetched waits =
         let now = storage_behind first events in
         let unsaved : is_unsaved here.run.attempt.stage ≡ true =
         sym (ap job_waits here.job) ∙ waits in
-        let (kept, none) = subst (λ w. Agrees w now here.run) unsaved here.agrees in
-        let whole = waits-whole s.kept from here.run.attempt.stage here.run.attempt here.run.kept
+        let (backup, none) = subst (λ w. Agrees w now here.run) unsaved here.agrees in
+        let whole = waits-whole s.backup from here.run.attempt.stage here.run.attempt
+        here.run.backup
         here.run.draft (run_asked from here.events) here.events unsaved at-run in (
           set_of now.device here.run,
-          kept,
+          backup,
           here.device ∙ begins.device,
           subst (λ story. EndsInWholeSet here.run.attempt.upload.checksum here.run.draft story)
               (sym here.story) whole,
@@ -481,19 +485,19 @@ module _ (s : Storage) (page : List ℕ) where
     asks-end true waits agrees asks =
         let now = storage_behind first events in
         let nothing : None ≡ Some (storage_command 2) =
-        sym (ap (λ j. job_asks j now.kept now.draft) here.job
-        ∙ unsaved-asks here.run.attempt now.kept now.draft waits) ∙ asks in absurd (cc)
-    asks-end false waits (kept, draft) asks =
+        sym (ap (λ j. job_asks j now.backup now.draft) here.job
+        ∙ unsaved-asks here.run.attempt now.backup now.draft waits) ∙ asks in absurd (cc)
+    asks-end false waits (backup, draft) asks =
         let now = storage_behind first events in
-        ap (λ k. attempt_asks here.run.attempt k here.run.draft) kept
-        ∙ ap (λ d. attempt_asks here.run.attempt now.kept d) draft
-        ∙ sym (ap (λ j. job_asks j now.kept now.draft) here.job) ∙ asks
+        ap (λ k. attempt_asks here.run.attempt k here.run.draft) backup
+        ∙ ap (λ d. attempt_asks here.run.attempt now.backup d) draft
+        ∙ sym (ap (λ j. job_asks j now.backup now.draft) here.job) ∙ asks
 
-    were-saved : is_no_set s.kept ≡ false
+    were-saved : is_no_set s.backup ≡ false
         → storage_asks (storage_behind first events) ≡ Some (storage_command 2)
         → WasSavedSince first events
     were-saved none asks = here.saved
-        (ends-at s.kept from here.run.attempt here.run.kept here.run.draft
+        (ends-at s.backup from here.run.attempt here.run.backup here.run.draft
         (run_asked from here.events) here.events (λ stage. is_ending stage ≡ true) refl
         here.run.attempt.stage none
         (asks-end (is_unsaved here.run.attempt.stage) refl here.agrees asks) at-run)
@@ -519,33 +523,33 @@ either-standing true x y one two = one
 either-standing false x y one two = two
 
 -- no other result says so
-settles-not : (standing : StorageStanding) (kept : Bool) (tries : ℕ) (result : AttemptResult)
+settles-not : (standing : StorageStanding) (backup : Bool) (tries : ℕ) (result : AttemptResult)
     → NotRestored standing → restores result ≡ false
-    → NotRestored (settled_standing standing kept tries result)
-settles-not standing kept tries ended.Unsupported not other =
-    either-standing kept (Trouble trouble.NoStorage) (Served served.Unsupported) refl refl
-settles-not standing kept tries ended.Locked not other = refl
-settles-not standing kept tries ended.TooLarge not other = refl
-settles-not standing kept tries ended.BadList not other = refl
-settles-not standing kept tries (ended.Refused refusal) not other = refl
-settles-not standing kept tries ended.Empty not other = refl
-settles-not standing kept tries ended.Same not other = refl
-settles-not standing kept tries ended.Restored not other = absurd (cc)
-settles-not standing kept tries ended.Fetched not other = refl
-settles-not standing kept tries ended.Unchanged not other = not
-settles-not standing kept tries ended.Again not other = either-standing
+    → NotRestored (settled_standing standing backup tries result)
+settles-not standing backup tries ended.Unsupported not other =
+    either-standing backup (Trouble trouble.NoStorage) (Served served.Unsupported) refl refl
+settles-not standing backup tries ended.Locked not other = refl
+settles-not standing backup tries ended.TooLarge not other = refl
+settles-not standing backup tries ended.BadList not other = refl
+settles-not standing backup tries (ended.Refused refusal) not other = refl
+settles-not standing backup tries ended.Empty not other = refl
+settles-not standing backup tries ended.Same not other = refl
+settles-not standing backup tries ended.Restored not other = absurd (cc)
+settles-not standing backup tries ended.Fetched not other = refl
+settles-not standing backup tries ended.Unchanged not other = not
+settles-not standing backup tries ended.Transient not other = either-standing
     (is_standing_awaited standing && nat_le 2 tries) (Trouble trouble.Attempts) standing refl not
 
-behind-not : (standing said : StorageStanding) → NotRestored standing → NotRestored said
-    → NotRestored (standing_behind standing said)
-behind-not standing said first second =
-    either-standing (stays_served standing said) standing said first second
+behind-not : (standing proposed : StorageStanding) → NotRestored standing → NotRestored proposed
+    → NotRestored (standing_behind standing proposed)
+behind-not standing proposed first second =
+    either-standing (stays_served standing proposed) standing proposed first second
 
 -- a check that ends as restored has heard so
 record HearsRestored (s next : Storage) (run : AttemptRun) (here : Story) : Type 0 where
   o : Outcome
   over : (run_after run (Heard o)).attempt.stage ≡ Over ended.Restored
-  kept : next.kept ≡ run.kept
+  backup : next.backup ≡ run.backup
   is : here ≡ asked_with (run_asks run) o
 
 module _ (s : Storage) (run : AttemptRun) (job : s.job ≡ Check run.attempt)
@@ -592,13 +596,13 @@ module _ (s : Storage) (run : AttemptRun) (job : s.job ≡ Check run.attempt)
         → Ends (storage_settled heard_to result) (asked_with (run_asks run) o)
     ends-with result false other is over restored =
         let wrong = behind-not s.standing
-        (settled_standing s.standing (is_some s.kept) s.retry.tries result) not
-        (settles-not s.standing (is_some s.kept) s.retry.tries result not other) in
+        (settled_standing s.standing (is_some s.backup) s.retry.tries result) not
+        (settles-not s.standing (is_some s.backup) s.retry.tries result not other) in
         let clash : false ≡ true = sym wrong ∙ restored in absurd (cc)
     ends-with ended.Restored true good is over restored = record {
       o = o;
       over = over-is ended.Restored is;
-      kept = sym (hears s run job agrees (is_unsaved run.attempt.stage) refl agrees asked).1;
+      backup = sym (hears s run job agrees (is_unsaved run.attempt.stage) refl agrees asked).1;
       is = refl;
     }
     ends-with result true good is over restored = absurd (cc)
@@ -610,12 +614,12 @@ module _ (s : Storage) (run : AttemptRun) (job : s.job ≡ Check run.attempt)
     ends-concluding None true is = ends-not (storage_keeping heard_to) _ refl
     ends-concluding None false is = ends-not heard_to _ refl
 
-    ends-again : (b : Bool)
+    ends-repeat : (b : Bool)
         → Ends (cond b (record s { asked = None; breaks = s.breaks + 1 })
         (storage_concluded (job_heard s.job (record s { asked = None; breaks = 0 }) o)))
         (cond b [] (asked_with (storage_asks s) o))
-    ends-again true = ends-not (record s { asked = None; breaks = s.breaks + 1 }) [] stays-check
-    ends-again false =
+    ends-repeat true = ends-not (record s { asked = None; breaks = s.breaks + 1 }) [] stays-check
+    ends-repeat false =
         subst (λ story. Ends
         (storage_concluded (job_heard s.job (record s { asked = None; breaks = 0 }) o)) story)
         (ap (λ q. asked_with q o) (sym (asks-is s run job agrees asked)))
@@ -625,12 +629,12 @@ module _ (s : Storage) (run : AttemptRun) (job : s.job ≡ Check run.attempt)
 
   ends-heard : (o : Outcome) (b : Bool) → is_some s.asked ≡ b
       → Ends (cond b (storage_heard s o) s)
-      (cond b (cond (goes_again s o) [] (asked_with (storage_asks s) o)) [])
-  ends-heard o true asked = ends-again asked o (goes_again s o)
+      (cond b (cond (is_repeated s o) [] (asked_with (storage_asks s) o)) [])
+  ends-heard o true asked = ends-repeat asked o (is_repeated s o)
   ends-heard o false asked = ends-not s [] stays-check
 
   ends-watched : (session : Option (List ℕ)) (b : Bool)
-      → Ends (cond b s (storage_seen s session)) []
+      → Ends (cond b s (storage_observed s session)) []
   ends-watched session true = ends-not s [] stays-check
   ends-watched None false = λ over restored. absurd (cc)
   ends-watched (Some page) false = rw (busy s run job agrees) (ends-not s [] stays-check)
@@ -649,7 +653,7 @@ module _ (s : Storage) (run : AttemptRun) (job : s.job ≡ Check run.attempt)
       ends-not (storage_saved s) [] (ap (λ j. is_check (job_saved j)) job)
   ends-of (Noticed event) = ends-not (storage_after s (Noticed event)) []
       (either-check (event.code == 0xFF91) (record s { retry = no_retry true }) stays-check)
-  ends-of (Loaded kept) = rw (busy s run job agrees) (ends-not s [] stays-check)
+  ends-of (Loaded backup) = rw (busy s run job agrees) (ends-not s [] stays-check)
   ends-of Released = rw stays-check (ends-not s [] stays-check)
   ends-of (Submitted writes keep) = rw (busy s run job agrees) (ends-not s [] stays-check)
   ends-of (Collected block) = ends-not (storage_after s (Collected block)) []
@@ -668,7 +672,7 @@ restored_standings_are_taken s page events last is over not restored =
     let all = c.events ++ Heard h.o ∷ [] in
     let reached : run_behind from all ≡ run_after c.run (Heard h.o) =
     run-behind from c.events (Heard h.o) ∙ ap (λ r. run_after r (Heard h.o)) c.reached in
-    let (kept, taken) = restored-taken s.mode b.purpose s.kept s.draft all
+    let (backup, taken) = restored-taken s.mode b.purpose s.backup s.draft all
     (ap (λ (r : AttemptRun). r.attempt.stage) reached ∙ h.over) in
     let story : story_behind first (events ++ last ∷ []) ≡ run_asked from all =
     story-more first from events before c.now last ∙ ap (λ y. story_behind first events ++ y) h.is
@@ -676,7 +680,7 @@ restored_standings_are_taken s page events last is over not restored =
     ∙ ap (λ r. run_asked from c.events ++ event_asked r (Heard h.o)) (sym c.reached)
     ∙ sym (run-asked from c.events (Heard h.o)) in (
       (run_behind from all).attempt.unit.items,
-      h.kept ∙ sym (ap (λ (r : AttemptRun). r.kept) reached) ∙ kept,
-      subst (λ x. IsRestored s.mode s.kept (run_behind from all).attempt.unit.items x) (sym story)
+      h.backup ∙ sym (ap (λ (r : AttemptRun). r.backup) reached) ∙ backup,
+      subst (λ x. IsRestored s.mode s.backup (run_behind from all).attempt.unit.items x) (sym story)
           taken,
     )

@@ -19,7 +19,7 @@ use Rattle.iol_port.specs.Replies.{ticket_reply, outcome_reply, nothing_reply}
 use Rattle.iol_port.specs.View.{PortParts}
 use Rattle.iol_storage.specs.declared.stored.storage.Storage.{Storage}
 use Rattle.iol_storage.specs.Stored.{storage_heard}
-use Rattle.iol_storage.specs.StoredPort.{StoredParts, CoreMakes, CoreCalls, CollectsOf, storage_told, storage_submitted}
+use Rattle.iol_storage.specs.StoredPort.{StoredParts, CoreMakes, CoreCalls, CollectsOf, storage_answered, storage_submitted}
 
 -- A call of the port within, in all that is said of it
 
@@ -78,14 +78,14 @@ module _ (p q : PortParts) where
 -- what is heard of a request is its outcome, if there is one
 pub heard-one : (result : Result (Unit {0}) PortFault) (outcome : Outcome) (s heard : Storage)
     → is_ok result ≡ true → heard ≡ storage_heard s outcome
-    → heard ≡ storage_told s
+    → heard ≡ storage_answered s
     (outcome_reply (in_place outcome result))
 heard-one (Ok _) outcome s heard ok is = is
 heard-one (Err why) outcome s heard ok is = absurd (cc)
 
 pub heard-none : (result : Result (Unit {0}) PortFault) (outcome : Outcome) (s : Storage)
     → is_ok result ≡ false
-    → s ≡ storage_told s (outcome_reply (in_place outcome result))
+    → s ≡ storage_answered s (outcome_reply (in_place outcome result))
 heard-none (Ok _) outcome s none = absurd (cc)
 heard-none (Err why) outcome s none = refl
 
@@ -104,7 +104,7 @@ submitted-none (Err why) s none = refl
 module _ (old : StoredParts) (asked : Option Ticket) (ticket : Ticket)
     (is : asked ≡ Some ticket) (session : Bool) (q : PortParts) (s : Storage)
     (collected : Result Outcome PortFault)
-    (told : s ≡ storage_told old.storage (outcome_reply collected)) where
+    (answer_is : s ≡ storage_answered old.storage (outcome_reply collected)) where
   pub collected-out : (mid : PortParts) (withdrawn : Result (Unit {0}) PortFault)
       → CoreCalled old.port mid (call.Withdraw ticket) (nothing_reply withdrawn)
       (WithdrawGives old.port ticket withdrawn mid)
@@ -120,7 +120,7 @@ module _ (old : StoredParts) (asked : Option Ticket) (ticket : Ticket)
         made-withdraw old.port mid ticket withdrawn withdraws,
         (q, made-collect mid q ticket collected collects, refl),
       );
-      rest = rw (told) refl;
+      rest = rw (answer_is) refl;
     },
   )
 
@@ -132,6 +132,6 @@ module _ (old : StoredParts) (asked : Option Ticket) (ticket : Ticket)
     outcome_reply collected,
     record {
       made = (q, made-collect old.port q ticket collected collects, refl);
-      rest = rw (told) refl;
+      rest = rw (answer_is) refl;
     },
   )

@@ -62,7 +62,7 @@ move-runs Send p mid next line between after (does, is) rest a stands =
     let (b, step, standing) = does line.0 line.1 a stands in
     one-more a b SendPiece answered.Nothing next after step
     (subst (Goes mid next after) is rest b standing)
-move-runs (Receive came far silence) p mid next line between after (does, honest, is) rest a
+move-runs (Receive received far silence) p mid next line between after (does, honest, is) rest a
     stands =
     let (b, step, standing) = does line.0 far line.1 silence honest a stands in
     one-more a b ReceivePiece answered.Nothing next after step

@@ -1,4 +1,4 @@
--- No set that is kept has a value where commands are written: what `kept_sets_hold_no_command`
+-- No set that is kept has a value where commands are written: what `backups_hold_no_command`
 -- rests on.
 use Rattle.std.proofs.Common.{◌≡◌, ◌||◌, ℕ, Bool, true, false, List, [], ◌∷◌, ◌++◌, Option, None, Some, ap, refl, cond, length, ◌+◌, ◌==◌, ◌-◌}
 use Rattle.std.specs.Option.{option_map}
@@ -11,10 +11,10 @@ use Rattle.iol_storage.specs.AttemptLaws.{Values}
 use Rattle.iol_storage.specs.Attempts.{behind_attempt}
 use Rattle.iol_storage.specs.Objects.{any_owned, fits_behind, is_command_place}
 use Rattle.iol_storage.specs.Sets.{is_no_set}
-use Rattle.iol_storage.specs.Stored.{block_answer_by, block_refusal, has_no_job, is_check, job_end, job_heard, job_keeping, no_retry, number_behind, obstacle, purpose_due, standing_released, storage_at_opening, storage_begins, storage_concluded, storage_due, storage_ended, storage_heard, storage_loaded, storage_looked, storage_seen, storage_with_block}
-use Rattle.iol_storage.specs.StoredChecks.{KeptSetsHoldNoCommand}
+use Rattle.iol_storage.specs.Stored.{block_answer_by, block_refusal, has_no_job, is_check, job_end, job_heard, job_keeping, no_retry, number_behind, obstacle, purpose_due, standing_released, storage_at_opening, storage_begins, storage_concluded, storage_due, storage_ended, storage_heard, storage_loaded, storage_looked, storage_observed, storage_with_block}
+use Rattle.iol_storage.specs.StoredChecks.{BackupsHoldNoCommand}
 use Rattle.iol_storage.specs.StoredPort.{to_submit}
-use Rattle.iol_storage.specs.StoredStories.{Heard, Saved, Asked, Collected, Loaded, Noticed, Released, StorageEvent, Submitted, Watched, goes_again, storage_after, storage_behind}
+use Rattle.iol_storage.specs.StoredStories.{Heard, Saved, Asked, Collected, Loaded, Noticed, Released, StorageEvent, Submitted, Watched, is_repeated, storage_after, storage_behind}
 use Rattle.iol_storage.specs.Uploads.{behind_list, behind_read, behind_start, behind_upload, is_list, names_more, objects_with, place_named}
 use Rattle.iol_storage.specs.declared.attempt.AttemptPurpose.{AttemptPurpose}
 use Rattle.iol_storage.specs.declared.attempt.AttemptStage.TheVariants.{Breaking, Checksum, Confirming, Ending, Fetching, Over, Restoring, SerialNumber, Size, State, Unsaved}
@@ -99,24 +99,24 @@ upload-none upload_stage.Reading u d o none = read-none u d o none
 upload-none (upload_stage.Breaking result) u d o none = none
 upload-none (upload_stage.Over result) u d o none = none
 
-attempt-none : (stage : AttemptStage) (a : StorageAttempt) (kept : Option Set) (d : Values)
-    (o : Outcome) → OwnsNone d → OwnsNone (behind_attempt stage a kept d o).1
-attempt-none State a kept d o none = none
-attempt-none Size a kept d o none = none
-attempt-none Checksum a kept d o none = none
-attempt-none SerialNumber a kept d o none = none
-attempt-none Fetching a kept d o none = upload-none a.upload.stage a.upload d o none
-attempt-none Unsaved a kept d o none = none
-attempt-none Ending a kept d o none = none
-attempt-none Confirming a kept d o none = none
-attempt-none (Restoring stage) a kept d o none = none
-attempt-none (Breaking result) a kept d o none = none
-attempt-none (Over result) a kept d o none = none
+attempt-none : (stage : AttemptStage) (a : StorageAttempt) (backup : Option Set) (d : Values)
+    (o : Outcome) → OwnsNone d → OwnsNone (behind_attempt stage a backup d o).1
+attempt-none State a backup d o none = none
+attempt-none Size a backup d o none = none
+attempt-none Checksum a backup d o none = none
+attempt-none SerialNumber a backup d o none = none
+attempt-none Fetching a backup d o none = upload-none a.upload.stage a.upload d o none
+attempt-none Unsaved a backup d o none = none
+attempt-none Ending a backup d o none = none
+attempt-none Confirming a backup d o none = none
+attempt-none (Restoring stage) a backup d o none = none
+attempt-none (Breaking result) a backup d o none = none
+attempt-none (Over result) a backup d o none = none
 
 -- What is kept, and what is to be
 
 abbrev HoldsNone : Storage → Type 0
-HoldsNone s = (is_no_set s.kept ≡ false) × OwnsNone s.draft
+HoldsNone s = (is_no_set s.backup ≡ false) × OwnsNone s.draft
 
 keeping-none : (job : StorageJob) (s : Storage) → HoldsNone s → HoldsNone (job_keeping job s)
 keeping-none Idle s holds = holds
@@ -132,38 +132,38 @@ ended-none (job_ends.Block result) s holds = holds
 heard-none : (job : StorageJob) (s : Storage) (o : Outcome) → HoldsNone s
     → HoldsNone (job_heard job s o)
 heard-none Idle s o holds = holds
-heard-none (Check a) s o holds = (holds.0, attempt-none a.stage a s.kept s.draft o holds.1)
+heard-none (Check a) s o holds = (holds.0, attempt-none a.stage a s.backup s.draft o holds.1)
 heard-none (Block download) s o holds = holds
 
 begins-none : (s : Storage) (page : List ℕ) (purpose : AttemptPurpose)
     (obstacle : Option StorageStanding) → HoldsNone s
     → HoldsNone (storage_begins s page purpose obstacle)
 begins-none s page purpose None holds = holds
-begins-none s page purpose (Some said) holds = holds
+begins-none s page purpose (Some proposed) holds = holds
 
 due-none : (s : Storage) (page : List ℕ) (purpose : Option AttemptPurpose) → HoldsNone s
     → HoldsNone (storage_due s page purpose)
 due-none s page None holds = holds
 due-none s page (Some purpose) holds = begins-none
     (record s { retry = record s.retry { due = false } }) page purpose
-    (obstacle s.mode (option_map (λ set. set.device) s.kept) page) holds
+    (obstacle s.mode (option_map (λ set. set.device) s.backup) page) holds
 
-seen-none : (s : Storage) (session : Option (List ℕ)) → HoldsNone s
-    → HoldsNone (storage_seen s session)
-seen-none s None holds = holds
-seen-none s (Some page) holds = either HoldsNone (has_no_job s.job) (storage_looked s page) s
+observed-none : (s : Storage) (session : Option (List ℕ)) → HoldsNone s
+    → HoldsNone (storage_observed s session)
+observed-none s None holds = holds
+observed-none s (Some page) holds = either HoldsNone (has_no_job s.job) (storage_looked s page) s
     (either HoldsNone (nat_lt 0 s.retry.pause)
     (record s { retry = record s.retry { pause = s.retry.pause - 1 } })
     (storage_due s page (purpose_due s.standing s.retry.due)) holds
     (due-none s page (purpose_due s.standing s.retry.due) holds)) holds
 
-loaded-none : (s : Storage) (kept : Option Set) (job none : Bool) → is_no_set kept ≡ none
+loaded-none : (s : Storage) (backup : Option Set) (job none : Bool) → is_no_set backup ≡ none
     → HoldsNone s
     → HoldsNone (cond (is_some (cond job (cond none (Some fault.OwnedIndex) None)
-    (Some fault.Storing))) s (storage_loaded s kept))
-loaded-none s kept false none is holds = holds
-loaded-none s kept true true is holds = holds
-loaded-none s kept true false is holds = (is, holds.1)
+    (Some fault.Storing))) s (storage_loaded s backup))
+loaded-none s backup false none is holds = holds
+loaded-none s backup true true is holds = holds
+loaded-none s backup true false is holds = (is, holds.1)
 
 block-none : (s : Storage) (writes : Values) (keep : Keep) (refusal : Option StoredFault)
     (owned : Bool) → any_owned writes ≡ owned → HoldsNone s
@@ -175,20 +175,20 @@ block-none s writes keep None false is holds = (holds.0, is)
 
 after-none : (s : Storage) (event : StorageEvent) → HoldsNone s → HoldsNone (storage_after s event)
 after-none s (Heard o) holds = either HoldsNone (is_some s.asked) (storage_heard s o) s
-    (either HoldsNone (goes_again s o) (record s { asked = None; breaks = s.breaks + 1 })
+    (either HoldsNone (is_repeated s o) (record s { asked = None; breaks = s.breaks + 1 })
     (storage_concluded (job_heard s.job (record s { asked = None; breaks = 0 }) o)) holds
     (ended-none (job_end (job_heard s.job (record s { asked = None; breaks = 0 }) o).job)
     (job_heard s.job (record s { asked = None; breaks = 0 }) o)
     (heard-none s.job (record s { asked = None; breaks = 0 }) o holds))) holds
 after-none s (Watched session) holds = either HoldsNone (is_some s.asked) s
-    (storage_seen s session) holds (seen-none s session holds)
+    (storage_observed s session) holds (observed-none s session holds)
 after-none s (Asked ticket) holds = either HoldsNone (is_some (to_submit s))
     (record s { asked = Some ticket }) s holds holds
 after-none s Saved holds = holds
 after-none s (Noticed event) holds = either HoldsNone (event.code == 0xFF91)
     (record s { retry = no_retry true }) s holds holds
-after-none s (Loaded kept) holds =
-    loaded-none s kept (has_no_job s.job) (is_no_set kept) refl holds
+after-none s (Loaded backup) holds =
+    loaded-none s backup (has_no_job s.job) (is_no_set backup) refl holds
 after-none s Released holds = either HoldsNone (is_check s.job) s
     (record s { standing = standing_released s.standing }) holds holds
 after-none s (Submitted writes keep) holds =
@@ -202,6 +202,6 @@ behind-none [] s holds = holds
 behind-none (event ∷ events) s holds =
     behind-none events (storage_after s event) (after-none s event holds)
 
-pub kept_sets_hold_no_command : KeptSetsHoldNoCommand
-kept_sets_hold_no_command mode kept events none =
-    (behind-none events (storage_at_opening mode kept) (none, refl)).0
+pub backups_hold_no_command : BackupsHoldNoCommand
+backups_hold_no_command mode backup events none =
+    (behind-none events (storage_at_opening mode backup) (none, refl)).0

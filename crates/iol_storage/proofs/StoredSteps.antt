@@ -23,7 +23,7 @@ use Rattle.iol_storage.specs.declared.stored.standing.Trouble.TheVariants.{Wrong
 use Rattle.iol_storage.specs.declared.stored.storage.Storage.{Storage}
 use Rattle.iol_storage.specs.declared.stored.storage.StorageJob.TheVariants.{Check}
 use Rattle.iol_storage.specs.Attempts.{attempt_begun}
-use Rattle.iol_storage.specs.Stored.{storage_serves, has_no_job, is_off, page_device, has_storage, obstacle, obstacle_for, standing_without, purpose_due, storage_begins, storage_begun, storage_due, storage_looked, storage_seen, storage_watched, is_check}
+use Rattle.iol_storage.specs.Stored.{storage_serves, has_no_job, is_off, page_device, has_storage, obstacle, obstacle_for, standing_without, purpose_due, storage_begins, storage_begun, storage_due, storage_looked, storage_observed, storage_watched, is_check}
 use Rattle.iol_storage.specs.StoredPort.{StoredParts, CoreCalls, CollectsOf, SubmitsOf, ShowsOf, collect_calls}
 use Rattle.iol_storage.specs.StoredLaws.{StepsAreCalls, JobsAreAlone, AttemptsAreForTheDevice, IsOfDevice}
 
@@ -147,9 +147,9 @@ jobs_are_alone old new tends next found =
 
 -- When an attempt begins
 
-for-device : (kept : Option Set) (page : List ℕ)
-    → obstacle_for (option_map (λ set. set.device) kept) page ≡ None
-    → IsOfDevice kept (page_device page)
+for-device : (backup : Option Set) (page : List ℕ)
+    → obstacle_for (option_map (λ set. set.device) backup) page ≡ None
+    → IsOfDevice backup (page_device page)
 for-device None page free = tt
 for-device (Some set) page free = by (bytes_eq set.device (page_device page)) refl free
   where
@@ -160,31 +160,31 @@ for-device (Some set) page free = by (bytes_eq set.device (page_device page)) re
 
 -- what a check that has begun says
 pub record Begins (s : Storage) (page : List ℕ) (next : Storage) : Type 0 where
-  pub of_device : IsOfDevice s.kept (page_device page)
+  pub of_device : IsOfDevice s.backup (page_device page)
   pub device : next.device ≡ page_device page
   pub purpose : AttemptPurpose
   pub job : next.job ≡ Check (attempt_begun s.mode purpose)
-  pub kept : next.kept ≡ s.kept
+  pub backup : next.backup ≡ s.backup
   pub draft : next.draft ≡ s.draft
   pub standing : next.standing ≡ s.standing
 
 no-obstacle : (s : Storage) (page : List ℕ)
-    → obstacle s.mode (option_map (λ set. set.device) s.kept) page ≡ None
-    → IsOfDevice s.kept (page_device page)
+    → obstacle s.mode (option_map (λ set. set.device) s.backup) page ≡ None
+    → IsOfDevice s.backup (page_device page)
 no-obstacle s page = by (is_off s.mode) (has_storage page)
   where
     by : (off storage : Bool) → cond off (Some (Served Off))
-        (cond storage (obstacle_for (option_map (λ set. set.device) s.kept) page)
-        (Some (standing_without (is_some (option_map (λ set. set.device) s.kept))))) ≡ None
-        → IsOfDevice s.kept (page_device page)
+        (cond storage (obstacle_for (option_map (λ set. set.device) s.backup) page)
+        (Some (standing_without (is_some (option_map (λ set. set.device) s.backup))))) ≡ None
+        → IsOfDevice s.backup (page_device page)
     by true storage free = absurd (cc)
-    by false true free = for-device s.kept page free
+    by false true free = for-device s.backup page free
     by false false free = absurd (cc)
 
 begun-is : (s : Storage) (page : List ℕ) (purpose : AttemptPurpose) → is_check s.job ≡ false
     → IsTrue (is_check (storage_begun s page purpose).job)
     → Begins s page (storage_begun s page purpose)
-begun-is s page purpose idle = by (obstacle s.mode (option_map (λ set. set.device) s.kept) page)
+begun-is s page purpose idle = by (obstacle s.mode (option_map (λ set. set.device) s.backup) page)
     refl
   where
     begins : Option StorageStanding → Storage
@@ -192,14 +192,14 @@ begun-is s page purpose idle = by (obstacle s.mode (option_map (λ set. set.devi
         storage_begins (record s { retry = record s.retry { due = false } }) page purpose o
 
     by : (o : Option StorageStanding)
-        → obstacle s.mode (option_map (λ set. set.device) s.kept) page ≡ o
+        → obstacle s.mode (option_map (λ set. set.device) s.backup) page ≡ o
         → IsTrue (is_check (begins o).job) → Begins s page (begins o)
     by None free check = record {
       of_device = no-obstacle s page free;
       device = refl;
       purpose = purpose;
       job = refl;
-      kept = refl;
+      backup = refl;
       draft = refl;
       standing = refl;
     }
@@ -225,11 +225,11 @@ looked-is s page idle = by (nat_lt 0 s.retry.pause)
     by true check = absurd (cc)
     by false check = due-is s page _ idle check
 
-seen-is : (s : Storage) (session : Option (List ℕ)) → is_check s.job ≡ false
-    → IsTrue (is_check (storage_seen s session).job)
-    → (page : List ℕ) × (session ≡ Some page) × Begins s page (storage_seen s session)
-seen-is s None idle check = absurd (cc)
-seen-is s (Some page) idle check = by (has_no_job s.job) check
+observed-is : (s : Storage) (session : Option (List ℕ)) → is_check s.job ≡ false
+    → IsTrue (is_check (storage_observed s session).job)
+    → (page : List ℕ) × (session ≡ Some page) × Begins s page (storage_observed s session)
+observed-is s None idle check = absurd (cc)
+observed-is s (Some page) idle check = by (has_no_job s.job) check
   where
     by : (b : Bool) → IsTrue (is_check (cond b (storage_looked s page) s).job)
         → (p : List ℕ) × (Some page ≡ Some p) × Begins s p (cond b (storage_looked s page) s)
@@ -241,11 +241,11 @@ pub watched-begins : (s : Storage) (session : Option (List ℕ)) → is_check s.
     → (page : List ℕ) × (session ≡ Some page) × Begins s page (storage_watched s session)
 watched-begins s session idle check = by (is_some s.asked) check
   where
-    by : (b : Bool) → IsTrue (is_check (cond b s (storage_seen s session)).job)
+    by : (b : Bool) → IsTrue (is_check (cond b s (storage_observed s session)).job)
         → (page : List ℕ) × (session ≡ Some page)
-        × Begins s page (cond b s (storage_seen s session))
+        × Begins s page (cond b s (storage_observed s session))
     by true same = absurd (cc)
-    by false begins = seen-is s session idle begins
+    by false begins = observed-is s session idle begins
 
 pub attempts_are_for_the_device : AttemptsAreForTheDevice
 attempts_are_for_the_device s session idle check =

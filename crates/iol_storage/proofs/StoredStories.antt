@@ -22,50 +22,50 @@ use Rattle.iol_storage.specs.declared.stored.storage.Storage.{Storage}
 use Rattle.iol_storage.specs.declared.stored.storage.StorageJob.{StorageJob}
 use Rattle.iol_storage.specs.declared.stored.storage.StorageJob.TheVariants.{Idle, Check, Block}
 use Rattle.iol_storage.specs.Attempts.{attempt_asks, attempt_stage_asks, is_unsaved}
-use Rattle.iol_storage.specs.Stored.{storage_asks, job_asks, job_saved, has_no_job, storage_with_block, no_retry, is_check, standing_released, is_block, storage_concluded, storage_heard, job_heard, job_left, block_left, storage_seen}
+use Rattle.iol_storage.specs.Stored.{storage_asks, job_asks, job_saved, has_no_job, storage_with_block, no_retry, is_check, standing_released, is_block, storage_concluded, storage_heard, job_heard, job_left, block_left, storage_observed}
 use Rattle.iol_storage.specs.Downloads.{stage_asks, stage_after, download_after, download_requests}
 use Rattle.iol_storage.specs.Laws.{stage_behind_all, all_asked, asked_with, stage_result, is_applied, IsDownloadCut}
 use Rattle.iol_storage.specs.StoredPort.{to_submit}
 use Rattle.iol_storage.proofs.Downloads.{asking-taken, asking-within, breaking-failed, applied-whole, others-cut}
-use Rattle.iol_storage.specs.StoredStories.{StorageEvent, Heard, Watched, Asked, Saved, Noticed, Loaded, Released, Submitted, Collected, storage_after, storage_behind, is_outcome_event, AskedRequestsStay, goes_again, story_of, story_behind, BlockGoesOn, BlockEndsAs, BlocksAreWhole}
+use Rattle.iol_storage.specs.StoredStories.{StorageEvent, Heard, Watched, Asked, Saved, Noticed, Loaded, Released, Submitted, Collected, storage_after, storage_behind, is_outcome_event, AskedRequestsStay, is_repeated, story_of, story_behind, BlockGoesOn, BlockEndsAs, BlocksAreWhole}
 
 -- an attempt whose set waits to be saved asks nothing
-pub unsaved-none : (a : StorageAttempt) (kept : Option Set) (draft : List (Place × List ℕ))
-    (at : AttemptStage) → is_unsaved at ≡ true → attempt_stage_asks at a kept draft ≡ None
-unsaved-none a kept draft attempt_stage.State is = absurd (cc)
-unsaved-none a kept draft attempt_stage.Size is = absurd (cc)
-unsaved-none a kept draft attempt_stage.Checksum is = absurd (cc)
-unsaved-none a kept draft attempt_stage.SerialNumber is = absurd (cc)
-unsaved-none a kept draft attempt_stage.Fetching is = absurd (cc)
-unsaved-none a kept draft attempt_stage.Unsaved is = refl
-unsaved-none a kept draft attempt_stage.Ending is = absurd (cc)
-unsaved-none a kept draft attempt_stage.Confirming is = absurd (cc)
-unsaved-none a kept draft (attempt_stage.Restoring stage) is = absurd (cc)
-unsaved-none a kept draft (attempt_stage.Breaking result) is = absurd (cc)
-unsaved-none a kept draft (attempt_stage.Over result) is = absurd (cc)
+pub unsaved-none : (a : StorageAttempt) (backup : Option Set) (draft : List (Place × List ℕ))
+    (at : AttemptStage) → is_unsaved at ≡ true → attempt_stage_asks at a backup draft ≡ None
+unsaved-none a backup draft attempt_stage.State is = absurd (cc)
+unsaved-none a backup draft attempt_stage.Size is = absurd (cc)
+unsaved-none a backup draft attempt_stage.Checksum is = absurd (cc)
+unsaved-none a backup draft attempt_stage.SerialNumber is = absurd (cc)
+unsaved-none a backup draft attempt_stage.Fetching is = absurd (cc)
+unsaved-none a backup draft attempt_stage.Unsaved is = refl
+unsaved-none a backup draft attempt_stage.Ending is = absurd (cc)
+unsaved-none a backup draft attempt_stage.Confirming is = absurd (cc)
+unsaved-none a backup draft (attempt_stage.Restoring stage) is = absurd (cc)
+unsaved-none a backup draft (attempt_stage.Breaking result) is = absurd (cc)
+unsaved-none a backup draft (attempt_stage.Over result) is = absurd (cc)
 
-saved-asks : (job : StorageJob) (kept : Option Set) (draft : List (Place × List ℕ))
-    (request : Request) → job_asks job kept draft ≡ Some request
-    → job_asks (job_saved job) kept draft ≡ Some request
-saved-asks Idle kept draft request asks = absurd (cc)
-saved-asks (Block download) kept draft request asks = asks
-saved-asks (Check attempt) kept draft request asks = by (is_unsaved attempt.stage) refl
+saved-asks : (job : StorageJob) (backup : Option Set) (draft : List (Place × List ℕ))
+    (request : Request) → job_asks job backup draft ≡ Some request
+    → job_asks (job_saved job) backup draft ≡ Some request
+saved-asks Idle backup draft request asks = absurd (cc)
+saved-asks (Block download) backup draft request asks = asks
+saved-asks (Check attempt) backup draft request asks = by (is_unsaved attempt.stage) refl
   where
     ending : StorageAttempt
     ending = record attempt { stage = attempt_stage.Ending }
 
     by : (b : Bool) → is_unsaved attempt.stage ≡ b
-        → attempt_asks (cond b ending attempt) kept draft ≡ Some request
+        → attempt_asks (cond b ending attempt) backup draft ≡ Some request
     by true is =
         let wrong : None ≡ Some request =
-        sym (unsaved-none attempt kept draft attempt.stage is) ∙ asks in absurd (cc)
+        sym (unsaved-none attempt backup draft attempt.stage is) ∙ asks in absurd (cc)
     by false is = asks
 
-has-job : (job : StorageJob) (kept : Option Set) (draft : List (Place × List ℕ))
-    (request : Request) → job_asks job kept draft ≡ Some request → has_no_job job ≡ false
-has-job Idle kept draft request asks = absurd (cc)
-has-job (Check attempt) kept draft request asks = refl
-has-job (Block download) kept draft request asks = refl
+has-job : (job : StorageJob) (backup : Option Set) (draft : List (Place × List ℕ))
+    (request : Request) → job_asks job backup draft ≡ Some request → has_no_job job ≡ false
+has-job Idle backup draft request asks = absurd (cc)
+has-job (Check attempt) backup draft request asks = refl
+has-job (Block download) backup draft request asks = refl
 
 module _ (s : Storage) (ticket : Ticket) (request : Request) (asked : s.asked ≡ Some ticket)
     (asks : storage_asks s ≡ Some request) where
@@ -78,16 +78,16 @@ module _ (s : Storage) (ticket : Ticket) (request : Request) (asked : s.asked �
   either-stays false other stays = (asked, asks)
 
   not-idle : has_no_job s.job ≡ false
-  not-idle = has-job s.job s.kept s.draft request asks
+  not-idle = has-job s.job s.backup s.draft request asks
 
   stays : (event : StorageEvent) → is_outcome_event event ≡ false → Stays (storage_after s event)
   stays (Heard outcome) other = absurd (cc)
   stays (Watched session) other = rw asked (refl, asks)
   stays (Asked new) other = rw asked (refl, asks)
-  stays Saved other = (asked, saved-asks s.job s.kept s.draft request asks)
+  stays Saved other = (asked, saved-asks s.job s.backup s.draft request asks)
   stays (Noticed event) other =
       either-stays (event.code == 0xFF91) (record s { retry = no_retry true }) (asked, asks)
-  stays (Loaded kept) other = rw not-idle (asked, asks)
+  stays (Loaded backup) other = rw not-idle (asked, asks)
   stays Released other = released-stays (is_check s.job)
     where
       released-stays : (b : Bool)
@@ -146,14 +146,14 @@ module _ (purpose : DownloadPurpose) (writes : List (Place × List ℕ)) where
       let clash : false ≡ true = sym idle ∙ wrong in absurd (cc)
 
   -- what one event does to it
-  data Step (s next : Storage) (at : DownloadStage) (told_here : List (Request × Outcome)) :
+  data Step (s next : Storage) (at : DownloadStage) (story_here : List (Request × Outcome)) :
       Type 0 where
-    Quiet : BlockStands next at → told_here ≡ [] → Step s next at told_here
+    Quiet : BlockStands next at → story_here ≡ [] → Step s next at story_here
     Hears : (o : Outcome) → BlockStands next (stage_after purpose writes at o)
-        → told_here ≡ asked_with (stage_asks purpose at writes) o → Step s next at told_here
+        → story_here ≡ asked_with (stage_asks purpose at writes) o → Step s next at story_here
 
   abbrev Quiets : Storage → Storage → DownloadStage → List (Request × Outcome) → Type 0
-  Quiets s next at told_here = BlockStands next at × (told_here ≡ [])
+  Quiets s next at story_here = BlockStands next at × (story_here ≡ [])
 
   module _ (s : Storage) (at : DownloadStage) (stands : BlockStands s at) where
     busy : has_no_job s.job ≡ false
@@ -178,7 +178,7 @@ module _ (purpose : DownloadPurpose) (writes : List (Place × List ℕ)) where
         (record { job = ap job_saved stands.job; draft = stands.draft }, refl)
     quiet (Noticed event) hearing watching = either-quiet (event.code == 0xFF91)
         (record s { retry = no_retry true }) (record { job = stands.job; draft = stands.draft })
-    quiet (Loaded kept) hearing watching = rw busy same
+    quiet (Loaded backup) hearing watching = rw busy same
     quiet Released hearing watching = by (is_check s.job)
       where
         by : (b : Bool)
@@ -209,13 +209,13 @@ module _ (purpose : DownloadPurpose) (writes : List (Place × List ℕ)) where
     asks-here : storage_asks s ≡ stage_asks purpose at writes
     asks-here = rw (stands.job) (ap (λ objects. stage_asks purpose at objects) stands.draft)
 
-    step-again : (o : Outcome) (b : Bool)
+    step-repeat : (o : Outcome) (b : Bool)
         → IsTrue (is_block (cond b (record s { asked = None; breaks = s.breaks + 1 })
         (storage_concluded (hearing o))).job)
         → Step s (cond b (record s { asked = None; breaks = s.breaks + 1 })
         (storage_concluded (hearing o))) at (cond b [] (asked_with (storage_asks s) o))
-    step-again o true block = Quiet (record { job = stands.job; draft = stands.draft }) refl
-    step-again o false block =
+    step-repeat o true block = Quiet (record { job = stands.job; draft = stands.draft }) refl
+    step-repeat o false block =
         let stays = goes-on (hearing o) (download-behind o) (stage_after purpose writes at o)
         (hearing-job o) (stage-behind o) block in
         Hears o (record {
@@ -226,20 +226,20 @@ module _ (purpose : DownloadPurpose) (writes : List (Place × List ℕ)) where
 
     step-heard : (o : Outcome) (b : Bool) → IsTrue (is_block (cond b (storage_heard s o) s).job)
         → Step s (cond b (storage_heard s o) s) at
-        (cond b (cond (goes_again s o) [] (asked_with (storage_asks s) o)) [])
-    step-heard o true block = step-again o (goes_again s o) block
+        (cond b (cond (is_repeated s o) [] (asked_with (storage_asks s) o)) [])
+    step-heard o true block = step-repeat o (is_repeated s o) block
     step-heard o false block = Quiet stands refl
 
-    step-seen : (session : Option (List ℕ)) → IsTrue (is_block (storage_seen s session).job)
-        → Step s (storage_seen s session) at []
-    step-seen None block = absurd (cc)
-    step-seen (Some page) block = rw busy (Quiet stands refl)
+    step-observed : (session : Option (List ℕ)) → IsTrue (is_block (storage_observed s session).job)
+        → Step s (storage_observed s session) at []
+    step-observed None block = absurd (cc)
+    step-observed (Some page) block = rw busy (Quiet stands refl)
 
     step-watched : (session : Option (List ℕ)) (b : Bool)
-        → IsTrue (is_block (cond b s (storage_seen s session)).job)
-        → Step s (cond b s (storage_seen s session)) at []
+        → IsTrue (is_block (cond b s (storage_observed s session)).job)
+        → Step s (cond b s (storage_observed s session)) at []
     step-watched session true block = Quiet stands refl
-    step-watched session false block = step-seen session block
+    step-watched session false block = step-observed session block
 
     step-quiet : (event : StorageEvent) → is_outcome_event event ≡ false → is_watching event ≡ false
         → Step s (storage_after s event) at (story_of s event)
@@ -252,7 +252,7 @@ module _ (purpose : DownloadPurpose) (writes : List (Place × List ℕ)) where
     step-of (Asked ticket) block = step-quiet (Asked ticket) refl refl
     step-of Saved block = step-quiet Saved refl refl
     step-of (Noticed event) block = step-quiet (Noticed event) refl refl
-    step-of (Loaded kept) block = step-quiet (Loaded kept) refl refl
+    step-of (Loaded backup) block = step-quiet (Loaded backup) refl refl
     step-of Released block = step-quiet Released refl refl
     step-of (Submitted others keep) block = step-quiet (Submitted others keep) refl refl
     step-of (Collected ticket) block = step-quiet (Collected ticket) refl refl
@@ -261,7 +261,7 @@ module _ (purpose : DownloadPurpose) (writes : List (Place × List ℕ)) where
   record BlockRun (s : Storage) (events : List StorageEvent) (at : DownloadStage) : Type 0 where
     outcomes : List Outcome
     stands : BlockStands (storage_behind s events) (final at outcomes)
-    told_is : story_behind s events ≡ asked-from at outcomes
+    story_is : story_behind s events ≡ asked-from at outcomes
 
   run-step : (s : Storage) (event : StorageEvent) (events : List StorageEvent)
       (at : DownloadStage) → Step s (storage_after s event) at (story_of s event)
@@ -271,30 +271,30 @@ module _ (purpose : DownloadPurpose) (writes : List (Place × List ℕ)) where
   run-step s event events at (Quiet stands none) more = let r = more at stands in record {
     outcomes = r.outcomes;
     stands = r.stands;
-    told_is = ap (λ x. x ++ story_behind (storage_after s event) events) none ∙ r.told_is;
+    story_is = ap (λ x. x ++ story_behind (storage_after s event) events) none ∙ r.story_is;
   }
   run-step s event events at (Hears o stands is) more =
       let r = more (stage_after purpose writes at o) stands in record {
         outcomes = o ∷ r.outcomes;
         stands = r.stands;
-        told_is = ap (λ x. x ++ story_behind (storage_after s event) events) is
-            ∙ ap (λ y. asked_with (stage_asks purpose at writes) o ++ y) r.told_is;
+        story_is = ap (λ x. x ++ story_behind (storage_after s event) events) is
+            ∙ ap (λ y. asked_with (stage_asks purpose at writes) o ++ y) r.story_is;
       }
 
   block-run : (events : List StorageEvent) (s : Storage) (at : DownloadStage)
       → BlockStands s at → BlockGoesOn s events → BlockRun s events at
-  block-run [] s at stands goes = record { outcomes = []; stands = stands; told_is = refl }
+  block-run [] s at stands goes = record { outcomes = []; stands = stands; story_is = refl }
   block-run (event ∷ events) s at stands (block, goes) =
       run-step s event events at (step-of s at stands event block)
       (λ next standing. block-run events (storage_after s event) next standing goes)
 
   -- how one event ends it: by an outcome, or as no session lasts
-  data End (s next : Storage) (at : DownloadStage) (told_here : List (Request × Outcome)) :
+  data End (s next : Storage) (at : DownloadStage) (story_here : List (Request × Outcome)) :
       Type 0 where
     ByOutcome : (o : Outcome) (result : DownloadResult)
         → stage_after purpose writes at o ≡ Over result → next.ended ≡ Some result
-        → told_here ≡ asked_with (stage_asks purpose at writes) o → End s next at told_here
-    ByLeaving : next.ended ≡ Some (block_left at) → told_here ≡ [] → End s next at told_here
+        → story_here ≡ asked_with (stage_asks purpose at writes) o → End s next at story_here
+    ByLeaving : next.ended ≡ Some (block_left at) → story_here ≡ [] → End s next at story_here
 
   -- a job that an outcome ends has its result
   ends-with : (t : Storage) (download : Download) (at : DownloadStage)
@@ -316,15 +316,15 @@ module _ (purpose : DownloadPurpose) (writes : List (Place × List ℕ)) where
     still-one next standing ended =
         let clash : true ≡ false = sym (ap is_block standing.job) ∙ ended in absurd (cc)
 
-    end-again : (o : Outcome) (b : Bool)
+    end-repeat : (o : Outcome) (b : Bool)
         → is_block (cond b (record s { asked = None; breaks = s.breaks + 1 })
         (storage_concluded (hearing s at stands o))).job ≡ false
         → End s (cond b (record s { asked = None; breaks = s.breaks + 1 })
         (storage_concluded (hearing s at stands o))) at
         (cond b [] (asked_with (storage_asks s) o))
-    end-again o true ended = still-one (record s { asked = None; breaks = s.breaks + 1 })
+    end-repeat o true ended = still-one (record s { asked = None; breaks = s.breaks + 1 })
         (record { job = stands.job; draft = stands.draft }) ended
-    end-again o false ended =
+    end-repeat o false ended =
         let (result, over, is) = ends-with (hearing s at stands o) (download-behind s at stands o)
         (stage_after purpose writes at o) (hearing-job s at stands o) (stage-behind s at stands o)
         ended in
@@ -332,22 +332,22 @@ module _ (purpose : DownloadPurpose) (writes : List (Place × List ℕ)) where
 
     end-heard : (o : Outcome) (b : Bool) → is_block (cond b (storage_heard s o) s).job ≡ false
         → End s (cond b (storage_heard s o) s) at
-        (cond b (cond (goes_again s o) [] (asked_with (storage_asks s) o)) [])
-    end-heard o true ended = end-again o (goes_again s o) ended
+        (cond b (cond (is_repeated s o) [] (asked_with (storage_asks s) o)) [])
+    end-heard o true ended = end-repeat o (is_repeated s o) ended
     end-heard o false ended = still-one s stands ended
 
-    end-seen : (session : Option (List ℕ)) → is_block (storage_seen s session).job ≡ false
-        → End s (storage_seen s session) at []
-    end-seen None ended = ByLeaving (ap (λ job. job_left job s.ended) stands.job) refl
-    end-seen (Some page) ended =
-        let stays : storage_seen s (Some page) ≡ s = rw (busy s at stands) refl in
+    end-observed : (session : Option (List ℕ)) → is_block (storage_observed s session).job ≡ false
+        → End s (storage_observed s session) at []
+    end-observed None ended = ByLeaving (ap (λ job. job_left job s.ended) stands.job) refl
+    end-observed (Some page) ended =
+        let stays : storage_observed s (Some page) ≡ s = rw (busy s at stands) refl in
         still-one s stands (sym (ap (λ (t : Storage). is_block t.job) stays) ∙ ended)
 
     end-watched : (session : Option (List ℕ)) (b : Bool)
-        → is_block (cond b s (storage_seen s session)).job ≡ false
-        → End s (cond b s (storage_seen s session)) at []
+        → is_block (cond b s (storage_observed s session)).job ≡ false
+        → End s (cond b s (storage_observed s session)) at []
     end-watched session true ended = still-one s stands ended
-    end-watched session false ended = end-seen session ended
+    end-watched session false ended = end-observed session ended
 
     end-quiet : (event : StorageEvent) → is_outcome_event event ≡ false → is_watching event ≡ false
         → is_block (storage_after s event).job ≡ false
@@ -362,7 +362,7 @@ module _ (purpose : DownloadPurpose) (writes : List (Place × List ℕ)) where
     end-of (Asked ticket) ended = end-quiet (Asked ticket) refl refl ended
     end-of Saved ended = end-quiet Saved refl refl ended
     end-of (Noticed event) ended = end-quiet (Noticed event) refl refl ended
-    end-of (Loaded kept) ended = end-quiet (Loaded kept) refl refl ended
+    end-of (Loaded backup) ended = end-quiet (Loaded backup) refl refl ended
     end-of Released ended = end-quiet Released refl refl ended
     end-of (Submitted others keep) ended = end-quiet (Submitted others keep) refl refl ended
     end-of (Collected ticket) ended = end-quiet (Collected ticket) refl refl ended
@@ -417,19 +417,20 @@ module _ (purpose : DownloadPurpose) (writes : List (Place × List ℕ)) where
       (others-cut purpose writes os result failed (ap stage_result is))
   left-as (Over result) os is = over-as result os (is_applied result) refl is
 
-  end-as : (s next : Storage) (os : List Outcome) (told_here : List (Request × Outcome))
-      → End s next (final (Asking 0) os) told_here
+  end-as : (s next : Storage) (os : List Outcome) (story_here : List (Request × Outcome))
+      → End s next (final (Asking 0) os) story_here
       → (result : DownloadResult) × (next.ended ≡ Some result)
-      × BlockEndsAs purpose writes result (asked-from (Asking 0) os ++ (told_here ++ []))
-  end-as s next os told_here (ByOutcome o result over is told_is) = (
+      × BlockEndsAs purpose writes result (asked-from (Asking 0) os ++ (story_here ++ []))
+  end-as s next os story_here (ByOutcome o result over is story_is) = (
     result,
     is,
     subst (BlockEndsAs purpose writes result)
-        (asked-more (Asking 0) os o ∙ ap (λ y. asked-from (Asking 0) os ++ (y ++ [])) (sym told_is))
+        (asked-more (Asking 0) os o ∙ ap (λ y. asked-from (Asking 0) os ++ (y ++ []))
+        (sym story_is))
         (over-as result (os ++ o ∷ []) (is_applied result) refl
         (final-more (Asking 0) os o ∙ over)),
   )
-  end-as s next os told_here (ByLeaving is none) = (
+  end-as s next os story_here (ByLeaving is none) = (
     block_left (final (Asking 0) os),
     is,
     subst (BlockEndsAs purpose writes (block_left (final (Asking 0) os)))
@@ -453,6 +454,6 @@ blocks_are_whole s writes keep events last goes ended =
       result,
       is,
       subst (BlockEndsAs purpose writes result)
-          (ap (λ x. x ++ (story_of (storage_behind begun events) last ++ [])) (sym r.told_is)
+          (ap (λ x. x ++ (story_of (storage_behind begun events) last ++ [])) (sym r.story_is)
           ∙ sym (story-append begun events (last ∷ []))) whole,
     )

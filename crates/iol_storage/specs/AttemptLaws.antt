@@ -31,29 +31,29 @@ pub data AttemptEvent : Type 0 where
 -- an attempt, the kept set, and what was fetched so far
 pub record AttemptRun : Type 0 where
   pub attempt : StorageAttempt
-  pub kept : Option Set
+  pub backup : Option Set
   pub draft : Values
 
 abbrev pub run_begun : StorageMode → AttemptPurpose → Option Set → Values → AttemptRun
-run_begun mode purpose kept draft =
-    record { attempt = attempt_begun mode purpose; kept = kept; draft = draft }
+run_begun mode purpose backup draft =
+    record { attempt = attempt_begun mode purpose; backup = backup; draft = draft }
 
 abbrev pub run_asks : AttemptRun → Option Request
-run_asks run = attempt_asks run.attempt run.kept run.draft
+run_asks run = attempt_asks run.attempt run.backup run.draft
 
 -- where no set waits, nothing is saved
 abbrev pub run_after : AttemptRun → AttemptEvent → AttemptRun
 run_after run (Heard outcome) = record {
-  attempt = (attempt_after run.attempt run.kept run.draft outcome).0;
-  kept = run.kept;
-  draft = (attempt_after run.attempt run.kept run.draft outcome).1;
+  attempt = (attempt_after run.attempt run.backup run.draft outcome).0;
+  backup = run.backup;
+  draft = (attempt_after run.attempt run.backup run.draft outcome).1;
 }
-run_after run (Saved kept draft) = if is_unsaved run.attempt.stage
-    then record { attempt = attempt_saved run.attempt; kept = kept; draft = draft } else run
+run_after run (Saved backup draft) = if is_unsaved run.attempt.stage
+    then record { attempt = attempt_saved run.attempt; backup = backup; draft = draft } else run
 
 abbrev pub event_asked : AttemptRun → AttemptEvent → List (Request × Outcome)
 event_asked run (Heard outcome) = asked_with (run_asks run) outcome
-event_asked run (Saved kept draft) = []
+event_asked run (Saved backup draft) = []
 
 abbrev pub run_behind : AttemptRun → List AttemptEvent → AttemptRun
 run_behind run [] = run
@@ -77,9 +77,9 @@ pub record EndsInWholeSet (checksum : List ℕ) (objects : Values)
 
 abbrev pub UnsavedSetsAreWhole : Type 0
 UnsavedSetsAreWhole =
-    (mode : StorageMode) (purpose : AttemptPurpose) (kept : Option Set) (draft : Values)
+    (mode : StorageMode) (purpose : AttemptPurpose) (backup : Option Set) (draft : Values)
     (events : List AttemptEvent)
-    → let begun = run_begun mode purpose kept draft in
+    → let begun = run_begun mode purpose backup draft in
     let run = run_behind begun events in
     is_unsaved run.attempt.stage ≡ true
     → EndsInWholeSet run.attempt.upload.checksum run.draft (run_asked begun events)
@@ -89,19 +89,19 @@ UnsavedSetsAreWhole =
 -- a set that waited was saved, and nothing was asked since
 pub record IsSavedSince (begun : AttemptRun) (events : List AttemptEvent) : Type 0 where
   pub before : List AttemptEvent
-  pub kept : Option Set
+  pub backup : Option Set
   pub draft : Values
   pub after : List AttemptEvent
-  pub is : events ≡ before ++ Saved kept draft ∷ after
+  pub is : events ≡ before ++ Saved backup draft ∷ after
   pub waited : is_unsaved (run_behind begun before).attempt.stage ≡ true
-  pub silent : run_asked (run_after (run_behind begun before) (Saved kept draft)) after ≡ []
+  pub silent : run_asked (run_after (run_behind begun before) (Saved backup draft)) after ≡ []
 
-abbrev pub ToldSetsAreSaved : Type 0
-ToldSetsAreSaved =
-    (mode : StorageMode) (purpose : AttemptPurpose) (kept : Option Set) (draft : Values)
+abbrev pub AcknowledgedSetsAreSaved : Type 0
+AcknowledgedSetsAreSaved =
+    (mode : StorageMode) (purpose : AttemptPurpose) (backup : Option Set) (draft : Values)
     (events : List AttemptEvent)
-    → let begun = run_begun mode purpose kept draft in
-    is_no_set kept ≡ false
+    → let begun = run_begun mode purpose backup draft in
+    is_no_set backup ≡ false
     → run_asks (run_behind begun events) ≡ Some (storage_command 2)
     → IsSavedSince begun events
 
@@ -128,31 +128,31 @@ pub record AreLooksThenTaken (mode : StorageMode) (purpose : DownloadPurpose)
   pub is : asked ≡ looks ++ restored
 
 -- all of those of the kept set were, at this unit
-pub record IsRestored (mode : StorageMode) (kept : Option Set) (unit : List ℕ)
+pub record IsRestored (mode : StorageMode) (backup : Option Set) (unit : List ℕ)
     (asked : List (Request × Outcome)) :
     Type 0 where
   pub set : Set
-  pub is_kept : kept ≡ Some set
+  pub is_backup : backup ≡ Some set
   pub whole : AreLooksThenTaken mode (restore_purpose mode unit set)
       (download_requests (restore_purpose mode unit set) set.objects) asked
 
 abbrev pub RestoredSetsAreTaken : Type 0
 RestoredSetsAreTaken =
-    (mode : StorageMode) (purpose : AttemptPurpose) (kept : Option Set) (draft : Values)
+    (mode : StorageMode) (purpose : AttemptPurpose) (backup : Option Set) (draft : Values)
     (events : List AttemptEvent)
-    → let begun = run_begun mode purpose kept draft in
+    → let begun = run_begun mode purpose backup draft in
     let run = run_behind begun events in
     run.attempt.stage ≡ Over Restored
-    → (run.kept ≡ kept) × IsRestored mode kept run.attempt.unit.items (run_asked begun events)
+    → (run.backup ≡ backup) × IsRestored mode backup run.attempt.unit.items (run_asked begun events)
 
 -- Nothing else
 
 -- the next request of a restore of the kept set, behind the looks and those before it
-pub record IsNextOfRestore (mode : StorageMode) (kept : Option Set) (unit : List ℕ)
+pub record IsNextOfRestore (mode : StorageMode) (backup : Option Set) (unit : List ℕ)
     (asked : List (Request × Outcome)) (request : Request) :
     Type 0 where
   pub set : Set
-  pub is_kept : kept ≡ Some set
+  pub is_backup : backup ≡ Some set
   pub count : ℕ
   pub behind : AreLooksThenTaken mode (restore_purpose mode unit set)
       (take count (download_requests (restore_purpose mode unit set) set.objects)) asked
@@ -174,22 +174,22 @@ IsCommand request = (octet : ℕ) × (1 ≤ octet) × (octet ≤ 5) × (request 
 
 abbrev pub IsAllowed : StorageMode → Option Set → StorageAttempt → List (Request × Outcome)
     → Request → Type 0
-IsAllowed mode kept attempt asked (ReadRequest place) =
+IsAllowed mode backup attempt asked (ReadRequest place) =
     IsOwnPlace place ⊎ IsNamed attempt.upload.list.items place
-IsAllowed mode kept attempt asked (WriteRequest place octets) =
+IsAllowed mode backup attempt asked (WriteRequest place octets) =
     IsCommand (WriteRequest place octets)
-    ⊎ IsNextOfRestore mode kept attempt.unit.items asked (WriteRequest place octets)
+    ⊎ IsNextOfRestore mode backup attempt.unit.items asked (WriteRequest place octets)
 
 -- only this is asked: reads of Data Storage's own places and of those that the device's Index_List
 -- names, its commands, and the writes of the kept set in a restore
 abbrev pub AttemptsAskNoMore : Type 0
 AttemptsAskNoMore =
-    (mode : StorageMode) (purpose : AttemptPurpose) (kept : Option Set) (draft : Values)
+    (mode : StorageMode) (purpose : AttemptPurpose) (backup : Option Set) (draft : Values)
     (events : List AttemptEvent) (request : Request)
-    → let begun = run_begun mode purpose kept draft in
+    → let begun = run_begun mode purpose backup draft in
     let run = run_behind begun events in
     run_asks run ≡ Some request
-    → IsAllowed mode kept run.attempt (run_asked begun events) request
+    → IsAllowed mode backup run.attempt (run_asked begun events) request
 
 -- How much is asked
 
@@ -200,6 +200,6 @@ HasFewObjects (Some set) = length set.objects ≤ 76
 -- whatever comes of it: four looks, and three fetches of 76 values, each with five requests beside
 abbrev pub AttemptsAskFew : Type 0
 AttemptsAskFew =
-    (mode : StorageMode) (purpose : AttemptPurpose) (kept : Option Set) (draft : Values)
-    (events : List AttemptEvent) → HasFewObjects kept
-    → length (run_asked (run_begun mode purpose kept draft) events) ≤ 247
+    (mode : StorageMode) (purpose : AttemptPurpose) (backup : Option Set) (draft : Values)
+    (events : List AttemptEvent) → HasFewObjects backup
+    → length (run_asked (run_begun mode purpose backup draft) events) ≤ 247

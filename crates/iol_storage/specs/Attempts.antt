@@ -25,7 +25,7 @@ use Rattle.iol_storage.specs.declared.attempt.StorageMode.TheVariants.{Off, Rest
 use Rattle.iol_storage.specs.declared.attempt.AttemptPurpose.{AttemptPurpose}
 use Rattle.iol_storage.specs.declared.attempt.AttemptPurpose.TheVariants.{StartUp, InService}
 use Rattle.iol_storage.specs.declared.attempt.AttemptResult.{AttemptResult}
-use Rattle.iol_storage.specs.declared.attempt.AttemptResult.TheVariants.{Unsupported, Locked, TooLarge, BadList, Empty, Same, Unchanged, Restored, Fetched, Refused, Again}
+use Rattle.iol_storage.specs.declared.attempt.AttemptResult.TheVariants.{Unsupported, Locked, TooLarge, BadList, Empty, Same, Unchanged, Restored, Fetched, Refused, Transient}
 use Rattle.iol_storage.specs.declared.attempt.AttemptStage.{AttemptStage}
 use Rattle.iol_storage.specs.declared.attempt.AttemptStage.TheVariants.{State, Size, Checksum, SerialNumber, Fetching, Unsaved, Ending, Confirming, Restoring, Breaking, Over}
 use Rattle.iol_storage.specs.declared.attempt.StorageAttempt.{StorageAttempt}
@@ -109,21 +109,21 @@ restore_asks attempt stage (Some set) =
 
 abbrev pub attempt_stage_asks : AttemptStage → StorageAttempt → Option Set → List (Place × List ℕ)
     → Option Request
-attempt_stage_asks State attempt kept draft = Some (ReadRequest (storage_place 2))
-attempt_stage_asks Size attempt kept draft = Some (ReadRequest (storage_place 3))
-attempt_stage_asks Checksum attempt kept draft = Some (ReadRequest (storage_place 4))
-attempt_stage_asks SerialNumber attempt kept draft = Some (ReadRequest serial_place)
-attempt_stage_asks Fetching attempt kept draft = upload_asks attempt.upload draft
-attempt_stage_asks Unsaved attempt kept draft = None
-attempt_stage_asks Ending attempt kept draft = Some (storage_command 2)
-attempt_stage_asks Confirming attempt kept draft = Some (ReadRequest (storage_place 4))
-attempt_stage_asks (Restoring stage) attempt kept draft = restore_asks attempt stage kept
-attempt_stage_asks (Breaking result) attempt kept draft = Some (storage_command 5)
-attempt_stage_asks (Over result) attempt kept draft = None
+attempt_stage_asks State attempt backup draft = Some (ReadRequest (storage_place 2))
+attempt_stage_asks Size attempt backup draft = Some (ReadRequest (storage_place 3))
+attempt_stage_asks Checksum attempt backup draft = Some (ReadRequest (storage_place 4))
+attempt_stage_asks SerialNumber attempt backup draft = Some (ReadRequest serial_place)
+attempt_stage_asks Fetching attempt backup draft = upload_asks attempt.upload draft
+attempt_stage_asks Unsaved attempt backup draft = None
+attempt_stage_asks Ending attempt backup draft = Some (storage_command 2)
+attempt_stage_asks Confirming attempt backup draft = Some (ReadRequest (storage_place 4))
+attempt_stage_asks (Restoring stage) attempt backup draft = restore_asks attempt stage backup
+attempt_stage_asks (Breaking result) attempt backup draft = Some (storage_command 5)
+attempt_stage_asks (Over result) attempt backup draft = None
 
 -- STO-5
 abbrev pub attempt_asks : StorageAttempt → Option Set → List (Place × List ℕ) → Option Request
-attempt_asks attempt kept draft = attempt_stage_asks attempt.stage attempt kept draft
+attempt_asks attempt backup draft = attempt_stage_asks attempt.stage attempt backup draft
 
 -- What it becomes
 
@@ -139,14 +139,14 @@ is_unsupported error additional = (error == 128) && ((additional == 17) || (addi
 
 abbrev pub refusal_result : Refusal → AttemptResult
 refusal_result refusal =
-    if passes refusal.error refusal.additional then Again else Refused refusal
+    if passes refusal.error refusal.additional then Transient else Refused refusal
 
 -- behind any other outcome of a read at this place than what was read
 abbrev pub look_result : Place → Outcome → AttemptResult
 look_result place (Done (AnswerRefused error additional)) =
     refusal_result (record { place = place; error = error; additional = additional })
 look_result place NoIsdu = Unsupported
-look_result place other = Again
+look_result place other = Transient
 
 -- bits 2 and 1 are both set
 abbrev pub is_locked : ℕ → Bool
@@ -156,7 +156,7 @@ abbrev pub state_read : StorageAttempt → List ℕ → StorageAttempt
 state_read attempt (state ∷ []) = if is_locked state
     then with_attempt_stage attempt (Over Locked)
     else record attempt { flag = nat_le 128 state; stage = Size }
-state_read attempt _ = with_attempt_stage attempt (Over Again)
+state_read attempt _ = with_attempt_stage attempt (Over Transient)
 
 abbrev pub state_refused : ℕ → ℕ → AttemptResult
 state_refused error additional = if is_unsupported error additional then Unsupported
@@ -174,7 +174,7 @@ abbrev pub size_read : List ℕ → AttemptStage
 size_read (first ∷ second ∷ third ∷ last ∷ []) =
     if nat_le (16777216 * first + 65536 * second + 256 * third + last) 2048 then Checksum
     else Over TooLarge
-size_read _ = Over Again
+size_read _ = Over Transient
 
 abbrev pub behind_size : Outcome → AttemptStage
 behind_size (Done (Read octets)) = size_read octets.items
@@ -188,18 +188,19 @@ checksum_octets _ = None
 
 -- behind the checksum: in mode Own the unit is read, too
 abbrev pub next_look : StorageMode → StorageAttempt → Option Set → AttemptStage
-next_look Own attempt kept = SerialNumber
-next_look other attempt kept = decision attempt kept
+next_look Own attempt backup = SerialNumber
+next_look other attempt backup = decision attempt backup
 
 abbrev pub checksum_read : StorageAttempt → Option Set → Option (List ℕ) → StorageAttempt
-checksum_read attempt kept None = with_attempt_stage attempt (Over Again)
-checksum_read attempt kept (Some checksum) = with_attempt_stage (with_upload_begun attempt checksum)
-    (next_look attempt.mode (with_upload_begun attempt checksum) kept)
+checksum_read attempt backup None = with_attempt_stage attempt (Over Transient)
+checksum_read attempt backup (Some checksum) =
+    with_attempt_stage (with_upload_begun attempt checksum)
+    (next_look attempt.mode (with_upload_begun attempt checksum) backup)
 
 abbrev pub after_checksum : StorageAttempt → Option Set → Outcome → StorageAttempt
-after_checksum attempt kept (Done (Read octets)) =
-    checksum_read attempt kept (checksum_octets octets.items)
-after_checksum attempt kept other =
+after_checksum attempt backup (Done (Read octets)) =
+    checksum_read attempt backup (checksum_octets octets.items)
+after_checksum attempt backup other =
     with_attempt_stage attempt (Over (look_result (storage_place 4) other))
 
 -- a SerialNumber that is longer is none
@@ -208,17 +209,17 @@ serial_number_read octets = if nat_le (length octets) 16 then octets else []
 
 -- the unit is known, and it is decided
 abbrev pub unit_looked : StorageAttempt → Option Set → List ℕ → StorageAttempt
-unit_looked attempt kept unit =
+unit_looked attempt backup unit =
     let known = record attempt { unit = record { items = unit } } in
-    with_attempt_stage known (decision known kept)
+    with_attempt_stage known (decision known backup)
 
 abbrev pub after_serial_number : StorageAttempt → Option Set → Outcome → StorageAttempt
-after_serial_number attempt kept (Done (Read octets)) =
-    unit_looked attempt kept (serial_number_read octets.items)
-after_serial_number attempt kept (Done (AnswerRefused error additional)) =
-    if passes error additional then with_attempt_stage attempt (Over Again)
-    else unit_looked attempt kept []
-after_serial_number attempt kept other =
+after_serial_number attempt backup (Done (Read octets)) =
+    unit_looked attempt backup (serial_number_read octets.items)
+after_serial_number attempt backup (Done (AnswerRefused error additional)) =
+    if passes error additional then with_attempt_stage attempt (Over Transient)
+    else unit_looked attempt backup []
+after_serial_number attempt backup other =
     with_attempt_stage attempt (Over (look_result serial_place other))
 
 abbrev pub fetch_result : UploadResult → AttemptStage
@@ -226,8 +227,8 @@ fetch_result upload.Whole = Unsaved
 fetch_result (upload.Refused refusal) = Over (refusal_result refusal)
 fetch_result upload.BadList = Over BadList
 fetch_result upload.TooLarge = Over TooLarge
-fetch_result upload.Changed = Over Again
-fetch_result upload.CutOff = Over Again
+fetch_result upload.Changed = Over Transient
+fetch_result upload.CutOff = Over Transient
 
 abbrev pub behind_fetch : UploadStage → AttemptStage
 behind_fetch (upload_stage.Over result) = fetch_result result
@@ -251,15 +252,15 @@ abbrev pub behind_end : Outcome → AttemptStage
 behind_end (Done Written) = Confirming
 behind_end (Done (AnswerRefused error additional)) = Over (refusal_result
     (record { place = storage_place 1; error = error; additional = additional }))
-behind_end (Done (Read octets)) = Breaking Again
-behind_end (Unknown cause) = if session_lasts cause then Breaking Again else Over Again
-behind_end Withdrawn = Over Again
-behind_end NoIsdu = Over Again
+behind_end (Done (Read octets)) = Breaking Transient
+behind_end (Unknown cause) = if session_lasts cause then Breaking Transient else Over Transient
+behind_end Withdrawn = Over Transient
+behind_end NoIsdu = Over Transient
 
 -- the checksum once more: if it differs, the set is fetched again, in all at most three times
 -- STO-9
 abbrev pub checksum_confirmed : StorageAttempt → Option (List ℕ) → StorageAttempt
-checksum_confirmed attempt None = with_attempt_stage attempt (Over Again)
+checksum_confirmed attempt None = with_attempt_stage attempt (Over Transient)
 checksum_confirmed attempt (Some checksum) = if bytes_eq checksum attempt.upload.checksum
     then with_attempt_stage attempt (Over Fetched) else
     if nat_lt attempt.fetches 3
@@ -268,7 +269,7 @@ checksum_confirmed attempt (Some checksum) = if bytes_eq checksum attempt.upload
       fetches = attempt.fetches + 1;
       stage = Fetching;
     }
-    else with_attempt_stage attempt (Over Again)
+    else with_attempt_stage attempt (Over Transient)
 
 abbrev pub after_confirmed : StorageAttempt → Outcome → StorageAttempt
 after_confirmed attempt (Done (Read octets)) =
@@ -279,9 +280,9 @@ after_confirmed attempt other =
 abbrev pub restore_result : DownloadResult → AttemptResult
 restore_result download.Applied = Restored
 restore_result (download.Refused refusal) = refusal_result refusal
-restore_result download.FlagSet = Again
-restore_result download.NotApplied = Again
-restore_result (download.Unknown cause) = Again
+restore_result download.FlagSet = Transient
+restore_result download.NotApplied = Transient
+restore_result (download.Unknown cause) = Transient
 restore_result download.NoIsdu = Unsupported
 
 abbrev pub behind_download : DownloadStage → AttemptStage
@@ -289,34 +290,35 @@ behind_download (download_stage.Over result) = Over (restore_result result)
 behind_download other = Restoring other
 
 abbrev pub behind_restore : StorageAttempt → DownloadStage → Option Set → Outcome → AttemptStage
-behind_restore attempt stage None outcome = Over Again
+behind_restore attempt stage None outcome = Over Transient
 behind_restore attempt stage (Some set) outcome = behind_download
     (stage_after (restore_purpose attempt.mode attempt.unit.items set) set.objects stage outcome)
 
 -- by the stage, what is left of the attempt and of what was fetched
 abbrev pub behind_attempt : AttemptStage → StorageAttempt → Option Set → List (Place × List ℕ)
     → Outcome → StorageAttempt × List (Place × List ℕ)
-behind_attempt State attempt kept draft outcome = (after_state attempt outcome, draft)
-behind_attempt Size attempt kept draft outcome =
+behind_attempt State attempt backup draft outcome = (after_state attempt outcome, draft)
+behind_attempt Size attempt backup draft outcome =
     (with_attempt_stage attempt (behind_size outcome), draft)
-behind_attempt Checksum attempt kept draft outcome = (after_checksum attempt kept outcome, draft)
-behind_attempt SerialNumber attempt kept draft outcome =
-    (after_serial_number attempt kept outcome, draft)
-behind_attempt Fetching attempt kept draft outcome = after_fetch attempt draft outcome
-behind_attempt Unsaved attempt kept draft outcome = (attempt, draft)
-behind_attempt Ending attempt kept draft outcome =
+behind_attempt Checksum attempt backup draft outcome =
+    (after_checksum attempt backup outcome, draft)
+behind_attempt SerialNumber attempt backup draft outcome =
+    (after_serial_number attempt backup outcome, draft)
+behind_attempt Fetching attempt backup draft outcome = after_fetch attempt draft outcome
+behind_attempt Unsaved attempt backup draft outcome = (attempt, draft)
+behind_attempt Ending attempt backup draft outcome =
     (with_attempt_stage attempt (behind_end outcome), draft)
-behind_attempt Confirming attempt kept draft outcome = (after_confirmed attempt outcome, draft)
-behind_attempt (Restoring stage) attempt kept draft outcome =
-    (with_attempt_stage attempt (behind_restore attempt stage kept outcome), draft)
-behind_attempt (Breaking result) attempt kept draft outcome =
+behind_attempt Confirming attempt backup draft outcome = (after_confirmed attempt outcome, draft)
+behind_attempt (Restoring stage) attempt backup draft outcome =
+    (with_attempt_stage attempt (behind_restore attempt stage backup outcome), draft)
+behind_attempt (Breaking result) attempt backup draft outcome =
     (with_attempt_stage attempt (Over result), draft)
-behind_attempt (Over result) attempt kept draft outcome = (attempt, draft)
+behind_attempt (Over result) attempt backup draft outcome = (attempt, draft)
 
 abbrev pub attempt_after : StorageAttempt → Option Set → List (Place × List ℕ) → Outcome
     → StorageAttempt × List (Place × List ℕ)
-attempt_after attempt kept draft outcome =
-    behind_attempt attempt.stage attempt kept draft outcome
+attempt_after attempt backup draft outcome =
+    behind_attempt attempt.stage attempt backup draft outcome
 
 -- a set that is whole waits to be saved, and the device is told behind that
 abbrev pub is_unsaved : AttemptStage → Bool

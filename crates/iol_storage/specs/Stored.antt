@@ -57,10 +57,10 @@ is_served_standing other = false
 -- a device that is served stays so
 -- STO-13
 abbrev pub stays_served : StorageStanding → StorageStanding → Bool
-stays_served standing said = is_served_standing standing && not (is_served_standing said)
+stays_served standing proposed = is_served_standing standing && not (is_served_standing proposed)
 
 abbrev pub standing_behind : StorageStanding → StorageStanding → StorageStanding
-standing_behind standing said = if stays_served standing said then standing else said
+standing_behind standing proposed = if stays_served standing proposed then standing else proposed
 
 abbrev pub is_standing_awaited : StorageStanding → Bool
 is_standing_awaited Awaited = true
@@ -78,9 +78,9 @@ abbrev pub no_retry : Bool → Retry
 no_retry due = record { tries = 0; pause = 0; due = due }
 
 abbrev pub storage_at_opening : StorageMode → Option Set → Storage
-storage_at_opening mode kept = record {
+storage_at_opening mode backup = record {
   mode = mode;
-  kept = kept;
+  backup = backup;
   fetched = 0;
   unsaved = false;
   draft = [];
@@ -97,30 +97,30 @@ storage_at_opening mode kept = record {
 -- What a job asks, and what it becomes by what comes of that
 
 abbrev pub job_asks : StorageJob → Option Set → List (Place × List ℕ) → Option Request
-job_asks Idle kept draft = None
-job_asks (Check attempt) kept draft = attempt_asks attempt kept draft
-job_asks (Block download) kept draft = download_asks download draft
+job_asks Idle backup draft = None
+job_asks (Check attempt) backup draft = attempt_asks attempt backup draft
+job_asks (Block download) backup draft = download_asks download draft
 
 abbrev pub storage_asks : Storage → Option Request
-storage_asks s = job_asks s.job s.kept s.draft
+storage_asks s = job_asks s.job s.backup s.draft
 
 -- the standing behind an attempt that is over
 -- STO-3, STO-12
 abbrev pub standing_without : Bool → StorageStanding
-standing_without kept = if kept then Trouble trouble.NoStorage else Served served.Unsupported
+standing_without backup = if backup then Trouble trouble.NoStorage else Served served.Unsupported
 
 abbrev pub settled_standing : StorageStanding → Bool → ℕ → AttemptResult → StorageStanding
-settled_standing standing kept tries ended.Unsupported = standing_without kept
-settled_standing standing kept tries ended.Locked = Trouble trouble.Locked
-settled_standing standing kept tries ended.TooLarge = Trouble trouble.TooLarge
-settled_standing standing kept tries ended.BadList = Trouble trouble.BadList
-settled_standing standing kept tries (ended.Refused refusal) = Trouble (trouble.Refused refusal)
-settled_standing standing kept tries ended.Empty = Served served.Empty
-settled_standing standing kept tries ended.Same = Served served.Same
-settled_standing standing kept tries ended.Restored = Served served.Restored
-settled_standing standing kept tries ended.Fetched = Served served.Fetched
-settled_standing standing kept tries ended.Unchanged = standing
-settled_standing standing kept tries ended.Again =
+settled_standing standing backup tries ended.Unsupported = standing_without backup
+settled_standing standing backup tries ended.Locked = Trouble trouble.Locked
+settled_standing standing backup tries ended.TooLarge = Trouble trouble.TooLarge
+settled_standing standing backup tries ended.BadList = Trouble trouble.BadList
+settled_standing standing backup tries (ended.Refused refusal) = Trouble (trouble.Refused refusal)
+settled_standing standing backup tries ended.Empty = Served served.Empty
+settled_standing standing backup tries ended.Same = Served served.Same
+settled_standing standing backup tries ended.Restored = Served served.Restored
+settled_standing standing backup tries ended.Fetched = Served served.Fetched
+settled_standing standing backup tries ended.Unchanged = standing
+settled_standing standing backup tries ended.Transient =
     if is_standing_awaited standing && nat_le 2 tries then Trouble trouble.Attempts else standing
 
 -- STO-12
@@ -133,11 +133,11 @@ retry_behind_vain tries = if tries == 0 then record { tries = 1; pause = 8; due 
     else retry_later
 
 abbrev pub retry_behind : Retry → AttemptResult → Retry
-retry_behind retry ended.Again = retry_behind_vain retry.tries
+retry_behind retry ended.Transient = retry_behind_vain retry.tries
 retry_behind retry other = no_retry retry.due
 
 abbrev pub storage_standing : Storage → AttemptResult → StorageStanding
-storage_standing s result = settled_standing s.standing (is_some s.kept) s.retry.tries result
+storage_standing s result = settled_standing s.standing (is_some s.backup) s.retry.tries result
 
 abbrev pub storage_settled : Storage → AttemptResult → Storage
 storage_settled s result = record s {
@@ -155,7 +155,7 @@ number_behind count = if nat_eq count 18446744073709551615 then 0 else count + 1
 -- STO-8
 abbrev pub job_keeping : StorageJob → Storage → Storage
 job_keeping (Check attempt) s = record s {
-  kept = Some (record {
+  backup = Some (record {
     checksum = attempt.upload.checksum;
     device = s.device;
     unit = attempt.unit;
@@ -195,8 +195,8 @@ storage_concluded s = storage_ended (job_end s.job) s
 abbrev pub job_heard : StorageJob → Storage → Outcome → Storage
 job_heard Idle s outcome = s
 job_heard (Check attempt) s outcome = record s {
-  job = Check (attempt_after attempt s.kept s.draft outcome).0;
-  draft = (attempt_after attempt s.kept s.draft outcome).1;
+  job = Check (attempt_after attempt s.backup s.draft outcome).0;
+  draft = (attempt_after attempt s.backup s.draft outcome).1;
 }
 job_heard (Block download) s outcome =
     record s { job = Block (download_after download s.draft outcome) }
@@ -268,14 +268,14 @@ obstacle_for (Some device) page =
     if bytes_eq device (page_device page) then None else Some (Trouble trouble.WrongIdentity)
 
 abbrev pub obstacle : StorageMode → Option (List ℕ) → List ℕ → Option StorageStanding
-obstacle mode kept page = if is_off mode then Some (Served served.Off)
-    else if has_storage page then obstacle_for kept page
-    else Some (standing_without (is_some kept))
+obstacle mode backup page = if is_off mode then Some (Served served.Off)
+    else if has_storage page then obstacle_for backup page
+    else Some (standing_without (is_some backup))
 
 abbrev pub storage_begins : Storage → List ℕ → AttemptPurpose → Option StorageStanding → Storage
-storage_begins s page purpose (Some said) = record s {
-  standing = standing_behind s.standing said;
-  retry = if stays_served s.standing said then retry_later else s.retry;
+storage_begins s page purpose (Some proposed) = record s {
+  standing = standing_behind s.standing proposed;
+  retry = if stays_served s.standing proposed then retry_later else s.retry;
 }
 storage_begins s page purpose None =
     record s { device = page_device page; job = Check (attempt_begun s.mode purpose) }
@@ -283,7 +283,7 @@ storage_begins s page purpose None =
 abbrev pub storage_begun : Storage → List ℕ → AttemptPurpose → Storage
 storage_begun s page purpose =
     storage_begins (record s { retry = record s.retry { due = false } }) page purpose
-    (obstacle s.mode (option_map (λ set. set.device) s.kept) page)
+    (obstacle s.mode (option_map (λ set. set.device) s.backup) page)
 
 abbrev pub purpose_due : StorageStanding → Bool → Option AttemptPurpose
 purpose_due Awaited due = Some StartUp
@@ -300,18 +300,18 @@ storage_looked s page = if nat_lt 0 s.retry.pause
     then record s { retry = record s.retry { pause = s.retry.pause - 1 } }
     else storage_due s page (purpose_due s.standing s.retry.due)
 
-abbrev pub storage_seen : Storage → Option (List ℕ) → Storage
-storage_seen s None = storage_left s
-storage_seen s (Some page) = if has_no_job s.job then storage_looked s page else s
+abbrev pub storage_observed : Storage → Option (List ℕ) → Storage
+storage_observed s None = storage_left s
+storage_observed s (Some page) = if has_no_job s.job then storage_looked s page else s
 
 abbrev pub storage_watched : Storage → Option (List ℕ) → Storage
-storage_watched s page = if is_some s.asked then s else storage_seen s page
+storage_watched s page = if is_some s.asked then s else storage_observed s page
 
 -- Calls
 
 -- the set that was fetched and isn't saved, and its number
 abbrev pub set_unsaved : Storage → Option Set
-set_unsaved s = if s.unsaved then s.kept else None
+set_unsaved s = if s.unsaved then s.backup else None
 
 abbrev pub number_unsaved : Storage → Option SetNumber
 number_unsaved s = option_map (λ set. record { 0 = s.fetched }) (set_unsaved s)
@@ -382,8 +382,8 @@ storage_behind_block s block = if block.0 == s.blocks then record s { ended = No
 
 -- STO-16
 abbrev pub load_refusal : Storage → Option Set → Option StoredFault
-load_refusal s kept = if has_no_job s.job
-    then (if is_no_set kept then Some fault.OwnedIndex else None) else Some fault.Storing
+load_refusal s backup = if has_no_job s.job
+    then (if is_no_set backup then Some fault.OwnedIndex else None) else Some fault.Storing
 
 abbrev pub is_troubled : StorageStanding → Bool
 is_troubled (Trouble why) = true
@@ -391,8 +391,8 @@ is_troubled (Released why) = true
 is_troubled other = false
 
 abbrev pub storage_loaded : Storage → Option Set → Storage
-storage_loaded s kept = record s {
-  kept = kept;
+storage_loaded s backup = record s {
+  backup = backup;
   unsaved = false;
   standing = if is_troubled s.standing then Awaited else s.standing;
   retry = if is_troubled s.standing then no_retry false else s.retry;

@@ -44,14 +44,14 @@ FetchedSetsAreWhole = (s : Storage) (page : List ℕ) (events : List StorageEven
     → let begun = check_begun s page in
     let now = storage_behind begun events in
     IsChecking s page events → job_waits now.job ≡ true
-    → (set : Set) × (now.kept ≡ Some set) × (set.device ≡ page_device page)
+    → (set : Set) × (now.backup ≡ Some set) × (set.device ≡ page_device page)
     × EndsInWholeSet set.checksum set.objects (story_behind begun events)
 
 -- from an opening on no value of it lies where commands are written
-abbrev pub KeptSetsHoldNoCommand : Type 0
-KeptSetsHoldNoCommand = (mode : StorageMode) (kept : Option Set) (events : List StorageEvent)
-    → is_no_set kept ≡ false
-    → is_no_set (storage_behind (storage_at_opening mode kept) events).kept ≡ false
+abbrev pub BackupsHoldNoCommand : Type 0
+BackupsHoldNoCommand = (mode : StorageMode) (backup : Option Set) (events : List StorageEvent)
+    → is_no_set backup ≡ false
+    → is_no_set (storage_behind (storage_at_opening mode backup) events).backup ≡ false
 
 -- The end of an upload
 
@@ -61,14 +61,14 @@ pub record WasSavedSince (begun : Storage) (events : List StorageEvent) : Type 0
   pub after : List StorageEvent
   pub is : events ≡ before ++ Saved ∷ after
   pub waited : job_waits (storage_behind begun before).job ≡ true
-  pub kept : (storage_behind begun events).kept ≡ (storage_behind begun before).kept
+  pub backup : (storage_behind begun events).backup ≡ (storage_behind begun before).backup
   pub silent : story_behind (storage_saved (storage_behind begun before)) after ≡ []
 
 abbrev pub EndedUploadsWereSaved : Type 0
 EndedUploadsWereSaved = (s : Storage) (page : List ℕ) (events : List StorageEvent)
     → let begun = check_begun s page in
     let now = storage_behind begun events in
-    IsChecking s page events → is_no_set s.kept ≡ false
+    IsChecking s page events → is_no_set s.backup ≡ false
     → storage_asks now ≡ Some (storage_command 2)
     → WasSavedSince begun events
 
@@ -86,5 +86,5 @@ RestoredStandingsAreTaken =
     let end = storage_after (storage_behind begun events) last in
     IsChecking s page events → is_check end.job ≡ false
     → is_restored s.standing ≡ false → is_restored end.standing ≡ true
-    → (unit : List ℕ) × (end.kept ≡ s.kept)
-    × IsRestored s.mode s.kept unit (story_behind begun (events ++ last ∷ []))
+    → (unit : List ℕ) × (end.backup ≡ s.backup)
+    × IsRestored s.mode s.backup unit (story_behind begun (events ++ last ∷ []))

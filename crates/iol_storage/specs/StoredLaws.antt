@@ -31,8 +31,8 @@ StoredLine = Far × ℕ
 abbrev pub MoveDoes : PortParts → StoredLine → StoredMove → PortParts → StoredLine → Type 0
 MoveDoes p line (Calls calls) next after = CoreCalls p calls next × (after ≡ line)
 MoveDoes p line Send next after = SendDoes p next × (after ≡ line)
-MoveDoes p line (Receive came far silence) next after = ReceiveDoes p came next
-    × HonestExchange line.0 line.1 (text_out p.core.state) came far silence
+MoveDoes p line (Receive received far silence) next after = ReceiveDoes p received next
+    × HonestExchange line.0 line.1 (text_out p.core.state) received far silence
     × (after ≡ (far, silence))
 MoveDoes p line (Wake answered far) next after = WakeDoes p answered next
     × HonestWake line.0 answered far × (after ≡ (far, line.1))
@@ -72,5 +72,5 @@ IsOfDevice (Some set) device = set.device ≡ device
 abbrev pub AttemptsAreForTheDevice : Type 0
 AttemptsAreForTheDevice = (s : Storage) (session : Option (List ℕ))
     → is_check s.job ≡ false → IsTrue (is_check (storage_watched s session).job)
-    → (page : List ℕ) × (session ≡ Some page) × IsOfDevice s.kept (page_device page)
+    → (page : List ℕ) × (session ≡ Some page) × IsOfDevice s.backup (page_device page)
     × ((storage_watched s session).device ≡ page_device page)

@@ -60,7 +60,7 @@ pub record CoreMakes (p : PortParts) (c : Call) (reply : Answered) (next : PortP
 pub record PortSends (p : PortParts) (asked : Asked) (next : PortParts) : Type 0 where
   pub says : IsAskedOut asked next.core.state
   pub asked_is : asked ≡ asks_of p
-  pub again : IsTrue p.sent → next ≡ p
+  pub repeat : IsTrue p.sent → next ≡ p
   pub begun : p.sent ≡ false → IsTrue (takes_next p) → IfSome (begun_next p) IsRequest
   pub gives : PortSendGives p next
   pub does : SendDoes p next
@@ -85,15 +85,15 @@ collect_calls session ticket withdrawn collected =
     if session then (call.Collect ticket, collected) ∷ []
     else (call.Withdraw ticket, withdrawn) ∷ ((call.Collect ticket, collected) ∷ [])
 
-abbrev pub storage_told : Storage → Answered → Storage
-storage_told s (answered.Outcome outcome) = storage_heard s outcome
-storage_told s other = s
+abbrev pub storage_answered : Storage → Answered → Storage
+storage_answered s (answered.Outcome outcome) = storage_heard s outcome
+storage_answered s other = s
 
 abbrev pub CollectsOf : Option Ticket → Bool → StoredParts → StoredParts → Type 0
 CollectsOf None session old new = new ≡ old
 CollectsOf (Some ticket) session old new = (withdrawn : Answered) × (collected : Answered)
     × MakesCalls (collect_calls session ticket withdrawn collected)
-    (storage_told old.storage collected) old.shown old new
+    (storage_answered old.storage collected) old.shown old new
 
 -- the next one is submitted; where that is refused, in a later turn
 -- JOB-1, JOB-6
@@ -152,7 +152,7 @@ pub record StoredSends (old : StoredParts) (sent : Asked) (new : StoredParts) : 
   pub sends : PortSends mid.port sent new.port
   pub rest : new ≡ record mid { port = new.port }
   -- while a message is out nothing changes
-  pub again : IsTrue old.port.sent → new ≡ old
+  pub repeat : IsTrue old.port.sent → new ≡ old
 
 -- what the port waits for behind it
 abbrev pub answer_to : Asked → AwaitedAnswer
@@ -162,15 +162,15 @@ answer_to (asked.Exchange message) = awaited.Reply
 -- Clients' calls
 
 -- a call of the port within, which leaves the rest but for how many tickets clients have
-pub record StoredCalled (old new : StoredParts) (c : Call) (reply : Answered) (given : Type 0) :
+pub record StoredCalled (old new : StoredParts) (c : Call) (reply : Answered) (effect : Type 0) :
     Type 0 where
-  pub call : CoreCalled old.port new.port c reply given
+  pub call : CoreCalled old.port new.port c reply effect
   pub rest : new ≡ record old { port = new.port; tickets = new.tickets }
 
 -- one that leaves all the rest
-pub record StoredForwards (old new : StoredParts) (c : Call) (reply : Answered) (given : Type 0) :
+pub record StoredForwards (old new : StoredParts) (c : Call) (reply : Answered) (effect : Type 0) :
     Type 0 where
-  pub call : CoreCalled old.port new.port c reply given
+  pub call : CoreCalled old.port new.port c reply effect
   pub rest : new ≡ record old { port = new.port }
 
 -- a client may not write at the Index of Data Storage, nor have the tickets that are kept
@@ -192,7 +192,7 @@ by_port (Err why) = Err (fault.Port why)
 abbrev pub PortAnswers : {X : Type 0} → Result X StoredFault → (Result X PortFault → Type 0)
     → Type 0
 PortAnswers {X = X} result Holds =
-    (given : Result X PortFault) × (result ≡ by_port given) × Holds given
+    (returned : Result X PortFault) × (result ≡ by_port returned) × Holds returned
 
 abbrev pub tickets_behind_submit : {X : Type 0} → ℕ → Result X StoredFault → ℕ
 tickets_behind_submit tickets (Ok ticket) = min (tickets + 1) (2 ^ 64 - 1)
@@ -232,6 +232,6 @@ places_with_room limits = if has_journal limits.journal && nat_lt (limits.journa
 
 -- at an opening, too few tickets, a set that is none, or no memory
 abbrev pub IsOpeningRefused : Limits → Option Set → StoredFault → Type 0
-IsOpeningRefused limits kept fault.SmallQueue = IsTrue (nat_le (places_with_room limits) 2)
-IsOpeningRefused limits kept fault.OwnedIndex = IsTrue (is_no_set kept)
-IsOpeningRefused limits kept other = other ≡ fault.Port (port_fault.Book OutOfMemory)
+IsOpeningRefused limits backup fault.SmallQueue = IsTrue (nat_le (places_with_room limits) 2)
+IsOpeningRefused limits backup fault.OwnedIndex = IsTrue (is_no_set backup)
+IsOpeningRefused limits backup other = other ≡ fault.Port (port_fault.Book OutOfMemory)

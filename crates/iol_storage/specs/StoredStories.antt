@@ -41,7 +41,8 @@ storage_after s (Asked ticket) =
     if is_some (to_submit s) then record s { asked = Some ticket } else s
 storage_after s Saved = storage_saved s
 storage_after s (Noticed event) = storage_noticed s event
-storage_after s (Loaded kept) = if is_some (load_refusal s kept) then s else storage_loaded s kept
+storage_after s (Loaded backup) =
+    if is_some (load_refusal s backup) then s else storage_loaded s backup
 storage_after s Released = storage_released s
 storage_after s (Submitted writes keep) =
     if is_ok (block_answer s writes) then storage_with_block s writes keep else s
@@ -66,13 +67,13 @@ AskedRequestsStay = (s : Storage) (event : StorageEvent) (ticket : Ticket) (requ
 -- What a block comes to
 
 -- a break that was cut off goes out again, and the job doesn't hear of it
-abbrev pub goes_again : Storage → Outcome → Bool
-goes_again s outcome = nat_lt s.breaks 20 && is_breaking s.job && is_cut_off outcome
+abbrev pub is_repeated : Storage → Outcome → Bool
+is_repeated s outcome = nat_lt s.breaks 20 && is_breaking s.job && is_cut_off outcome
 
 -- what was asked, with what the job heard of it
 abbrev pub story_of : Storage → StorageEvent → List (Request × Outcome)
 story_of s (Heard outcome) = if is_some s.asked
-    then (if goes_again s outcome then [] else asked_with (storage_asks s) outcome) else []
+    then (if is_repeated s outcome then [] else asked_with (storage_asks s) outcome) else []
 story_of s other = []
 
 abbrev pub story_behind : Storage → List StorageEvent → List (Request × Outcome)

@@ -65,8 +65,8 @@ upload_place upload objects = stage_place upload.stage upload.list.items (length
 abbrev pub stage_listed : List ℕ → UploadStage
 stage_listed octets = if is_list octets then Reading else Breaking result.BadList
 
-abbrev pub list_kept : List ℕ → List ℕ → List ℕ
-list_kept list octets = if is_list octets then octets else list
+abbrev pub list_taken : List ℕ → List ℕ → List ℕ
+list_taken list octets = if is_list octets then octets else list
 
 abbrev pub objects_listed : List (Place × List ℕ) → List ℕ → List (Place × List ℕ)
 objects_listed objects octets = if is_list octets then [] else objects
@@ -124,7 +124,7 @@ abbrev pub behind_list : Upload → List (Place × List ℕ) → Outcome
     → Upload × List (Place × List ℕ)
 behind_list upload objects (outcome.Done (answer.Read octets)) = (
   record upload {
-    list = record { items = list_kept upload.list.items octets.items };
+    list = record { items = list_taken upload.list.items octets.items };
     stage = stage_listed octets.items;
   },
   objects_listed objects octets.items,

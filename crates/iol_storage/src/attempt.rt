@@ -78,7 +78,7 @@ pub enum AttemptResult {
     Refused(Refusal),
     /// It was cut off, or the device was changed meanwhile or could not serve it now: another
     /// attempt may do better.
-    Again,
+    Transient,
 }
 
 /// Where an attempt is.
@@ -175,8 +175,8 @@ impl StorageAttempt {
 
     /// What is to be asked next, with this kept set and what was fetched so far; none while a set
     /// waits to be saved, and behind the end.
-    pub fn asks(&self, kept: Option<&Set>, draft: &Objects) -> Option<Request>
-        ensures { result ≡ attempt_asks self.now (option_copied kept.entry) draft.now }
+    pub fn asks(&self, backup: Option<&Set>, draft: &Objects) -> Option<Request>
+        ensures { result ≡ attempt_asks self.now (option_copied backup.entry) draft.now }
     {
         match self.stage {
             AttemptStage::State => Some(Request::Read(STORAGE_STATE)),
@@ -186,7 +186,7 @@ impl StorageAttempt {
             }
             AttemptStage::SerialNumber => Some(Request::Read(SERIAL_NUMBER)),
             AttemptStage::Fetching => self.upload.asks(draft),
-            AttemptStage::Restoring(stage) => self.restore_asks(stage, kept),
+            AttemptStage::Restoring(stage) => self.restore_asks(stage, backup),
             AttemptStage::Ending => Some(command(UPLOAD_END)),
             AttemptStage::Breaking(_) => Some(command(BREAK)),
             AttemptStage::Unsaved | AttemptStage::Over(_) => None,
@@ -195,23 +195,23 @@ impl StorageAttempt {
 
     /// What came of the request that was asked last, with this kept set and what was fetched so
     /// far.
-    pub fn hear(&mut self, kept: Option<&Set>, draft: &mut Objects, outcome: &Outcome)
+    pub fn hear(&mut self, backup: Option<&Set>, draft: &mut Objects, outcome: &Outcome)
         ensures attempt { self.new
-            ≡ (attempt_after self.old (option_copied kept.entry) draft.old outcome.now).0 }
+            ≡ (attempt_after self.old (option_copied backup.entry) draft.old outcome.now).0 }
         ensures draft { draft.new
-            ≡ (attempt_after self.old (option_copied kept.entry) draft.old outcome.now).1 }
+            ≡ (attempt_after self.old (option_copied backup.entry) draft.old outcome.now).1 }
     {
         match self.stage {
             AttemptStage::State => self.hear_state(outcome),
             AttemptStage::Size => self.stage = behind_size(outcome),
-            AttemptStage::Checksum => self.hear_checksum(kept, outcome),
-            AttemptStage::SerialNumber => self.hear_serial_number(kept, outcome),
+            AttemptStage::Checksum => self.hear_checksum(backup, outcome),
+            AttemptStage::SerialNumber => self.hear_serial_number(backup, outcome),
             AttemptStage::Fetching => self.hear_fetched(draft, outcome),
             AttemptStage::Unsaved | AttemptStage::Over(_) => {}
             AttemptStage::Ending => self.stage = behind_end(outcome),
             AttemptStage::Confirming => self.hear_confirmed(outcome),
             AttemptStage::Restoring(stage) => {
-                self.stage = self.behind_restore(stage, kept, outcome);
+                self.stage = self.behind_restore(stage, backup, outcome);
             }
             AttemptStage::Breaking(result) => self.stage = AttemptStage::Over(result),
         }
@@ -230,7 +230,7 @@ impl StorageAttempt {
                     self.flag = *state >= FLAG;
                     AttemptStage::Size
                 }
-                _ => AttemptStage::Over(AttemptResult::Again),
+                _ => AttemptStage::Over(AttemptResult::Transient),
             },
             Outcome::Done(Answer::Refused(error, additional))
                 if is_unsupported(*error, *additional) => {
@@ -241,27 +241,27 @@ impl StorageAttempt {
     }
 
     /// The checksum, or what came in its place.
-    fn hear_checksum(&mut self, kept: Option<&Set>, outcome: &Outcome)
-        ensures { self.new ≡ after_checksum self.old (option_copied kept.entry) outcome.now }
+    fn hear_checksum(&mut self, backup: Option<&Set>, outcome: &Outcome)
+        ensures { self.new ≡ after_checksum self.old (option_copied backup.entry) outcome.now }
     {
         let Outcome::Done(Answer::Read(octets)) = outcome else {
             self.stage = AttemptStage::Over(look_result(STORAGE_CHECKSUM, outcome));
             return;
         };
         let Some(checksum) = checksum_octets(octets) else {
-            self.stage = AttemptStage::Over(AttemptResult::Again);
+            self.stage = AttemptStage::Over(AttemptResult::Transient);
             return;
         };
         self.upload = Upload::new(checksum);
         self.stage = match self.mode {
             StorageMode::Own => AttemptStage::SerialNumber,
-            StorageMode::Off | StorageMode::Restore | StorageMode::Both => self.decision(kept),
+            StorageMode::Off | StorageMode::Restore | StorageMode::Both => self.decision(backup),
         };
     }
 
     /// The SerialNumber of the unit, or what came in its place.
-    fn hear_serial_number(&mut self, kept: Option<&Set>, outcome: &Outcome)
-        ensures { self.new ≡ after_serial_number self.old (option_copied kept.entry) outcome.now }
+    fn hear_serial_number(&mut self, backup: Option<&Set>, outcome: &Outcome)
+        ensures { self.new ≡ after_serial_number self.old (option_copied backup.entry) outcome.now }
     {
         self.unit = match outcome {
             Outcome::Done(Answer::Read(octets)) => serial_number_read(octets),
@@ -273,16 +273,16 @@ impl StorageAttempt {
                 return;
             }
         };
-        self.stage = self.decision(kept);
+        self.stage = self.decision(backup);
     }
 
     /// What is done behind the looks.
     ///
     /// Rule STO-6.
-    fn decision(&self, kept: Option<&Set>) -> AttemptStage
-        ensures { result ≡ decision self.now (option_copied kept.entry) }
+    fn decision(&self, backup: Option<&Set>) -> AttemptStage
+        ensures { result ≡ decision self.now (option_copied backup.entry) }
     {
-        match (kept, self.mode) {
+        match (backup, self.mode) {
             (Some(set), _) => self.decision_beside(set),
             (None, StorageMode::Both | StorageMode::Own) => AttemptStage::Fetching,
             (None, StorageMode::Off | StorageMode::Restore) => {
@@ -347,7 +347,7 @@ impl StorageAttempt {
                 self.upload = Upload::new(checksum);
                 AttemptStage::Fetching
             }
-            _ => AttemptStage::Over(AttemptResult::Again),
+            _ => AttemptStage::Over(AttemptResult::Transient),
         };
     }
 
@@ -370,10 +370,10 @@ impl StorageAttempt {
     }
 
     /// What the restore asks.
-    fn restore_asks(&self, stage: DownloadStage, kept: Option<&Set>) -> Option<Request>
-        ensures { result ≡ restore_asks self.now stage (option_copied kept.entry) }
+    fn restore_asks(&self, stage: DownloadStage, backup: Option<&Set>) -> Option<Request>
+        ensures { result ≡ restore_asks self.now stage (option_copied backup.entry) }
     {
-        let set = kept?;
+        let set = backup?;
         self.restore(stage, set).asks(&set.objects)
     }
 
@@ -381,14 +381,14 @@ impl StorageAttempt {
     fn behind_restore(
         &self,
         stage: DownloadStage,
-        kept: Option<&Set>,
+        backup: Option<&Set>,
         outcome: &Outcome,
     ) -> AttemptStage
         ensures { result
-            ≡ behind_restore self.now stage (option_copied kept.entry) outcome.now }
+            ≡ behind_restore self.now stage (option_copied backup.entry) outcome.now }
     {
-        let Some(set) = kept else {
-            return AttemptStage::Over(AttemptResult::Again);
+        let Some(set) = backup else {
+            return AttemptStage::Over(AttemptResult::Transient);
         };
         let mut download = self.restore(stage, set);
         download.hear(&set.objects, outcome);
@@ -421,7 +421,7 @@ fn size_read(octets: &[u8]) -> AttemptStage
                 AttemptStage::Over(AttemptResult::TooLarge)
             }
         }
-        _ => AttemptStage::Over(AttemptResult::Again),
+        _ => AttemptStage::Over(AttemptResult::Transient),
     }
 }
 
@@ -458,7 +458,7 @@ fn behind_fetch(stage: UploadStage) -> AttemptStage
         UploadResult::Refused(refusal) => refusal_result(refusal),
         UploadResult::BadList => AttemptResult::BadList,
         UploadResult::TooLarge => AttemptResult::TooLarge,
-        UploadResult::Changed | UploadResult::CutOff => AttemptResult::Again,
+        UploadResult::Changed | UploadResult::CutOff => AttemptResult::Transient,
     })
 }
 
@@ -475,12 +475,12 @@ fn behind_end(outcome: &Outcome) -> AttemptStage
                 additional: *additional,
             }))
         }
-        Outcome::Done(Answer::Read(_)) => AttemptStage::Breaking(AttemptResult::Again),
+        Outcome::Done(Answer::Read(_)) => AttemptStage::Breaking(AttemptResult::Transient),
         Outcome::Unknown(cause) if session_lasts(*cause) => {
-            AttemptStage::Breaking(AttemptResult::Again)
+            AttemptStage::Breaking(AttemptResult::Transient)
         }
         Outcome::Unknown(_) | Outcome::Withdrawn | Outcome::NoIsdu => {
-            AttemptStage::Over(AttemptResult::Again)
+            AttemptStage::Over(AttemptResult::Transient)
         }
     }
 }
@@ -494,7 +494,7 @@ fn restore_result(ended: DownloadResult) -> AttemptResult
         DownloadResult::Refused(refusal) => refusal_result(refusal),
         DownloadResult::NoIsdu => AttemptResult::Unsupported,
         DownloadResult::FlagSet | DownloadResult::NotApplied | DownloadResult::Unknown(_) => {
-            AttemptResult::Again
+            AttemptResult::Transient
         }
     }
 }
@@ -510,7 +510,7 @@ fn look_result(place: Place, outcome: &Outcome) -> AttemptResult
             additional: *additional,
         }),
         Outcome::NoIsdu => AttemptResult::Unsupported,
-        Outcome::Done(_) | Outcome::Unknown(_) | Outcome::Withdrawn => AttemptResult::Again,
+        Outcome::Done(_) | Outcome::Unknown(_) | Outcome::Withdrawn => AttemptResult::Transient,
     }
 }
 
@@ -521,7 +521,7 @@ fn refusal_result(refusal: Refusal) -> AttemptResult
     ensures { result ≡ refusal_result refusal }
 {
     if passes(refusal.error, refusal.additional) {
-        AttemptResult::Again
+        AttemptResult::Transient
     } else {
         AttemptResult::Refused(refusal)
     }

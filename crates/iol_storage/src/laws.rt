@@ -1,9 +1,9 @@
 //! What a reader may conclude of a download, of an upload, and of an attempt: laws, without code.
 ghost use Rattle.iol_storage.specs.StoredStories.{AskedRequestsStay, BlocksAreWhole};
-ghost use Rattle.iol_storage.specs.StoredChecks.{FetchedSetsAreWhole, KeptSetsHoldNoCommand, EndedUploadsWereSaved, RestoredStandingsAreTaken};
+ghost use Rattle.iol_storage.specs.StoredChecks.{FetchedSetsAreWhole, BackupsHoldNoCommand, EndedUploadsWereSaved, RestoredStandingsAreTaken};
 ghost use Rattle.iol_storage.specs.StoredLaws.{StepsAreCalls, MovesAreRuns, JobsAreAlone, AttemptsAreForTheDevice};
 ghost use Rattle.iol_storage.specs.Laws.{AppliedIsWhole, OthersAreCutOff, SetsAreWhole};
-ghost use Rattle.iol_storage.specs.AttemptLaws.{UnsavedSetsAreWhole, ToldSetsAreSaved, RestoredSetsAreTaken, AttemptsAskNoMore, AttemptsAskFew};
+ghost use Rattle.iol_storage.specs.AttemptLaws.{UnsavedSetsAreWhole, AcknowledgedSetsAreSaved, RestoredSetsAreTaken, AttemptsAskNoMore, AttemptsAskFew};
 
 /// A law of the definitions: a download ends as Applied only if the device took each of its
 /// requests, each once, in order, and if nothing else was asked. For a restore the state that was
@@ -39,8 +39,8 @@ pub fn unsaved_sets_are_whole()
 /// A law of the definitions: an attempt tells the device that an upload ends only if the set that
 /// waited was saved, and if nothing was asked since. The kept set has no value where commands are
 /// written.
-pub fn told_sets_are_saved()
-    ensures { ToldSetsAreSaved }
+pub fn acknowledged_sets_are_saved()
+    ensures { AcknowledgedSetsAreSaved }
 {}
 
 /// A law of the definitions: an attempt ends as Restored only if the device took, behind the looks,
@@ -115,9 +115,9 @@ pub fn fetched_sets_are_whole()
 
 /// A law of the definitions: from the opening of a port on, whatever happens, no set that is kept
 /// has a value at the Index of Data Storage or of SystemCommand.
-#[tactic(auto, using(crate::proofs::StoredSets::kept_sets_hold_no_command))]
-pub fn kept_sets_hold_no_command()
-    ensures { KeptSetsHoldNoCommand }
+#[tactic(auto, using(crate::proofs::StoredSets::backups_hold_no_command))]
+pub fn backups_hold_no_command()
+    ensures { BackupsHoldNoCommand }
 {}
 
 /// A law of the definitions: a check tells the device that an upload ends only if the set that

@@ -21,11 +21,11 @@ pub use attempt::{AttemptPurpose, AttemptResult, AttemptStage, StorageAttempt, S
 pub use download::{Download, DownloadPurpose, DownloadResult, DownloadStage, Flag, Keep, Refusal};
 pub use fault::StorageFault;
 pub use laws::{
-    applied_is_whole, asked_requests_stay, attempts_are_for_the_device, attempts_ask_few,
-    attempts_ask_no_more, blocks_are_whole, ended_uploads_were_saved, fetched_sets_are_whole,
-    jobs_are_alone, kept_sets_hold_no_command, others_are_cut_off, restored_sets_are_taken,
-    restored_standings_are_taken, sets_are_whole, stored_ports_are_ports, told_sets_are_saved,
-    unsaved_sets_are_whole,
+    acknowledged_sets_are_saved, applied_is_whole, asked_requests_stay,
+    attempts_are_for_the_device, attempts_ask_few, attempts_ask_no_more, backups_hold_no_command,
+    blocks_are_whole, ended_uploads_were_saved, fetched_sets_are_whole, jobs_are_alone,
+    others_are_cut_off, restored_sets_are_taken, restored_standings_are_taken, sets_are_whole,
+    stored_ports_are_ports, unsaved_sets_are_whole,
 };
 pub use objects::{MOST_OBJECTS, MOST_OCTETS, Object, Objects};
 pub use set::{SerialNumber, Set, SetImage};

@@ -1,6 +1,6 @@
 //! An upload: what Data Storage fetches of a device (IEC 61131-9, 10.4 and 11.4).
 ghost use Rattle.std.specs.Prelude.{◌≡◌, ◌≤◌, []};
-ghost use Rattle.iol_storage.specs.Uploads.{storage_command, is_list, names_more, place_read, upload_asks, upload_place, upload_after, stage_listed, list_kept, objects_listed, stage_with, objects_with, stage_read, objects_read, behind_checksum, behind_other};
+ghost use Rattle.iol_storage.specs.Uploads.{storage_command, is_list, names_more, place_read, upload_asks, upload_place, upload_after, stage_listed, list_taken, objects_listed, stage_with, objects_with, stage_read, objects_read, behind_checksum, behind_other};
 
 use crate::download::{Refusal, STORAGE_COMMAND, session_lasts};
 use crate::objects::{Objects, is_command_place};
@@ -143,7 +143,7 @@ impl Upload {
     fn hear_list(&mut self, objects: &mut Objects, octets: &Octets) -> UploadStage
         ensures stage { result ≡ stage_listed octets.now.items }
         ensures list { self.new ≡ record self.old {
-          list = record { items = list_kept self.old.list.items octets.now.items };
+          list = record { items = list_taken self.old.list.items octets.now.items };
         } }
         ensures objects { objects.new ≡ objects_listed objects.old octets.now.items }
     {

@@ -21,23 +21,23 @@ const PATIENCE: u64 = 2_000;
 
 /// What was told last of what the port says.
 #[derive(Drop)]
-struct Told {
+struct Reported {
     standing: StorageStanding,
     mode: Mode,
     image: bool,
-    kept: SetImage,
+    backup: SetImage,
     unsaved: bool,
     /// Where the set that is kept now is written to.
     now: SetImage,
 }
 
-impl Told {
-    fn new() -> Told {
-        Told {
+impl Reported {
+    fn new() -> Reported {
+        Reported {
             standing: StorageStanding::Awaited,
             mode: Mode::Down,
             image: false,
-            kept: SetImage::new(),
+            backup: SetImage::new(),
             unsaved: false,
             now: SetImage::new(),
         }
@@ -50,7 +50,7 @@ impl Told {
             self.mode = mode;
             println!(rt; "mode {mode:?} {turn}")?;
         }
-        self.tell_kept(rt, port)?;
+        self.tell_backup(rt, port)?;
         let standing = port.standing();
         if standing != self.standing {
             self.standing = standing;
@@ -64,16 +64,16 @@ impl Told {
         Ok(())
     }
 
-    fn tell_kept(&mut self, rt: &HostRuntime, port: &StoredPort) -> Result<()> {
-        image_of(port.kept(), &mut self.now);
+    fn tell_backup(&mut self, rt: &HostRuntime, port: &StoredPort) -> Result<()> {
+        image_of(port.backup(), &mut self.now);
         let unsaved = port.unsaved().is_some();
-        let is_same = self.now.as_slice() == self.kept.as_slice();
+        let is_same = self.now.as_slice() == self.backup.as_slice();
         if is_same && unsaved == self.unsaved {
             return Ok(());
         }
         self.unsaved = unsaved;
-        self.kept.clear();
-        self.kept.try_extend_from_slice(self.now.as_slice())?;
+        self.backup.clear();
+        self.backup.try_extend_from_slice(self.now.as_slice())?;
         println!(rt; "kept {} {}", u8::from(unsaved), Hex(self.now.as_slice()))?;
         Ok(())
     }
@@ -90,7 +90,7 @@ pub struct Life<'a> {
     /// Which port it is, 1 the first.
     number: u64,
     turn: u64,
-    told: Told,
+    reported: Reported,
 }
 
 impl<'a> Life<'a> {
@@ -126,7 +126,7 @@ impl<'a> Life<'a> {
             program: Program::new(alloc),
             number: 1,
             turn: 0,
-            told: Told::new(),
+            reported: Reported::new(),
         })
     }
 
@@ -238,8 +238,10 @@ impl<'a> Life<'a> {
         } = self.temper;
         self.port = StoredPort::open(self.alloc, &limits, devices, mode, set)?;
         self.program.forget_all();
-        self.told = Told::new();
-        self.told.kept.try_extend_from_slice(self.program.disk())?;
+        self.reported = Reported::new();
+        self.reported
+            .backup
+            .try_extend_from_slice(self.program.disk())?;
         Ok(())
     }
 
@@ -248,26 +250,26 @@ impl<'a> Life<'a> {
         self.turn = self.turn.wrapping_add(1);
         self.program
             .act(rt, &mut self.port, &self.temper, &mut self.chance)?;
-        self.told.tell(rt, &self.port, self.turn)?;
+        self.reported.tell(rt, &self.port, self.turn)?;
         match self.port.send() {
             Asked::Wake => {
-                self.told.tell(rt, &self.port, self.turn)?;
+                self.reported.tell(rt, &self.port, self.turn)?;
                 let rate = self.line.wake(rt, &mut self.chance)?;
                 self.port.receive_wake(rate);
             }
             Asked::Exchange(sent) => {
-                self.told.tell(rt, &self.port, self.turn)?;
+                self.reported.tell(rt, &self.port, self.turn)?;
                 let owner = Owner {
                     port: self.number,
                     ended: ended_at(&self.port),
                 };
-                let came = self
+                let received = self
                     .line
                     .exchange(rt, &mut self.chance, &sent.octets, owner)?;
-                self.port.receive(&came);
+                self.port.receive(&received);
             }
         }
-        self.told.tell(rt, &self.port, self.turn)
+        self.reported.tell(rt, &self.port, self.turn)
     }
 }
 

@@ -78,9 +78,9 @@ pub const OTHER: [Member<'static>; 5] = [
 ];
 
 /// Where the values of a plain unit lie that Data Storage keeps, in their order.
-const KEPT_OF_PLAIN: [u16; 4] = [24, 64, 65, 80];
+const STORED_OF_PLAIN: [u16; 4] = [24, 64, 65, 80];
 
-const KEPT_OF_OTHER: [u16; 3] = [24, 70, 80];
+const STORED_OF_OTHER: [u16; 3] = [24, 70, 80];
 
 /// What a unit is.
 #[derive(Clone, Copy, Debug, PartialEq, Eq)]
@@ -147,10 +147,10 @@ impl Model {
     }
 
     /// Where the values lie that Data Storage keeps, in their order.
-    pub fn kept(self) -> &'static [u16] {
+    pub fn stored(self) -> &'static [u16] {
         match self {
-            Model::Other => &KEPT_OF_OTHER,
-            _ => &KEPT_OF_PLAIN,
+            Model::Other => &STORED_OF_OTHER,
+            _ => &STORED_OF_PLAIN,
         }
     }
 

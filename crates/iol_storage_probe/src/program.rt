@@ -146,12 +146,17 @@ impl Program {
     }
 
     /// Tells what a call was answered, and whether it was taken.
-    fn answer(&self, rt: &HostRuntime, call: &str, given: Result<(), StoredFault>) -> Result<bool> {
-        match given {
+    fn answer(
+        &self,
+        rt: &HostRuntime,
+        call: &str,
+        returned: Result<(), StoredFault>,
+    ) -> Result<bool> {
+        match returned {
             Ok(()) => println!(rt; "{call} ok")?,
             Err(fault) => println!(rt; "{call} {}", fault.code())?,
         }
-        Ok(given.is_ok())
+        Ok(returned.is_ok())
     }
 
     fn put_output(
@@ -222,12 +227,12 @@ impl Program {
         is_urgent: bool,
     ) -> Result<()> {
         print!(rt; "ask {} ", RequestText(&request))?;
-        let given = if is_urgent {
+        let returned = if is_urgent {
             port.submit_urgent(request)
         } else {
             port.submit(request)
         };
-        match given {
+        match returned {
             Ok(ticket) => {
                 println!(rt; "ticket {}", ticket.0)?;
                 self.tickets.push_back(ticket.0)?;
@@ -266,8 +271,8 @@ impl Program {
         let Some(ticket) = self.tickets.pop_front() else {
             return Ok(());
         };
-        let is_given_up = chance.once_in(3);
-        if is_given_up {
+        let is_abandoned = chance.once_in(3);
+        if is_abandoned {
             let code = code_of(port.abandon(Ticket(ticket)).map_err(StoredFault::Port));
             println!(rt; "abandon {ticket} {code}")?;
             return Ok(());
@@ -426,8 +431,8 @@ fn command_by(chance: &mut Chance) -> Result<Request> {
 }
 
 /// 0, or the number of a refusal.
-fn code_of(given: Result<(), StoredFault>) -> u8 {
-    match given {
+fn code_of(returned: Result<(), StoredFault>) -> u8 {
+    match returned {
         Ok(()) => 0,
         Err(fault) => fault.code(),
     }

@@ -3,7 +3,7 @@ use crate::chance::Chance;
 use crate::models::{MOODS, Model};
 use crate::text::{AnswerText, Hex, RequestText};
 use anyhow::Result;
-use iol_device::{Apart, Device, Unkept};
+use iol_device::{Apart, Device, NoRecord};
 use iol_event::Event;
 use iol_image::Image;
 use iol_isdu::{Answer, Place, Request};
@@ -37,7 +37,7 @@ pub struct Owner {
 pub struct Unit<'a> {
     name: u64,
     model: Model,
-    device: Device<Apart, Unkept>,
+    device: Device<Apart, NoRecord>,
     saved: SavedManager<'a, RamSlots>,
     owner: Owner,
     /// The number of the request that was handed over last.
@@ -88,7 +88,7 @@ impl<'a> Unit<'a> {
             self.name,
             manager.locks().octet()
         )?;
-        for index in self.model.kept() {
+        for index in self.model.stored() {
             if let Answer::Read(octets) = manager.read(Place {
                 index: *index,
                 sub: 0,

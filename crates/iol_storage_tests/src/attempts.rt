@@ -52,7 +52,7 @@ const UPLOAD: [Exchange; 7] = [
     (&[0xA4, 3, 4, 0xA3], &[0xFC, 0xA3, 0xC5, 0xA3]),
 ];
 /// What follows once the set is saved.
-const TOLD: [Exchange; 2] = [
+const AFTER_SAVE: [Exchange; 2] = [
     (&[0x25, 3, 1, 2, 0x25], &[]),
     (&[0xA4, 3, 4, 0xA3], &[0xFC, 0xA3, 0xC5, 0xA3]),
 ];
@@ -88,16 +88,16 @@ fn is_sent(request: &Request, octets: &[u8]) -> bool {
 fn exchange_one<A: Allocator + Copy>(
     attempt: &mut StorageAttempt,
     manager: &mut Manager<A>,
-    kept: Option<&Set>,
+    backup: Option<&Set>,
     draft: &mut Objects,
     (sent, answered): Exchange,
 ) -> bool {
-    let Some(request) = attempt.asks(kept, draft) else {
+    let Some(request) = attempt.asks(backup, draft) else {
         return false;
     };
     let answer = manager.carry(&request);
     let is_wanted = is_sent(&request, sent) && is_answer(&answer, answered);
-    attempt.hear(kept, draft, &Outcome::Done(answer));
+    attempt.hear(backup, draft, &Outcome::Done(answer));
     is_wanted
 }
 
@@ -105,12 +105,12 @@ fn exchange_one<A: Allocator + Copy>(
 fn exchange<A: Allocator + Copy>(
     attempt: &mut StorageAttempt,
     manager: &mut Manager<A>,
-    kept: Option<&Set>,
+    backup: Option<&Set>,
     draft: &mut Objects,
     expected: &[Exchange],
 ) -> bool {
     for one in expected {
-        if !exchange_one(attempt, manager, kept, draft, *one) {
+        if !exchange_one(attempt, manager, backup, draft, *one) {
             return false;
         }
     }
@@ -118,27 +118,27 @@ fn exchange<A: Allocator + Copy>(
 }
 
 /// The next request of an attempt. A set that waits is saved at once.
-fn next(attempt: &mut StorageAttempt, kept: Option<&Set>, draft: &Objects) -> Option<Request> {
+fn next(attempt: &mut StorageAttempt, backup: Option<&Set>, draft: &Objects) -> Option<Request> {
     if attempt.wants_saved() {
         attempt.saved();
     }
-    attempt.asks(kept, draft)
+    attempt.asks(backup, draft)
 }
 
 /// How an attempt ends at a device, but for a request that is cut off.
 fn ended<A: Allocator + Copy>(
     attempt: &mut StorageAttempt,
     manager: &mut Manager<A>,
-    kept: Option<&Set>,
+    backup: Option<&Set>,
     draft: &mut Objects,
     cut: Option<Cut>,
 ) -> Option<AttemptResult> {
     for index in 0..MANY {
-        let Some(request) = next(attempt, kept, draft) else {
+        let Some(request) = next(attempt, backup, draft) else {
             break;
         };
         let outcome = outcome(manager, &request, index, cut);
-        attempt.hear(kept, draft, &outcome);
+        attempt.hear(backup, draft, &outcome);
     }
     attempt.result()
 }
@@ -147,25 +147,25 @@ fn ended<A: Allocator + Copy>(
 fn checked<A: Allocator + Copy>(
     mode: StorageMode,
     manager: &mut Manager<A>,
-    kept: Option<&Set>,
+    backup: Option<&Set>,
     cut: Option<Cut>,
 ) -> Option<AttemptResult> {
     let mut attempt = StorageAttempt::new(mode, AttemptPurpose::StartUp);
-    ended(&mut attempt, manager, kept, &mut Objects::new(), cut)
+    ended(&mut attempt, manager, backup, &mut Objects::new(), cut)
 }
 
 /// Whether a new attempt ends so at a device.
 fn ends<A: Allocator + Copy>(
     mode: StorageMode,
     manager: &mut Manager<A>,
-    kept: Option<&Set>,
+    backup: Option<&Set>,
     wanted: AttemptResult,
 ) -> bool {
-    checked(mode, manager, kept, None) == Some(wanted)
+    checked(mode, manager, backup, None) == Some(wanted)
 }
 
 /// The set that is kept.
-fn kept_set() -> Result<Set, StorageFault> {
+fn backup_set() -> Result<Set, StorageFault> {
     Set::read(&IMAGE)
 }
 
@@ -196,7 +196,7 @@ fn tells<A: Allocator + Copy>(
     draft: &mut Objects,
 ) -> bool {
     attempt.saved();
-    exchange(attempt, manager, None, draft, &TOLD)
+    exchange(attempt, manager, None, draft, &AFTER_SAVE)
         && attempt.result() == Some(AttemptResult::Fetched)
         && attempt.asks(None, draft).is_none()
         && !manager.flag()
@@ -255,7 +255,7 @@ fn restores_once<A: Allocator + Copy>(alloc: A, table: &Table, set: &Set) -> boo
 #[test]
 fn a_set_is_restored_at_a_new_unit(rt: HostRuntime) -> Result<(), Fail> {
     let table = table_of_sensor()?;
-    let set = kept_set()?;
+    let set = backup_set()?;
     check(&rt, restores_once(rt.alloc(), &table, &set));
     Ok(())
 }
@@ -265,19 +265,19 @@ fn ends_in<A: Allocator + Copy>(
     alloc: A,
     table: &Table,
     mode: StorageMode,
-    kept: Option<&Set>,
+    backup: Option<&Set>,
     wanted: AttemptResult,
 ) -> bool {
     let Ok(mut manager) = sensor(alloc, table) else {
         return false;
     };
-    is_set(&mut manager, 64, 11) && ends(mode, &mut manager, kept, wanted)
+    is_set(&mut manager, 64, 11) && ends(mode, &mut manager, backup, wanted)
 }
 
 #[test]
 fn a_mode_says_what_may_come(rt: HostRuntime) -> Result<(), Fail> {
     let table = table_of_sensor()?;
-    let set = kept_set()?;
+    let set = backup_set()?;
     for (mode, wanted) in [
         (StorageMode::Restore, AttemptResult::Empty),
         (StorageMode::Both, AttemptResult::Fetched),
@@ -321,7 +321,7 @@ fn is_served<A: Allocator + Copy>(alloc: A, table: &Table, set: &Set) -> bool {
 #[test]
 fn a_served_device_is_not_restored(rt: HostRuntime) -> Result<(), Fail> {
     let table = table_of_sensor()?;
-    let set = kept_set()?;
+    let set = backup_set()?;
     check(&rt, is_served(rt.alloc(), &table, &set));
     Ok(())
 }
@@ -421,21 +421,24 @@ fn the_looks_end_an_attempt(rt: HostRuntime) {
     };
     check(&rt, ends_refused(0x11, AttemptResult::Unsupported));
     check(&rt, ends_refused(0x12, AttemptResult::Unsupported));
-    check(&rt, ends_refused(0x20, AttemptResult::Again));
-    check(&rt, ends_refused(0x22, AttemptResult::Again));
+    check(&rt, ends_refused(0x20, AttemptResult::Transient));
+    check(&rt, ends_refused(0x22, AttemptResult::Transient));
     check(&rt, ends_refused(0x23, AttemptResult::Refused(unknown)));
-    check(&rt, ends_refused(0x36, AttemptResult::Again));
+    check(&rt, ends_refused(0x36, AttemptResult::Transient));
     check(
         &rt,
         looked(&Outcome::NoIsdu) == Some(AttemptResult::Unsupported),
     );
     check(
         &rt,
-        looked(&Outcome::Withdrawn) == Some(AttemptResult::Again),
+        looked(&Outcome::Withdrawn) == Some(AttemptResult::Transient),
     );
     check(&rt, looked(&read(&[0x86])) == Some(AttemptResult::Locked));
     check(&rt, looked(&read(&[0x80])).is_none());
-    check(&rt, looked(&read(&[0, 0])) == Some(AttemptResult::Again));
+    check(
+        &rt,
+        looked(&read(&[0, 0])) == Some(AttemptResult::Transient),
+    );
     check(&rt, sized(&[0, 0, 8, 0]).is_none());
     check(&rt, sized(&[0, 0, 8, 1]) == Some(AttemptResult::TooLarge));
     check(&rt, sized(&[1, 0, 0, 0]) == Some(AttemptResult::TooLarge));
@@ -467,7 +470,7 @@ fn ends_new<A: Allocator + Copy>(
     wanted: AttemptResult,
     limit: u8,
 ) -> bool {
-    let (Ok(mut manager), Ok(set)) = (sensor(alloc, table), kept_set()) else {
+    let (Ok(mut manager), Ok(set)) = (sensor(alloc, table), backup_set()) else {
         return false;
     };
     ends_with(&mut manager, mode, &set, wanted, limit)
@@ -477,7 +480,7 @@ fn ends_new<A: Allocator + Copy>(
 fn a_change_behind_the_looks_is_not_undone(rt: HostRuntime) -> Result<(), Fail> {
     let table = table_of_sensor()?;
     for (mode, wanted, limit) in [
-        (StorageMode::Both, AttemptResult::Again, 60),
+        (StorageMode::Both, AttemptResult::Transient, 60),
         (StorageMode::Restore, AttemptResult::Restored, 50),
     ] {
         check(&rt, ends_new(rt.alloc(), &table, mode, wanted, limit));
@@ -499,7 +502,7 @@ fn comes_anew<A: Allocator + Copy>(manager: &mut Manager<A>, cut: Cut) -> bool {
     let is_flag = manager.flag() == (cut.at < FETCH_REQUESTS - 1);
     cut_off(manager, cut.cause);
     is_changed
-        && end == Some(AttemptResult::Again)
+        && end == Some(AttemptResult::Transient)
         && is_flag
         && is_set(manager, 65, 51)
         && ends(StorageMode::Both, manager, None, AttemptResult::Fetched)
@@ -539,7 +542,7 @@ fn comes_back<A: Allocator + Copy>(manager: &mut Manager<A>, set: &Set, cut: Cut
     let end = checked(StorageMode::Both, manager, Some(set), Some(cut));
     let is_untouched = has(manager, 65, &[90]);
     cut_off(manager, cut.cause);
-    end == Some(AttemptResult::Again)
+    end == Some(AttemptResult::Transient)
         && is_untouched
         && ends(
             StorageMode::Both,
@@ -552,7 +555,7 @@ fn comes_back<A: Allocator + Copy>(manager: &mut Manager<A>, set: &Set, cut: Cut
 
 /// The same, at a new device.
 fn restore_comes_anew<A: Allocator + Copy>(alloc: A, table: &Table, cut: Cut) -> bool {
-    let (Ok(mut manager), Ok(set)) = (sensor(alloc, table), kept_set()) else {
+    let (Ok(mut manager), Ok(set)) = (sensor(alloc, table), backup_set()) else {
         return false;
     };
     comes_back(&mut manager, &set, cut)
@@ -592,7 +595,7 @@ fn step<A: Allocator + Copy>(
     };
     let answer = manager.carry(&request);
     attempt.hear(None, draft, &Outcome::Done(answer));
-    !is_sent(&request, TOLD[0].0) || is_set(manager, 65, fetches.saturating_add(50))
+    !is_sent(&request, AFTER_SAVE[0].0) || is_set(manager, 65, fetches.saturating_add(50))
 }
 
 /// How often a set is fetched of such a device.
@@ -617,7 +620,7 @@ fn a_device_that_changes_on_and_on_is_left(rt: HostRuntime) -> Result<(), Fail> 
     let mut manager = sensor(rt.alloc(), &table)?;
     let mut attempt = begun(StorageMode::Both);
     check(&rt, fetches_of(&mut attempt, &mut manager) == 3);
-    check(&rt, attempt.result() == Some(AttemptResult::Again));
+    check(&rt, attempt.result() == Some(AttemptResult::Transient));
     check(&rt, manager.flag());
     Ok(())
 }
@@ -635,6 +638,6 @@ fn a_set_has_its_unit_in_front(rt: HostRuntime) -> Result<(), Fail> {
     check(&rt, set.unit.as_slice() == &b"first"[..]);
     check(&rt, set.objects.len() == 1);
     check(&rt, is_image(&set, &UNIT_IMAGE));
-    check(&rt, kept_set()?.unit.is_empty());
+    check(&rt, backup_set()?.unit.is_empty());
     Ok(())
 }

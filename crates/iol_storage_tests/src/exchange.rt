@@ -63,8 +63,8 @@ fn pass(port: &mut StoredPort, unit: &mut Unit<'_>) {
         }
         Asked::Exchange(sent) => {
             unit.work();
-            let came = unit.hear(sent.octets.as_slice());
-            port.receive(&came);
+            let received = unit.hear(sent.octets.as_slice());
+            port.receive(&received);
         }
     }
 }
@@ -152,10 +152,10 @@ fn saves_the_last(port: &mut StoredPort, unit: &mut Unit<'_>) -> Option<bool> {
     let first = fetched(port, unit)?;
     lose(port);
     let second = fetched(port, unit)?;
-    let is_kept = is_other(port, first) && unit.manager().flag();
+    let stays_unsaved = is_other(port, first) && unit.manager().flag();
     let is_saved = port.saved(second) == Ok(()) && is_other(port, second);
     turns(port, unit, MANY);
-    Some(is_kept && is_saved && !unit.manager().flag())
+    Some(stays_unsaved && is_saved && !unit.manager().flag())
 }
 
 /// The same, with a unit that a user changed.

@@ -8,7 +8,7 @@ use Rattle.iol_script.specs.Script.{calls_in, calls_of}
 use Rattle.iol_stored_script.specs.PlainText.{plain_line, plain_lines, store_behind}
 use Rattle.iol_stored_script.specs.StorageLines.{storage_form}
 use Rattle.iol_stored_script.specs.declared.as_plain.StoreLine.{StoreLine}
-use Rattle.iol_stored_script.specs.declared.as_plain.StoreLine.TheVariants.{Awaited, Given}
+use Rattle.iol_stored_script.specs.declared.as_plain.StoreLine.TheVariants.{Awaited, Present}
 use Rattle.iol_stored_script.specs.declared.storage_line.StorageLine.{StorageLine}
 use Rattle.iol_stored_script.specs.declared.storage_line.StorageLine.TheVariants.{Store, Call}
 use Rattle.iol_stored_commands.specs.StoredPlayed.{Plain, line_stored_calls, stored_calls_in}
@@ -22,10 +22,10 @@ few_in_line : (store : StoreLine) (form : Option StorageLine) (line : List ℕ)
     → length (line_stored_calls form (run_form line))
     ≤ length (option_map_or calls_of (run_form (plain_line store form line)) [])
 few_in_line Awaited (Some (Call call)) line = lit≤ tt
-few_in_line Given (Some (Call call)) line = lit≤ tt
+few_in_line Present (Some (Call call)) line = lit≤ tt
 few_in_line store (Some (Store mode)) line = omega arith
 few_in_line Awaited None line = plain_few line
-few_in_line Given None line = plain_few line
+few_in_line Present None line = plain_few line
 
 -- the calls of lines are no more than those of the lines as they are read
 pub few_calls : (store : StoreLine) (lines : List (ℕ × List ℕ))

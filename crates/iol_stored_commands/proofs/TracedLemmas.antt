@@ -31,10 +31,11 @@ module _ {W : Type 0} (facts : WireFacts W) where
       × PrintsPassed n layout note text × (m ≡ n + 1)
   noted Wake mid next n m layout text (rate, gives, does, wakes, rest) printed =
       let (shown, follows) = rw gives.1 at printed in (wake_noted rate, gives.0, shown, follows)
-  noted (Exchange message) mid next n m layout text (came, gives, does, receives, rest) printed =
+  noted (Exchange message) mid next n m layout text (received, gives, does, receives, rest)
+      printed =
       let (shown, follows) = rw gives.1 at printed in
       let octets = message.octets.items in
-      (exchange_noted octets came, (octets, refl, gives.0), shown, follows)
+      (exchange_noted octets received, (octets, refl, gives.0), shown, follows)
 
   passes_of : (made : Call) (s t : StoredStage W) (reply : Result Answered StoredFault)
       (text : List ℕ) → CallMakes (tap_facts facts) s.port made reply t.port
@@ -58,7 +59,7 @@ module _ {W : Type 0} (facts : WireFacts W) where
     [],
     record {
       passed = passed;
-      said = plain_answer_text made reply;
+      reply_text = plain_answer_text made reply;
       made = (reply, makes, granted, refl);
       passes = passes_of made (stored_stage n p) (stored_stage m q) reply passed makes printed;
       text_is = refl;
@@ -78,7 +79,7 @@ module _ {W : Type 0} (facts : WireFacts W) where
     [],
     record {
       passed = [];
-      said = storage_text reply;
+      reply_text = storage_text reply;
       made = (reply, makes, refl);
       passes = (refl, refl);
       text_is = refl;

@@ -104,7 +104,7 @@ abbrev pub storage_answer_text : StorageAnswer → List ℕ
 storage_answer_text (answer.Block block) = block_text block
 storage_answer_text (answer.Outcome block end) = block_text block ++ block_end_text end
 storage_answer_text (answer.Standing standing) = standing_text standing
-storage_answer_text (answer.Kept image) = set_text image
+storage_answer_text (answer.Backup image) = set_text image
 storage_answer_text (answer.Saved number) = saved_text number
 storage_answer_text answer.NoSet = codes "refused 44 NoSet"
 storage_answer_text answer.Nothing = codes "ok"

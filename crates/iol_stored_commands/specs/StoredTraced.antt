@@ -51,10 +51,10 @@ module _ {W : Type 0} (facts : WireFacts W) where
   pub record StoredTracesCall (s : StoredStage W) (call : StoredCall) (t : StoredStage W)
       (text : List ℕ) : Type 0 where
     pub passed : List ℕ
-    pub said : List ℕ
-    pub made : StoredMakes (tap_facts facts) s.port call t.port said
+    pub reply_text : List ℕ
+    pub made : StoredMakes (tap_facts facts) s.port call t.port reply_text
     pub passes : StoredPasses s call t passed
-    pub text_is : text ≡ passed ++ said
+    pub text_is : text ≡ passed ++ reply_text
 
   -- calls, one after the other
   abbrev pub StoredTraces : StoredStage W → List StoredCall → StoredStage W → List ℕ → Type 0

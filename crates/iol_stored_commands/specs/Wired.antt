@@ -65,10 +65,10 @@ module _ {W : Type 0} (facts : WireFacts W) where
       × WakeDoes mid.port.port (is_some rate) next.port.port
       × WakeGives mid.port.port (is_some rate) next.port.port
       × (next.port ≡ record mid.port { port = next.port.port })
-  TakesAnswer (Exchange message) mid next = (came : Option (ArrayVec ℕ))
-      × facts.exchange_gives mid.wire message.octets.items came next.wire
-      × ReceiveDoes mid.port.port (octets_in came) next.port.port
-      × PortReceiveGives mid.port.port (octets_in came) next.port.port
+  TakesAnswer (Exchange message) mid next = (received : Option (ArrayVec ℕ))
+      × facts.exchange_gives mid.wire message.octets.items received next.wire
+      × ReceiveDoes mid.port.port (octets_in received) next.port.port
+      × PortReceiveGives mid.port.port (octets_in received) next.port.port
       × (next.port ≡ record mid.port { port = next.port.port })
 
   pub record StoredTurns (old new : StoredOver W) : Type 0 where
@@ -105,61 +105,62 @@ RestartsIfFree awaited.Nothing old new = Restarts (StoredForwards old new) old.p
 RestartsIfFree other old new = new ≡ old
 
 abbrev pub PortMakes : StoredParts → Call → Result Answered StoredFault → StoredParts → Type 0
-PortMakes old (call.Submit request) reply new = (given : Result Ticket StoredFault)
-    × (reply ≡ result_map_both (λ ticket. answered.Ticket ticket) (λ why. why) given)
+PortMakes old (call.Submit request) reply new = (returned : Result Ticket StoredFault)
+    × (reply ≡ result_map_both (λ ticket. answered.Ticket ticket) (λ why. why) returned)
     × ClientSubmits old request
-    (Submits (StoredCalled old new) old.port new.port request) given new
-PortMakes old (call.SubmitUrgent request) reply new = (given : Result Ticket StoredFault)
-    × (reply ≡ result_map_both (λ ticket. answered.Ticket ticket) (λ why. why) given)
+    (Submits (StoredCalled old new) old.port new.port request) returned new
+PortMakes old (call.SubmitUrgent request) reply new = (returned : Result Ticket StoredFault)
+    × (reply ≡ result_map_both (λ ticket. answered.Ticket ticket) (λ why. why) returned)
     × ClientSubmits old request
-    (SubmitsUrgent (StoredCalled old new) old.port new.port request) given new
-PortMakes old (call.Collect ticket) reply new = (given : Result Outcome PortFault)
-    × (reply ≡ port_reply (λ outcome. answered.Outcome outcome) given)
+    (SubmitsUrgent (StoredCalled old new) old.port new.port request) returned new
+PortMakes old (call.Collect ticket) reply new = (returned : Result Outcome PortFault)
+    × (reply ≡ port_reply (λ outcome. answered.Outcome outcome) returned)
     × OfClients old ticket
-    (Collects (StoredCalled old new) old.port new.port ticket given) given new
-    × (new.tickets ≡ tickets_without (is_ok given) old.tickets)
-PortMakes old (call.Withdraw ticket) reply new = (given : Result (Unit {0}) PortFault)
-    × (reply ≡ port_reply (λ _. answered.Nothing) given)
+    (Collects (StoredCalled old new) old.port new.port ticket returned) returned new
+    × (new.tickets ≡ tickets_without (is_ok returned) old.tickets)
+PortMakes old (call.Withdraw ticket) reply new = (returned : Result (Unit {0}) PortFault)
+    × (reply ≡ port_reply (λ _. answered.Nothing) returned)
     × OfClients old ticket
-    (Withdraws (StoredCalled old new) old.port new.port ticket given) given new
+    (Withdraws (StoredCalled old new) old.port new.port ticket returned) returned new
     × (new.tickets ≡ old.tickets)
-PortMakes old (call.Cancel ticket) reply new = (given : Result (Unit {0}) PortFault)
-    × (reply ≡ port_reply (λ _. answered.Nothing) given)
+PortMakes old (call.Cancel ticket) reply new = (returned : Result (Unit {0}) PortFault)
+    × (reply ≡ port_reply (λ _. answered.Nothing) returned)
     × OfClients old ticket
-    (Cancels (StoredCalled old new) old.port new.port ticket given) given new
+    (Cancels (StoredCalled old new) old.port new.port ticket returned) returned new
     × (new.tickets ≡ old.tickets)
-PortMakes old (call.Abandon ticket) reply new = (given : Result (Unit {0}) PortFault)
-    × (reply ≡ port_reply (λ _. answered.Nothing) given)
+PortMakes old (call.Abandon ticket) reply new = (returned : Result (Unit {0}) PortFault)
+    × (reply ≡ port_reply (λ _. answered.Nothing) returned)
     × OfClients old ticket
-    (Abandons (StoredCalled old new) old.port new.port ticket given) given new
-    × (new.tickets ≡ tickets_without (is_ok given) old.tickets)
-PortMakes old (call.SetOutput image) reply new = (given : Result (Unit {0}) PortFault)
-    × (reply ≡ port_reply (λ _. answered.Nothing) given) × SetsStoredOutput image given old new
-PortMakes old call.TakeEvent reply new = (given : Result Event PortFault)
-    × (reply ≡ port_reply (λ event. answered.Event event) given)
-    × TakesEvent (CoreCalled old.port new.port) old.port new.port given
+    (Abandons (StoredCalled old new) old.port new.port ticket returned) returned new
+    × (new.tickets ≡ tickets_without (is_ok returned) old.tickets)
+PortMakes old (call.SetOutput image) reply new = (returned : Result (Unit {0}) PortFault)
+    × (reply ≡ port_reply (λ _. answered.Nothing) returned)
+    × SetsStoredOutput image returned old new
+PortMakes old call.TakeEvent reply new = (returned : Result Event PortFault)
+    × (reply ≡ port_reply (λ event. answered.Event event) returned)
+    × TakesEvent (CoreCalled old.port new.port) old.port new.port returned
     × (new ≡ record old {
       port = new.port;
-      storage = storage_behind_event old.storage given;
+      storage = storage_behind_event old.storage returned;
     })
-PortMakes old call.Archive reply new = (given : Result (List Entry) PortFault)
-    × (reply ≡ port_reply (λ entries. answered.Archived (length entries)) given)
-    × Archives (StoredForwards old new) old.port new.port (λ entries. entries) given
-PortMakes old call.Drain reply new = (given : Result (List Entry) PortFault)
+PortMakes old call.Archive reply new = (returned : Result (List Entry) PortFault)
+    × (reply ≡ port_reply (λ entries. answered.Archived (length entries)) returned)
+    × Archives (StoredForwards old new) old.port new.port (λ entries. entries) returned
+PortMakes old call.Drain reply new = (returned : Result (List Entry) PortFault)
     × (reply ≡ port_reply
-    (λ entries. drained_answer (length entries) old.port.book.state.restated) given)
-    × Drains (StoredForwards old new) old.port new.port (λ entries. entries) given
+    (λ entries. drained_answer (length entries) old.port.book.state.restated) returned)
+    × Drains (StoredForwards old new) old.port new.port (λ entries. entries) returned
 PortMakes old call.Restart reply new = (reply ≡ Ok answered.Nothing)
     × RestartsIfFree (awaited_answer old.port) old new
 PortMakes old call.ClearOutput reply new = (reply ≡ Ok answered.Nothing)
     × ClearsOutput (CoreCalled old.port new.port) old.port new.port
     × (new ≡ record old { port = new.port; output = None })
-PortMakes old (call.Expect identity) reply new = (given : Counting)
-    × (reply ≡ Ok (answered.Counts given))
-    × Expects (StoredForwards old new) old.port new.port identity given
-PortMakes old (call.Cycle cycle) reply new = (given : Counting)
-    × (reply ≡ Ok (answered.Counts given))
-    × SetsCycle (StoredForwards old new) old.port new.port cycle given
+PortMakes old (call.Expect identity) reply new = (returned : Counting)
+    × (reply ≡ Ok (answered.Counts returned))
+    × Expects (StoredForwards old new) old.port new.port identity returned
+PortMakes old (call.Cycle cycle) reply new = (returned : Counting)
+    × (reply ≡ Ok (answered.Counts returned))
+    × SetsCycle (StoredForwards old new) old.port new.port cycle returned
 PortMakes old call.Look reply new = (reply ≡ Ok (answered.Image (image_shown old))) × (new ≡ old)
 PortMakes old call.Page reply new = (reply ≡ Ok (answered.Page (page_shown old.port)))
     × (new ≡ old)
@@ -196,15 +197,15 @@ answer_to_call s (storage.Block keep writes) =
 answer_to_call s (storage.Outcome block) =
     result_map_both (λ end. answer.Outcome block end) (λ why. why) (block_collected s block)
 answer_to_call s storage.Standing = Ok (answer.Standing s.standing)
-answer_to_call s storage.Kept =
-    Ok (answer.Kept (option_map (λ set. record { items = set_image set }) s.kept))
+answer_to_call s storage.Backup =
+    Ok (answer.Backup (option_map (λ set. record { items = set_image set }) s.backup))
 answer_to_call s storage.Save = Ok (answer.Saved (number_unsaved s))
 answer_to_call s storage.Forget = answer_unless (load_refusal s None)
 answer_to_call s other = Ok answer.Nothing
 
 -- what is loaded, where it isn't refused
 abbrev pub behind_load : Storage → Option Set → Storage
-behind_load s kept = if is_none (load_refusal s kept) then storage_loaded s kept else s
+behind_load s backup = if is_none (load_refusal s backup) then storage_loaded s backup else s
 
 abbrev pub behind_call : Storage → StorageCall → Storage
 behind_call s (storage.Block keep writes) =

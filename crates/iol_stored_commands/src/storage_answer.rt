@@ -11,7 +11,7 @@ pub enum StorageAnswer {
     /// What came of Data Storage in the present session.
     Standing(StorageStanding),
     /// The octets of the set that is kept, if one is.
-    Kept(Option<SetImage>),
+    Backup(Option<SetImage>),
     /// The number of the set that waited to be saved, if one did.
     Saved(Option<SetNumber>),
     /// The octets are no set's, and none was loaded.

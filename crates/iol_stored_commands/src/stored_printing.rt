@@ -172,7 +172,7 @@ fn print_stored<A: Allocator>(
             print_end(output, *end)
         }
         StorageAnswer::Standing(standing) => print_standing(output, *standing),
-        StorageAnswer::Kept(image) => print_set(output, image.as_ref()),
+        StorageAnswer::Backup(image) => print_set(output, image.as_ref()),
         StorageAnswer::Saved(saved) => print_saved(output, *saved),
         StorageAnswer::NoSet => output.push_str("refused 44 NoSet"),
         StorageAnswer::Nothing => output.push_str("ok"),

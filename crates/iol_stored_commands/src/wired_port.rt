@@ -83,8 +83,8 @@ impl<W: Wire, A: Allocator + Copy> WiredPort<W, A> {
                 self.port.receive_wake(rate);
             }
             Asked::Exchange(sent) => {
-                let came = self.wire.exchange(sent.octets.as_slice());
-                self.port.receive(&came);
+                let received = self.wire.exchange(sent.octets.as_slice());
+                self.port.receive(&received);
             }
         }
     }
@@ -243,7 +243,7 @@ impl<W: Wire, A: Allocator + Copy> WiredPort<W, A> {
             StorageCall::Block(keep, writes) => self.submit_block(keep, writes),
             StorageCall::Outcome(block) => self.collect_block(block),
             StorageCall::Standing => Ok(StorageAnswer::Standing(self.port.standing())),
-            StorageCall::Kept => Ok(StorageAnswer::Kept(self.kept())),
+            StorageCall::Backup => Ok(StorageAnswer::Backup(self.backup())),
             StorageCall::Save => self.save(),
             StorageCall::Load(octets) => self.load(octets.as_slice()),
             StorageCall::Forget => self.forget(),
@@ -265,11 +265,11 @@ impl<W: Wire, A: Allocator + Copy> WiredPort<W, A> {
     }
 
     /// The octets of the kept set.
-    fn kept(&self) -> Option<SetImage>
+    fn backup(&self) -> Option<SetImage>
         ensures { result ≡ option_map (λ set. record { items = set_image set })
-            self.now.port.storage.kept }
+            self.now.port.storage.backup }
     {
-        let set = self.port.kept()?;
+        let set = self.port.backup()?;
         let mut image = SetImage::new();
         set.write_into(&mut image);
         Some(image)

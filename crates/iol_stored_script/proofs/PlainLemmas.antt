@@ -7,7 +7,7 @@ use Rattle.iol_script.specs.declared.parts.TextLines.{TextLines}
 use Rattle.iol_stored_script.specs.PlainText.{store_behind, plain_line, plain_lines}
 use Rattle.iol_stored_script.specs.StorageLines.{storage_form}
 use Rattle.iol_stored_script.specs.declared.as_plain.StoreLine.{StoreLine}
-use Rattle.iol_stored_script.specs.declared.as_plain.StoreLine.TheVariants.{Awaited, Given}
+use Rattle.iol_stored_script.specs.declared.as_plain.StoreLine.TheVariants.{Awaited, Present}
 use Rattle.iol_stored_script.specs.declared.storage_line.StorageLine.{StorageLine}
 use Rattle.iol_stored_script.specs.declared.storage_line.StorageLine.TheVariants.{Store, Call}
 
@@ -41,10 +41,10 @@ first_of number n [] line rest are is = absurd (cc)
 first_of number n (l ∷ lines) line rest (first, later) is =
     subst IsLine (ap (λ (ls : List (ℕ × List ℕ)). first_in ls) is) first
 
-pub given_line : (it : TextLines) (n : ℕ) (line : List ℕ) (rest : List (ℕ × List ℕ))
+pub yielded_line : (it : TextLines) (n : ℕ) (line : List ℕ) (rest : List (ℕ × List ℕ))
     → lines_left it ≡ (n, line) ∷ rest → IsLine line
-given_line it n line rest is =
-    first_of (it.given + 1) n (lines_of it.left.now) line rest (are_lines it.left.now) is
+yielded_line it n line rest is =
+    first_of (it.yielded + 1) n (lines_of it.left.now) line rest (are_lines it.left.now) is
 
 -- a line in front
 pub line-first : (line later : List ℕ) → IsLine line
@@ -80,8 +80,8 @@ numbers-stay store number (line ∷ lines) =
 pub plain_is_line : (store : StoreLine) (form : Option StorageLine) (line : List ℕ) → IsLine line
     → IsLine (plain_line store form line)
 plain_is_line Awaited (Some (Store mode)) line is = tt
-plain_is_line Given (Some (Store mode)) line is = is
+plain_is_line Present (Some (Store mode)) line is = is
 plain_is_line Awaited (Some (Call call)) line is = is_status
-plain_is_line Given (Some (Call call)) line is = is_status
+plain_is_line Present (Some (Call call)) line is = is_status
 plain_is_line Awaited None line is = is
-plain_is_line Given None line is = is
+plain_is_line Present None line is = is

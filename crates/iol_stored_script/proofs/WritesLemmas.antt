@@ -44,8 +44,8 @@ pub first_write : (all words : List (List ℕ)) (word : List ℕ) (keep : Keep)
     → all ≡ word ∷ words → Some keep ≡ keep_named word → writes ≡ []
     → taken ≡ write_taken writes words
     → block_form all ≡ option_map (Block keep) (behind_taken taken)
-first_write all words word keep writes taken is kept none took =
-    rw (is, ← kept, more_writes-first [] (codes "/") words, ← none, ← took)
+first_write all words word keep writes taken is named none took =
+    rw (is, ← named, more_writes-first [] (codes "/") words, ← none, ← took)
     (some_block keep (behind_taken taken))
 
 -- another one is

@@ -5,7 +5,7 @@ use Rattle.iol_script.specs.declared.run_line.RunLine.{RunLine}
 use Rattle.iol_script.specs.declared.run_line.RunLine.TheVariants as line
 use Rattle.iol_storage.specs.declared.attempt.StorageMode.{StorageMode}
 use Rattle.iol_stored_script.specs.declared.as_plain.StoreLine.{StoreLine}
-use Rattle.iol_stored_script.specs.declared.as_plain.StoreLine.TheVariants.{Awaited, Given}
+use Rattle.iol_stored_script.specs.declared.as_plain.StoreLine.TheVariants.{Awaited, Present}
 use Rattle.iol_stored_script.specs.declared.storage_line.StorageLine.{StorageLine}
 use Rattle.iol_stored_script.specs.declared.storage_line.StorageLine.TheVariants.{Store, Call}
 use Rattle.iol_stored_script.specs.StorageLines.{storage_form}
@@ -29,7 +29,7 @@ storage_mode_in (line ∷ lines) =
 
 -- whether the setting was given behind a line
 abbrev pub store_behind : StoreLine → Option StorageLine → StoreLine
-store_behind store (Some (Store mode)) = Given
+store_behind store (Some (Store mode)) = Present
 store_behind store other = store
 
 -- what stands where this line does: a call of Data Storage is another call there, and the line

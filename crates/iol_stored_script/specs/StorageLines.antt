@@ -86,7 +86,7 @@ load_form _ = None
 abbrev pub bare_storage_call : List ℕ → Option StorageCall
 bare_storage_call name =
     if bytes_eq name (codes "standing") then Some storage.Standing else
-    if bytes_eq name (codes "set") then Some storage.Kept else
+    if bytes_eq name (codes "set") then Some storage.Backup else
     if bytes_eq name (codes "save") then Some storage.Save else
     if bytes_eq name (codes "forget") then Some storage.Forget else
     if bytes_eq name (codes "release") then Some storage.Release else None

@@ -44,7 +44,7 @@ pub enum StoreLine {
     /// It wasn't yet.
     Awaited,
     /// It was, and may not be given again.
-    Given,
+    Present,
 }
 
 impl StoreLine {
@@ -53,7 +53,7 @@ impl StoreLine {
         ensures { result ≡ store_behind self form.now }
     {
         match form {
-            Some(StorageLine::Store(_)) => StoreLine::Given,
+            Some(StorageLine::Store(_)) => StoreLine::Present,
             _ => self,
         }
     }

@@ -23,8 +23,8 @@ pub enum StorageCall {
     Outcome(BlockTicket),
     /// `standing`.
     Standing,
-    /// `kept`.
-    Kept,
+    /// `backup`.
+    Backup,
     /// The set that waits, as `unsaved` says, is `saved`.
     Save,
     /// `load` of the set that has these octets.
@@ -113,7 +113,7 @@ fn bare_call(name: &[u8]) -> Option<StorageCall>
     if is(name, b"standing") {
         Some(StorageCall::Standing)
     } else if is(name, b"set") {
-        Some(StorageCall::Kept)
+        Some(StorageCall::Backup)
     } else if is(name, b"save") {
         Some(StorageCall::Save)
     } else if is(name, b"forget") {

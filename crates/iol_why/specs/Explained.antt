@@ -1,7 +1,7 @@
 -- What is explained of a bad line.
 use Rattle.std.specs.Prelude.{ℕ, ◌+◌, ◌-◌, ◌≤◌, ◌==◌, Bool, true, false, Option, Some, None, List, [], ◌∷◌, length, if◌then◌else◌}
 use Rattle.iol_script.specs.Text.{numbered_lines}
-use Rattle.iol_why.specs.declared.kept.KeptText.{KeptText}
+use Rattle.iol_why.specs.declared.retained.RetainedText.{RetainedText}
 use Rattle.iol_why.specs.declared.mistake.Fault.{Fault}
 use Rattle.iol_why.specs.declared.mistake.Fault.TheVariants as fault
 
@@ -12,7 +12,7 @@ line_numbered ((n, line) ∷ lines) number =
     if n == number then Some line else line_numbered lines number
 
 -- the same, where so many lines stand above those that are kept
-abbrev pub line_in : KeptText → ℕ → Option (List ℕ)
+abbrev pub line_in : RetainedText → ℕ → Option (List ℕ)
 line_in text number = line_numbered (numbered_lines text.octets.now) (number - text.lines)
 
 -- a column of a line, or that of its end

@@ -1,5 +1,5 @@
 //! Why a line of a capture that fits a form is refused in its place.
-use crate::kept::KeptText;
+use crate::retained::RetainedText;
 use iol_capture::{LineFault, SplitFault, TraceLine};
 use iol_script::TextLines;
 use std::fmt;
@@ -74,16 +74,16 @@ fn wanted_in_place_of(fault: &SplitFault) -> &'static str {
 /// Why a line of this fault is refused, behind what is kept of the lines above it. None of a line
 /// that fits no form.
 pub(crate) fn call_fault_of(
-    kept: &KeptText,
+    retained: &RetainedText,
     number: u64,
     line: &[u8],
     fault: LineFault,
 ) -> Option<CallFault> {
-    let call = last_call(kept, number);
+    let call = last_call(retained, number);
     Some(match fault {
         LineFault::BadForm => return None,
         LineFault::WrongNumber => match TraceLine::parse(line)? {
-            TraceLine::Came(..) => CallFault::NotOfTheMessage(call),
+            TraceLine::Received(..) => CallFault::NotOfTheMessage(call),
             _ => CallFault::NotNext(call.and_then(|call| call.checked_add(1))),
         },
         LineFault::ReplyMissing => CallFault::ReplyMissing(call),
@@ -95,16 +95,18 @@ pub(crate) fn call_fault_of(
 }
 
 /// The number of the last call above the line of this number.
-fn last_call(kept: &KeptText, bad: u64) -> Option<u64> {
+fn last_call(retained: &RetainedText, bad: u64) -> Option<u64> {
     let mut call = None;
-    let above = kept.lines_above(bad);
-    for (number, line) in TextLines::of(kept.octets()) {
+    let above = retained.lines_above(bad);
+    for (number, line) in TextLines::of(retained.octets()) {
         if number > above {
             break;
         }
         match TraceLine::parse(line) {
             Some(TraceLine::Wake(this, _)) => call = Some(this),
-            Some(TraceLine::Sent(this, _)) | Some(TraceLine::Came(this, _)) => call = Some(this),
+            Some(TraceLine::Sent(this, _)) | Some(TraceLine::Received(this, _)) => call = Some(
+                this,
+            ),
             _ => {}
         }
     }

@@ -19,7 +19,7 @@ pub(crate) struct Departure<'a> {
 const WANTED: usize = 50;
 
 /// How often the parts are read that may stand several times.
-const MOST_AGAIN: usize = 75;
+const MOST_REPEATS: usize = 75;
 
 /// What is wanted in a place: nothing more, or one of these parts.
 pub type WantedList = ArrayVec<Part, WANTED>;
@@ -49,12 +49,12 @@ impl<'a> Fitting<'a> {
 
     /// Reads one of these words and these values, again and again, and says where the words leave
     /// them, if they do.
-    fn leaves_again(
+    fn leaves_repeated(
         mut self,
         names: &'static [&'static str],
         fields: &[Field],
     ) -> Option<Departure<'a>> {
-        for _ in 0..MOST_AGAIN {
+        for _ in 0..MOST_REPEATS {
             self.place.word()?;
             let joint = Part::Words(names);
             if !self.reads(&joint) {
@@ -88,8 +88,8 @@ pub(crate) fn departure_of<'a>(form: &LineForm, line: &'a [u8]) -> Option<Depart
         place: Cursor::of(line),
     };
     for part in form.parts {
-        if let Part::Again(names, fields) = part {
-            return fitting.leaves_again(names, fields);
+        if let Part::Repeated(names, fields) = part {
+            return fitting.leaves_repeated(names, fields);
         }
         if !fitting.reads(part) {
             return Some(fitting.leaves(Some(*part)));

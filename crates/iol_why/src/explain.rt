@@ -7,10 +7,10 @@ ghost use Rattle.iol_why.specs.Explained.{IsColumnOf, is_of_form, line_in};
 use crate::call_fault::{CallFault, call_fault_of};
 use crate::cursor::Cursor;
 use crate::form::{LineForm, Lines};
-use crate::kept::KeptText;
 use crate::mistake::{Fault, Mistake};
 use crate::page_refusal::page_refusal_of;
 use crate::plan_place::{PlanFault, form_in_place, plan_fault_of};
+use crate::retained::RetainedText;
 use crate::script_place::{place_fault_of, storage_fault_of};
 use crate::text_fault::{LONGEST, text_fault_of};
 use crate::word_fault::word_fault_of;
@@ -36,7 +36,7 @@ impl<'a> Mistake<'a> {
 }
 
 /// Why the line of this number is the first bad line of `check`. None where it is good.
-pub fn explain_check<'a>(text: KeptText<'a>, number: u64) -> Option<Mistake<'a>>
+pub fn explain_check<'a>(text: RetainedText<'a>, number: u64) -> Option<Mistake<'a>>
     ensures { IfSome result (λ mistake. IfSome (line_in text.entry number) (λ line.
         IsColumnOf line mistake.column × (check_form line ≡ None))) }
 {
@@ -49,7 +49,7 @@ pub fn explain_check<'a>(text: KeptText<'a>, number: u64) -> Option<Mistake<'a>>
 
 /// Why the line of this number is the first bad line of `run` and `trace`, of which this is the
 /// whole input. None where it is good in its place.
-pub fn explain_script<'a>(text: KeptText<'a>, number: u64) -> Option<Mistake<'a>>
+pub fn explain_script<'a>(text: RetainedText<'a>, number: u64) -> Option<Mistake<'a>>
     ensures column { IfSome result (λ mistake. IfSome (line_in text.entry number) (λ line.
         IsColumnOf line mistake.column)) }
     ensures form { IfSome result (λ mistake. is_of_form mistake.fault ≡ true
@@ -69,7 +69,7 @@ pub fn explain_script<'a>(text: KeptText<'a>, number: u64) -> Option<Mistake<'a>
 }
 
 /// Why a line of Data Storage is refused in its place.
-fn storage_mistake<'a>(text: KeptText<'a>, number: u64, line: &[u8]) -> Option<Mistake<'a>>
+fn storage_mistake<'a>(text: RetainedText<'a>, number: u64, line: &[u8]) -> Option<Mistake<'a>>
     ensures { IfSome result (λ mistake. (mistake.column ≡ 1)
         × (is_of_form mistake.fault ≡ false)) }
 {
@@ -79,7 +79,7 @@ fn storage_mistake<'a>(text: KeptText<'a>, number: u64, line: &[u8]) -> Option<M
 }
 
 /// Why the line of this number is the first bad line of `many`, of which this is the whole input.
-pub fn explain_plan<'a>(text: KeptText<'a>, number: u64) -> Option<Mistake<'a>>
+pub fn explain_plan<'a>(text: RetainedText<'a>, number: u64) -> Option<Mistake<'a>>
     ensures { IfSome result (λ mistake. IfSome (line_in text.entry number) (λ line.
         IsColumnOf line mistake.column)) }
 {
@@ -103,7 +103,7 @@ pub fn explain_plan<'a>(text: KeptText<'a>, number: u64) -> Option<Mistake<'a>>
 /// fault, where these lines above it are kept.
 pub fn explain_capture<'a>(
     form: CaptureForm,
-    text: KeptText<'a>,
+    text: RetainedText<'a>,
     number: u64,
     fault: LineFault,
 ) -> Option<Mistake<'a>>

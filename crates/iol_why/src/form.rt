@@ -24,7 +24,7 @@ pub enum Part {
         most: usize,
     },
     /// One of these words and these values behind it, several times. It stands last.
-    Again(&'static [&'static str], &'static [Field]),
+    Repeated(&'static [&'static str], &'static [Field]),
 }
 
 /// What fills the room of parts that were not added: no word fits it.
@@ -47,7 +47,7 @@ impl Part {
     /// How many words it takes at least.
     pub(crate) fn least(&self) -> usize {
         match self {
-            Part::Optional(_) | Part::Again(..) => 0,
+            Part::Optional(_) | Part::Repeated(..) => 0,
             Part::Fields { least, .. } => *least,
             _ => 1,
         }
@@ -72,7 +72,7 @@ impl Part {
     /// The value that it may be.
     pub(crate) fn field(&self) -> Option<Field> {
         match *self {
-            Part::Words(_) | Part::Again(..) => None,
+            Part::Words(_) | Part::Repeated(..) => None,
             Part::WordsOr(_, field) | Part::Field(field) | Part::Optional(field) => Some(field),
             Part::Fields { field, .. } => Some(field),
         }
@@ -120,13 +120,13 @@ impl fmt::Display for Part {
             Part::Field(field) => f.write_str(field.letters),
             Part::Optional(field) => write!(f, "[{}]", field.letters),
             Part::Fields { field, .. } => write!(f, "{} ..", field.letters),
-            Part::Again(names, _) => write_again(f, names),
+            Part::Repeated(names, _) => write_repeated(f, names),
         }
     }
 }
 
 /// What parts stand several times: the word that begins them.
-fn write_again<W: fmt::Write>(f: &mut fmt::Formatter<W>, names: &[&'static str]) -> fmt::Result {
+fn write_repeated<W: fmt::Write>(f: &mut fmt::Formatter<W>, names: &[&'static str]) -> fmt::Result {
     match names {
         [name, ..] => write!(f, "{name} .."),
         [] => Ok(()),

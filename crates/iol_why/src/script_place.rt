@@ -137,7 +137,7 @@ fn setting_fault_of(text: &[u8], bad: u64, setting: &Setting) -> Option<PlaceFau
             return Some(PlaceFault::Late(number));
         }
         if let Some(RunLine::Setting(before)) = RunLine::parse(line)
-            && let Some(fault) = again(setting, &before, number)
+            && let Some(fault) = repeat_fault(setting, &before, number)
         {
             return Some(fault);
         }
@@ -148,13 +148,13 @@ fn setting_fault_of(text: &[u8], bad: u64, setting: &Setting) -> Option<PlaceFau
 /// Why a setting is refused that stands among the settings, and was not given before.
 fn lacking_for(text: &[u8], bad: u64, setting: &Setting) -> PlaceFault {
     match setting {
-        Setting::Kept(index) if !any_above(text, bad, |it| is_writable_at(it, *index)) => {
+        Setting::Stored(index) if !any_above(text, bad, |it| is_writable_at(it, *index)) => {
             PlaceFault::NoWritable
         }
         Setting::Range(range) if !any_above(text, bad, |it| is_param_at(it, range.place)) => {
             PlaceFault::NoParam
         }
-        Setting::Kept(_) | Setting::Range(_) | Setting::AtMost(_) => PlaceFault::TooManyOfIt,
+        Setting::Stored(_) | Setting::Range(_) | Setting::AtMost(_) => PlaceFault::TooManyOfIt,
         _ => PlaceFault::TooManyParams,
     }
 }
@@ -179,7 +179,7 @@ fn has_table(text: &[u8], bad: u64) -> bool {
     any_above(text, bad, |it| {
         matches!(
             it,
-            Setting::Kept(_) | Setting::Range(_) | Setting::AtMost(_)
+            Setting::Stored(_) | Setting::Range(_) | Setting::AtMost(_)
         )
     })
 }
@@ -202,12 +202,12 @@ fn any_above<F: Fn(&Setting) -> bool>(text: &[u8], bad: u64, is_it: F) -> bool
 }
 
 /// Why a setting can't follow another one, which this line gave.
-fn again(setting: &Setting, before: &Setting, line: u64) -> Option<PlaceFault> {
+fn repeat_fault(setting: &Setting, before: &Setting, line: u64) -> Option<PlaceFault> {
     match (setting, before) {
         (Setting::Param { place, .. }, Setting::Param { place: taken, .. }) => {
             (place == taken).then_some(PlaceFault::SamePlace(line))
         }
-        (Setting::Kept(index), Setting::Kept(taken)) => {
+        (Setting::Stored(index), Setting::Stored(taken)) => {
             (index == taken).then_some(PlaceFault::Twice(line))
         }
         (Setting::Range(range), Setting::Range(taken)) => {

@@ -158,7 +158,7 @@ const TURNS: Field = number!("T", "count of turns", 1, 100_000);
 
 const CALL: Field = number!("N", "number of a call", 1, u64::MAX);
 
-const BROUGHT: Part = Part::Fields {
+const WIRE_RESULT: Part = Part::Fields {
     field: OCTET,
     least: 0,
     most: 128,
@@ -433,9 +433,9 @@ pub(crate) static TRACE: [LineForm; 6] = [
         "a message as the master sent it; what stands behind a colon isn't read",
         one!(CALL),
         word!(">"),
-        BROUGHT
+        WIRE_RESULT
     ),
-    form!("what came back", one!(CALL), word!("<"), BROUGHT),
+    form!("what came back", one!(CALL), word!("<"), WIRE_RESULT),
     form!("nothing came back", one!(CALL), word!("<"), word!("none")),
     form!(
         "before the first of these: direct parameter page 1 of the device, 0x02 to 0x0B",
@@ -489,7 +489,7 @@ pub(crate) static STORAGE: [LineForm; 9] = [
         one!(INDEX),
         one!(SUB),
         one!(VALUE),
-        Part::Again(&["/"], &[INDEX, SUB, VALUE])
+        Part::Repeated(&["/"], &[INDEX, SUB, VALUE])
     ),
     form!("the outcome of a block", word!("outcome"), one!(BLOCK)),
     form!(

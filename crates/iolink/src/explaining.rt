@@ -4,7 +4,7 @@ use crate::ending::Ending;
 use iol_capture::{CaptureFault, CaptureForm};
 use iol_commands::{JudgeFault, ProgramFault};
 use iol_why::{
-    Keeping, KeptText, Mistake, explain_capture, explain_check, explain_plan, explain_script,
+    Keeping, Mistake, RetainedText, explain_capture, explain_check, explain_plan, explain_script,
 };
 
 /// How much of the input has to be kept, so that a bad line can be explained.
@@ -21,7 +21,7 @@ pub(crate) fn keeping_for(asked: AskedCommand, lines: BadLines) -> Keeping {
 /// What is wrong with the line at which a command has ended, if it ended at one.
 pub(crate) fn mistake_at<'a>(
     asked: AskedCommand,
-    text: KeptText<'a>,
+    text: RetainedText<'a>,
     ending: &Ending,
 ) -> Option<Mistake<'a>> {
     match (asked, ending) {
@@ -41,7 +41,11 @@ pub(crate) fn mistake_at<'a>(
 }
 
 /// What is wrong with the line of this number, the first bad one of a command.
-fn mistake_in<'a>(mode: PrintingCommand, text: KeptText<'a>, number: u64) -> Option<Mistake<'a>> {
+fn mistake_in<'a>(
+    mode: PrintingCommand,
+    text: RetainedText<'a>,
+    number: u64,
+) -> Option<Mistake<'a>> {
     match mode {
         PrintingCommand::Check => explain_check(text, number),
         PrintingCommand::Run | PrintingCommand::Trace => explain_script(text, number),

@@ -22,7 +22,7 @@ use crate::explaining::{keeping_for, mistake_at};
 use crate::help::Help;
 use crate::performing::{perform, perform_judge, perform_judge_traced};
 use iol_commands::ProgramFault;
-use iol_why::KeptInput;
+use iol_why::RetainedInput;
 use std::alloc::Global;
 use std::process::ExitCode;
 use std::rt::Runtime;
@@ -48,7 +48,7 @@ fn work<R: Runtime<A = Global> + Threads + Wait + Sync>(
         .map_err(|_| ProgramFault::OutOfMemory)?;
     let help = Help::new(rt.alloc()).map_err(|_| ProgramFault::OutOfMemory)?;
     let (asked, lines) = asked_by(rt.alloc(), &help, words.as_slice())?;
-    let mut reader = KeptInput::new(rt.alloc(), rt.reader(), keeping_for(asked, lines));
+    let mut reader = RetainedInput::new(rt.alloc(), rt.reader(), keeping_for(asked, lines));
     let mut writer = io::writer(rt);
     let outcome = match asked {
         AskedCommand::Mode(mode) => {

@@ -58,7 +58,7 @@ pub record HandleOpensDevice (page : List ℕ) (given : ℕ) (old : IolDevice) (
   pub refused : IsFalse old.is_open
       → IfErr (layouts_of page) (λ fault. result ≡ page_fault_number fault)
   pub memory : IsFalse old.is_open → IsOk (layouts_of page) → ¬ (result ≡ 0) → result ≡ 24
-  pub kept : ¬ (result ≡ 0) → new ≡ old
+  pub unchanged : ¬ (result ≡ 0) → new ≡ old
   pub opened : result ≡ 0 → new.is_open ≡ true
   pub passed : result ≡ 0 → call_heard new ≡ None
   pub far : result ≡ 0 → far_of new ≡ new_far page None

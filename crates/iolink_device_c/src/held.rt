@@ -2,7 +2,7 @@
 ghost use Rattle.std.specs.Prelude.{◌≡◌, Bool, true, false};
 ghost use Rattle.iolink_device_c.specs.declared.held.Sensor.{Sensor};
 
-use iol_device::{Apart, Device, Unkept};
+use iol_device::{Apart, Device, NoRecord};
 use iol_print::LineCall;
 use iolink_handle::Loose;
 use std::alloc::Global;
@@ -12,7 +12,7 @@ use std::ptr::null_mut;
 /// What lies behind the pointer: the device, whose answers C brings, and the last call of the line.
 #[derive(Drop)]
 pub struct Sensor {
-    pub device: Device<Apart, Unkept>,
+    pub device: Device<Apart, NoRecord>,
     pub passed: Option<LineCall>,
 }
 

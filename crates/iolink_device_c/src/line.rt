@@ -9,7 +9,7 @@ ghost use Rattle.iolink_device_c.specs.LineCalls.{NotesHeard};
 
 use crate::held::IolDevice;
 use core::mem::replace_with;
-use iol_device::{Apart, Device, DeviceMode, Unkept};
+use iol_device::{Apart, Device, DeviceMode, NoRecord};
 use iol_mseq::{Layout, Message};
 use iol_page::Page;
 use iol_print::LineCall;
@@ -70,7 +70,7 @@ pub extern "C" fn iol_device_hear(
 }
 
 /// What came, in the layout that the device speaks by now, and what it sends back.
-fn heard(device: &Device<Apart, Unkept>, octets: &[u8], reply: &Option<Message>) -> LineCall
+fn heard(device: &Device<Apart, NoRecord>, octets: &[u8], reply: &Option<Message>) -> LineCall
     ensures { NotesHeard (layout_of device.now.far) octets.now (octets_in reply.now) (Some result) }
 {
     LineCall::Exchange(layout_of(device), first_of(octets), copy_of(reply))
@@ -87,7 +87,7 @@ fn first_of(octets: &[u8]) -> Message
 
 /// The layout of the mode.
 #[tactic(auto, unfolding(iol_far::specs::Codec::layout_in))]
-fn layout_of(device: &Device<Apart, Unkept>) -> Layout
+fn layout_of(device: &Device<Apart, NoRecord>) -> Layout
     ensures { result ≡ layout_of device.now.far }
 {
     let Ok(layouts) = Page::from_octets(device.page()).layouts() else {

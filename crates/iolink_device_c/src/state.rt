@@ -6,7 +6,7 @@ ghost use Rattle.iolink_device_c.specs.Shown.{shown_mode};
 
 use crate::held::IolDevice;
 use core::mem::replace_with;
-use iol_device::{Apart, Device, DeviceMode, Unkept};
+use iol_device::{Apart, Device, DeviceMode, NoRecord};
 use iolink_handle::{CLOSED, show_micros};
 use std::alloc::Global;
 
@@ -34,7 +34,7 @@ pub extern "C" fn iol_device_mode(alloc: Global, handle: &mut IolDevice, out: &m
     0
 }
 
-fn shown_mode(device: &Device<Apart, Unkept>) -> u8
+fn shown_mode(device: &Device<Apart, NoRecord>) -> u8
     ensures { result ≡ shown_mode device.now.far }
 {
     if !device.is_awake() {

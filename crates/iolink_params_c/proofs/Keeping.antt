@@ -21,16 +21,16 @@ use Rattle.iol_params.specs.Table.{ParamTable}
 use Rattle.iol_params.specs.State.{ParamState, after_end, is_at_rest, takes_writes, is_foreign, is_uploading, with_flag_cleared, with_flag_set, locks_in}
 use Rattle.iol_params.specs.Carry.{write, write_settled, write_refusal, with_write, download_settled, upload_settled, own_command, unless_foreign, is_consistent}
 use Rattle.iol_params.specs.Requests.{request_result, written_answer, write_request, storage_write, command_write, asked_command, locks_set, locks_write}
-use Rattle.iol_params.specs.Image.{kept_of}
+use Rattle.iol_params.specs.Image.{lasting_of}
 use Rattle.iol_params.proofs.Sets.{and-parts}
-use Rattle.iol_param_device.specs.Device.{Both, both, event_told}
+use Rattle.iol_param_device.specs.Device.{Both, both, event_reported}
 use Rattle.iolink_params_c.specs.declared.sensor.ParamSensor.{ParamSensor}
 use Rattle.iolink_params_c.specs.Line.{with_state}
-use Rattle.iolink_params_c.specs.Work.{is_nothing, is_saved_first, sensor_after_answer, after_handed, after_told, if_nothing, sensor_after_work}
+use Rattle.iolink_params_c.specs.Work.{is_nothing, is_saved_first, sensor_after_answer, after_handed, after_report, if_nothing, sensor_after_work}
 
 -- what need not be saved first changes nothing that outlives the power
 abbrev Keeps : ParamState → Option ErrorType × ParamState → Type 0
-Keeps s w = is_saved_first (written_answer w.0) w.1.activity ≡ false → kept_of w.1 ≡ kept_of s
+Keeps s w = is_saved_first (written_answer w.0) w.1.activity ≡ false → lasting_of w.1 ≡ lasting_of s
 
 clash : {A : Type 0} → false ≡ true → A
 clash e = absurd (cc)
@@ -152,52 +152,54 @@ module _ (table : ParamTable) (s : ParamState) where
       (λ i. locks_write-keeps octets))))
 
   request-keeps : (r : Request) → let done = request_result table s r in
-      is_saved_first done.0 done.1.activity ≡ false → kept_of done.1 ≡ kept_of s
+      is_saved_first done.0 done.1.activity ≡ false → lasting_of done.1 ≡ lasting_of s
   request-keeps (request.Read place) h = refl
   request-keeps (request.Write place octets) h = write_request-keeps place octets.items h
 
 -- what is left without something to be saved is kept as it was
 settled-keeps : (s : ParamSensor) (b : Bool) (answer : Answer) (state : ParamState)
     → is_nothing (sensor_after_answer b answer (with_state s state)).unsaved ≡ true
-    → (b ≡ false → kept_of state ≡ kept_of s.manager.state)
-    → kept_of (sensor_after_answer b answer (with_state s state)).manager.state
-    ≡ kept_of s.manager.state
+    → (b ≡ false → lasting_of state ≡ lasting_of s.manager.state)
+    → lasting_of (sensor_after_answer b answer (with_state s state)).manager.state
+    ≡ lasting_of s.manager.state
 settled-keeps s true answer state e k = absurd (cc)
 settled-keeps s false answer state e k = k refl
 
 handed-keeps : (r : Option Request) (s : ParamSensor) → is_nothing (after_handed r s).unsaved ≡ true
-    → kept_of (after_handed r s).manager.state ≡ kept_of s.manager.state
+    → lasting_of (after_handed r s).manager.state ≡ lasting_of s.manager.state
 handed-keeps None s e = refl
 handed-keeps (Some request) s e =
     let done = request_result s.manager.table s.manager.state request in
     settled-keeps s (is_saved_first done.0 done.1.activity) done.0 done.1 e
     (request-keeps s.manager.table s.manager.state request)
 
-event-keeps : (told : Bool) (b : Both) → kept_of (event_told told b).state ≡ kept_of b.state
+event-keeps : (reported : Bool) (b : Both)
+    → lasting_of (event_reported reported b).state ≡ lasting_of b.state
 event-keeps true b = refl
 event-keeps false b = refl
 
-told-keeps : (s : ParamSensor) → kept_of (after_told s).manager.state ≡ kept_of s.manager.state
-told-keeps s = event-keeps (s.manager.state.event_due && not (is_full s.device.far.events))
+reported-keeps : (s : ParamSensor)
+    → lasting_of (after_report s).manager.state ≡ lasting_of s.manager.state
+reported-keeps s = event-keeps (s.manager.state.event_due && not (is_full s.device.far.events))
     (both s.device.far s.manager.state)
 
 worked-by : (a b : Bool) (s done : ParamSensor) → is_nothing done.unsaved ≡ b
-    → (b ≡ true → kept_of done.manager.state ≡ kept_of s.manager.state)
+    → (b ≡ true → lasting_of done.manager.state ≡ lasting_of s.manager.state)
     → (a ≡ false → is_nothing s.unsaved ≡ false)
-    → is_nothing (if_nothing a s (if_nothing b done (after_told done))).unsaved ≡ true
-    → kept_of (if_nothing a s (if_nothing b done (after_told done))).manager.state
-    ≡ kept_of s.manager.state
+    → is_nothing (if_nothing a s (if_nothing b done (after_report done))).unsaved ≡ true
+    → lasting_of (if_nothing a s (if_nothing b done (after_report done))).manager.state
+    ≡ lasting_of s.manager.state
 worked-by false b s done is k f h = refl
-worked-by true true s done is k f h = told-keeps done ∙ k refl
+worked-by true true s done is k f h = reported-keeps done ∙ k refl
 worked-by true false s done is k f h = absurd (cc)
 
 -- where nothing is to be saved, what outlives the power is as it was
 pub worked_keeps : (old new : ParamSensor) → new ≡ sensor_after_work old
     → is_nothing new.unsaved ≡ true
-    → kept_of new.manager.state ≡ kept_of old.manager.state
+    → lasting_of new.manager.state ≡ lasting_of old.manager.state
 worked_keeps old new e h =
     let done = after_handed (handed_request old.device.far.isdu) old in
-    ap (λ (s : ParamSensor). kept_of s.manager.state) e
+    ap (λ (s : ParamSensor). lasting_of s.manager.state) e
     ∙ worked-by (is_nothing old.unsaved) (is_nothing done.unsaved) old done refl
     (λ b. handed-keeps (handed_request old.device.far.isdu) old b)
     (λ a. a)

@@ -97,7 +97,7 @@ pub record HandleOpensTable (page : List ℕ) (rows : List IolParamRow) (rules :
   pub memory : IsFalse old.is_open → IsOk (layouts_of page) → IsTrue (list_all is_row rows)
       → table_fault (table_of rows rules).members (table_of rows rules).rules ≡ None
       → ¬ (result ≡ 0) → result ≡ 24
-  pub kept : ¬ (result ≡ 0) → new ≡ old
+  pub unchanged : ¬ (result ≡ 0) → new ≡ old
   pub opened : result ≡ 0 → new.is_open ≡ true
   pub device : result ≡ 0 → IsNewDevice page (params_sensor new).device
   pub unsaved : result ≡ 0 → (params_sensor new).unsaved ≡ Nothing

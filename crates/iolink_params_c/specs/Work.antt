@@ -56,9 +56,9 @@ after_handed (Some request) s =
     sensor_after_answer (is_saved_first done.0 done.1.activity) done.0 (with_state s done.1)
 
 -- the event that is due is raised
-abbrev pub after_told : ParamSensor → ParamSensor
-after_told s = let told = after_event (both s.device.far s.manager.state) in
-    record (with_state s told.state) { device = record s.device { far = told.far } }
+abbrev pub after_report : ParamSensor → ParamSensor
+after_report s = let reported = after_event (both s.device.far s.manager.state) in
+    record (with_state s reported.state) { device = record s.device { far = reported.far } }
 
 abbrev pub if_nothing : Bool → ParamSensor → ParamSensor → ParamSensor
 if_nothing true s done = done
@@ -68,7 +68,7 @@ if_nothing false s done = s
 abbrev pub sensor_after_work : ParamSensor → ParamSensor
 sensor_after_work s = let done = after_handed (handed_request s.device.far.isdu) s in
     if_nothing (is_nothing s.unsaved) s
-    (if_nothing (is_nothing done.unsaved) done (after_told done))
+    (if_nothing (is_nothing done.unsaved) done (after_report done))
 
 -- what was to be saved is saved: the write that waits for it has its answer
 abbrev pub sensor_after_save : Unsaved → ParamSensor → ParamSensor

@@ -6,7 +6,7 @@ ghost use Rattle.iolink_params_c.specs.Process.{with_far, mode_shown};
 ghost use Rattle.iolink_params_c.specs.Calls.{params_sensor, params_far, GuardsParams, Makes};
 
 use crate::held::IolParams;
-use iol_device::{Apart, Device, DeviceMode, Unkept};
+use iol_device::{Apart, Device, DeviceMode, NoRecord};
 use iol_event::Event;
 use iolink_handle::CLOSED;
 use std::alloc::Global;
@@ -32,7 +32,7 @@ pub extern "C" fn iol_params_mode(alloc: Global, handle: &mut IolParams, out: &m
     0
 }
 
-fn shown_mode(device: &Device<Apart, Unkept>) -> u8
+fn shown_mode(device: &Device<Apart, NoRecord>) -> u8
     ensures { result ≡ mode_shown device.now.far }
 {
     if !device.is_awake() {

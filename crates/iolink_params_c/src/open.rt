@@ -79,7 +79,7 @@ fn sensor_with(
     ensures unsaved { IfOk result (λ s. s.unsaved ≡ Unsaved.Nothing) }
     ensures sound { let t = table_of rows.now rules.now in
         IfOk result (λ s. table_fault t.members t.rules ≡ None) }
-    ensures kept { IfOk result (λ s. row.new ≡ row.old) }
+    ensures unchanged { IfOk result (λ s. row.new ≡ row.old) }
     ensures refused { IfErr result (λ code. IsTableRefusal (table_of rows.now rules.now) code
         row.old row.new) }
 {

@@ -2,7 +2,7 @@
 ghost use Rattle.std.specs.Prelude.{◌≡◌, length, true, false, Some, IsTrue, IsFalse};
 ghost use Rattle.std.specs.Result.{result_err};
 ghost use Rattle.iol_params.specs.State.{locks_octet};
-ghost use Rattle.iol_params.specs.Image.{kept_of, kept_in, image_size};
+ghost use Rattle.iol_params.specs.Image.{lasting_of, lasting_in, image_size};
 ghost use Rattle.iol_params.specs.Manager.{read_answer};
 ghost use Rattle.iol_params.specs.Carry.{local_change, local_reset};
 ghost use Rattle.iolink_params_c.specs.Work.{sensor_after_work, sensor_after_save, sensor_after_change, is_nothing};
@@ -40,10 +40,11 @@ pub struct IolValue {
 pub extern "C" fn iol_params_work(alloc: Global, handle: &mut IolParams) -> u8
     ensures guards { GuardsParams result handle.old handle.new }
     ensures makes { Makes sensor_after_work handle.old handle.new }
-    ensures told { IsTrue handle.old.is_open →
+    ensures reported { IsTrue handle.old.is_open →
         result ≡ unsaved_number (is_nothing (params_sensor handle.new).unsaved) }
-    ensures kept { IsTrue handle.old.is_open → result ≡ 0 →
-        kept_of (params_manager handle.new).state ≡ kept_of (params_manager handle.old).state }
+    ensures lasting { IsTrue handle.old.is_open → result ≡ 0 →
+        lasting_of (params_manager handle.new).state
+        ≡ lasting_of (params_manager handle.old).state }
 {
     if !handle.is_open {
         return CLOSED;
@@ -91,25 +92,25 @@ pub extern "C" fn iol_params_image(alloc: Global, handle: &mut IolParams, out: &
         (result ≡ 254) × (out.new ≡ out.old) }
     ensures image { IsTrue handle.old.is_open →
         length out.old ≡ image_size (params_manager handle.old).table → (result ≡ 0)
-        × (kept_in (params_manager handle.old).table out.new
-        ≡ Some (kept_of (params_manager handle.old).state)) }
+        × (lasting_in (params_manager handle.old).table out.new
+        ≡ Some (lasting_of (params_manager handle.old).state)) }
 {
     if !handle.is_open {
         return CLOSED;
     }
     let mut sensor = handle.take_box(alloc);
-    let code = show_kept(&mut sensor.manager, out);
+    let code = show_lasting(&mut sensor.manager, out);
     *handle = IolParams::of(sensor);
     code
 }
 
 /// Writes the image into a room that has as many octets: 0, else 254, with the room as it was.
-fn show_kept(manager: &mut OwnedManager<Global>, out: &mut [u8]) -> u8
+fn show_lasting(manager: &mut OwnedManager<Global>, out: &mut [u8]) -> u8
     ensures same { manager.new ≡ manager.old }
     ensures size { ¬ (length out.old ≡ image_size manager.old.table) →
         (result ≡ 254) × (out.new ≡ out.old) }
     ensures image { length out.old ≡ image_size manager.old.table → (result ≡ 0)
-        × (kept_in manager.old.table out.new ≡ Some (kept_of manager.old.state)) }
+        × (lasting_in manager.old.table out.new ≡ Some (lasting_of manager.old.state)) }
 {
     if out.len() != manager.image_size() {
         return OUT_OF_RANGE;
@@ -165,7 +166,7 @@ pub extern "C" fn iol_params_set(
         let s = params_manager handle.old in
         params_sensor handle.new ≡ sensor_after_change
         (local_change s.table s.state (place_at index sub) octets.now) (params_sensor handle.old) }
-    ensures told { IsTrue handle.old.is_open →
+    ensures reported { IsTrue handle.old.is_open →
         IsTrue (is_nothing (params_sensor handle.old).unsaved) →
         let s = params_manager handle.old in
         IsChangeOf (local_change s.table s.state (place_at index sub) octets.now).0 result
@@ -214,7 +215,7 @@ pub extern "C" fn iol_params_reset(alloc: Global, handle: &mut IolParams, error:
         IsTrue (is_nothing (params_sensor handle.old).unsaved) →
         let s = params_manager handle.old in params_sensor handle.new
         ≡ sensor_after_change (local_reset s.table s.state) (params_sensor handle.old) }
-    ensures told { IsTrue handle.old.is_open →
+    ensures reported { IsTrue handle.old.is_open →
         IsTrue (is_nothing (params_sensor handle.old).unsaved) →
         let s = params_manager handle.old in
         IsChangeOf (local_reset s.table s.state).0 result error.old error.new }

@@ -2,12 +2,12 @@
 ghost use Rattle.std.specs.Prelude.{◌≡◌, true, IsTrue};
 ghost use Rattle.std.specs.Result.{result_err};
 ghost use Rattle.iol_far.specs.Isdu.{handed_request};
-ghost use Rattle.iol_params.specs.Image.{kept_of};
+ghost use Rattle.iol_params.specs.Image.{lasting_of};
 ghost use Rattle.iol_params.specs.Carry.{local_change, local_reset};
-ghost use Rattle.iolink_params_c.specs.Work.{is_saved_first, far_answered, after_handed, after_told, sensor_after_work, sensor_after_save, sensor_after_change, is_nothing};
+ghost use Rattle.iolink_params_c.specs.Work.{is_saved_first, far_answered, after_handed, after_report, sensor_after_work, sensor_after_save, sensor_after_change, is_nothing};
 
 use crate::sensor::{ParamSensor, Unsaved};
-use iol_device::{Apart, Device, Unkept};
+use iol_device::{Apart, Device, NoRecord};
 use iol_event::Event;
 use iol_isdu::{Answer, Place};
 use iol_params::{Activity, ErrorType};
@@ -36,7 +36,7 @@ fn is_saved_first(answer: &Answer, activity: Activity) -> bool
 }
 
 /// The request of this number has this answer, where it still waits for one.
-fn answer_to(device: &mut Device<Apart, Unkept>, number: u64, answer: Answer)
+fn answer_to(device: &mut Device<Apart, NoRecord>, number: u64, answer: Answer)
     ensures { device.new ≡ record device.old { far = far_answered device.old number answer } }
 {
     let _ = device.answer(number, answer);
@@ -50,8 +50,8 @@ impl ParamSensor {
     /// Rule SAVE-3.
     pub(crate) fn work(&mut self)
         ensures does { self.new ≡ sensor_after_work self.old }
-        ensures kept { IsTrue (is_nothing self.new.unsaved) →
-            kept_of self.new.manager.state ≡ kept_of self.old.manager.state }
+        ensures lasting { IsTrue (is_nothing self.new.unsaved) →
+            lasting_of self.new.manager.state ≡ lasting_of self.old.manager.state }
     {
         if !self.unsaved.is_nothing() {
             return;
@@ -78,7 +78,7 @@ impl ParamSensor {
 
     // The event is raised, if it is due and the memory takes it.
     fn tell_event(&mut self)
-        ensures { self.new ≡ after_told self.old }
+        ensures { self.new ≡ after_report self.old }
     {
         if self.manager.is_event_due() && self.device.raise(UPLOAD_REQUEST).is_ok() {
             self.manager.event_raised();

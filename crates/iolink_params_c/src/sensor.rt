@@ -9,7 +9,7 @@ ghost use Rattle.iol_params.specs.State.{after_end};
 ghost use Rattle.iol_param_device.specs.Device.{goes_back, ended_if};
 ghost use Rattle.iolink_params_c.specs.Line.{sensor_after_octets, sensor_after_wake, sensor_after_silence};
 
-use iol_device::{Apart, Device, Unkept};
+use iol_device::{Apart, Device, NoRecord};
 use iol_mseq::Message;
 use iol_param_device::goes_back;
 use iol_params::OwnedManager;
@@ -29,7 +29,7 @@ pub enum Unsaved {
 /// A device, its parameters, and what of them is still to be saved.
 #[derive(Drop)]
 pub struct ParamSensor {
-    pub device: Device<Apart, Unkept>,
+    pub device: Device<Apart, NoRecord>,
     pub manager: OwnedManager<Global>,
     pub unsaved: Unsaved,
 }

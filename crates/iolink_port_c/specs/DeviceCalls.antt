@@ -7,7 +7,7 @@ use Rattle.iol_port.specs.declared.call.Call.TheVariants as call
 use Rattle.iol_port.specs.declared.call.Answered.TheVariants as answered
 use Rattle.iol_port.specs.declared.call.Counting.{Counting}
 use Rattle.iol_port.specs.EveryWire.{ExpectGives, SetCycleGives}
-use Rattle.iolink_port_forms.specs.Given.{IsCycleOf}
+use Rattle.iolink_port_forms.specs.Arguments.{IsCycleOf}
 use Rattle.iolink_port_forms.specs.Answers.{counting_number}
 use Rattle.iolink_port_c.specs.declared.held.IolPort.{IolPort}
 use Rattle.iolink_port_c.specs.Calls.{held_parts, CallDoes}

@@ -17,7 +17,7 @@ use Rattle.iolink_port_c.specs.Calls.{held_parts, call_taken, Stays, CallDoes}
 pub record HandleArchives (old : IolPort) (number count : ℕ) (new : IolPort) : Type 0 where
   pub number_is : number ≡ 0
   pub count_is : count ≡ length (held_parts old).book.state.journal
-  pub kept : new.held.value.journal.entries.items ≡ (held_parts old).book.state.journal
+  pub retained : new.held.value.journal.entries.items ≡ (held_parts old).book.state.journal
   pub read : new.held.value.journal.read ≡ 0
   pub passed : call_taken new ≡ call_taken old
   pub does : CallDoes old call.Archive (answered.Archived count) new
@@ -48,7 +48,7 @@ pub record HandleDrains (old : IolPort) (number count restated : ℕ) (new : Iol
   pub counts : IfOk answer (λ counts. (counts.0 ≡ length (held_parts old).book.state.journal)
       × (counts.1 ≡ (held_parts old).book.state.restated))
   pub shown : IfOk answer (λ counts. (count ≡ counts.0) × (restated ≡ counts.1))
-  pub kept : OnOk answer
+  pub retained : OnOk answer
       (new.held.value.journal.entries.items ≡ (held_parts old).book.state.journal)
   pub read : OnOk answer (new.held.value.journal.read ≡ 0)
   pub passed : call_taken new ≡ call_taken old

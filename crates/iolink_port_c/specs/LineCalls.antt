@@ -21,24 +21,25 @@ pub record HandleSends (old : IolPort) (number : ℕ) (out : IolMessage) (new : 
     pub number_is : number ≡ 0
     pub shown : IsMessage (asks_of (held_parts old)) out
     pub says : IsAskedOut (asks_of (held_parts old)) (held_parts new).core.state
-    pub again : IsTrue (held_parts old).sent → held_parts new ≡ held_parts old
+    pub repeat : IsTrue (held_parts old).sent → held_parts new ≡ held_parts old
     pub gives : PortSendGives (held_parts old) (held_parts new)
     pub does : SendDoes (held_parts old) (held_parts new)
 
 -- what was asked for is noted as a message in the layout of the mode, with what came back
 abbrev pub NotesExchange : Asked → Option (List ℕ) → Option LineCall → Type 0
-NotesExchange (Exchange sent) came (Some (call.Exchange layout octets answer)) =
-    (layout ≡ sent.layout) × (octets.items ≡ sent.octets.items) × (octets_in answer ≡ came)
-NotesExchange Wake came noted = noted ≡ None
-NotesExchange asked came noted = ⊥
+NotesExchange (Exchange sent) received (Some (call.Exchange layout octets answer)) =
+    (layout ≡ sent.layout) × (octets.items ≡ sent.octets.items) × (octets_in answer ≡ received)
+NotesExchange Wake received noted = noted ≡ None
+NotesExchange asked received noted = ⊥
 
 -- what came back to the message that is out is taken
-pub record HandleReceives (came : Option (List ℕ)) (old : IolPort) (number : ℕ) (new : IolPort) :
+pub record HandleReceives (received : Option (List ℕ)) (old : IolPort) (number : ℕ)
+    (new : IolPort) :
     Type 0 where
   pub number_is : number ≡ 0
-  pub gives : PortReceiveGives (held_parts old) came (held_parts new)
-  pub does : ReceiveDoes (held_parts old) came (held_parts new)
-  pub taken : NotesExchange (asks_of (held_parts old)) came (call_taken new)
+  pub gives : PortReceiveGives (held_parts old) received (held_parts new)
+  pub does : ReceiveDoes (held_parts old) received (held_parts new)
+  pub taken : NotesExchange (asks_of (held_parts old)) received (call_taken new)
 
 -- what came of the wake that is out is taken
 pub record HandleWakes (rate : Option Rate) (old : IolPort)

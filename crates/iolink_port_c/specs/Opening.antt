@@ -4,7 +4,7 @@ use Rattle.iol_book.specs.declared.limits.Limits.{Limits}
 use Rattle.iol_mode.specs.declared.configuration.Devices.{Devices}
 use Rattle.iol_port.specs.CorePort.{CoreOpensFor}
 use Rattle.iol_port.specs.View.{IsNewFor}
-use Rattle.iolink_port_forms.specs.Given.{AreInRange}
+use Rattle.iolink_port_forms.specs.Arguments.{AreInRange}
 use Rattle.iolink_port_forms.specs.Journal.{KeepsNone}
 use Rattle.iolink_port_c.specs.declared.held.IolPort.{IolPort}
 use Rattle.iolink_port_c.specs.Calls.{held_parts, call_taken}

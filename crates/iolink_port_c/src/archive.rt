@@ -87,7 +87,7 @@ fn keep_drained(master: &mut PortWithJournal) -> Result<(u32, u32), PortFault>
     ensures counts { IfOk result (λ counts.
         (counts.0 ≡ length master.old.port.book.state.journal)
         × (counts.1 ≡ master.old.port.book.state.restated)) }
-    ensures kept { OnOk result
+    ensures retained { OnOk result
         (master.new.journal.entries.items ≡ master.old.port.book.state.journal) }
     ensures read { OnOk result (master.new.journal.read ≡ 0) }
     ensures passed { master.new.passed ≡ master.old.passed }

@@ -7,7 +7,7 @@ ghost use Rattle.iol_port.specs.declared.call.Answered.TheVariants as answered;
 ghost use Rattle.iol_port.specs.EveryWire.{page_shown};
 ghost use Rattle.iolink_handle.specs.Shown.{AreShown};
 ghost use Rattle.iolink_port_c.specs.Calls.{held_parts, LeavesClosed, CallDoes, GuardsPort, GuardsOut};
-ghost use Rattle.iolink_port_forms.specs.Given.{identity_at, largest_device};
+ghost use Rattle.iolink_port_forms.specs.Arguments.{identity_at, largest_device};
 ghost use Rattle.iolink_port_c.specs.DeviceCalls.{HandleExpects, Paces};
 
 use crate::held::IolPort;

@@ -7,7 +7,7 @@ use core::mem::replace_with;
 use iol_port::PortCore;
 use iol_print::LineCall;
 use iolink_handle::Loose;
-use iolink_port_forms::KeptJournal;
+use iolink_port_forms::RetainedJournal;
 use std::alloc::Global;
 use std::marker::Model;
 use std::ptr::null_mut;
@@ -17,7 +17,7 @@ use std::ptr::null_mut;
 #[derive(Drop)]
 pub struct PortWithJournal {
     pub port: PortCore<Global>,
-    pub journal: KeptJournal,
+    pub journal: RetainedJournal,
     pub passed: Option<LineCall>,
 }
 

@@ -7,7 +7,7 @@ ghost use Rattle.iolink_port_c.specs.Calls.{held_parts, IsNotAsked, GuardsLine, 
 ghost use Rattle.iol_far.specs.Octets.{octets_in};
 ghost use Rattle.iol_port.specs.Asks.{asks_of};
 ghost use Rattle.iol_print.specs.LineCalls.{rate_of};
-ghost use Rattle.iolink_port_forms.specs.Given.{answer_of};
+ghost use Rattle.iolink_port_forms.specs.Arguments.{answer_of};
 ghost use Rattle.iolink_port_c.specs.LineCalls.{HandleSends, HandleReceives, HandleWakes, NotesExchange};
 
 use crate::held::IolPort;
@@ -93,10 +93,14 @@ pub extern "C" fn iol_port_turn_answered(alloc: Global, handle: &mut IolPort, oc
     if !handle.is_open {
         return CLOSED;
     }
-    let Ok(came) = Message::try_from(octets) else {
+    let Ok(received) = Message::try_from(octets) else {
         return OUT_OF_RANGE;
     };
-    let answer = if came.is_empty() { None } else { Some(came) };
+    let answer = if received.is_empty() {
+        None
+    } else {
+        Some(received)
+    };
     let code = handle.with(alloc, |master| match master.port.awaits() {
         AwaitedAnswer::Reply => {
             master.passed = exchange_noted(&mut master.port, &answer);
@@ -109,14 +113,14 @@ pub extern "C" fn iol_port_turn_answered(alloc: Global, handle: &mut IolPort, oc
 }
 
 /// The message that is out, with what came back.
-fn exchange_noted(port: &mut PortCore<Global>, came: &Option<Message>) -> Option<LineCall>
+fn exchange_noted(port: &mut PortCore<Global>, received: &Option<Message>) -> Option<LineCall>
     requires { awaited_answer port.old ≡ AwaitedAnswer.Reply }
     ensures same { port.new ≡ port.old }
-    ensures noted { NotesExchange (asks_of port.old) (octets_in came.now) result }
+    ensures noted { NotesExchange (asks_of port.old) (octets_in received.now) result }
 {
     match port.send() {
         Asked::Exchange(sent) => {
-            Some(LineCall::Exchange(sent.layout, sent.octets, copy_of(came)))
+            Some(LineCall::Exchange(sent.layout, sent.octets, copy_of(received)))
         }
         Asked::Wake => None,
     }

@@ -2,7 +2,7 @@
 ghost use Rattle.std.specs.Prelude.{◌≡◌, Some, false, IsTrue, IsFalse};
 ghost use Rattle.iol_mode.specs.declared.configuration.Devices.TheVariants.{Any};
 ghost use Rattle.iolink_port_c.specs.Calls.{ClosedPortIsRefused};
-ghost use Rattle.iolink_port_forms.specs.Given.{devices_of, limits_of};
+ghost use Rattle.iolink_port_forms.specs.Arguments.{devices_of, limits_of};
 ghost use Rattle.iolink_port_c.specs.Opening.{HandleOpens};
 
 use crate::held::{IolPort, PortWithJournal};
@@ -10,7 +10,7 @@ use core::mem::replace_with;
 use iol_mode::Devices;
 use iol_port::PortCore;
 use iolink_handle::{CLOSED, IS_OPEN, OUT_OF_MEMORY, OUT_OF_RANGE};
-use iolink_port_forms::{KeptJournal, devices_of, limits_of};
+use iolink_port_forms::{RetainedJournal, devices_of, limits_of};
 use std::alloc::Global;
 
 /// Opens a port for any device by the standard, whose link is down. The first ticket is
@@ -84,7 +84,7 @@ fn open_for(
     };
     let master = PortWithJournal {
         port,
-        journal: KeptJournal::new(alloc),
+        journal: RetainedJournal::new(alloc),
         passed: None,
     };
     match Box::new(alloc, master) {

@@ -4,7 +4,7 @@ ghost use Rattle.std.specs.Prelude.{IfOk, IfErr};
 ghost use Rattle.iol_isdu.specs.Fault.{isdu_fault_number};
 ghost use Rattle.iolink_port_forms.specs.declared.request.Urgency.{Urgency};
 ghost use Rattle.iolink_port_c.specs.RequestCalls.{HandleEnters, HandleCollects, HandleWithdraws, HandleCancels, HandleAbandons};
-ghost use Rattle.iolink_port_forms.specs.Given.{read_at, write_at};
+ghost use Rattle.iolink_port_forms.specs.Arguments.{read_at, write_at};
 ghost use Rattle.iolink_port_c.specs.Calls.{GuardsPort, GuardsOut};
 
 use crate::held::IolPort;

@@ -1,5 +1,5 @@
 -- The files of iolink_port_forms's definitions.
 pub mod Shown
-pub mod Given
+pub mod Arguments
 pub mod Answers
 pub mod Journal

@@ -2,7 +2,7 @@
 ghost use Rattle.std.specs.Prelude.{◌≡◌, ◌≤◌, ◌<◌, ◌↔◌, unwrap_or, [], IsErr, IsSome, IfOk, IfSome, IfNone};
 ghost use Rattle.iol_page.specs.Cycle.{longest_cycle};
 ghost use Rattle.iolink_handle.specs.Shown.{AreShown};
-ghost use Rattle.iolink_port_forms.specs.Given.{identity_at, largest_device, IsCycleOf};
+ghost use Rattle.iolink_port_forms.specs.Arguments.{identity_at, largest_device, IsCycleOf};
 ghost use Rattle.iolink_port_forms.specs.Answers.{counting_number};
 
 use iol_page::{CycleFault, CycleTime, Identity, Page};

@@ -38,17 +38,17 @@ pub struct IolEntry {
 
 /// The journal that was handed out last, of which C reads one entry after the other.
 #[derive(Drop)]
-pub struct KeptJournal {
+pub struct RetainedJournal {
     pub entries: Journal,
     pub read: usize,
 }
 
-impl KeptJournal {
+impl RetainedJournal {
     /// None yet.
-    pub fn new(alloc: Global) -> KeptJournal
+    pub fn new(alloc: Global) -> RetainedJournal
         ensures { KeepsNone result }
     {
-        KeptJournal {
+        RetainedJournal {
             entries: Journal::new(alloc),
             read: 0,
         }
@@ -59,7 +59,7 @@ impl KeptJournal {
     pub fn keep(&mut self, entries: Journal) -> u32
         requires { length entries.items ≤ most_entries }
         ensures count { result ≡ length entries.items }
-        ensures kept { self.new.entries ≡ entries }
+        ensures retained { self.new.entries ≡ entries }
         ensures read { self.new.read ≡ 0 }
     {
         let count = entries.len() as u32;
@@ -88,7 +88,7 @@ impl KeptJournal {
         ensures end { IsNone result → KeepsNone self.new }
     {
         if self.read >= self.entries.len() {
-            *self = KeptJournal::new(alloc);
+            *self = RetainedJournal::new(alloc);
             return None;
         }
         let entry = self.entries.get(self.read);

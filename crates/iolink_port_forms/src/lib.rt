@@ -1,7 +1,7 @@
 //! What the libraries for C of a port have in common: what C gives by numbers, and what it is shown
 //! of what goes out, of outcomes, of the link, of what was counted, and of a journal.
 //!
-//! Definitions stand in `specs/Given`, `specs/Shown`, `specs/Answers` and `specs/Journal`.
+//! Definitions stand in `specs/Arguments`, `specs/Shown`, `specs/Answers` and `specs/Journal`.
 #![tactic(auto)]
 
 mod counters;
@@ -16,7 +16,7 @@ mod state;
 
 pub use counters::{IolCounters, counters_of};
 pub use device::{IolPage, cycle_of, identity_of, show_counting, show_page};
-pub use journal::{IolEntry, KeptJournal};
+pub use journal::{IolEntry, RetainedJournal};
 pub use loss::{IolLoss, loss_of};
 pub use message::{IolMessage, show_message};
 pub use opening::{devices_of, limits_of};

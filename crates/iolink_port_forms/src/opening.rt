@@ -1,6 +1,6 @@
 //! What C opens a port with, by numbers.
 ghost use Rattle.std.specs.Prelude.{◌≡◌, ◌↔◌, IfSome, IsSome};
-ghost use Rattle.iolink_port_forms.specs.Given.{AreInRange, devices_of, limits_of};
+ghost use Rattle.iolink_port_forms.specs.Arguments.{AreInRange, devices_of, limits_of};
 
 use iol_book::{BusyLimit, JournalLimit, Limits, QueueLimit};
 use iol_mode::Devices;

@@ -21,7 +21,7 @@ pub record StoreDrains (old : HeldStore) (number count restated : ℕ) (new : He
     pub counts : IfOk answer (λ counts. (counts.0 ≡ length old.port.port.book.state.journal)
         × (counts.1 ≡ old.port.port.book.state.restated))
     pub shown : IfOk answer (λ counts. (count ≡ counts.0) × (restated ≡ counts.1))
-    pub kept : OnOk answer (new.journal.entries.items ≡ old.port.port.book.state.journal)
+    pub retained : OnOk answer (new.journal.entries.items ≡ old.port.port.book.state.journal)
     pub read : OnOk answer (new.journal.read ≡ 0)
     pub writes : new.writes ≡ old.writes
     pub none : OnErr answer ((count ≡ 0) × (restated ≡ 0))

@@ -16,11 +16,11 @@ pub record StoreSends (old : StoredParts) (number : ℕ) (out : IolMessage) (new
   pub awaits : awaited_answer new.port ≡ answer_to asked
 
 -- what came back to the message that is out is taken
-pub record StoreReceives (came : Option (List ℕ)) (old : StoredParts) (number : ℕ)
+pub record StoreReceives (received : Option (List ℕ)) (old : StoredParts) (number : ℕ)
     (new : StoredParts) : Type 0 where
   pub number_is : number ≡ 0
-  pub gives : PortReceiveGives old.port came new.port
-  pub does : ReceiveDoes old.port came new.port
+  pub gives : PortReceiveGives old.port received new.port
+  pub does : ReceiveDoes old.port received new.port
   pub rest : new ≡ record old { port = new.port }
 
 -- what came of the wake that is out is taken

@@ -10,7 +10,7 @@ use Rattle.iol_storage.specs.declared.set.Set.{Set}
 use Rattle.iol_storage.specs.Sets.{set_image}
 use Rattle.iol_storage.specs.Stored.{storage_at_opening}
 use Rattle.iol_storage.specs.StoredPort.{StoredParts, places_with_room}
-use Rattle.iolink_port_forms.specs.Given.{AreInRange}
+use Rattle.iolink_port_forms.specs.Arguments.{AreInRange}
 use Rattle.iolink_port_forms.specs.Journal.{KeepsNone}
 use Rattle.iolink_storage_c.specs.declared.held.IolStore.{IolStore}
 use Rattle.iolink_storage_c.specs.Calls.{store_parts}
@@ -21,16 +21,16 @@ storage_mode_of number = if nat_eq number 0 then Some Off else if nat_eq number 
     else if nat_eq number 2 then Some Both else if nat_eq number 3 then Some Own else None
 
 -- the set that C has saved: that of these octets, none of none
-abbrev pub IsKeptOf : List ℕ → Option Set → Type 0
-IsKeptOf octets None = octets ≡ []
-IsKeptOf octets (Some set) = set_image set ≡ octets
+abbrev pub IsBackupOf : List ℕ → Option Set → Type 0
+IsBackupOf octets None = octets ≡ []
+IsBackupOf octets (Some set) = set_image set ≡ octets
 
 -- a port with that set, before its first session
 pub record IsNewStore (devices : Devices) (mode : StorageMode) (limits : Limits) (octets : List ℕ)
     (p : StoredParts) : Type 0 where
-  pub kept : Option Set
-  pub is_kept : IsKeptOf octets kept
-  pub storage : p.storage ≡ storage_at_opening mode kept
+  pub backup : Option Set
+  pub is_backup : IsBackupOf octets backup
+  pub storage : p.storage ≡ storage_at_opening mode backup
   pub output : p.output ≡ None
   pub parts : IsNewFor devices limits p.port
   pub opens : CoreOpensFor devices limits p.port

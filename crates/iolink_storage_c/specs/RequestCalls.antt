@@ -20,10 +20,10 @@ use Rattle.iolink_storage_c.specs.Calls.{stored_number}
 -- the port within enters a request
 abbrev pub EntersWithin : Urgency → Request → StoredParts → StoredParts → Result Ticket PortFault
     → Type 0
-EntersWithin Ordinary request old new given =
-    Submits (StoredCalled old new) old.port new.port request given
-EntersWithin Urgent request old new given =
-    SubmitsUrgent (StoredCalled old new) old.port new.port request given
+EntersWithin Ordinary request old new returned =
+    Submits (StoredCalled old new) old.port new.port request returned
+EntersWithin Urgent request old new returned =
+    SubmitsUrgent (StoredCalled old new) old.port new.port request returned
 
 -- a request is entered: the number, and the ticket that C is told
 pub record StoreEnters (urgency : Urgency) (request : Request) (old : StoredParts)

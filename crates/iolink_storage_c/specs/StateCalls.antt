@@ -9,7 +9,7 @@ use Rattle.iol_port.specs.declared.fault.PortFault.{PortFault}
 use Rattle.iol_port.specs.Called.{CoreCalled, Restarts, ClearsOutput, TakesEvent, Expects, SetsCycle}
 use Rattle.iol_storage.specs.Stored.{storage_behind_event}
 use Rattle.iol_storage.specs.StoredPort.{StoredParts, StoredForwards, SetsStoredOutput}
-use Rattle.iolink_port_forms.specs.Given.{IsCycleOf}
+use Rattle.iolink_port_forms.specs.Arguments.{IsCycleOf}
 use Rattle.iolink_port_forms.specs.Answers.{answer_number, counting_number}
 use Rattle.iolink_port_forms.specs.Shown.{IsEvent}
 use Rattle.iolink_port_forms.specs.declared.state.IolEvent.{IolEvent}

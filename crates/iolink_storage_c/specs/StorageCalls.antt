@@ -27,7 +27,7 @@ pub record StorageSettles (refusal : Option StoredFault) (made : Storage) (old :
     (number : ℕ) (new : StoredParts) : Type 0 where
   pub number_is : number ≡ refusal_number refusal
   pub done : IsNone refusal → new ≡ record old { storage = made }
-  pub kept : IsSome refusal → new ≡ old
+  pub unchanged : IsSome refusal → new ≡ old
 
 -- the set of these octets is kept; 44 where there is none
 pub record StoreLoads (octets : List ℕ) (old : StoredParts) (number : ℕ) (new : StoredParts) :

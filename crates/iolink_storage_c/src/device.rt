@@ -3,7 +3,7 @@ ghost use Rattle.std.specs.Prelude.{◌≡◌, ◌≤◌, ◌<◌, Some, None, u
 ghost use Rattle.iol_page.specs.Cycle.{longest_cycle};
 ghost use Rattle.iol_port.specs.EveryWire.{page_shown};
 ghost use Rattle.iolink_handle.specs.Shown.{AreShown};
-ghost use Rattle.iolink_port_forms.specs.Given.{identity_at, largest_device};
+ghost use Rattle.iolink_port_forms.specs.Arguments.{identity_at, largest_device};
 ghost use Rattle.iolink_storage_c.specs.Calls.{store_parts, GuardsStore, GuardsStoreOut, LooksAtStore};
 ghost use Rattle.iolink_storage_c.specs.StateCalls.{StoreExpects, StorePaces};
 

@@ -5,7 +5,7 @@ ghost use Rattle.iolink_storage_c.specs.declared.held.HeldStore.{HeldStore};
 use core::mem::replace_with;
 use iol_storage::{Objects, StoredPort};
 use iolink_handle::Loose;
-use iolink_port_forms::KeptJournal;
+use iolink_port_forms::RetainedJournal;
 use std::alloc::Global;
 use std::marker::Model;
 use std::ptr::null_mut;
@@ -15,7 +15,7 @@ use std::ptr::null_mut;
 #[derive(Drop)]
 pub struct HeldStore {
     pub port: StoredPort<Global>,
-    pub journal: KeptJournal,
+    pub journal: RetainedJournal,
     /// None where no block was begun: the memory is there only meanwhile.
     pub writes: Option<Box<Objects>>,
 }

@@ -53,7 +53,7 @@ impl HeldStore {
         ensures counts { IfOk result (λ counts.
             (counts.0 ≡ length self.old.port.port.book.state.journal)
             × (counts.1 ≡ self.old.port.port.book.state.restated)) }
-        ensures kept { OnOk result
+        ensures retained { OnOk result
             (self.new.journal.entries.items ≡ self.old.port.port.book.state.journal) }
         ensures read { OnOk result (self.new.journal.read ≡ 0) }
         ensures writes { self.new.writes ≡ self.old.writes }

@@ -4,7 +4,7 @@ ghost use Rattle.iol_far.specs.Octets.{octets_in};
 ghost use Rattle.iol_port.specs.declared.awaited.AwaitedAnswer.{AwaitedAnswer};
 ghost use Rattle.iol_port.specs.CorePort.{awaited_answer};
 ghost use Rattle.iol_print.specs.LineCalls.{rate_of};
-ghost use Rattle.iolink_port_forms.specs.Given.{answer_of};
+ghost use Rattle.iolink_port_forms.specs.Arguments.{answer_of};
 ghost use Rattle.iolink_storage_c.specs.Calls.{store_parts, GuardsStore, GuardsStoreOut, StoreNotAsked};
 ghost use Rattle.iolink_storage_c.specs.LineCalls.{StoreSends, StoreWakes, StoreReceives};
 
@@ -97,13 +97,13 @@ pub extern "C" fn iol_store_turn_answered(alloc: Global, handle: &mut IolStore, 
     if !handle.is_open {
         return CLOSED;
     }
-    let Some(came) = came_of(octets) else {
+    let Some(received) = received_of(octets) else {
         return OUT_OF_RANGE;
     };
     let mut store = handle.take_box(alloc);
     let code = match store.port.awaits() {
         AwaitedAnswer::Reply => {
-            store.port.receive(&came);
+            store.port.receive(&received);
             0
         }
         AwaitedAnswer::Nothing | AwaitedAnswer::Wake => NOT_ASKED,
@@ -113,13 +113,13 @@ pub extern "C" fn iol_store_turn_answered(alloc: Global, handle: &mut IolStore, 
 }
 
 /// What came: nothing where there are no octets. None of more than 66.
-fn came_of(octets: &[u8]) -> Option<Option<Message>>
+fn received_of(octets: &[u8]) -> Option<Option<Message>>
     ensures short { IsSome result ↔ (length octets.now ≤ 66) }
-    ensures came { IfSome result (λ came. octets_in came ≡ answer_of octets.now) }
+    ensures received { IfSome result (λ received. octets_in received ≡ answer_of octets.now) }
 {
     match Message::try_from(octets) {
-        Ok(came) if came.is_empty() => Some(None),
-        Ok(came) => Some(Some(came)),
+        Ok(received) if received.is_empty() => Some(None),
+        Ok(received) => Some(Some(received)),
         Err(_) => None,
     }
 }

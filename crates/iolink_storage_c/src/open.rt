@@ -1,16 +1,16 @@
 //! Opening and closing.
 ghost use Rattle.std.specs.Prelude.{◌≡◌, true, false, None, IfOk, IfErr, IsTrue, IsFalse};
-ghost use Rattle.iolink_port_forms.specs.Given.{devices_of, limits_of};
+ghost use Rattle.iolink_port_forms.specs.Arguments.{devices_of, limits_of};
 ghost use Rattle.iolink_port_forms.specs.Journal.{KeepsNone};
 ghost use Rattle.iolink_storage_c.specs.Calls.{store_parts, StoreIsRefused};
-ghost use Rattle.iolink_storage_c.specs.Opening.{storage_mode_of, IsKeptOf, IsNewStore, IsStoreRefusal, StoreOpens};
+ghost use Rattle.iolink_storage_c.specs.Opening.{storage_mode_of, IsBackupOf, IsNewStore, IsStoreRefusal, StoreOpens};
 
 use crate::held::{HeldStore, IolStore};
 use iol_book::Limits;
 use iol_mode::Devices;
 use iol_storage::{Set, StorageFault, StorageMode, StoredPort};
 use iolink_handle::{CLOSED, IS_OPEN, OUT_OF_MEMORY, OUT_OF_RANGE};
-use iolink_port_forms::{KeptJournal, devices_of, limits_of};
+use iolink_port_forms::{RetainedJournal, devices_of, limits_of};
 use std::alloc::Global;
 
 /// Data Storage isn't used.
@@ -36,8 +36,8 @@ fn storage_mode_of(number: u8) -> Option<StorageMode>
 }
 
 /// The set of these octets, none of none. Refused by 44 where no set has them.
-fn kept_of(octets: &[u8]) -> Result<Option<Set>, StorageFault>
-    ensures kept { IfOk result (λ kept. IsKeptOf octets.now kept) }
+fn backup_of(octets: &[u8]) -> Result<Option<Set>, StorageFault>
+    ensures backup { IfOk result (λ backup. IsBackupOf octets.now backup) }
     ensures refused { IfErr result (λ why. why ≡ StorageFault.NoSet) }
 {
     if octets.is_empty() {
@@ -58,7 +58,7 @@ fn hold(alloc: Global, port: StoredPort<Global>, handle: &mut IolStore) -> u8
 {
     let store = HeldStore {
         port,
-        journal: KeptJournal::new(alloc),
+        journal: RetainedJournal::new(alloc),
         writes: None,
     };
     match Box::new(alloc, store) {
@@ -89,11 +89,11 @@ fn hold_new(
     ensures journal { result ≡ 0 → KeepsNone handle.new.held.value.journal }
     ensures writes { result ≡ 0 → handle.new.held.value.writes ≡ None }
 {
-    let kept = match kept_of(octets) {
-        Ok(kept) => kept,
+    let backup = match backup_of(octets) {
+        Ok(backup) => backup,
         Err(fault) => return fault.code(),
     };
-    match StoredPort::open(alloc, limits, devices, mode, kept) {
+    match StoredPort::open(alloc, limits, devices, mode, backup) {
         Ok(port) => hold(alloc, port, handle),
         Err(fault) => fault.code(),
     }

@@ -3,7 +3,7 @@ ghost use Rattle.std.specs.Prelude.{◌≡◌, ◌≤◌, ◌<◌, length, Err, 
 ghost use Rattle.iol_isdu.specs.Fault.{isdu_fault_number};
 ghost use Rattle.iol_storage.specs.StoredPort.{client_refusal, tickets_behind_submit, PortAnswers};
 ghost use Rattle.iolink_port_forms.specs.declared.request.Urgency.{Urgency};
-ghost use Rattle.iolink_port_forms.specs.Given.{read_at, write_at};
+ghost use Rattle.iolink_port_forms.specs.Arguments.{read_at, write_at};
 ghost use Rattle.iolink_storage_c.specs.Calls.{store_parts, GuardsStore, GuardsStoreOut};
 ghost use Rattle.iolink_storage_c.specs.RequestCalls.{EntersWithin, StoreEnters, StoreCollects, StoreWithdraws, StoreCancels, StoreAbandons};
 

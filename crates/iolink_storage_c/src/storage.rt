@@ -39,13 +39,13 @@ pub extern "C" fn iol_store_standing(
 pub extern "C" fn iol_store_set(alloc: Global, handle: &mut IolStore, out: &mut IolSet) -> u8
     ensures looks { LooksAtStore result handle.old handle.new out.old out.new }
     ensures set { IsTrue handle.old.is_open → (result ≡ 0)
-        × SetIsShown (store_parts handle.old).storage.kept out.new }
+        × SetIsShown (store_parts handle.old).storage.backup out.new }
 {
     if !handle.is_open {
         return CLOSED;
     }
     let store = handle.take_box(alloc);
-    show_set(store.port.kept(), out);
+    show_set(store.port.backup(), out);
     *handle = IolStore::of(store);
     0
 }

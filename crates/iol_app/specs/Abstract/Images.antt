@@ -2,7 +2,7 @@
 use Rattle.std.specs.Prelude.{◌≡◌, ◌⊎◌, ℕ, Bool, true, false, List, Option, Some, None, ⊤, IfSome, length}
 use Rattle.iol_page.specs.Page.{knows_isdu}
 use Rattle.iol_app.specs.declared.mode.Mode.TheVariants.{Down, Startup, Operate}
-use Rattle.iol_app.specs.Abstract.Steps.{PortStep, Start, Reset, ShowImage, DropImage, Make, OutputOn, OutputOff, Input, PowerLoss, TellLength, ImageOctets, WireCall, Woke, Exchanged, CallFits, Moment, silence_left, output_length, is_right, input_length}
+use Rattle.iol_app.specs.Abstract.Steps.{PortStep, Start, Reset, ShowImage, DropImage, Make, OutputOn, OutputOff, Input, PowerLoss, PageRead, ImageOctets, WireCall, Woke, Exchanged, CallFits, Moment, silence_left, output_length, is_right, input_length}
 
 pub record Images : Type 0 where
   -- what the port shows
@@ -15,7 +15,7 @@ pub record Images : Type 0 where
   pub wanted : Option ImageOctets
   pub sent : Option ImageOctets
   -- the output length that a start-up told, and whether the device has ISDU
-  pub told : Option ℕ
+  pub known_length : Option ℕ
   pub isdu : Option Bool
   -- the page that the start-up has read whole
   pub page : Option (List ℕ)
@@ -27,7 +27,7 @@ MayImages moment Make i = (moment.began ≡ Operate) × (moment.silence ≡ 0)
 -- a device that is asleep hears nothing but a wake
 MayImages moment OutputOn i = i.awake ≡ true
 MayImages moment OutputOff i = (i.awake ≡ true) ⊎ CallFits Down moment.call
-MayImages moment TellLength i = (moment.began ≡ Startup) × (is_right moment.terms ≡ true)
+MayImages moment PageRead i = (moment.began ≡ Startup) × (is_right moment.terms ≡ true)
 MayImages moment step i = ⊤
 
 -- the first of the two that is one
@@ -51,9 +51,9 @@ images_after moment Reset i = record i
     { output = None; page = page_after_wire_call moment.call i.page }
 images_after moment (Input input) i = record i { input = input }
 images_after moment PowerLoss i = record i { input = None; output = None; awake = false }
-images_after moment TellLength i =
+images_after moment PageRead i =
     record i {
-      told = Some (output_length moment.terms.page);
+      known_length = Some (output_length moment.terms.page);
       isdu = Some (knows_isdu moment.terms.page);
       page = Some moment.terms.page;
     }

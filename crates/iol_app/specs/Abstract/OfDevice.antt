@@ -11,7 +11,7 @@ use Rattle.iol_far.specs.Isdu.{IsduState, Handed, fits}
 use Rattle.iol_far.specs.Far.{Far, accepted_message, far_after_message, is_confirm, output_of}
 use Rattle.iol_far.specs.Local.{LocalStep, local, locals, has_room, is_input, Carry as OwnCarry, Raise as OwnRaise, Input as OwnInput, NoInput as OwnNoInput, Power as OwnPower}
 use Rattle.iol_link.specs.Honest.{Passage, OutLost, BackLost, Clean}
-use Rattle.iol_app.specs.Abstract.Steps.{PortStep, Carry, Again, LateCarry, Raise, Freeze, Confirm, OutputOn, OutputOff, Input, PowerLoss, ImageOctets}
+use Rattle.iol_app.specs.Abstract.Steps.{PortStep, Carry, Redeliver, LateCarry, Raise, Freeze, Confirm, OutputOn, OutputOff, Input, PowerLoss, ImageOctets}
 use Rattle.iol_app.specs.Abstract.Session.{unanswered_request}
 
 -- the answer that the device gave to the request under way, and a request that was
@@ -80,28 +80,29 @@ hidden_through request far (step ∷ steps) hidden =
 
 -- what the device is handed has no answer, even if it had one before
 
-abbrev pub again_by : Option Answer → List PortStep
-again_by None = []
-again_by (Some answer) = Again ∷ []
+abbrev pub redelivered_by : Option Answer → List PortStep
+redelivered_by None = []
+redelivered_by (Some answer) = Redeliver ∷ []
 
-abbrev pub again_steps : Option Request → IsduState → Hidden → List PortStep
-again_steps (Some request) (Handed held) hidden = again_by hidden.answer
-again_steps request state hidden = []
+abbrev pub redeliver_steps : Option Request → IsduState → Hidden → List PortStep
+redeliver_steps (Some request) (Handed held) hidden = redelivered_by hidden.answer
+redeliver_steps request state hidden = []
 
-abbrev pub hidden_again : Option Request → IsduState → Hidden → Hidden
-hidden_again (Some request) (Handed held) hidden = record hidden { answer = None }
-hidden_again request state hidden = hidden
+abbrev pub hidden_redelivered : Option Request → IsduState → Hidden → Hidden
+hidden_redelivered (Some request) (Handed held) hidden = record hidden { answer = None }
+hidden_redelivered request state hidden = hidden
 
 -- a list that is frozen now was not reported, nor is one after a power cycle
-abbrev pub told_after : Far → LocalStep → Bool → Bool
-told_after far (OwnRaise event) told = if freezes_at_once far.events then false else told
-told_after far OwnPower told = false
-told_after far step told = told
+abbrev pub reported_after : Far → LocalStep → Bool → Bool
+reported_after far (OwnRaise event) reported =
+    if freezes_at_once far.events then false else reported
+reported_after far OwnPower reported = false
+reported_after far step reported = reported
 
-abbrev pub told_through : Far → List LocalStep → Bool → Bool
-told_through far [] told = told
-told_through far (step ∷ steps) told =
-    told_through (local far step) steps (told_after far step told)
+abbrev pub reported_through : Far → List LocalStep → Bool → Bool
+reported_through far [] reported = reported
+reported_through far (step ∷ steps) reported =
+    reported_through (local far step) steps (reported_after far step reported)
 
 -- What a message does that the device accepts
 
@@ -136,20 +137,21 @@ heard_steps_as (Some (there, message)) octets = worked_steps there octets messag
 abbrev pub heard_steps : Far → List ℕ → List PortStep
 heard_steps far octets = heard_steps_as (accepted_message far octets) octets
 
-abbrev pub told_released : Events → Bool → Bool
-told_released memory told =
-    if is_empty memory.frozen && not (is_empty memory.waiting) then false else told
+abbrev pub reported_released : Events → Bool → Bool
+reported_released memory reported =
+    if is_empty memory.frozen && not (is_empty memory.waiting) then false else reported
 
-abbrev pub told_worked : Events → Bool → Bool → Bool
-told_worked memory true told = told
-told_worked memory false told = told_released memory told
+abbrev pub reported_worked : Events → Bool → Bool → Bool
+reported_worked memory true reported = reported
+reported_worked memory false reported = reported_released memory reported
 
-abbrev pub told_heard_as : Option (Far × MasterMsg) → Bool → Bool
-told_heard_as None told = told
-told_heard_as (Some (there, message)) told = told_worked there.events (confirms_by message.mc) told
+abbrev pub reported_heard_as : Option (Far × MasterMsg) → Bool → Bool
+reported_heard_as None reported = reported
+reported_heard_as (Some (there, message)) reported =
+    reported_worked there.events (confirms_by message.mc) reported
 
-abbrev pub told_heard : Far → List ℕ → Bool → Bool
-told_heard far octets told = told_heard_as (accepted_message far octets) told
+abbrev pub reported_heard : Far → List ℕ → Bool → Bool
+reported_heard far octets reported = reported_heard_as (accepted_message far octets) reported
 
 -- One exchange: the device's own steps, and what it hears
 
@@ -158,18 +160,18 @@ passed_steps OutLost far octets = []
 passed_steps BackLost far octets = heard_steps far octets
 passed_steps Clean far octets = heard_steps far octets
 
-abbrev pub told_passed : Passage → Far → List ℕ → Bool → Bool
-told_passed OutLost far octets told = told
-told_passed BackLost far octets told = told_heard far octets told
-told_passed Clean far octets told = told_heard far octets told
+abbrev pub reported_passed : Passage → Far → List ℕ → Bool → Bool
+reported_passed OutLost far octets reported = reported
+reported_passed BackLost far octets reported = reported_heard far octets reported
+reported_passed Clean far octets reported = reported_heard far octets reported
 
 abbrev pub exchange_steps : Option Request → Far → List LocalStep → Passage → List ℕ → List PortStep
 exchange_steps request far steps passage octets =
     own_steps request far steps ++ passed_steps passage (locals far steps) octets
 
-abbrev pub told_exchanged : Far → List LocalStep → Passage → List ℕ → Bool → Bool
-told_exchanged far steps passage octets told =
-    told_passed passage (locals far steps) octets (told_through far steps told)
+abbrev pub reported_exchanged : Far → List LocalStep → Passage → List ℕ → Bool → Bool
+reported_exchanged far steps passage octets reported =
+    reported_passed passage (locals far steps) octets (reported_through far steps reported)
 
 -- One wake: the device's own steps, and the wake's effect, if any
 
@@ -177,12 +179,13 @@ abbrev pub woken_steps : Bool → Far → List PortStep
 woken_steps true far = release_steps far.events ++ OutputOff ∷ []
 woken_steps false far = []
 
-abbrev pub told_woken : Bool → Far → Bool → Bool
-told_woken true far told = told_released far.events told
-told_woken false far told = told
+abbrev pub reported_woken : Bool → Far → Bool → Bool
+reported_woken true far reported = reported_released far.events reported
+reported_woken false far reported = reported
 
 abbrev pub wake_steps : Far → List LocalStep → Bool → List PortStep
 wake_steps far steps wakes = own_steps None far steps ++ woken_steps wakes (locals far steps)
 
-abbrev pub told_wake : Far → List LocalStep → Bool → Bool → Bool
-told_wake far steps wakes told = told_woken wakes (locals far steps) (told_through far steps told)
+abbrev pub reported_wake : Far → List LocalStep → Bool → Bool → Bool
+reported_wake far steps wakes reported =
+    reported_woken wakes (locals far steps) (reported_through far steps reported)

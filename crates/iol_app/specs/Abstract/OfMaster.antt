@@ -10,9 +10,9 @@ use Rattle.iol_app.specs.declared.mode.Mode.{Mode}
 use Rattle.iol_app.specs.declared.mode.Mode.TheVariants.{Down}
 use Rattle.iol_mode.specs.declared.why.Why.{Why}
 use Rattle.iol_mode.specs.declared.why.Why.TheVariants.{Lost}
-use Rattle.iol_app.specs.declared.said.Said.{Said}
-use Rattle.iol_app.specs.declared.said.Said.TheVariants.{Idle, Busy as SaidBusy, Answered, Cut, Reported}
-use Rattle.iol_app.specs.Abstract.Steps.{PortStep, Take, Deny, Done, Unknown, Reset, Report, Untell, ShowImage, DropImage, TellLength, Busy, Move}
+use Rattle.iol_app.specs.declared.report.Said.{Said}
+use Rattle.iol_app.specs.declared.report.Said.TheVariants.{Idle, Busy as SaidBusy, Answered, Cut, Reported}
+use Rattle.iol_app.specs.Abstract.Steps.{PortStep, Take, Deny, Done, Unknown, Reset, Report, Unreport, ShowImage, DropImage, PageRead, Busy, Move}
 
 pub data ExchangeResult : Type 0 where
   -- no good reply, and not for the third time
@@ -27,7 +27,7 @@ pub data ExchangeResult : Type 0 where
   WasAnswered : Answer → ExchangeResult
   WasAborted : Cause → ExchangeResult
   WasReported : List Event → ExchangeResult
-  Had : ExchangeResult
+  PlainReply : ExchangeResult
   -- good replies in start-up: the page is checked; it has a fault; the next mode; any other
   Checked : ExchangeResult
   Faulted : Why → ExchangeResult
@@ -40,19 +40,19 @@ abbrev pub lost_steps : Option Request → List PortStep
 lost_steps None = DropImage ∷ Move Down (Some Lost) ∷ []
 lost_steps (Some request) = Unknown LinkLost ∷ DropImage ∷ Move Down (Some Lost) ∷ []
 
-abbrev pub brought_steps : ExchangeResult → Option Request → List PortStep
-brought_steps Missed request = []
-brought_steps Unconfirmed request = Untell ∷ []
-brought_steps Gone request = lost_steps request
-brought_steps WasBusy request = Busy ∷ ShowImage ∷ []
-brought_steps (WasAnswered answer) request = Done answer ∷ ShowImage ∷ []
-brought_steps (WasAborted cause) request = Unknown cause ∷ ShowImage ∷ []
-brought_steps (WasReported events) request = Report events ∷ ShowImage ∷ []
-brought_steps Had request = ShowImage ∷ []
-brought_steps Checked request = TellLength ∷ []
-brought_steps (Faulted why) request = Move Down (Some why) ∷ []
-brought_steps (Rose mode) request = Move mode None ∷ []
-brought_steps Went request = []
+abbrev pub received_steps : ExchangeResult → Option Request → List PortStep
+received_steps Missed request = []
+received_steps Unconfirmed request = Unreport ∷ []
+received_steps Gone request = lost_steps request
+received_steps WasBusy request = Busy ∷ ShowImage ∷ []
+received_steps (WasAnswered answer) request = Done answer ∷ ShowImage ∷ []
+received_steps (WasAborted cause) request = Unknown cause ∷ ShowImage ∷ []
+received_steps (WasReported events) request = Report events ∷ ShowImage ∷ []
+received_steps PlainReply request = ShowImage ∷ []
+received_steps Checked request = PageRead ∷ []
+received_steps (Faulted why) request = Move Down (Some why) ∷ []
+received_steps (Rose mode) request = Move mode None ∷ []
+received_steps Went request = []
 
 -- a restart cuts it off too
 -- REQ-11
@@ -61,13 +61,13 @@ restart_steps None = DropImage ∷ Move Down None ∷ []
 restart_steps (Some request) = Unknown Restarted ∷ DropImage ∷ Move Down None ∷ []
 
 -- what the turn says where nothing ended in it
-abbrev pub quiet_said : Option Request → Said
-quiet_said None = Idle
-quiet_said (Some request) = SaidBusy
+abbrev pub quiet_report : Option Request → Said
+quiet_report None = Idle
+quiet_report (Some request) = SaidBusy
 
-abbrev pub lost_said : Option Request → Said
-lost_said None = Idle
-lost_said (Some request) = Cut LinkLost
+abbrev pub lost_report : Option Request → Said
+lost_report None = Idle
+lost_report (Some request) = Cut LinkLost
 
 -- What a turn says of its steps
 
@@ -84,11 +84,11 @@ is_for_book step = false
 abbrev pub book_said : Said → List PortStep
 book_said (Answered answer) = Done answer ∷ []
 book_said (Cut cause) = Unknown cause ∷ []
-book_said said = []
+book_said report = []
 
 abbrev pub reports_said : Said → List PortStep
 reports_said (Reported events) = Report events ∷ []
-reports_said said = []
+reports_said report = []
 
 -- the device wasn't known to be reset when a turn began, and is behind it
 abbrev pub resets : Bool → Bool → List PortStep

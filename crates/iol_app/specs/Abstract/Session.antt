@@ -16,7 +16,7 @@ use Rattle.iol_mode.specs.declared.configuration.Devices.TheVariants.{Own, Any}
 use Rattle.iol_mode.specs.declared.why.Why.{Why}
 use Rattle.iol_mode.specs.declared.why.Why.TheVariants.{NoWake, Lost, WrongDevice, Interleaved}
 use Rattle.iol_mode.specs.States.{is_left_out}
-use Rattle.iol_app.specs.Abstract.Steps.{PortStep, Take, Deny, Carry, Again, Done, Unknown, LateCarry, Untell, Start, Reset, Busy, Move, WireCall, Woke, Exchanged, Moment, silence_left, page_refusal, is_right, Terms, may_repeat, may_misread, doubts_at}
+use Rattle.iol_app.specs.Abstract.Steps.{PortStep, Take, Deny, Carry, Redeliver, Done, Unknown, LateCarry, Unreport, Start, Reset, Busy, Move, WireCall, Woke, Exchanged, Moment, silence_left, page_refusal, is_right, Terms, may_repeat, may_misread, doubts_at}
 
 -- the request under way, the answer that the device gave it, its busy replies, and
 -- whether the program asked to cut it off
@@ -47,9 +47,9 @@ MayCut moment Restarted job = ⊥
 MayCut moment Protocol job = IsTrue (doubts_at moment.terms.devices moment.terms.kind.recalls)
 
 -- an answer is told that the device gave, or another where other octets may be taken for it
-abbrev pub MayTell : Terms → Answer → Option Answer → Type 0
-MayTell terms answer given = (given ≡ Some answer)
-    ⊎ (IsTrue (may_misread terms) × IsSome given)
+abbrev pub MayAnswer : Terms → Answer → Option Answer → Type 0
+MayAnswer terms answer answered = (answered ≡ Some answer)
+    ⊎ (IsTrue (may_misread terms) × IsSome answered)
 
 -- where the mode may change: up by one, where a device of V1.0 has no PREOPERATE,
 -- or to down for a cause
@@ -87,17 +87,17 @@ MaySession moment (Take ticket request) s = IsTrue (knows_isdu moment.terms.page
 MaySession moment (Deny ticket) s = (knows_isdu moment.terms.page ≡ false) × (s.job ≡ None)
     × (s.late ≡ None) × (s.mode ≡ Operate)
 MaySession moment (Carry answer) s = IsSomeAnd s.job (λ job. job.answer ≡ None)
-MaySession moment Again s = IsSomeAnd s.job (λ job. IsSome job.answer
+MaySession moment Redeliver s = IsSomeAnd s.job (λ job. IsSome job.answer
     × IsTrue (may_repeat moment.terms job.request))
 MaySession moment (Done answer) s =
-    IsSomeAnd s.job (λ job. MayTell moment.terms answer job.answer)
+    IsSomeAnd s.job (λ job. MayAnswer moment.terms answer job.answer)
 MaySession moment (Unknown cause) s = IsSomeAnd s.job (MayCut moment cause)
 MaySession moment (LateCarry answer) s = IsSome s.late
 MaySession moment Busy s = IsSomeAnd s.job (λ job. job.answer ≡ None)
 MaySession moment Start s = (moment.terms.devices ≡ Any) × (s.mode ≡ Down)
     × (moment.call ≡ Woke true)
 MaySession moment Reset s = MayReset moment.terms.devices s.mode moment.call
-MaySession moment Untell s = (moment.terms.devices ≡ Any) × (s.mode ≡ Operate)
+MaySession moment Unreport s = (moment.terms.devices ≡ Any) × (s.mode ≡ Operate)
     × (moment.call ≡ Exchanged false)
 MaySession moment (Move mode why) s = MayMove moment s.mode mode why × HoldsNothing mode s.late
 MaySession moment step s = ⊤
@@ -156,7 +156,7 @@ abbrev pub session_after : PortStep → Session → Session
 session_after (Take ticket request) s =
     record s { job = Some (record { request = request; answer = None; busy = 0; asked = false }) }
 session_after (Carry answer) s = carried_out answer s.job s
-session_after Again s = record s { job = taken_back s.job }
+session_after Redeliver s = record s { job = taken_back s.job }
 session_after (Done answer) s = record s { job = None }
 session_after (Unknown cause) s = cut_for cause s
 session_after (LateCarry answer) s = carried_late answer s.late s

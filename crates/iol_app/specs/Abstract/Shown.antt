@@ -29,7 +29,7 @@ pub record ShownProcessData : Type 0 where
   pub wanted : Option ImageOctets
   pub sent : Option ImageOctets
   -- the output length that a start-up told, and whether the device has ISDU
-  pub told : Option ℕ
+  pub known_length : Option ℕ
   pub isdu : Option Bool
   -- the page that it has read whole
   pub page : Option (List ℕ)
@@ -42,18 +42,18 @@ job_of (Some request) answer busy asked =
     Some (record { request = request; answer = answer; busy = busy; asked = asked })
 
 abbrev pub session_of : MasterFields → Hidden → List Carried → Session
-session_of seen hidden carried =
+session_of fields hidden carried =
     record {
-      job = job_of seen.request hidden.answer seen.busy seen.asked;
+      job = job_of fields.request hidden.answer fields.busy fields.asked;
       late = hidden.late;
       carried = carried;
-      mode = seen.mode;
-      why = seen.why;
+      mode = fields.mode;
+      why = fields.why;
     }
 
 abbrev pub frozen_of : List Event → Bool → Option Frozen
-frozen_of [] told = None
-frozen_of (event ∷ events) told = Some (record { events = event ∷ events; told = told })
+frozen_of [] reported = None
+frozen_of (event ∷ events) reported = Some (record { events = event ∷ events; reported = reported })
 
 abbrev pub past_of : Far → Past
 past_of far = record { history = far.history; waiting = far.events.waiting }
@@ -67,7 +67,7 @@ images_of shown far =
       awake = far.awake;
       wanted = shown.wanted;
       sent = shown.sent;
-      told = shown.told;
+      known_length = shown.known_length;
       isdu = shown.isdu;
       page = shown.page;
     }

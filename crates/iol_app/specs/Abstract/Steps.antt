@@ -36,7 +36,7 @@ pub data PortStep : Type 0 where
   -- the device carries out the request under way, and answers this
   Carry : Answer → PortStep
   -- it has answered the request under way, and is handed it once more
-  Again : PortStep
+  Redeliver : PortStep
   -- the request under way has this answer, or is cut off
   Done : Answer → PortStep
   Unknown : Cause → PortStep
@@ -53,7 +53,7 @@ pub data PortStep : Type 0 where
   Report : List Event → PortStep
   Confirm : PortStep
   -- at a port for any device a confirm had no good reply: what is frozen still counts as unreported
-  Untell : PortStep
+  Unreport : PortStep
   -- the port's image becomes the device's input, or none
   ShowImage : PortStep
   DropImage : PortStep
@@ -67,7 +67,7 @@ pub data PortStep : Type 0 where
   -- the device has a power cycle
   PowerLoss : PortStep
   -- the device's page is read and checked
-  TellLength : PortStep
+  PageRead : PortStep
   -- the device replies that it is busy with the request
   Busy : PortStep
   -- the link takes another mode, or is down for a cause

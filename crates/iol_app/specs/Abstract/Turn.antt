@@ -7,7 +7,7 @@ use Rattle.iol_event.specs.declared.event.Event.{Event}
 use Rattle.iol_mode.specs.declared.why.Why.TheVariants.{NoWake, Lost}
 use Rattle.iol_app.specs.declared.mode.Mode.{Mode}
 use Rattle.iol_app.specs.declared.mode.Mode.TheVariants.{Down, Startup, Preoperate, Operate}
-use Rattle.iol_app.specs.Abstract.Steps.{PortStep, Carry, Again, Done, Unknown, LateCarry, Start, Reset, Raise, Freeze, Report, Confirm, Untell, ShowImage, DropImage, OutputOn, OutputOff, Input, PowerLoss, TellLength, Busy, Move, WireCall, Woke, Exchanged, silence_by, is_report, Moment}
+use Rattle.iol_app.specs.Abstract.Steps.{PortStep, Carry, Redeliver, Done, Unknown, LateCarry, Start, Reset, Raise, Freeze, Report, Confirm, Unreport, ShowImage, DropImage, OutputOn, OutputOff, Input, PowerLoss, PageRead, Busy, Move, WireCall, Woke, Exchanged, silence_by, is_report, Moment}
 use Rattle.iol_app.specs.Abstract.Events.{Frozen}
 use Rattle.iol_app.specs.Abstract.Images.{Images}
 
@@ -26,7 +26,7 @@ is_own_step step = false
 -- then it may be handed the request under way once more
 abbrev pub is_handing : List PortStep → Bool
 is_handing [] = true
-is_handing (Again ∷ []) = true
+is_handing (Redeliver ∷ []) = true
 is_handing steps = false
 
 abbrev pub is_output_then : List PortStep → Bool
@@ -54,7 +54,7 @@ wake_brings answered steps = false
 -- where it is no good reply: nothing, or that nothing counts as reported; or the link is lost
 abbrev pub loss_brings : List PortStep → Bool
 loss_brings [] = true
-loss_brings (Untell ∷ []) = true
+loss_brings (Unreport ∷ []) = true
 loss_brings (Move Down (Some Lost) ∷ []) = true
 loss_brings (DropImage ∷ Move Down (Some Lost) ∷ []) = true
 loss_brings (Unknown LinkLost ∷ DropImage ∷ Move Down (Some Lost) ∷ []) = true
@@ -64,7 +64,7 @@ loss_brings steps = false
 abbrev pub startup_brings : List PortStep → Bool
 startup_brings [] = true
 startup_brings (Reset ∷ []) = true
-startup_brings (TellLength ∷ []) = true
+startup_brings (PageRead ∷ []) = true
 startup_brings (Move mode why ∷ []) = true
 startup_brings steps = false
 
@@ -99,16 +99,16 @@ may_bring mode call steps = false
 pub record IsInOrder (mode : Mode) (call : WireCall) (steps : List PortStep) : Type 0 where
   pub own : List PortStep
   pub heard : List PortStep
-  pub brought : List PortStep
-  pub is : steps ≡ own ++ heard ++ brought
+  pub received : List PortStep
+  pub is : steps ≡ own ++ heard ++ received
   pub by_itself : IsTrue (list_all is_own_step own)
   pub hears : IsTrue (is_hearing mode heard)
-  pub brings : IsTrue (may_bring mode call brought)
+  pub brings : IsTrue (may_bring mode call received)
 
 -- what is reported was frozen when the turn began, and not reported yet
 abbrev pub WasFrozen : List PortStep → Option Frozen → Type 0
 WasFrozen steps f = (events : List Event) → filter is_report steps ≡ Report events ∷ []
-    → f ≡ Some (record { events = events; told = false })
+    → f ≡ Some (record { events = events; reported = false })
 
 -- beyond STARTUP the page was read whole in this session
 abbrev pub IsPageRead : Mode → List ℕ → Option (List ℕ) → Type 0

@@ -34,8 +34,8 @@ impl<A: Allocator + Copy> LineCore for PortCore<A> {
         self.send()
     }
 
-    fn receive(&mut self, came: &Option<Message>) {
-        self.receive(came);
+    fn receive(&mut self, received: &Option<Message>) {
+        self.receive(received);
     }
 
     fn receive_wake(&mut self, rate: Option<Rate>) {
@@ -80,7 +80,7 @@ impl<K: Ledger, A: Allocator + Copy> LinePort<K, PortCore<A>> {
     pub fn collect_into(&mut self, ticket: Ticket, into: &mut Outcome) -> Result<(), PortFault>
         ensures is { Collects (LineCalled self.old self.new) self.old.port self.new.port
             ticket (in_place into.new result) }
-        ensures kept { IfErr result (λ _. into.new ≡ into.old) }
+        ensures unchanged { IfErr result (λ _. into.new ≡ into.old) }
     {
         self.port.collect_into(ticket, into)
     }

@@ -39,8 +39,8 @@ impl<A: Allocator + Copy> LineCore for StoredPort<A> {
         self.send()
     }
 
-    fn receive(&mut self, came: &Option<Message>) {
-        self.receive(came);
+    fn receive(&mut self, received: &Option<Message>) {
+        self.receive(received);
     }
 
     fn receive_wake(&mut self, rate: Option<Rate>) {
@@ -177,7 +177,7 @@ impl<K: Ledger, A: Allocator + Copy> LinePort<K, StoredPort<A>> {
         ensures is { is_own self.old.port.storage ticket ≡ false
             → Collects (StoredCalled self.old.port self.new.port) self.old.port.port
             self.new.port.port ticket (in_place into.new result) }
-        ensures kept { IfErr result (λ _. into.new ≡ into.old) }
+        ensures unchanged { IfErr result (λ _. into.new ≡ into.old) }
         ensures tickets { self.new.port.tickets
             ≡ tickets_without (is_ok result) self.old.port.tickets }
         ensures only_port { self.new ≡ record self.old { port = self.new.port } }

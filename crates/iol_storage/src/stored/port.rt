@@ -38,7 +38,7 @@ use std::marker::Model;
 const UNKNOWN: PortFault = PortFault::Book(BookFault::UnknownTicket);
 /// How many of the outstanding tickets clients may not have: one is that of a job, and one that of
 /// a request under way that was abandoned, or of one that was cut off and may still be carried out.
-const PLACES_KEPT: usize = 2;
+const PLACES_RESERVED: usize = 2;
 /// The most entries that a ticket has in the journal.
 const ENTRIES: usize = 4;
 
@@ -110,21 +110,21 @@ impl<A: Allocator + Copy> StoredPort<A> {
         limits: &Limits,
         devices: Devices,
         mode: StorageMode,
-        kept: Option<Set>,
+        backup: Option<Set>,
     ) -> Result<StoredPort<A>, StoredFault>
-        ensures storage { IfOk result (λ p. p.storage ≡ storage_at_opening mode kept) }
+        ensures storage { IfOk result (λ p. p.storage ≡ storage_at_opening mode backup) }
         ensures output { IfOk result (λ p. p.output ≡ None) }
         ensures port { IfOk result (λ p. IsNewFor devices limits.now p.port) }
         ensures opens { IfOk result (λ p. CoreOpensFor devices limits.now p.port) }
         ensures room { IfOk result (λ p. p.most + 2 ≡ places_with_room limits.now) }
-        ensures sound { IfOk result (λ _. is_no_set kept ≡ false) }
-        ensures refused { IfErr result (λ why. IsOpeningRefused limits.now kept why) }
+        ensures sound { IfOk result (λ _. is_no_set backup ≡ false) }
+        ensures refused { IfErr result (λ why. IsOpeningRefused limits.now backup why) }
     {
         let places = places_with_room(limits);
-        if places <= PLACES_KEPT {
+        if places <= PLACES_RESERVED {
             return Err(StoredFault::SmallQueue);
         }
-        if is_no_set(&kept) {
+        if is_no_set(&backup) {
             return Err(StoredFault::OwnedIndex);
         }
         let port = match PortCore::open_for(alloc, limits, devices) {
@@ -133,11 +133,11 @@ impl<A: Allocator + Copy> StoredPort<A> {
         };
         Ok(StoredPort {
             port,
-            storage: Storage::new(mode, kept),
+            storage: Storage::new(mode, backup),
             output: None,
             shown: false,
             tickets: 0,
-            most: places - PLACES_KEPT,
+            most: places - PLACES_RESERVED,
         })
     }
 
@@ -155,13 +155,13 @@ impl<A: Allocator + Copy> StoredPort<A> {
     }
 
     /// As [`PortCore::receive`].
-    pub fn receive(&mut self, came: &Option<Message>)
+    pub fn receive(&mut self, received: &Option<Message>)
         requires { awaited_answer self.old.port ≡ AwaitedAnswer.Reply }
-        ensures gives { PortReceiveGives self.old.port (octets_in came.now) self.new.port }
-        ensures does { ReceiveDoes self.old.port (octets_in came.now) self.new.port }
+        ensures gives { PortReceiveGives self.old.port (octets_in received.now) self.new.port }
+        ensures does { ReceiveDoes self.old.port (octets_in received.now) self.new.port }
         ensures rest { self.new ≡ record self.old { port = self.new.port } }
     {
-        self.port.receive(came);
+        self.port.receive(received);
     }
 
     /// As [`PortCore::receive_wake`].
@@ -259,10 +259,10 @@ impl<A: Allocator + Copy> StoredPort<A> {
     }
 
     /// The set that is kept, if one is.
-    pub fn kept(&self) -> Option<&Set>
-        ensures { option_copied result ≡ self.now.storage.kept }
+    pub fn backup(&self) -> Option<&Set>
+        ensures { option_copied result ≡ self.now.storage.backup }
     {
-        self.storage.kept.as_ref()
+        self.storage.backup.as_ref()
     }
 
     /// The set that was fetched, and its number, until the program says that it has saved it. The
@@ -271,7 +271,7 @@ impl<A: Allocator + Copy> StoredPort<A> {
         ensures number { option_map (λ one. one.0) result ≡ number_unsaved self.now.storage }
         ensures set { option_map (λ one. one.1.now) result ≡ set_unsaved self.now.storage }
     {
-        match &self.storage.kept {
+        match &self.storage.backup {
             Some(set) if self.storage.unsaved => Some((SetNumber(self.storage.fetched), set)),
             _ => None,
         }
@@ -378,8 +378,8 @@ impl<A: Allocator + Copy> StoredPort<A> {
         ensures tickets { self.new.tickets ≡ tickets_behind_submit self.old.tickets result }
     {
         self.allow(&request)?;
-        let given = self.port.submit(request);
-        self.count(given)
+        let returned = self.port.submit(request);
+        self.count(returned)
     }
 
     /// As [`PortCore::submit_urgent`](iol_port::PortCore::submit_urgent), and refused as
@@ -393,8 +393,8 @@ impl<A: Allocator + Copy> StoredPort<A> {
         ensures tickets { self.new.tickets ≡ tickets_behind_submit self.old.tickets result }
     {
         self.allow(&request)?;
-        let given = self.port.submit_urgent(request);
-        self.count(given)
+        let returned = self.port.submit_urgent(request);
+        self.count(returned)
     }
 
     /// Whether a client may submit a request.
@@ -411,13 +411,13 @@ impl<A: Allocator + Copy> StoredPort<A> {
     }
 
     /// Counts a ticket that a client was given.
-    fn count(&mut self, given: Result<Ticket, PortFault>) -> Result<Ticket, StoredFault>
-        ensures answer { result ≡ by_port given }
+    fn count(&mut self, returned: Result<Ticket, PortFault>) -> Result<Ticket, StoredFault>
+        ensures answer { result ≡ by_port returned }
         ensures rest { self.new ≡ record self.old {
           tickets = tickets_behind_submit self.old.tickets result;
         } }
     {
-        match given {
+        match returned {
             Ok(ticket) => {
                 self.tickets = self.tickets.saturating_add(1);
                 Ok(ticket)
@@ -460,7 +460,7 @@ impl<A: Allocator + Copy> StoredPort<A> {
         ensures is { is_own self.old.storage ticket ≡ false
             → Collects (StoredCalled self.old self.new) self.old.port self.new.port
             ticket (in_place into.new result) }
-        ensures kept { IfErr result (λ _. into.new ≡ into.old) }
+        ensures unchanged { IfErr result (λ _. into.new ≡ into.old) }
         ensures tickets { self.new.tickets ≡ tickets_without (is_ok result) self.old.tickets }
     {
         if self.is_own(ticket) {

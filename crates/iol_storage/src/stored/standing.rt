@@ -68,16 +68,20 @@ impl StorageStanding {
     /// that is met in service changes nothing.
     ///
     /// Rule STO-13.
-    pub(crate) fn behind(self, said: StorageStanding) -> StorageStanding
-        ensures { result ≡ standing_behind self said }
+    pub(crate) fn behind(self, proposed: StorageStanding) -> StorageStanding
+        ensures { result ≡ standing_behind self proposed }
     {
-        if self.stays_at(said) { self } else { said }
+        if self.stays_at(proposed) {
+            self
+        } else {
+            proposed
+        }
     }
 
     /// Whether a trouble is met in service.
-    pub(crate) fn stays_at(self, said: StorageStanding) -> bool
-        ensures { result ≡ stays_served self said }
+    pub(crate) fn stays_at(self, proposed: StorageStanding) -> bool
+        ensures { result ≡ stays_served self proposed }
     {
-        self.is_served() && !said.is_served()
+        self.is_served() && !proposed.is_served()
     }
 }

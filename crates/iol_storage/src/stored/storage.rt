@@ -131,17 +131,17 @@ impl Retry {
         ensures { result ≡ retry_behind self end }
     {
         match (end, self.tries) {
-            (AttemptResult::Again, 0) => Retry {
+            (AttemptResult::Transient, 0) => Retry {
                 tries: 1,
                 pause: FIRST_PAUSE,
                 due: true,
             },
-            (AttemptResult::Again, 1) => Retry {
+            (AttemptResult::Transient, 1) => Retry {
                 tries: 2,
                 pause: SECOND_PAUSE,
                 due: true,
             },
-            (AttemptResult::Again, _) => Retry::LATER,
+            (AttemptResult::Transient, _) => Retry::LATER,
             _ => Retry {
                 tries: 0,
                 pause: 0,
@@ -158,7 +158,7 @@ impl Retry {
 pub struct Storage {
     pub mode: StorageMode,
     /// The set that is kept.
-    pub kept: Option<Set>,
+    pub backup: Option<Set>,
     /// How many sets were fetched.
     pub fetched: u64,
     /// The program hasn't saved the last one yet, which is kept.
@@ -182,12 +182,12 @@ pub struct Storage {
 
 impl Storage {
     /// Data Storage before the first session, with this set.
-    pub(crate) fn new(mode: StorageMode, kept: Option<Set>) -> Storage
-        ensures { result ≡ storage_at_opening mode kept }
+    pub(crate) fn new(mode: StorageMode, backup: Option<Set>) -> Storage
+        ensures { result ≡ storage_at_opening mode backup }
     {
         Storage {
             mode,
-            kept,
+            backup,
             fetched: 0,
             unsaved: false,
             draft: Objects::new(),
@@ -212,7 +212,7 @@ impl Storage {
     {
         match &self.job {
             StorageJob::Idle => None,
-            StorageJob::Check(attempt) => attempt.asks(self.kept.as_ref(), &self.draft),
+            StorageJob::Check(attempt) => attempt.asks(self.backup.as_ref(), &self.draft),
             StorageJob::Block(download) => download.asks(&self.draft),
         }
     }
@@ -233,7 +233,7 @@ impl Storage {
         match &mut self.job {
             StorageJob::Idle => {}
             StorageJob::Check(attempt) => attempt.hear(
-                self.kept.as_ref(),
+                self.backup.as_ref(),
                 &mut self.draft,
                 outcome,
             ),
@@ -266,7 +266,7 @@ impl Storage {
         let StorageJob::Check(attempt) = &self.job else {
             return;
         };
-        self.kept = Some(Set {
+        self.backup = Some(Set {
             checksum: attempt.upload.checksum,
             device: self.device,
             unit: attempt.unit.clone().unwrap(),
@@ -280,21 +280,21 @@ impl Storage {
     fn settle(&mut self, end: AttemptResult)
         ensures { self.new ≡ storage_settled self.old end }
     {
-        let said = self.standing_said(end);
+        let proposed = self.proposed_standing(end);
         self.job = StorageJob::Idle;
-        self.retry = if self.standing.stays_at(said) {
+        self.retry = if self.standing.stays_at(proposed) {
             Retry::LATER
         } else {
             self.retry.behind(end)
         };
-        self.standing = self.standing.behind(said);
+        self.standing = self.standing.behind(proposed);
     }
 
     /// The standing behind an attempt.
     ///
     /// Rules STO-3, STO-12.
-    fn standing_said(&self, end: AttemptResult) -> StorageStanding
-        ensures { result ≡ settled_standing self.now.standing (is_some self.now.kept)
+    fn proposed_standing(&self, end: AttemptResult) -> StorageStanding
+        ensures { result ≡ settled_standing self.now.standing (is_some self.now.backup)
             self.now.retry.tries end }
     {
         match end {
@@ -307,19 +307,19 @@ impl Storage {
             AttemptResult::Same => StorageStanding::Served(Served::Same),
             AttemptResult::Restored => StorageStanding::Served(Served::Restored),
             AttemptResult::Fetched => StorageStanding::Served(Served::Fetched),
-            AttemptResult::Again
+            AttemptResult::Transient
                 if self.standing == StorageStanding::Awaited && self.retry.tries >= 2 => {
                 StorageStanding::Trouble(Trouble::Attempts)
             }
-            AttemptResult::Unchanged | AttemptResult::Again => self.standing,
+            AttemptResult::Unchanged | AttemptResult::Transient => self.standing,
         }
     }
 
     /// The standing at a device that has no Data Storage.
     fn without_storage(&self) -> StorageStanding
-        ensures { result ≡ standing_without (is_some self.now.kept) }
+        ensures { result ≡ standing_without (is_some self.now.backup) }
     {
-        match self.kept {
+        match self.backup {
             Some(_) => StorageStanding::Trouble(Trouble::NoStorage),
             None => StorageStanding::Served(Served::Unsupported),
         }
@@ -390,11 +390,11 @@ impl Storage {
     {
         self.retry.due = false;
         match self.obstacle(page) {
-            Some(said) => {
-                if self.standing.stays_at(said) {
+            Some(proposed) => {
+                if self.standing.stays_at(proposed) {
                     self.retry = Retry::LATER;
                 }
-                self.standing = self.standing.behind(said);
+                self.standing = self.standing.behind(proposed);
             }
             None => {
                 self.device = page_device(page);
@@ -407,7 +407,7 @@ impl Storage {
     ///
     /// Rules STO-3, STO-4.
     fn obstacle(&self, page: &Page) -> Option<StorageStanding>
-        ensures { result ≡ obstacle self.now.mode (option_map (λ set. set.device) self.now.kept)
+        ensures { result ≡ obstacle self.now.mode (option_map (λ set. set.device) self.now.backup)
             page.now }
     {
         if let StorageMode::Off = self.mode {
@@ -416,7 +416,7 @@ impl Storage {
         if !has_storage(page) {
             return Some(self.without_storage());
         }
-        match &self.kept {
+        match &self.backup {
             Some(set) if set.device != page_device(page) => {
                 Some(StorageStanding::Trouble(Trouble::WrongIdentity))
             }
@@ -503,18 +503,18 @@ impl Storage {
     /// where commands are written.
     ///
     /// Rule STO-16.
-    pub(crate) fn load(&mut self, kept: Option<Set>) -> Result<(), StoredFault>
-        ensures answer { result_err result ≡ load_refusal self.old kept }
-        ensures storage { OnOk result (self.new ≡ storage_loaded self.old kept) }
+    pub(crate) fn load(&mut self, backup: Option<Set>) -> Result<(), StoredFault>
+        ensures answer { result_err result ≡ load_refusal self.old backup }
+        ensures storage { OnOk result (self.new ≡ storage_loaded self.old backup) }
         ensures unchanged { OnErr result (self.new ≡ self.old) }
     {
         if !matches!(self.job, StorageJob::Idle) {
             return Err(StoredFault::Storing);
         }
-        if is_no_set(&kept) {
+        if is_no_set(&backup) {
             return Err(StoredFault::OwnedIndex);
         }
-        self.kept = kept;
+        self.backup = backup;
         self.unsaved = false;
         if let StorageStanding::Trouble(_) | StorageStanding::Released(_) = self.standing {
             self.standing = StorageStanding::Awaited;
@@ -612,10 +612,10 @@ fn left_at(stage: DownloadStage) -> DownloadResult
 }
 
 /// Whether a set has a value where commands are written, as no device's has.
-pub(crate) fn is_no_set(kept: &Option<Set>) -> bool
-    ensures { result ≡ is_no_set kept.now }
+pub(crate) fn is_no_set(backup: &Option<Set>) -> bool
+    ensures { result ≡ is_no_set backup.now }
 {
-    match kept {
+    match backup {
         Some(set) => set.objects.any_owned(),
         None => false,
     }

@@ -1,7 +1,7 @@
 -- What each round of a loop of `served::opened_ports` keeps.
 use Rattle.std.proofs.Common.{◌≡◌, All, vec_len}
-use Rattle.iol_master.specs.Tickets.{HasGiven}
+use Rattle.iol_master.specs.Tickets.{HasIssued}
 use Rattle.iol_bench.proofs.served.opened_ports.Given as goal
 
 abbrev pub invariant-loop : goal.invariant-loop
-invariant-loop l = (vec_len l.ports ≡ l.counter) × All (λ p. HasGiven p 0) l.ports.items
+invariant-loop l = (vec_len l.ports ≡ l.counter) × All (λ p. HasIssued p 0) l.ports.items

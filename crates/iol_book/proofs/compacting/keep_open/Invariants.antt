@@ -8,10 +8,10 @@ use Rattle.iol_book.proofs.compacting.keep_open.Given as goal
 
 abbrev pub invariant-loop-place : goal.invariant-loop-place
 invariant-loop-place g l =
-    let is_kept : Entry → Bool = λ e. is_still_open_by l.doubt l.urgent.items l.waiting.items
+    let is_retained : Entry → Bool = λ e. is_still_open_by l.doubt l.urgent.items l.waiting.items
     l.taken l.outcomes (entry_ticket e) in
-    (l.journal.items ++ filter is_kept (drop l.place l.list.items)
-    ≡ filter is_kept (drop l.first l.list.items))
+    (l.journal.items ++ filter is_retained (drop l.place l.list.items)
+    ≡ filter is_retained (drop l.first l.list.items))
     × (l.journal.places ≡ l.fn.journal.places)
     × (l.journal.octet_places ≡ l.fn.journal.octet_places)
     × (length l.journal.items + length (drop l.place l.list.items) ≤ l.journal.places)

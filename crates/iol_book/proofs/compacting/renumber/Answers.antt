@@ -7,7 +7,7 @@ use Rattle.std.specs.Prelude.{slice_index_or}
 use Rattle.iol_book.specs.declared.entries.Entry.TheVariants.{Collected}
 use Rattle.iol_book.specs.Lines.{entry_ticket}
 use Rattle.iol_book.specs.Lines.{is_still_open_by, moved_number, with_numbers}
-use Rattle.iol_book.proofs.NumberLemmas.{comes-dropped, comes-end, comes-kept, open-numbers}
+use Rattle.iol_book.proofs.NumberLemmas.{comes-dropped, comes-end, comes-retained, open-numbers}
 use Rattle.iol_book.proofs.compacting.renumber.Goals as goal
 use Rattle.iol_book.proofs.compacting.renumber.Goals.{then-is_still_open, else-is_still_open}
 
@@ -37,32 +37,32 @@ loop-line-preserved g c =
           c.args.waiting.now.items c.args.taken.now c.args.outcomes.now.items (entry_ticket e)
           ≡ true = sym same ∙ grind (arith, common_steps) in
           let us : c.if-is_still_open.urgent.items ≡ with_numbers
-          (moved_number c.loop-line.line c.loop-line.kept) c.loop-line.urgent.items =
+          (moved_number c.loop-line.line c.loop-line.retained) c.loop-line.urgent.items =
           grind (arith, common_steps) in
           let ws : c.if-is_still_open.waiting.items ≡ with_numbers
-          (moved_number c.loop-line.line c.loop-line.kept) c.loop-line.waiting.items =
+          (moved_number c.loop-line.line c.loop-line.retained) c.loop-line.waiting.items =
           grind (arith, common_steps) in
           let one : option_to_list c.if-is_still_open.taken ≡ with_numbers
-          (moved_number c.loop-line.line c.loop-line.kept) (option_to_list c.loop-line.taken) =
+          (moved_number c.loop-line.line c.loop-line.retained) (option_to_list c.loop-line.taken) =
           grind (arith, common_steps) in
           let os : c.if-is_still_open.outcomes.items ≡ with_numbers
-          (moved_number c.loop-line.line c.loop-line.kept) c.loop-line.outcomes.items =
+          (moved_number c.loop-line.line c.loop-line.retained) c.loop-line.outcomes.items =
           grind (arith, common_steps) in
-          let more : c.if-is_still_open.kept ≡ c.loop-line.kept + 1 =
+          let more : c.if-is_still_open.retained ≡ c.loop-line.retained + 1 =
           grind (arith, common_steps) in (
             grind (arith, common_steps),
-            comes-kept k es e c.loop-line.line c.loop-line.kept at _ _ h.1 _ _
+            comes-retained k es e c.loop-line.line c.loop-line.retained at _ _ h.1 _ _
                 stays us more,
-            comes-kept k es e c.loop-line.line c.loop-line.kept at _ _ h.2 _ _
+            comes-retained k es e c.loop-line.line c.loop-line.retained at _ _ h.2 _ _
                 stays ws more,
-            comes-kept k es e c.loop-line.line c.loop-line.kept at _ _ h.3 _ _
+            comes-retained k es e c.loop-line.line c.loop-line.retained at _ _ h.3 _ _
                 stays one more,
-            comes-kept k es e c.loop-line.line c.loop-line.kept at _ _ h.4 _ _
+            comes-retained k es e c.loop-line.line c.loop-line.retained at _ _ h.4 _ _
                 stays os more,
             grind (arith, common_steps),
             grind (arith, common_steps),
             grind (arith, common_steps),
-            λ t. open-numbers t (moved_number c.loop-line.line c.loop-line.kept) c.args.doubt
+            λ t. open-numbers t (moved_number c.loop-line.line c.loop-line.retained) c.args.doubt
                 c.loop-line.urgent.items c.loop-line.waiting.items c.loop-line.outcomes.items
                 c.if-is_still_open.urgent.items c.if-is_still_open.waiting.items
                 c.if-is_still_open.outcomes.items c.loop-line.taken c.if-is_still_open.taken
@@ -73,14 +73,14 @@ loop-line-preserved g c =
           c.args.waiting.now.items c.args.taken.now c.args.outcomes.now.items (entry_ticket e)
           ≡ false = sym same ∙ grind (arith, common_steps) in (
             grind (arith, common_steps),
-            comes-dropped k es e c.loop-line.line c.loop-line.kept at _ _ h.1 _ _ goes
-                (grind (arith, common_steps)) w.kept-is,
-            comes-dropped k es e c.loop-line.line c.loop-line.kept at _ _ h.2 _ _ goes
-                (grind (arith, common_steps)) w.kept-is,
-            comes-dropped k es e c.loop-line.line c.loop-line.kept at _ _ h.3 _ _ goes
-                (grind (arith, common_steps)) w.kept-is,
-            comes-dropped k es e c.loop-line.line c.loop-line.kept at _ _ h.4 _ _ goes
-                (grind (arith, common_steps)) w.kept-is,
+            comes-dropped k es e c.loop-line.line c.loop-line.retained at _ _ h.1 _ _ goes
+                (grind (arith, common_steps)) w.retained-is,
+            comes-dropped k es e c.loop-line.line c.loop-line.retained at _ _ h.2 _ _ goes
+                (grind (arith, common_steps)) w.retained-is,
+            comes-dropped k es e c.loop-line.line c.loop-line.retained at _ _ h.3 _ _ goes
+                (grind (arith, common_steps)) w.retained-is,
+            comes-dropped k es e c.loop-line.line c.loop-line.retained at _ _ h.4 _ _ goes
+                (grind (arith, common_steps)) w.retained-is,
             grind (arith, common_steps),
             grind (arith, common_steps),
             grind (arith, common_steps),
@@ -92,7 +92,7 @@ pub returns-clause-urgent : goal.returns-clause-urgent
 returns-clause-urgent g c = comes-end
     (is_still_open_by c.args.doubt c.args.urgent.now.items c.args.waiting.now.items
     c.args.taken.now c.args.outcomes.now.items) _ c.loop-line.line
-    c.loop-line.kept _ _
+    c.loop-line.retained _ _
     (drop_all c.loop-line.line c.args.journal.now.items (grind (arith, common_steps)))
     c.loop-line.invariant.1
 
@@ -100,7 +100,7 @@ pub returns-clause-waiting : goal.returns-clause-waiting
 returns-clause-waiting g c = comes-end
     (is_still_open_by c.args.doubt c.args.urgent.now.items c.args.waiting.now.items
     c.args.taken.now c.args.outcomes.now.items) _ c.loop-line.line
-    c.loop-line.kept _ _
+    c.loop-line.retained _ _
     (drop_all c.loop-line.line c.args.journal.now.items (grind (arith, common_steps)))
     c.loop-line.invariant.2
 
@@ -108,7 +108,7 @@ pub returns-clause-taken : goal.returns-clause-taken
 returns-clause-taken g c = comes-end
     (is_still_open_by c.args.doubt c.args.urgent.now.items c.args.waiting.now.items
     c.args.taken.now c.args.outcomes.now.items) _ c.loop-line.line
-    c.loop-line.kept _ _
+    c.loop-line.retained _ _
     (drop_all c.loop-line.line c.args.journal.now.items (grind (arith, common_steps)))
     c.loop-line.invariant.3
 
@@ -116,6 +116,6 @@ pub returns-clause-outcomes : goal.returns-clause-outcomes
 returns-clause-outcomes g c = comes-end
     (is_still_open_by c.args.doubt c.args.urgent.now.items c.args.waiting.now.items
     c.args.taken.now c.args.outcomes.now.items) _ c.loop-line.line
-    c.loop-line.kept _ _
+    c.loop-line.retained _ _
     (drop_all c.loop-line.line c.args.journal.now.items (grind (arith, common_steps)))
     c.loop-line.invariant.4

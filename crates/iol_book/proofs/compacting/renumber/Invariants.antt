@@ -9,23 +9,23 @@ use Rattle.iol_book.proofs.compacting.renumber.Given as goal
 
 -- these lines, which the loop has still to renumber, come to what those at first do
 abbrev Comes : (Ticket → Bool) → List Entry → ℕ → ℕ → TicketLines → TicketLines → Type 0
-Comes is_kept entries line kept now first =
-    with_numbers (line_number_after is_kept line kept (drop line entries)) now
-    ≡ lines_after is_kept entries first
+Comes is_retained entries line retained now first =
+    with_numbers (line_number_after is_retained line retained (drop line entries)) now
+    ≡ lines_after is_retained entries first
 
 abbrev pub invariant-loop-line : goal.invariant-loop-line
 invariant-loop-line g l =
-    let is_kept : Ticket → Bool = is_still_open_by l.doubt l.fn.urgent.items l.fn.waiting.items
+    let is_retained : Ticket → Bool = is_still_open_by l.doubt l.fn.urgent.items l.fn.waiting.items
     l.fn.taken l.fn.outcomes.items in
-    (l.kept ≤ l.line)
-    × Comes is_kept l.journal.items l.line l.kept l.urgent.items l.fn.urgent.items
-    × Comes is_kept l.journal.items l.line l.kept l.waiting.items l.fn.waiting.items
-    × Comes is_kept l.journal.items l.line l.kept (option_to_list l.taken)
+    (l.retained ≤ l.line)
+    × Comes is_retained l.journal.items l.line l.retained l.urgent.items l.fn.urgent.items
+    × Comes is_retained l.journal.items l.line l.retained l.waiting.items l.fn.waiting.items
+    × Comes is_retained l.journal.items l.line l.retained (option_to_list l.taken)
     (option_to_list l.fn.taken)
-    × Comes is_kept l.journal.items l.line l.kept l.outcomes.items l.fn.outcomes.items
+    × Comes is_retained l.journal.items l.line l.retained l.outcomes.items l.fn.outcomes.items
     × (deque_capacity l.urgent ≡ deque_capacity l.fn.urgent)
     × (deque_capacity l.waiting ≡ deque_capacity l.fn.waiting)
     × (vec_capacity l.outcomes ≡ vec_capacity l.fn.outcomes)
     × ((t : Ticket) → is_still_open_by l.doubt l.urgent.items l.waiting.items l.taken
     l.outcomes.items t
-    ≡ is_kept t)
+    ≡ is_retained t)

@@ -9,7 +9,7 @@ invariant-loop g l =
     (vec_len l.seats ≡ l.counter)
     × All (λ seat. seat ≡ record {
       cell = l.initial.writer-inside.pass.table_id;
-      images = (cell_view l.initial.writer-inside.pass).seen;
+      images = (cell_view l.initial.writer-inside.pass).observed;
     }) l.seats.items
     × (l.writer-inside.pass.table_id ≡ (arc_value l.writer-inside.cell).table.shared.table_id)
     × (l.writer-inside.pass.table_id ≡ l.initial.writer-inside.pass.table_id)

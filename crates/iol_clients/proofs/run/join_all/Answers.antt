@@ -8,6 +8,6 @@ loop-thread-preserved g c =
     let before = c.loop-thread.invariant in
     record {
       all = rw append_assoc (rw c.in-Some.ensures.steps.0 at before.all);
-      kept = rw c.in_ok-push.ensures.items
-          (all_zipped_more _ _ _ _ _ before.kept c.in_ok-join.ensures);
+      fulfilled = rw c.in_ok-push.ensures.items
+          (all_zipped_more _ _ _ _ _ before.fulfilled c.in_ok-join.ensures);
     }

@@ -11,7 +11,7 @@ use Rattle.iol_clients.proofs.run.join_all.Given as goal
 abbrev pub invariant-loop-thread : goal.invariant-loop-thread
 invariant-loop-thread g l = record {
   all : l.yielded ++ into_iter_items l.thread-iterator ≡ into_iter_items l.initial.thread-iterator;
-  kept : AllZip
+  fulfilled : AllZip
       (λ thread client. (client.desk.port ≡ thread.promise.port)
       × HasSubmitted (port_facts g.W.Wire.facts) thread.promise.each
       (client_state client.desk client.tickets.items)) l.yielded l.clients.items;

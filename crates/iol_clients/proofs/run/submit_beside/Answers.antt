@@ -9,12 +9,12 @@ use Rattle.iol_clients.proofs.run.submit_beside.Goals as goal
 pub returns : goal.returns
 returns g c =
     let threads = c.in_ok-threads.ensures in
-    let kept = c.in_ok-join_all.ensures in
+    let joined = c.in_ok-join_all.ensures in
     record {
       ports = same_ports (λ client. client_state client.desk client.tickets.items)
           (λ thread. thread.promise.port) (λ thread. thread.promise.each) c.args.plan.each
-          (HasSubmitted (port_facts g.W.Wire.facts)) _ _ kept ∙ threads.ports;
+          (HasSubmitted (port_facts g.W.Wire.facts)) _ _ joined ∙ threads.ports;
       submitted = all_have (λ client. client_state client.desk client.tickets.items)
           (λ thread. thread.promise.port) (λ thread. thread.promise.each) c.args.plan.each
-          (HasSubmitted (port_facts g.W.Wire.facts)) _ _ kept threads.each;
+          (HasSubmitted (port_facts g.W.Wire.facts)) _ _ joined threads.each;
     }

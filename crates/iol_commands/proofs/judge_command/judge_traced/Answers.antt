@@ -61,5 +61,5 @@ returns-clause-before g c = λ n why is.
 pub returns-clause-appended : goal.returns-clause-appended
 returns-clause-appended g c = λ other.
     stop_appended c.stop.result c.in-Err.fault _ _ _ _ c.stop.ensures.same c.stop.ensures.written
-    c.stop.ensures.kept (λ no_write. c.in-Err.ensures.appended (λ failed. no_write (cc)))
+    c.stop.ensures.unchanged (λ no_write. c.in-Err.ensures.appended (λ failed. no_write (cc)))
     (λ failed. other (ap Err failed))

@@ -2,5 +2,5 @@
 use Rattle.std.proofs.Common.{◌≡◌, take}
 use Rattle.iol_judge.proofs.next.copy_states.Given as goal
 
-abbrev pub invariant-loop-kept : goal.invariant-loop-kept
-invariant-loop-kept l = l.into.items ≡ take l.kept-index l.from
+abbrev pub invariant-loop-state : goal.invariant-loop-state
+invariant-loop-state l = l.into.items ≡ take l.state-index l.from

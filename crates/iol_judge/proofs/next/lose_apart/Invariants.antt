@@ -6,5 +6,5 @@ use Rattle.iol_judge.proofs.next.lose_apart.Given as goal
 
 abbrev pub invariant-loop-part : goal.invariant-loop-part
 invariant-loop-part l =
-    each_in_turn (lost_part l.layouts l.sent) l.fn.next.items (all_parts l.kept) ≡ each_in_turn
-    (lost_part l.layouts l.sent) l.next.items (drop l.part-index (all_parts l.kept))
+    each_in_turn (lost_part l.layouts l.sent) l.fn.next.items (all_parts l.state) ≡ each_in_turn
+    (lost_part l.layouts l.sent) l.next.items (drop l.part-index (all_parts l.state))

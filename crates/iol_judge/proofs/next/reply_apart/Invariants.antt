@@ -6,6 +6,6 @@ use Rattle.iol_judge.proofs.next.reply_apart.Given as goal
 
 abbrev pub invariant-loop-part : goal.invariant-loop-part
 invariant-loop-part l =
-    let step = replied_part l.layouts l.odd l.seen l.sent l.octets in
-    let parts = all_parts l.kept in
+    let step = replied_part l.layouts l.odd l.observed l.sent l.octets in
+    let parts = all_parts l.state in
     each_in_turn step l.fn.next parts ≡ each_in_turn step l.next (drop l.part-index parts)

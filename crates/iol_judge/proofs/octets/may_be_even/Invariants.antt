@@ -4,5 +4,5 @@ use Rattle.iol_judge.specs.Octets.{may_be_even}
 use Rattle.iol_judge.proofs.octets.may_be_even.Given as goal
 
 abbrev pub invariant-loop-octet : goal.invariant-loop-octet
-invariant-loop-octet l = may_be_even l.fn.sum l.seen
-    ≡ may_be_even l.sum (drop l.octet-index l.seen)
+invariant-loop-octet l = may_be_even l.fn.sum l.observed
+    ≡ may_be_even l.sum (drop l.octet-index l.observed)

@@ -4,5 +4,5 @@ use Rattle.iol_judge.specs.Octets.{with_octets}
 use Rattle.iol_judge.proofs.octets.note_octets.Given as goal
 
 abbrev pub invariant-loop-octet : goal.invariant-loop-octet
-invariant-loop-octet l = with_octets l.initial.seen l.fn.place l.octets
-    ≡ with_octets l.seen l.place (drop l.octet-index l.octets)
+invariant-loop-octet l = with_octets l.initial.observed l.fn.place l.octets
+    ≡ with_octets l.observed l.place (drop l.octet-index l.octets)

@@ -3,7 +3,7 @@ use Rattle.std.proofs.Common.{◌≡◌, ℕ, List, All, false}
 use Rattle.std.specs.List.{FoldsTo}
 use Rattle.iol_book.specs.declared.entries.Ticket.{Ticket}
 use Rattle.iol_book.specs.Replay.{same_ticket}
-use Rattle.iol_book.specs.Abandoning.{IsToldAlike}
+use Rattle.iol_book.specs.Abandoning.{IsReportedAlike}
 use Rattle.iol_master.specs.Left.{IsGone}
 use Rattle.iol_master.proofs.Abandoning.{left_over}
 use Rattle.iol_master.proofs.tickets.abandon.Given as goal
@@ -17,7 +17,7 @@ invariant-loop-ticket g l = record {
   still : (other : Ticket) → IsGone g.P.MasterPort.facts l.fn.port other
       → IsGone g.P.MasterPort.facts l.port other;
   others : (other : Ticket) → same_ticket l.ticket other ≡ false
-      → IsToldAlike (g.P.MasterPort.facts.standing l.fn.port)
+      → IsReportedAlike (g.P.MasterPort.facts.standing l.fn.port)
       (g.P.MasterPort.facts.standing l.port) other;
   counts : (count : ℕ) → g.P.MasterPort.facts.holds l.fn.port count
       → g.P.MasterPort.facts.holds l.port count;

@@ -2,11 +2,11 @@
 use Rattle.std.proofs.Common.{[], sym, ◌∙◌}
 use Rattle.std.proofs.lemmas.List.Elements.{All-cons, All-nil, All-same}
 use Rattle.iol_port.specs.View.{PortValue}
-use Rattle.iol_master.specs.Tickets.{HasGiven}
+use Rattle.iol_master.specs.Tickets.{HasIssued}
 use Rattle.iol_master_tests.proofs.desks.opens_as.Goals as goal
 
 abbrev IsFresh : {W : Type 0} → PortValue W → Type 0
-IsFresh p = HasGiven p 0
+IsFresh p = HasIssued p 0
 
 pub open-opened-requires-clause-tickets : goal.open-opened-requires-clause-tickets
 open-opened-requires-clause-tickets g c = (

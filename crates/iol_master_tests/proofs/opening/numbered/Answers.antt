@@ -1,6 +1,6 @@
 -- What the search can't prove of the body of `opening::numbered`.
 use Rattle.std.proofs.Common.{◌≡◌, ℕ, ◌+◌, arith}
-use Rattle.iol_master.specs.Tickets.{HasGiven}
+use Rattle.iol_master.specs.Tickets.{HasIssued}
 use Rattle.std.proofs.lemmas.List.Elements.{All-push}
 use Rattle.iol_master_tests.proofs.opening.numbered.Goals as goal
 
@@ -14,5 +14,5 @@ loop-index-preserved c =
     let before = c.loop-index.invariant in (
       one_more _ _ _ pushed.len before.0,
       rw pushed.items
-          (All-push (λ p. HasGiven p 0) _ _ before.1 c.in_ok-numbered_port.ensures),
+          (All-push (λ p. HasIssued p 0) _ _ before.1 c.in_ok-numbered_port.ensures),
     )

@@ -2,11 +2,11 @@
 use Rattle.std.proofs.Common.{[], sym, ◌∙◌}
 use Rattle.std.proofs.lemmas.List.Elements.{All-cons, All-nil, All-same}
 use Rattle.iol_port.specs.View.{PortValue}
-use Rattle.iol_master.specs.Tickets.{HasGiven}
+use Rattle.iol_master.specs.Tickets.{HasIssued}
 use Rattle.iol_master_tests.proofs.opening.open_one.Goals as goal
 
 abbrev IsFresh : {W : Type 0} → PortValue W → Type 0
-IsFresh p = HasGiven p 0
+IsFresh p = HasIssued p 0
 
 pub open_master-requires-clause-tickets : goal.open_master-requires-clause-tickets
 open_master-requires-clause-tickets g c = (

@@ -11,16 +11,16 @@ unwrap-requires c =
     let i = c.loop-member.member-index in
     let place = c.args.place in
     let cells = c.loop-member.cells.now in
-    let had = c.loop-member.value.items in
+    let prior = c.loop-member.value.items in
     let most = most_of (get_or ms i no_member) in
     let values = values_in ms c.args.cells.now in
     let rest = drop (i + 1) ms in
-    let whole = ap (λ (v : List ℕ). had ++ v) (sym (read-here ms i no_member place
+    let whole = ap (λ (v : List ℕ). prior ++ v) (sym (read-here ms i no_member place
     c.loop-member-test.true (sym c.is_at.ensures ∙ c.if-is_at.true) cells))
     ∙ c.loop-member.invariant.so_far in
     let size : length (value_at ms values place) ≤ 232 =
     omega (arith, value-length ms values place c.requires.fit, c.requires.most) in
-    let fits : length had + length (cell_value most cells) ≤ 232 = within-whole had
+    let fits : length prior + length (cell_value most cells) ≤ 232 = within-whole prior
     (cell_value most cells) (value_at rest (values_in rest (drop (1 + most) cells)) place)
     (value_at ms values place) 232 whole size in
     c.try_extend_from_slice.ensures.variant.1

@@ -10,14 +10,14 @@ unwrap-requires c =
     let ms = c.args.members.now in
     let i = c.loop-member.member-index in
     let place = c.args.place in
-    let had = c.loop-member.value.items in
+    let prior = c.loop-member.value.items in
     let value = (get_or ms i no_member).default.now in
     let rest = drop (i + 1) ms in
-    let whole = ap (λ (v : List ℕ). had ++ v) (sym (defaults-here ms i no_member place
+    let whole = ap (λ (v : List ℕ). prior ++ v) (sym (defaults-here ms i no_member place
     c.loop-member-test.true (sym c.is_at.ensures ∙ c.if-is_at.true)))
     ∙ c.loop-member.invariant in
     let size : length (value_at ms (defaults ms) place) ≤ 232 =
     omega (arith, value-length ms (defaults ms) place c.requires.fit, c.requires.short) in
-    let fits : length had + length value ≤ 232 = within-whole had value
+    let fits : length prior + length value ≤ 232 = within-whole prior value
     (value_at rest (defaults rest) place) (value_at ms (defaults ms) place) 232 whole size in
     c.try_extend_from_slice.ensures.variant.1 fits

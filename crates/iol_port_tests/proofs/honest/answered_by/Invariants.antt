@@ -6,5 +6,5 @@ use Rattle.iol_port_tests.proofs.honest.answered_by.Given as goal
 abbrev pub ghost-receive : goal.ghost-receive
 ghost-receive a = record {
   far = a.near.now.far;
-  silence = silence_after a.self.now.at.silence (octets_in a.came.now);
+  silence = silence_after a.self.now.at.silence (octets_in a.received.now);
 }

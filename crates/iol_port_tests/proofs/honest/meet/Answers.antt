@@ -14,4 +14,4 @@ answered_by-requires-clause-premise c =
       ← ap (λ (out : Outgoing). out.octets.items) c.in-Exchange.ensures.says.1,
       ←
           c.as_slice.ensures.value,
-    ) (c.exchange-came.ensures port.at.silence)
+    ) (c.exchange-received.ensures port.at.silence)

@@ -1,7 +1,7 @@
 -- The clauses of `passing::print_sent` that the search can't prove.
 use Rattle.std.proofs.Common.{◌+◌, ◌*◌, codes, length, refl, rules, arith}
 use Rattle.iol_print.specs.Passing.{line_front}
-use Rattle.iol_print.specs.Said.{said_room}
+use Rattle.iol_print.specs.Meanings.{meaning_room}
 use Rattle.iol_print.proofs.PrintedLemmas.{never, part_fits, behind_fits}
 use Rattle.iol_print.proofs.Lengths.{front_room}
 use Rattle.iol_print.proofs.passing.print_sent.Goals as goal
@@ -20,7 +20,7 @@ returns-clause-fits g c =
     λ room. c.print_message_of.ensures.fits
     (behind_fits (g.S.TextSink.text c.args.output.now)
     (g.S.TextSink.text c.print_front.new.output) (line_front c.args.number (codes ">") octets)
-    (said_room octets) g.S.TextSink.limit c.in_ok-print_front.ensures.text (omega (
+    (meaning_room octets) g.S.TextSink.limit c.in_ok-print_front.ensures.text (omega (
       arith,
       room,
       front_room c.args.number (codes ">") octets (search rules) refl,

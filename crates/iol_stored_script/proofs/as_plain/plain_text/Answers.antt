@@ -4,7 +4,7 @@ use Rattle.std.specs.List.{enumerate_from}
 use Rattle.iol_script.specs.Text.{lines_of, numbered_lines, lines_left}
 use Rattle.iol_stored_script.specs.PlainText.{plain_lines}
 use Rattle.iol_stored_script.specs.declared.as_plain.StoreLine.TheVariants.{Awaited}
-use Rattle.iol_stored_script.proofs.PlainLemmas.{AreLines, IsLine, given_line, more_lines, numbers-stay, plain_is_line}
+use Rattle.iol_stored_script.proofs.PlainLemmas.{AreLines, IsLine, yielded_line, more_lines, numbers-stay, plain_is_line}
 use Rattle.iol_stored_script.proofs.as_plain.plain_text.Goals as goal
 
 pub loop-line-init : goal.loop-line-init
@@ -20,7 +20,7 @@ loop-line-preserved g c =
     let plain = c.stand_in.result.now in
     let is = subst IsLine (sym c.stand_in.ensures)
     (plain_is_line c.loop-line.store c.parse-form.result line
-    (given_line c.loop-line.line-iterator _ line _ c.in-Some.ensures.steps)) in (
+    (yielded_line c.loop-line.line-iterator _ line _ c.in-Some.ensures.steps)) in (
       done ++ plain ∷ [],
       subst (λ (t : List ℕ). AreLines t (done ++ plain ∷ [])) (sym c.in_ok-push_line.ensures)
           (more_lines c.loop-line.text.items plain done are is),

@@ -2,7 +2,7 @@
 use Rattle.std.proofs.Common.{subst, Option}
 use Rattle.iol_mode.specs.declared.configuration.Devices.{Devices}
 use Rattle.iolink_port_c.specs.Opening.{HandleOpens}
-use Rattle.iolink_port_forms.specs.Given.{limits_of}
+use Rattle.iolink_port_forms.specs.Arguments.{limits_of}
 use Rattle.iolink_port_c.proofs.port.iol_port_open_for.Goals as goal
 
 pub returns : goal.returns

@@ -3,7 +3,7 @@ use Rattle.std.proofs.Common.{refl, sym, subst, ◌∙◌, rules}
 use Rattle.iol_book.specs.declared.limits.Limits.{Limits}
 use Rattle.iol_port.specs.CorePort.{CoreOpensFor}
 use Rattle.iol_port.specs.View.{IsNewFor}
-use Rattle.iolink_port_forms.specs.Given.{limits_of}
+use Rattle.iolink_port_forms.specs.Arguments.{limits_of}
 use Rattle.iolink_port_c.specs.declared.held.PortWithJournal.{PortWithJournal}
 use Rattle.iolink_port_c.proofs.port.open_for.Goals as goal
 

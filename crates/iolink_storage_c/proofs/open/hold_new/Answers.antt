@@ -3,8 +3,8 @@ use Rattle.iolink_storage_c.proofs.open.hold_new.Goals as goal
 
 pub returns-in-Ok-open-clause-port : goal.returns-in-Ok-open-clause-port
 returns-in-Ok-open-clause-port c = λ held. rw (c.hold.ensures.port held) (record {
-  kept = c.in-Ok.kept;
-  is_kept = c.in-Ok.ensures.kept;
+  backup = c.in-Ok.backup;
+  is_backup = c.in-Ok.ensures.backup;
   storage = c.in-Ok-open.ensures.storage;
   output = c.in-Ok-open.ensures.output;
   parts = c.in-Ok-open.ensures.port;

@@ -43,7 +43,7 @@ returns-then-is_none c =
       message = m;
       is = refl;
       due = is;
-      parts = rw joined.told.0 at made.ensures.parts;
+      parts = rw joined.has_layouts.0 at made.ensures.parts;
       carries = made.ensures.due.out;
     } in
     let on : StandsOn old.state next.state =

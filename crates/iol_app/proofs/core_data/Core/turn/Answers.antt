@@ -41,7 +41,7 @@ woken g c = record {
   stands = c.take_wake.ensures.stands;
   idle = c.set_idle.ensures;
   is = c.take_wake.ensures.core;
-  brought_is = c.of_wake.ensures;
+  wire_result_is = c.of_wake.ensures;
 }
 
 pub returns-else-put_next-clause-turn : goal.returns-else-put_next-clause-turn

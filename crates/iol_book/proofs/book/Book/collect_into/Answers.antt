@@ -19,9 +19,9 @@ returns-clause-answer g c =
     ≡ Some c.remove-line.result.1 =
     rw c.deref.ensures.value at (c.in-Some.ensures.its_own c.remove-line.result)
     ∙ ap (λ (p : Ticket × ℕ). Some p.1) (sym c.remove-line.ensures.value) in
-    let said = rw line at (lookup-values outcome_in c.self.inside.journal.items c.args.ticket
+    let values_are = rw line at (lookup-values outcome_in c.self.inside.journal.items c.args.ticket
     c.self.inside.outcomes.items) in
-    rw (← c.self.view_is, said) (ap (λ (o : Outcome). Ok o) c.put_outcome.ensures)
+    rw (← c.self.view_is, values_are) (ap (λ (o : Outcome). Ok o) c.put_outcome.ensures)
 
 pub returns-clause-state : goal.returns-clause-state
 returns-clause-state g c = grind (

@@ -5,15 +5,16 @@ use Rattle.std.proofs.Common.{◌≡◌, refl, arith, drop, IsTrue}
 use Rattle.std.proofs.lemmas.Grind.{common_steps}
 use Rattle.iol_book.specs.declared.book.Book.TheInside.{Inside}
 use Rattle.iol_book.specs.Limits.{has_journal}
-use Rattle.iol_book.proofs.RestatedLemmas.{kept_entries}
+use Rattle.iol_book.proofs.RestatedLemmas.{retained_entries}
 use Rattle.iol_book.proofs.SoundLemmas.{whole-replayed}
-use Rattle.iol_book.proofs.CompactLemmas.{is_kept, Drains, Forgets, entries-left, forgotten-none, forgotten-more, sound-drained, drained-state, forgotten-state}
+use Rattle.iol_book.proofs.CompactLemmas.{is_retained, Drains, Forgets, entries-left, forgotten-none, forgotten-more, sound-drained, drained-state, forgotten-state}
 use Rattle.iol_book.proofs.book.Book.compact.Given as given
 use Rattle.iol_book.proofs.book.Book.compact.Goals as goal
 
 -- what is left of the entries, by the numbers of after
 left : (g : given.Over) (c : goal.After-drop-forgotten g) → c.keep_open.new.journal.items
-    ≡ kept_entries (is_kept c.self.invariant c.in_doubt-doubt.result) c.self.inside.journal.items
+    ≡ retained_entries (is_retained c.self.invariant c.in_doubt-doubt.result)
+    c.self.inside.journal.items
 left g c =
     let own : drop c.len-first.result c.copy_entries.new.list.items
     ≡ c.self.inside.journal.items = grind (arith, common_steps) in
@@ -38,10 +39,11 @@ next g c = record c.self.inside {
 drains : (g : given.Over) (c : goal.After-drop-forgotten g)
     → Drains c.self.invariant c.in_doubt-doubt.result (next g c)
 drains g c =
-    let kept : IsTrue (has_journal c.self.inside.limit) = grind (arith, common_steps) in record {
+    let retained : IsTrue (has_journal c.self.inside.limit) = grind (arith, common_steps) in
+    record {
       journal = left g c;
       head = grind (arith, common_steps);
-      forgotten = forgotten-none c.self.invariant c.in_doubt-doubt.result (next g c) kept refl;
+      forgotten = forgotten-none c.self.invariant c.in_doubt-doubt.result (next g c) retained refl;
       urgent = c.renumber.ensures.urgent;
       waiting = c.renumber.ensures.waiting;
       taken = c.renumber.ensures.taken;
@@ -62,19 +64,20 @@ drains g c =
 pub invariant_of-self : goal.invariant_of-self
 invariant_of-self g c = sound-drained c.self.invariant c.in_doubt-doubt.result (drains g c)
 
-pub returns-then-kept-clause-drained : goal.returns-then-kept-clause-drained
-returns-then-kept-clause-drained g c = λ kept.
-    let here : IsTrue (has_journal c.self.inside.limit) = rw (← c.self.view_is) at kept in
+pub returns-then-retained-clause-drained : goal.returns-then-retained-clause-drained
+returns-then-retained-clause-drained g c = λ retained.
+    let here : IsTrue (has_journal c.self.inside.limit) = rw (← c.self.view_is) at retained in
     rw (← c.self.view_is) (drained-state c.self.invariant c.in_doubt-doubt.result
     (invariant_of-self g c) (drains g c) c.in_doubt-doubt.ensures (grind (arith, common_steps))
     here)
 
-pub returns-then-kept-clause-replayed : goal.returns-then-kept-clause-replayed
-returns-then-kept-clause-replayed g c = whole-replayed (invariant_of-self g c)
+pub returns-then-retained-clause-replayed : goal.returns-then-retained-clause-replayed
+returns-then-retained-clause-replayed g c = whole-replayed (invariant_of-self g c)
 
 -- what is left of the entries, by the numbers of after
-left-else : (g : given.Over) (c : goal.After-self-else-kept-1 g) → c.keep_open.new.journal.items
-    ≡ kept_entries (is_kept c.self.invariant c.in_doubt-doubt.result) c.self.inside.journal.items
+left-else : (g : given.Over) (c : goal.After-self-else-retained-1 g) → c.keep_open.new.journal.items
+    ≡ retained_entries (is_retained c.self.invariant c.in_doubt-doubt.result)
+    c.self.inside.journal.items
 left-else g c =
     let own : drop c.len-first.result c.copy_entries.new.list.items
     ≡ c.self.inside.journal.items = grind (arith, common_steps) in
@@ -85,7 +88,7 @@ left-else g c =
     c.renumber.ensures.outcomes
     (rw (c.deref.ensures.value, own) at c.keep_open.ensures.entries)
 
-abbrev next-else : (g : given.Over) → goal.After-self-else-kept-1 g → Inside g.row.A.Denot
+abbrev next-else : (g : given.Over) → goal.After-self-else-retained-1 g → Inside g.row.A.Denot
 next-else g c = record c.self.inside {
   journal = c.keep_open.new.journal;
   forgotten = c.and-forgotten.result;
@@ -96,21 +99,21 @@ next-else g c = record c.self.inside {
   outcomes = c.renumber.new.outcomes;
 }
 
-forgets : (g : given.Over) (c : goal.After-self-else-kept-1 g)
+forgets : (g : given.Over) (c : goal.After-self-else-retained-1 g)
     → Forgets c.self.invariant c.in_doubt-doubt.result (next-else g c)
 forgets g c = record {
-  unkept = grind (arith, common_steps);
+  unretained = grind (arith, common_steps);
   entries = c.and-forgotten.ensures;
   overlap = grind (arith, common_steps);
   restated = refl;
   limit = refl;
 }
 
-drains-else : (g : given.Over) (c : goal.After-self-else-kept-1 g)
+drains-else : (g : given.Over) (c : goal.After-self-else-retained-1 g)
     → Drains c.self.invariant c.in_doubt-doubt.result (next-else g c)
 drains-else g c = record {
   journal = left-else g c;
-  head = rw (c.self.invariant.forgotten.unkept (forgets g c).unkept) (grind (arith));
+  head = rw (c.self.invariant.forgotten.unretained (forgets g c).unretained) (grind (arith));
   forgotten = forgotten-more c.self.invariant c.in_doubt-doubt.result (left-else g c)
       (forgets g c);
   urgent = c.renumber.ensures.urgent;
@@ -130,17 +133,17 @@ drains-else g c = record {
   serve = refl;
 }
 
-pub invariant_of-self-else-kept : goal.invariant_of-self-else-kept
-invariant_of-self-else-kept g c =
+pub invariant_of-self-else-retained : goal.invariant_of-self-else-retained
+invariant_of-self-else-retained g c =
     sound-drained c.self.invariant c.in_doubt-doubt.result (drains-else g c)
 
-pub returns-else-kept-clause-same : goal.returns-else-kept-clause-same
-returns-else-kept-clause-same g c = λ unkept. rw (← c.self.view_is) (forgotten-state
-    c.self.invariant c.in_doubt-doubt.result (invariant_of-self-else-kept g c) (drains-else g c)
+pub returns-else-retained-clause-same : goal.returns-else-retained-clause-same
+returns-else-retained-clause-same g c = λ unretained. rw (← c.self.view_is) (forgotten-state
+    c.self.invariant c.in_doubt-doubt.result (invariant_of-self-else-retained g c) (drains-else g c)
     (forgets g c))
 
-pub returns-else-kept-clause-replayed : goal.returns-else-kept-clause-replayed
-returns-else-kept-clause-replayed g c = whole-replayed (invariant_of-self-else-kept g c)
+pub returns-else-retained-clause-replayed : goal.returns-else-retained-clause-replayed
+returns-else-retained-clause-replayed g c = whole-replayed (invariant_of-self-else-retained g c)
 
 -- what is borrowed lives long enough
 pub and-forgotten-requires : goal.and-forgotten-requires

@@ -63,27 +63,27 @@ module _ (Y : RattleType) (L : Laws Y) {M : Type 1} {𝓤 : Ura M} (𝓛 : Logic
         (WpFn 𝓤 H C Λ (function Y) (us ++ [])
         ((walk_of 𝓛 (ended Y) (stayed Y) held).post (At us)))
 
-    abbrev given : List Val
-    given = vptr z.0.3.0.ref_ptr.0 z.0.3.0.ref_ptr.1 ∷ []
+    abbrev arguments : List Val
+    arguments = vptr z.0.3.0.ref_ptr.0 z.0.3.0.ref_ptr.1 ∷ []
 
-    walks : Goes given
+    walks : Goes arguments
     walks =
         let v : Val = vstruct (vcons (vstruct vnil) vnil) in
         let r : denote.Triple.Entry.Res (ended Y).signature z.0.0 =
         record { marker = record {}; entries = z.1 } in
         let O : Fml = (type_at (ended Y).signature.result z.0.0).own_val r (v ∷ []) in
         qed 𝓛 ((raw (alive 𝓛 (ended Y).signature z.0.0 z.0.1)
-        ⊛ ‵ (owns (types_at (ended Y).signature.params z.0.0) z.0.3 (given, tt))) ∷ raw
+        ⊛ ‵ (owns (types_at (ended Y).signature.params z.0.0) z.0.3 (arguments, tt))) ∷ raw
         ((held z.0.0 z.0.3).requires z.1) ∷ []) ∵ split ! $
         keep ! (0 ∷ []) $
-        enter ! C Λ (function Y) given _ $ alloc_all !
+        enter ! C Λ (function Y) arguments _ $ alloc_all !
         (λ l. pass_all ! refl ((tt, tt), tt) $
         sets ! (agg ! (no_more !)) refl (tt, tt) $ sets !
         (agg ! (and_then ! (get ! refl) (no_more !))) refl (tt, (tt, tt)) $
         returns ! (look_at ! 0 refl) $ free_all ! refl $
         use0 𝓛 (‵ O) (makes_shadow 𝓛 O ((λ vss. (tt, ((λ uss. (tt, tt)), tt))), tt)
         (((vstruct vnil ∷ [], tt), (refl, ((tt, (refl, tt)), tt))), tt)) $
-        suffices ! _ (ends_at 𝓛 (ended Y) (stayed Y) held (At given) v r (tt, tt)
+        suffices ! _ (ends_at 𝓛 (ended Y) (stayed Y) held (At arguments) v r (tt, tt)
         (tt, tt)) $ says ! refl $
         nothing ! $ nothing ! $ fjoin ! $ join ! $ move ! (1 ∷ 0 ∷ []) $ join ! $ done !)
 

@@ -5,13 +5,13 @@ use Rattle.iol_capture.proofs.opened.CaptureReader.end_line.Goals as goal
 
 pub returns-clause-judged : goal.returns-clause-judged
 returns-clause-judged c =
-    ended c.end_kept.result c.args.self.now c.keep.new.self c.end_kept.new.self c.args.end.now
-    c.in_ok-keep.ensures.ended c.in_ok-keep.ensures.line c.end_kept.ensures.no_feed
-    c.end_kept.ensures.line c.end_kept.ensures.empty
+    ended c.end_stored.result c.args.self.now c.store.new.self c.end_stored.new.self c.args.end.now
+    c.in_ok-store.ensures.ended c.in_ok-store.ensures.line c.end_stored.ensures.no_feed
+    c.end_stored.ensures.line c.end_stored.ensures.empty
 
-pub returns-clause-told : goal.returns-clause-told
-returns-clause-told c =
-    ended_calls c.end_kept.result c.args.self.now c.keep.new.self c.end_kept.new.self
-    c.args.end.now c.in_ok-keep.ensures.ended c.in_ok-keep.ensures.line
-    c.end_kept.ensures.no_feed c.end_kept.ensures.line c.end_kept.ensures.told
-    c.end_kept.ensures.empty
+pub returns-clause-emitted : goal.returns-clause-emitted
+returns-clause-emitted c =
+    ended_calls c.end_stored.result c.args.self.now c.store.new.self c.end_stored.new.self
+    c.args.end.now c.in_ok-store.ensures.ended c.in_ok-store.ensures.line
+    c.end_stored.ensures.no_feed c.end_stored.ensures.line c.end_stored.ensures.emitted
+    c.end_stored.ensures.empty

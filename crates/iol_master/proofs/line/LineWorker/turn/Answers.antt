@@ -16,7 +16,7 @@ returns-clause-turned g c =
             after = w.in-Wake.ensures.after;
             sent = c.send-asked.new.self;
             sends = w.in-Wake.ensures.sends;
-            again = w.deref_mut-in-Wake.result.now;
+            locked = w.deref_mut-in-Wake.result.now;
             awaits = w.receive_wake.ensures.awaits;
             between = w.receive_wake.ensures.after ∙ w.in-Wake.ensures.turns;
             taken = w.receive_wake.new.self;
@@ -32,14 +32,14 @@ returns-clause-turned g c =
             after = w.in-Exchange.ensures.after;
             sent = c.send-asked.new.self;
             sends = w.in-Exchange.ensures.sends;
-            again = w.deref_mut-in-Exchange.result.now;
+            locked = w.deref_mut-in-Exchange.result.now;
             awaits = w.receive.ensures.awaits;
             between = w.receive.ensures.after ∙ w.in-Exchange.ensures.turns;
             taken = w.receive.new.self;
             brings = (
-              w.exchange-came.result,
+              w.exchange-received.result,
               rw (← w.as_slice.ensures.value)
-                  w.exchange-came.ensures.gives,
+                  w.exchange-received.ensures.gives,
               w.receive.ensures.takes,
             );
             turns = sym w.receive.ensures.turns;

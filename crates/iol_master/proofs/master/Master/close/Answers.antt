@@ -48,16 +48,16 @@ loop-held-preserved g c =
 pub returns-clause-gathered : goal.returns-clause-gathered
 returns-clause-gathered g c =
     let loop = c.loop-held.invariant in
-    let told = c.close.ensures in
+    let closed = c.close.ensures in
     let steps = c.in-None.ensures.steps in
     let iter = c.into_iter-held-iterator.ensures.into_iter_gives in
     let pop = c.in-Some.ensures in
     record {
       ports = loop.ports;
       all = omega (arith, loop.all, loop.parts, steps.0, iter.1, pop.len, c.self.view_is);
-      accepted = rw told.tickets.0 loop.accepted;
+      accepted = rw closed.tickets.0 loop.accepted;
       accounts = c.loop-held.accounts;
-      desks = told.desks;
-      settled = told.settled;
-      total = told.tickets.0 ∙ told.tickets.1;
+      desks = closed.desks;
+      settled = closed.settled;
+      total = closed.tickets.0 ∙ closed.tickets.1;
     }

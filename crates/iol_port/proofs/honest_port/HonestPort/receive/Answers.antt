@@ -15,6 +15,6 @@ invariant_of-self g c =
       from = c.self.inside.from.at;
     } in
     rw c.of.ensures
-    (received p c.receive.new.self (octets_in c.args.came.now) g.after c.self.invariant
+    (received p c.receive.new.self (octets_in c.args.received.now) g.after c.self.invariant
     c.receive.ensures.does (subst (λ (q : HonestParts). Exchanges q
-    (octets_in c.args.came.now) g.after) (sym c.self.view_is) c.requires.1.1.1))
+    (octets_in c.args.received.now) g.after) (sym c.self.view_is) c.requires.1.1.1))

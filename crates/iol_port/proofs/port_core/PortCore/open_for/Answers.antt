@@ -13,7 +13,7 @@ returns-in-Ok-clause-opens g c =
     (record {
       core = c.new.result;
       book = c.in-Ok.book;
-      kept = c.new-in-Ok.result.items;
+      queued = c.new-in-Ok.result.items;
       sent = false;
       counters = c.zero.result;
       last_loss = None;

@@ -4,7 +4,7 @@ use Rattle.std.specs.Prelude.{is_some}
 use Rattle.iol_mode.specs.States.{is_reset}
 use Rattle.iol_app.specs.Abstract.Steps.{through_steps}
 use Rattle.iol_app.specs.Abstract.OfMaster.{resets, book_said}
-use Rattle.iol_app.specs.declared.said.Said.TheVariants.{Idle}
+use Rattle.iol_app.specs.declared.report.Said.TheVariants.{Idle}
 use Rattle.iol_app.specs.Core.{CoreState}
 use Rattle.iol_port.specs.View.{PortParts}
 use Rattle.iol_port.specs.CorePort.{awaited_answer}
@@ -17,11 +17,11 @@ use Rattle.iol_port.specs.Steps.{book_after}
 pub invariant_of-self : goal.invariant_of-self
 invariant_of-self g c =
     let p : PortParts = parts_in c.self.inside in
-    turn_tied p c.receive_wake.new.self c.settle.new.kept.items
+    turn_tied p c.receive_wake.new.self c.settle.new.queued.items
     c.settle.new.book c.resets-reset.result Idle c.self.invariant
     (ap (λ (k : CoreState). k.session.limit) c.receive_wake.ensures.core
     ∙ woken_limit (is_some c.args.rate) c.self.inside.core.session)
-    c.receive_wake.ensures.told c.settle.ensures.book c.settle.ensures.kept
+    c.receive_wake.ensures.report_fits c.settle.ensures.book c.settle.ensures.queued
 
 -- the book heard of a reset where both cores say so
 book_is : (g : given.Over) (c : goal.After-settle g) → c.settle.new.book.state
@@ -39,7 +39,7 @@ returns-clause-gives g c =
       core = c.receive_wake.ensures.core;
       book = rw append-nil at (book_is g c);
       memory = c.settle.ensures.memory;
-      kept = c.settle.ensures.kept;
+      queued = c.settle.ensures.queued;
       sent = refl;
       counters = c.turned.ensures ∙ (rw c.of_wake.ensures refl);
       last_loss = c.loss_after-self-inside.ensures ∙ (rw (
@@ -55,4 +55,4 @@ returns-clause-does g c =
     let out = wake_out p (ap awaited_answer c.self.view_is ∙ c.requires) in
     rw (← c.self.view_is) (wake_does p _ (is_some c.args.rate) out.0
     c.receive_wake.ensures.steps refl
-    (record { posts = book_is g c; keeps = c.settle.ensures.kept }))
+    (record { posts = book_is g c; keeps = c.settle.ensures.queued }))

@@ -1,6 +1,6 @@
 -- The clauses of `PortCore::take_event` that the search can't prove.
 use Rattle.std.proofs.Common.{refl, rules}
-use Rattle.iol_port.proofs.CallLemmas.{take_event_does, part_kept}
+use Rattle.iol_port.proofs.CallLemmas.{take_event_does, part_unchanged}
 use Rattle.iol_port.proofs.port_core.PortCore.take_event.Goals as goal
 
 pub returns : goal.returns
@@ -10,7 +10,7 @@ returns g c =
       does = record {
         follows = take_event_does _ c.pop_at.result c.pop_at.new.self.items
             c.pop_at.ensures.value c.pop_at.ensures.items
-            (part_kept (λ kept. kept.items) c.pop_at.result _ _
+            (part_unchanged (λ queued. queued.items) c.pop_at.result _ _
             c.pop_at.ensures.absent);
         book = refl;
       };

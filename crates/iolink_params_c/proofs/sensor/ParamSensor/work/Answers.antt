@@ -3,6 +3,6 @@ use Rattle.std.proofs.Common.{rules}
 use Rattle.iolink_params_c.proofs.Keeping.{worked_keeps}
 use Rattle.iolink_params_c.proofs.sensor.ParamSensor.work.Goals as goal
 
-pub returns-then-is_nothing-clause-kept : goal.returns-then-is_nothing-clause-kept
-returns-then-is_nothing-clause-kept c =
+pub returns-then-is_nothing-clause-lasting : goal.returns-then-is_nothing-clause-lasting
+returns-then-is_nothing-clause-lasting c =
     worked_keeps c.args.self.now c.tell_event.new.self (search rules)

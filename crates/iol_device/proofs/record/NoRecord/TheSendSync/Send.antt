@@ -1,0 +1,9 @@
+-- An unkept record owns nothing, so it may go to any thread.
+use denote.Param.Send.{IsSend}
+use Rattle.iol_device.specs.contracts.record.NoRecord.{the_row}
+
+pub send : IsSend the_row
+send = record {
+  owned = λ d vs. ((λ vss. (tt, ((λ uss. (tt, tt)), tt))), tt);
+  leaving = λ k f vs. tt;
+}

@@ -1,9 +1,0 @@
--- An unkept record owns nothing, so it may go to any thread.
-use denote.Param.Send.{IsSend}
-use Rattle.iol_device.specs.contracts.record.Unkept.{the_row}
-
-pub send : IsSend the_row
-send = record {
-  owned = λ d vs. ((λ vss. (tt, ((λ uss. (tt, tt)), tt))), tt);
-  leaving = λ k f vs. tt;
-}
