@@ -1,5 +1,6 @@
 -- Hearing, by its three cases: not accepted, accepted in the present layout, accepted in the
 -- layout of the command that waits.
+-- For the clauses of `laws::receive_gives`, `laws::rise_gives`, `laws::send_gives` and 16 more.
 use Rattle.std.proofs.lemmas.Grind.{common_steps}
 use Rattle.std.proofs.Common.{arith, ◌≡◌, ℕ, true, List, subst}
 use Rattle.std.specs.Prelude.{Option, Some, None}

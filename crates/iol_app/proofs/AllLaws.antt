@@ -1,4 +1,5 @@
 -- The laws of the device's definitions, all together.
+-- For the clauses of `Core::turn`, `laws::receive_gives`, `laws::rise_gives` and 7 more.
 use Rattle.std.proofs.Common.{◌≡◌, inl, inr, ℕ, suc, ◌≤◌, List, [], ◌∷◌, refl, ◌∙◌, arith}
 use Rattle.std.proofs.lemmas.Grind.{common_steps}
 use Rattle.iol_event.specs.declared.event.Event.{Event}

@@ -1,5 +1,6 @@
 -- The steps of the far end make no message, and say nothing to the book nor of reports: what a call
 -- says is what the steps of the master beside them say.
+-- For the clauses of `laws::receive_gives`, `laws::rise_gives` and `laws::wake_gives`.
 use Rattle.std.proofs.Common.{◌≡◌, ℕ, Bool, true, false, not, ◌&&◌, List, [], ◌∷◌, ◌++◌, filter, arith}
 use Rattle.std.proofs.lemmas.Grind.{common_steps}
 use Rattle.std.specs.Prelude.{Option, Some, None, ⊤}

@@ -1,4 +1,5 @@
 -- A request is begun, and an abort is let wait, in OPERATE.
+-- For the clauses of `Core::abort`, `Core::begin`, `Core::clear_output` and 6 more.
 use Rattle.std.proofs.lemmas.Grind.{common_steps}
 use Rattle.std.proofs.Common.{arith, ◌≡◌, inl, ℕ, Bool, true, false, List, refl, sym, ap, ◌∙◌}
 use Rattle.std.specs.Prelude.{Option, Some, None, IfSome, IsSome, IsTrue, unwrap_or}

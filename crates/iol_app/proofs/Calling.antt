@@ -1,4 +1,5 @@
 -- The calls that are no turns: also between the two halves of one.
+-- For the clauses of `Core::abort`, `Core::begin`, `Core::clear_output` and 6 more.
 use Rattle.std.proofs.lemmas.Grind.{common_steps}
 use Rattle.std.proofs.Common.{arith, ◌≡◌, ℕ, Bool, List}
 use Rattle.std.specs.Prelude.{Option, None, IfSome}

@@ -1,5 +1,6 @@
 -- What the kinds of good replies rest on: what zeros in place of an answer can be, and what is in
 -- doubt then; what is counted, and what is noted, of the message that is out.
+-- For the clauses of `laws::receive_gives`.
 use Rattle.std.proofs.lemmas.Grind.{common_steps}
 use Rattle.std.proofs.Common.{◌≡◌, ℕ, zero, suc, ◌+◌, ◌%◌, min, Bool, true, false, ◌==◌, ◌&&◌, List, [], ◌∷◌, ◌++◌, length, refl, ap, arith, Option, Some, ◌⊎◌}
 use Rattle.std.specs.Prelude.{IfSome, IsTrue, if◌then◌else◌, slice_index, bytes_eq, replicate, None, IsSome}

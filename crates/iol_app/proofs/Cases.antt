@@ -1,4 +1,5 @@
 -- The good replies of OPERATE, kind by kind, by the code's own data.
+-- For the clauses of `laws::receive_gives`.
 use Rattle.std.proofs.Common.{◌≡◌, inl, inr, ℕ, suc, ◌+◌, ◌*◌, ◌%◌, min, Bool, true, false, ◌==◌, List, ◌++◌, length, refl, sym, ap, ◌∙◌, subst, arith, Option, Some, None, ◌⊎◌}
 use Rattle.std.specs.Prelude.{IfSome, IsTrue, is_some, if◌then◌else◌, nat_lt, slice_index, MatchOption}
 use Rattle.arrayvec.specs.ArrayVec.{ArrayVec}

@@ -1,4 +1,5 @@
 -- The calls that aren't turns, over the core's own data.
+-- For the clauses of `Core::abort`, `Core::begin`, `Core::clear_output` and 6 more.
 use Rattle.std.proofs.Common.{◌≡◌, ℕ, Bool, true, false, refl, sym, subst, Option, Some, None}
 use Rattle.std.specs.Prelude.{IsSome, IfSome}
 use Rattle.iol_isdu.specs.declared.values.Request.{Request}

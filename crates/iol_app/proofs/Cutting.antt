@@ -1,4 +1,6 @@
 -- The segments of a request, one after the other.
+-- For the clauses of `PortSession::absorb`, `PortSession::miss_confirm`,
+--     `PortSession::miss_request` and 19 more.
 use Rattle.std.proofs.lemmas.Grind.{common_steps}
 use Rattle.std.proofs.Common.{◌≡◌, ℕ, zero, suc, ◌*◌, ◌<◌, ◌≤◌, List, length, arith, Some}
 use Rattle.arrayvec.specs.ArrayVec.{ArrayVec}

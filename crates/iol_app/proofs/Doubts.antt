@@ -1,4 +1,5 @@
 -- What is left of an attempt without a good reply in the session, where what is out goes out again.
+-- For the clauses of `Core::miss`, `Core::put_due`, `Core::receive_wake` and 5 more.
 use Rattle.std.proofs.lemmas.Grind.{common_steps}
 use Rattle.std.proofs.Common.{◌≡◌, refl, sym, subst, arith, ℕ, Bool, true, false, List, Option, Some}
 use Rattle.std.specs.Prelude.{is_some, IsTrue, if◌then◌else◌}

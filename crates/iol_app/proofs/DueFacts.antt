@@ -1,4 +1,5 @@
 -- What is known of the exchange that is due.
+-- For the clauses of `Core::put_due`, `Core::receive_wake`, `Core::receive` and 4 more.
 use Rattle.std.proofs.lemmas.Grind.{common_steps}
 use Rattle.std.proofs.Common.{arith, ◌≡◌, true, false}
 use Rattle.std.specs.Prelude.{◌⊎◌}

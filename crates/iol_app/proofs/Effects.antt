@@ -1,4 +1,5 @@
 -- What the far end does in one call of a port outside OPERATE, and what the port makes of it.
+-- For the clauses of `laws::rise_gives`, `laws::wake_gives` and `laws::receive_gives`.
 use Rattle.std.proofs.Common.{◌≡◌, ◌≢◌, ◌⊎◌, ℕ, Bool, true, false, ◌&&◌, List, [], ◌∷◌, ◌++◌, filter, refl, sym, ◌∙◌, arith}
 use Rattle.std.proofs.lemmas.Grind.{common_steps}
 use Rattle.std.specs.Prelude.{Some, None, IsTrue}

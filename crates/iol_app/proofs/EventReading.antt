@@ -1,4 +1,5 @@
 -- The reading of events goes with the far end's frozen list.
+-- For the clauses of `laws::receive_gives` and `laws::rise_gives`.
 use Rattle.std.proofs.Common.{◌≡◌, ℕ, Bool, true, false, not, List, arith}
 use Rattle.std.specs.Prelude.{Option, Some, None}
 use Rattle.iol_event.specs.Memory.{Events, IsEventMemory, is_empty, events_after_release}

@@ -1,4 +1,5 @@
 -- The far end's part of an exchange, over the message, the link and the request's level.
+-- For the clauses of `laws::receive_gives` and `laws::rise_gives`.
 use Rattle.std.proofs.Common.{◌≡◌, ◌≢◌, ℕ, suc, ◌+◌, ◌≤◌, min, Bool, true, false, ◌&&◌, List, length, refl, sym, ◌∙◌, ap, subst, arith}
 use Rattle.std.proofs.lemmas.Grind.{common_steps}
 use Rattle.std.specs.Prelude.{Option, Some, None, if◌then◌else◌, nat_lt, IsSome, IfSome}

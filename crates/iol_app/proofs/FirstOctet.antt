@@ -1,4 +1,5 @@
 -- The first octet alone says which message octets are, in every layout.
+-- For the clauses of `laws::rise_gives`, `laws::receive_gives` and `laws::wake_gives`.
 use Rattle.std.proofs.Common.{◌≡◌, ℕ, List, ap, arith}
 use Rattle.std.proofs.lemmas.Grind.{common_steps}
 use Rattle.std.specs.Prelude.{Some, slice_index}

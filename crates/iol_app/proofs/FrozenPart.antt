@@ -1,5 +1,6 @@
 -- The frozen events: own steps, what is heard, and a wake are allowed there, and leave what the
 -- far end's memory says.
+-- For the clauses of `laws::receive_gives`, `laws::rise_gives` and `laws::wake_gives`.
 use Rattle.std.proofs.lemmas.Grind.{common_steps}
 use Rattle.std.proofs.Common.{◌≡◌, ℕ, Bool, true, List, ◌++◌, refl, sym, ◌∙◌, arith}
 use Rattle.std.specs.Prelude.{Option, None, ⊤}

@@ -1,5 +1,6 @@
 -- The images: own steps, what is heard, and a wake are allowed there, and leave the far end's
 -- input and output.
+-- For the clauses of `Core::put_due`, `Core::receive_wake`, `Core::receive` and 6 more.
 use Rattle.std.proofs.lemmas.Grind.{common_steps}
 use Rattle.std.proofs.Common.{arith, ◌≡◌, ℕ, Bool, true, List, ◌++◌, refl}
 use Rattle.std.specs.Prelude.{Option, Some, None, IfSome, ⊤}

@@ -1,4 +1,5 @@
 -- The segments of an answer, one after the other.
+-- For the clauses of `request::asked`, `request::doubted`, `request::replied` and 23 more.
 use Rattle.std.proofs.lemmas.Grind.{common_steps}
 use Rattle.std.proofs.Common.{◌≡◌, ℕ, zero, suc, ◌*◌, ◌%◌, ◌<◌, Bool, true, false, ◌&&◌, if◌then◌else◌, List, ◌++◌, length, refl, sym, arith, ◌+◌, Option, Some, None, Result, Ok, Err}
 use Rattle.std.proofs.lemmas.List.{length-append}

@@ -1,5 +1,6 @@
 -- An exchange of a start-up whose device wasn't reset yet: DeviceStartup is out, or behind it the
 -- read of the page's first octet.
+-- For the clauses of `laws::rise_gives`.
 use Rattle.std.proofs.Common.{◌≡◌, ◌≢◌, ℕ, ◌+◌, min, Bool, true, false, List, [], ◌∷◌, refl, sym, ◌∙◌, ap, subst, arith}
 use Rattle.std.proofs.lemmas.Grind.{common_steps}
 use Rattle.std.proofs.lemmas.Bool.Decides.{nat_tests}

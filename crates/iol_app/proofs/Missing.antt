@@ -1,5 +1,6 @@
 -- An attempt without a good reply in OPERATE, where what is out goes out again: that message, or at
 -- a port for any device a question in its place, or a check in that of a confirm.
+-- For the clauses of `laws::receive_gives`.
 use Rattle.std.proofs.lemmas.Grind.{common_steps}
 use Rattle.std.proofs.lemmas.Bool.{false≢true}
 use Rattle.std.proofs.lemmas.Bool.Decides.{nat_tests}

@@ -1,4 +1,5 @@
 -- What a move says of the message's channel, and of the request.
+-- For the clauses of `laws::receive_gives`, `laws::rise_gives`, `Core::abort` and 8 more.
 use Rattle.std.proofs.Common.{◌≡◌, ℕ, suc, ◌*◌, ◌<◌, true, List, [], length, refl, arith, false, ◌++◌}
 use Rattle.std.proofs.lemmas.Grind.{common_steps}
 use Rattle.std.specs.Prelude.{Option, if◌then◌else◌, IsTrue, Some}

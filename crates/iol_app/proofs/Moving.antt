@@ -1,5 +1,6 @@
 -- Each new message is the move that the request's progress asks for, and a good reply brings the
 -- request on by it.
+-- For the clauses of `laws::messages_are_moves`, `Core::abort`, `Core::begin` and 8 more.
 use Rattle.std.proofs.lemmas.Grind.{common_steps}
 use Rattle.std.proofs.Common.{◌≡◌, ℕ, zero, suc, ◌%◌, ◌≤◌, Bool, true, false, [], refl, sym, ap, ◌∙◌, arith, Option, Some, None, List}
 use Rattle.std.specs.Prelude.{nat_lt, ◌==◌, IfSome, if◌then◌else◌}

@@ -1,4 +1,5 @@
 -- What the two ends' level says of the request that may still be carried out, and of its answer.
+-- For the clauses of `laws::receive_gives`, `laws::rise_gives`, `Core::abort` and 8 more.
 use Rattle.std.proofs.Common.{◌≡◌, ℕ, suc, List, [], ◌∷◌, refl, subst, arith}
 use Rattle.std.proofs.lemmas.Grind.{common_steps}
 use Rattle.std.specs.Prelude.{Option, Some, None}

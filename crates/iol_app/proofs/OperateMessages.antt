@@ -1,4 +1,5 @@
 -- What the messages of OPERATE are for the device.
+-- For the clauses of `laws::receive_gives` and `laws::send_gives`.
 use Rattle.std.proofs.lemmas.Grind.{common_steps}
 use Rattle.std.proofs.Common.{◌≡◌, ℕ, List, refl, ap, ◌∙◌, Option, None, zero, suc, ◌-◌, ◌≤◌, [], ◌∷◌, ◌++◌, length, replicate, drop, sym, arith}
 use Rattle.std.specs.Prelude.{◌⊎◌}

@@ -1,4 +1,5 @@
 -- The far end as it can be, while a message of STARTUP to the page is out, or a test read.
+-- For the clauses of `Core::put_due`, `Core::receive_wake`, `Core::receive` and 5 more.
 use Rattle.std.proofs.Common.{◌≡◌, ℕ, false, List, refl}
 use Rattle.std.specs.Prelude.{Option}
 use Rattle.iol_octets.specs.Control.{control_of}

@@ -1,5 +1,6 @@
 -- In which order the steps of a call come: the far end's own, what it does with the message, and
 -- what the reply brings.
+-- For the clauses of `laws::receive_gives`, `laws::rise_gives` and `laws::wake_gives`.
 use Rattle.std.proofs.lemmas.Grind.{common_steps}
 use Rattle.std.proofs.lemmas.List.{append_assoc, append-nil}
 use Rattle.std.proofs.lemmas.List.Folds.{list_all-append}

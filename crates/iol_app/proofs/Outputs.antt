@@ -1,5 +1,6 @@
 -- The device's output over an exchange: valid in OPERATE alone once an image was sent, that image,
 -- and as told.
+-- For the clauses of `laws::receive_gives` and `laws::rise_gives`.
 use Rattle.std.proofs.lemmas.Grind.{common_steps}
 use Rattle.std.proofs.Common.{arith, Bool, List}
 use Rattle.std.specs.Prelude.{Option}

@@ -1,5 +1,6 @@
 -- What the far end does by itself, in the session's part: it is allowed, and leaves what the
 -- record and the choices say.
+-- For the clauses of `laws::receive_gives`, `laws::rise_gives`, `laws::wake_gives` and 15 more.
 use Rattle.std.proofs.Common.{◌≡◌, ℕ, Bool, true, false, List, [], ◌∷◌, refl, subst, arith}
 use Rattle.std.proofs.lemmas.Grind.{common_steps}
 use Rattle.std.specs.Prelude.{Option, Some, None, if◌then◌else◌, IsSome, IsTrue, ⊤}

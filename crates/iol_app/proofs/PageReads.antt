@@ -1,4 +1,5 @@
 -- The lengths that a start-up tells.
+-- For the clauses of `laws::rise_gives`, `laws::send_gives` and `laws::receive_gives`.
 use Rattle.std.proofs.lemmas.Grind.{common_steps}
 use Rattle.std.proofs.Common.{◌≡◌, ℕ, Bool, List, refl, ap, arith, Option, Some}
 use Rattle.std.specs.Prelude.{IfSome, Ok}

@@ -1,5 +1,6 @@
 -- What happened at the device: own steps, what is heard, and a wake are allowed there, and leave
 -- what the far end has; what an answer brings leaves it alone.
+-- For the clauses of `laws::receive_gives`, `laws::rise_gives` and `laws::wake_gives`.
 use Rattle.std.proofs.lemmas.Grind.{common_steps}
 use Rattle.std.proofs.Common.{◌≡◌, ℕ, Bool, true, false, List, [], ◌∷◌, ◌++◌, length, take, drop, take-append-drop, refl, sym, ◌∙◌, ap, arith}
 use Rattle.std.specs.Prelude.{Option, None, IsTrue}

@@ -1,4 +1,5 @@
 -- The two pieces of a turn, over the core's own data.
+-- For the clauses of `Core::put_due`, `Core::receive_wake`, `Core::receive` and 3 more.
 use Rattle.std.proofs.lemmas.Grind.{common_steps}
 use Rattle.std.proofs.Common.{◌≡◌, ◌⊎◌, ◌||◌, inl, inr, ℕ, Bool, true, false, List, refl, ap, Option, Some, None, arith}
 use Rattle.iol_octets.specs.Control.{control_of}

@@ -1,4 +1,5 @@
 -- The reading of events goes with the far end's frozen list, by the code's own reading.
+-- For the clauses of `laws::receive_gives`.
 use Rattle.std.proofs.Common.{◌≡◌, ℕ, ◌+◌, ◌*◌, ◌≤◌, Bool, true, false, List, [], ◌∷◌, length, refl, sym, subst, arith}
 use Rattle.std.specs.Prelude.{Some, None}
 use Rattle.std.proofs.lemmas.Grind.{common_steps}

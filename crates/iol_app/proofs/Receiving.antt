@@ -1,4 +1,5 @@
 -- What comes back in OPERATE: from the wire's own words.
+-- For the clauses of `laws::receive_gives`.
 use Rattle.std.proofs.Common.{◌≡◌, ◌≢◌, ◌⊎◌, inl, inr, ℕ, suc, ◌+◌, ◌≤◌, ◌<◌, min, Bool, true, false, ◌==◌, List, refl, sym, subst, ◌∙◌, arith}
 use Rattle.std.proofs.lemmas.Bool.Decides.{nat_tests}
 use Rattle.std.proofs.lemmas.Grind.{common_steps}

@@ -1,5 +1,6 @@
 -- Outside down the frozen list is told exactly while the far end is awake and the confirm due or
 -- out.
+-- For the clauses of `laws::receive_gives`, `laws::rise_gives` and `laws::wake_gives`.
 use Rattle.std.proofs.Common.{◌≡◌, ℕ, Bool, true, false, ◌&&◌, List, [], ◌∷◌, refl, sym, ◌∙◌, ap, arith}
 use Rattle.std.proofs.lemmas.Grind.{common_steps}
 use Rattle.iol_event.specs.declared.event.Event.{Event}

@@ -1,4 +1,5 @@
 -- A new message goes out in OPERATE.
+-- For the clauses of `laws::send_gives`.
 use Rattle.std.proofs.Common.{◌≡◌, ◌≢◌, ◌⊎◌, inl, inr, ⊎_elim, ℕ, ◌≤◌, Bool, true, false, List, refl, sym, ap, ◌∙◌, subst, arith}
 use Rattle.std.specs.Prelude.{Option, None, IfSome, IsSome, is_some, bytes_eq, unwrap_or}
 use Rattle.std.proofs.lemmas.Grind.{common_steps}

@@ -1,4 +1,5 @@
 -- What is shown, where a session keeps what is wanted of its output and known of its device.
+-- For the clauses of `laws::rise_gives`, `laws::send_gives`, `laws::wake_gives` and 10 more.
 use Rattle.std.proofs.Common.{◌≡◌, ◌≢◌, ℕ, Bool, false, List, arith}
 use Rattle.std.proofs.lemmas.Grind.{common_steps}
 use Rattle.std.specs.Prelude.{Option, None, IfSome}

@@ -1,4 +1,5 @@
 -- Facts of the parts of a session: the input that is shown, the output, the request, the events.
+-- For the clauses of `laws::receive_gives`, `laws::rise_gives` and `laws::send_gives`.
 use Rattle.std.proofs.Common.{◌≡◌, ℕ, ◌+◌, ◌≤◌, min, Bool, true, false, not, ◌&&◌, List, [], length, refl, arith}
 use Rattle.std.proofs.lemmas.Bool.Decides.{nat_tests}
 use Rattle.std.proofs.lemmas.Grind.{common_steps}

@@ -1,4 +1,5 @@
 -- An exchange of a start-up, in both its modes.
+-- For the clauses of `laws::rise_gives`.
 use Rattle.std.proofs.Common.{◌≡◌, ◌≢◌, inl, ℕ, ◌+◌, min, Bool, true, false, ◌&&◌, List, [], ◌∷◌, ◌++◌, refl, sym, ◌∙◌, ap, arith, ◌≤◌, ◌==◌, length, subst}
 use Rattle.std.proofs.lemmas.Grind.{common_steps}
 use Rattle.std.specs.Prelude.{Option, Some, None, Ok, IfSome, not, unwrap_or, Result, Err, IfOk, is_some, slice_index, if◌then◌else◌, IsTrue}

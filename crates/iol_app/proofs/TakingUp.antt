@@ -1,4 +1,5 @@
 -- No segment of an answer is refused.
+-- For the clauses of `laws::answers_are_taken_up`.
 use Rattle.std.proofs.lemmas.Bool.Decides.{nat_tests}
 use Rattle.std.proofs.lemmas.Grind.{common_steps}
 use Rattle.std.proofs.Common.{arith, ◌≡◌, ℕ, suc, ◌*◌, ◌<◌, ◌≤◌, ⊎_elim, false, ◌==◌, List, [], ◌++◌, length, take, drop, refl, sym, ap, ◌∙◌, None, Result}

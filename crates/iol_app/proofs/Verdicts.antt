@@ -1,4 +1,5 @@
 -- What came back is judged by how the attempt ended, and by its length.
+-- For the clauses of `Core::settle` and `wire_result::new`.
 use Rattle.std.proofs.lemmas.Grind.{common_steps}
 use Rattle.std.proofs.Common.{◌≡◌, ◌+◌, ℕ, List, arith}
 use Rattle.std.specs.Prelude.{Option, nat_le, slice_index}

@@ -1,4 +1,5 @@
 -- What the watch makes of a message of the port, and of what came to it.
+-- For the clauses of `laws::ports_are_by_the_rules`.
 use Rattle.std.proofs.Common.{◌≡◌, ℕ, zero, suc, ◌<◌, Bool, true, false, List, arith}
 use Rattle.std.proofs.lemmas.Grind.{common_steps}
 use Rattle.std.proofs.lemmas.Slice.Eq.{bytes_eq-Decides}

@@ -1,4 +1,5 @@
 -- A good reply in OPERATE, by what its message was for.
+-- For the clauses of `laws::ports_are_by_the_rules`.
 use Rattle.std.proofs.Common.{◌≡◌, ℕ, Bool, true, false, List, [], refl, sym, ap, subst, ◌∙◌, arith}
 use Rattle.std.proofs.lemmas.Grind.{common_steps}
 use Rattle.std.specs.Prelude.{Option, Some, None, IfSome, slice_index, Result, Ok, Err}

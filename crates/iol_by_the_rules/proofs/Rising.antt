@@ -1,4 +1,5 @@
 -- What a start-up comes to: with the watch, and with what the session was told of the page.
+-- For the clauses of `laws::ports_are_by_the_rules`.
 use Rattle.std.proofs.Common.{◌≡◌, ℕ, Bool, true, false, ◌+◌, ◌==◌, if◌then◌else◌, List, [], ◌∷◌, ◌++◌, length, replicate, refl, sym, ap, subst, ◌∙◌, arith}
 use Rattle.std.proofs.lemmas.Grind.{common_steps}
 use Rattle.std.specs.Prelude.{Option, Some, None, IfSome, slice_index, Result, Ok, Err, ⊤}

@@ -1,4 +1,5 @@
 -- A start-up of the port, and the watch that is told it.
+-- For the clauses of `laws::ports_are_by_the_rules`.
 use Rattle.std.proofs.Common.{◌≡◌, ℕ, suc, ◌+◌, ◌≤◌, ◌<◌, Bool, true, false, if◌then◌else◌, ◌==◌, List, [], ◌∷◌, ◌++◌, length, refl, ap, sym, subst, ap₂, add-one, ◌∙◌, ◌/◌, ◌%◌, arith}
 use Rattle.std.proofs.lemmas.Grind.{common_steps, elements}
 use Rattle.std.specs.Prelude.{slice_index, slice_index_or, not, ◌&&◌, is_some, Option, Some, None, IfSome, Result, Ok, Err, IfOk, ⊤}

@@ -1,4 +1,5 @@
 -- A port in OPERATE, and the watch that is told its messages: how the two stand.
+-- For the clauses of `laws::ports_are_by_the_rules`.
 use Rattle.std.proofs.Common.{◌≡◌, ◌≤◌, Bool, true, false}
 use Rattle.std.specs.Prelude.{Option, Some, None, IfSome}
 use Rattle.iol_mseq.specs.Master.{HasMasterParts}

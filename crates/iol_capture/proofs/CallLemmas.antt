@@ -1,5 +1,6 @@
 -- What the lines of a capture tell, by what a `ReaderState` makes of one more octet and of the end.
 -- The calls of `CaptureReader` need them.
+-- For the clauses of `CaptureReader::end_line`, `opened::end_text` and `opened::store`.
 use Rattle.std.proofs.Common.{◌≡◌, ℕ, ◌+◌, ◌<◌, Bool, false, ◌==◌, Option, None, Result, Ok, Err, OnOk, List, [], ◌∷◌, ◌++◌, length, refl, append-nil, append_assoc, length-append, arith}
 use Rattle.std.proofs.lemmas.Bool.Decides.{nat_tests}
 use Rattle.std.specs.Result.{result_and, result_unwrap_or}

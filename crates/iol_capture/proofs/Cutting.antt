@@ -1,4 +1,5 @@
 -- A row cut at its first comma, by the place that a search found: `first_cell` needs these.
+-- For the clauses of `cells::first_cell`.
 use Rattle.std.proofs.Common.{◌≡◌, ℕ, ◌+◌, ◌≤◌, ◌<◌, Bool, false, Some, None, List, [], ◌∷◌, length, take, drop, arith, subst}
 use Rattle.std.specs.List.{slice_split, position, position_or_len}
 use Rattle.std.proofs.lemmas.List.Elements.{All-from_get_or}

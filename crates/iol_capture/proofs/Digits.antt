@@ -1,4 +1,5 @@
 -- Digits behind what is no number. `digits_behind` needs `bad_ends`.
+-- For the clauses of `octet_line::digits_behind`.
 use Rattle.std.proofs.Common.{◌≡◌, ℕ, ◌<◌, suc, List, [], ◌∷◌, length, drop, get_or, refl, ap, ◌∙◌, drop-cons}
 use Rattle.std.specs.Prelude.{Some, None, fold}
 use Rattle.iol_capture.specs.OctetLines.{digit_behind}

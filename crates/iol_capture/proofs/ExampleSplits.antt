@@ -1,5 +1,6 @@
 -- The examples are written by the rules: `some_are_written`, for the law
 -- `what_is_written_is_split`.
+-- For the clauses of `split_laws::what_is_written_is_split`.
 use Rattle.std.proofs.Common.{◌≡◌, ℕ, ◌<◌, List, [], ◌∷◌, ◌++◌, length, arith, refl, ap, subst, inl, inr, length-append}
 use Rattle.iol_octets.specs.Checksum.{checksum_of, six_bits_of, has_checksum}
 use Rattle.iol_octets.specs.Control.{control_of}

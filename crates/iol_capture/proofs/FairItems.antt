@@ -1,5 +1,6 @@
 -- A judge that is told what octets are split into blames no device by the rules, for the law
 -- `octets_are_never_blamed`. Begin at the end, with `items_unblamed`.
+-- For the clauses of `split_laws::octets_are_never_blamed`.
 use Rattle.std.proofs.Common.{ℕ, zero, suc, List, [], ◌∷◌, length, refl}
 use Rattle.std.specs.Prelude.{fold}
 use Rattle.iol_far.specs.Far.{Far}

@@ -1,5 +1,6 @@
 -- A judge that is told the lines of an honest capture, for `honest_captures_are_never_blamed`.
 -- Begin at the end, with `captures`.
+-- For the clauses of `laws::honest_captures_are_never_blamed`.
 use Rattle.std.proofs.Common.{◌≡◌, ℕ, ◌==◌, Option, Some, None, Result, Ok, Err, List, [], ◌∷◌, sym, refl, subst, arith}
 use Rattle.std.proofs.lemmas.Bool.{cond_both, eqb-true}
 use Rattle.std.specs.List.{cons_option, filter_map}

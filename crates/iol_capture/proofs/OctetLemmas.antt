@@ -1,5 +1,6 @@
 -- A judge that is told the octets of a device by the rules, for `honest_octets_are_never_blamed`.
 -- Begin at the end, with `octet_texts`.
+-- For the clauses of `laws::honest_octets_are_never_blamed`.
 use Rattle.std.proofs.Common.{◌≡◌, ℕ, Option, Some, None, Result, Ok, Err, List, [], ◌∷◌, sym, ap, ◌∙◌, subst, arith}
 use Rattle.std.specs.Prelude.{IfOk, fold, option_and_then}
 use Rattle.std.specs.List.{cons_option}

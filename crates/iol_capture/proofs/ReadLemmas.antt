@@ -1,6 +1,8 @@
 -- A capture that is read in pieces: the line that is open, and what a `ReaderState` makes of one
 -- more octet, of the end, and of one more piece of a reader. The calls of `CaptureReader`, and
 -- `judge_capture`, need them.
+-- For the clauses of `CaptureReader::end_line`, `CaptureReader::judge_line`,
+--     `capture::judge_capture` and 5 more.
 use Rattle.std.proofs.Common.{◌≡◌, ℕ, suc, ◌+◌, ◌<◌, Bool, true, false, ◌==◌, Option, Result, Ok, Err, OnOk, List, [], ◌∷◌, ◌++◌, length, get_or, take, drop, fold, refl, ◌∙◌, add-one, append-nil, drop-cons, append_assoc, length-append, length-take, arith}
 use Rattle.std.proofs.lemmas.Bool.{false_from_ne_true, or_parts}
 use Rattle.std.proofs.lemmas.Bool.Decides.{nat_tests}

@@ -1,5 +1,6 @@
 -- Exchanges that are written by the rules are split into these: `written_is_split`, for the law
 -- `what_is_written_is_split`. Begin at the end, with `all_are_split`.
+-- For the clauses of `split_laws::what_is_written_is_split`.
 use Rattle.std.proofs.Common.{◌≡◌, ◌⊎◌, inl, inr, ℕ, ◌+◌, ◌<◌, ◌≤◌, true, false, List, [], ◌∷◌, ◌++◌, length, arith, refl, sym, ◌∙◌, ap, subst, append_assoc, append-nil, length-append}
 use Rattle.std.specs.Prelude.{Option, Some, None, Result, Ok}
 use Rattle.std.proofs.lemmas.Bool.Decides.{nat_tests}

@@ -1,5 +1,7 @@
 -- The words of a text up to its first colon, by what a search finds: `first_word` needs these; and
 -- the octets that words give, one after the other: `read_octets` does.
+-- For the clauses of `trace_line::are_none`, `trace_line::first_octet`, `trace_line::first_word`
+--     and 2 more.
 use Rattle.std.proofs.Common.{◌≡◌, ℕ, suc, ◌+◌, ◌-◌, ◌*◌, ◌≤◌, ◌<◌, ◌≢◌, Bool, true, false, cond, ◌==◌, Option, Some, None, List, [], ◌∷◌, ◌++◌, length, get_or, take, drop, option_map, refl, sym, ap, subst, ◌∙◌, arith, add-one, append-nil, length-take, drop-cons}
 use Rattle.std.proofs.lemmas.Bool.Decides.{nat_tests}
 use Rattle.std.proofs.lemmas.Grind.{common_steps}

@@ -1,4 +1,5 @@
 -- One port more is counted, for the loop of `count_ports`.
+-- For the clauses of `collect::count_ports`.
 use Rattle.std.proofs.Common.{◌≡◌, ◌+◌, ℕ, List, [], ◌∷◌, ◌++◌, length, arith, add-zero}
 use Rattle.iol_clients.specs.declared.counts.PortCounts.{PortCounts}
 use Rattle.iol_clients.specs.Counts.{ClientState, WasCounted, AreCounted}

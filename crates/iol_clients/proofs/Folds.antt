@@ -1,4 +1,5 @@
 -- One element more of a fold, for the loops that collect and count. Begin with `folded`.
+-- For the clauses of `Client::collect` and `collect::count_port`.
 use Rattle.std.proofs.Common.{◌≡◌, ◌+◌, ◌<◌, ◌≤◌, ◌∙◌, ℕ, List, get_or, take, map, length, ap, arith}
 use Rattle.std.proofs.Math.Seq.{take-length}
 use Rattle.std.proofs.lemmas.Fn.{FoldsTo-push}

@@ -1,4 +1,5 @@
 -- The clients of a plan: one more for the loops that start and join their threads, then all.
+-- For the clauses of `run::start_all`, `run::submit_beside` and `serve::with_ledgers`.
 use Rattle.std.proofs.Common.{◌≡◌, ◌+◌, ◌*◌, ◌≤◌, ◌∙◌, ℕ, zero, suc, List, [], ◌∷◌, ◌++◌, All, map, length, replicate, refl, ap, sym, arith, length-append}
 use Rattle.std.proofs.lemmas.List.{append_assoc, length-map, length-replicate, map_push, replicate_more}
 use Rattle.std.proofs.lemmas.List.Elements.{All-nil, All-cons, All-head, All-tail}

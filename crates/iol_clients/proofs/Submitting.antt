@@ -1,4 +1,5 @@
 -- One submit of a client by what its master answered, and then all.
+-- For the clauses of `Client::submit_one` and `Client::submit`.
 use Rattle.std.proofs.Common.{◌≡◌, ◌≢◌, ◌⊎◌, inl, inr, ℕ, List, sym, subst, arith}
 use Rattle.std.specs.Prelude.{Result, Ok, Err}
 use Rattle.iol_isdu.specs.declared.values.Request.{Request}

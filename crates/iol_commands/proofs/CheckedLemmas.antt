@@ -1,4 +1,5 @@
 -- Lines that are checked one after the other, for the clause `printed` of `checked`.
+-- For the clauses of `check_command::checked`.
 use Rattle.std.proofs.Common.{◌≡◌, ℕ, Some, List, ◌∷◌, ◌++◌, refl, append_assoc}
 use Rattle.iol_mseq.specs.Shape.{Shape, startup_shape}
 use Rattle.iol_script.specs.CheckLines.{CheckForm, check_form}

@@ -1,4 +1,5 @@
 -- Counters that are printed one after the other, for the clause of `print_counters`.
+-- For the clauses of `counters_printing::print_counters`.
 use Rattle.std.proofs.Common.{◌≡◌, ℕ, List, ◌++◌, length, map, take, sym, ap, ◌∙◌, append_assoc}
 use Rattle.std.specs.List.{flat_map}
 use Rattle.std.proofs.Math.Seq.{take-length}

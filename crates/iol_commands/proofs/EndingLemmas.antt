@@ -1,5 +1,6 @@
 -- Whether a line asks for the counters, for `asks_for_counters` and the loop of
 -- `any_asks_for_counters`.
+-- For the clauses of `ending::any_asks_for_counters` and `ending::line_asks`.
 use Rattle.std.proofs.Common.{◌≡◌, ℕ, zero, suc, false, List, [], ◌∷◌, replicate, refl}
 use Rattle.std.proofs.lemmas.List.Folds.{list_any-append}
 use Rattle.std.specs.Prelude.{◌||◌}

@@ -1,5 +1,7 @@
 -- Octets that are traced one after the other, for the clauses of `octet_tracing` and of
 -- `judge_traced`. Begin with `texts_join`.
+-- For the clauses of `judge_command::judge_traced`, `judge_command::judge`, `octet_tracing::show`
+--     and 4 more.
 use Rattle.std.proofs.Common.{◌≡◌, ℕ, ◌+◌, ◌<◌, false, ◌⊎◌, inl, inr, Option, Some, None, IfErr, Result, Ok, Err, OnOk, IfOk, List, [], ◌∷◌, ◌++◌, length, get_or, take, drop, refl, sym, ap, ◌∙◌, subst, append_assoc, append-nil, add-one, drop-cons, take-append-drop}
 use Rattle.std.proofs.KnownBytes.{Appends-nil, Appends-trans, Consumes-trans}
 use Rattle.std.proofs.lemmas.List.{take_more}

@@ -1,4 +1,6 @@
 -- Texts that are printed one behind the other, for clauses that say what a function prints.
+-- For the clauses of `Tracer::make`, `counters_printing::print_counters`, `ending::print_ending`
+--     and 8 more.
 pub use Rattle.iol_print.proofs.PrintedLemmas.{behind}
 use Rattle.std.proofs.Common.{◌≡◌, ℕ, ◌+◌, ◌<◌, Result, OnOk, List, ◌++◌, length, get_or, take, arith, append_assoc, rules}
 use Rattle.std.specs.List.{flat_map}

@@ -1,5 +1,6 @@
 -- Calls that are traced one after the other, for the clauses of the tracer and of `traced`. Begin
 -- with `traces_more`.
+-- For the clauses of `Tracer::follow_call`, `Tracer::follow_turns`, `Tracer::follow` and 10 more.
 use Rattle.std.proofs.Common.{◌≡◌, ℕ, false, Option, List, [], ◌∷◌, ◌++◌, length, replicate, refl, sym, ap, ◌∙◌, append_assoc, append-nil}
 use Rattle.std.proofs.lemmas.List.{length-replicate}
 use Rattle.std.proofs.KnownBytes.{Appends-nil, Appends-trans}

@@ -1,5 +1,6 @@
 -- A state explains each reply of a device that it stands for, and what is known of an ISDU transfer
 -- holds once the reply was had.
+-- For the clauses of `laws::honest_lines_are_never_blamed`.
 use Rattle.std.proofs.lemmas.Grind.{common_steps}
 use Rattle.std.proofs.Common.{◌≡◌, inl, inr, ℕ, zero, suc, ◌+◌, ◌-◌, ◌≤◌, Bool, true, false, List, ◌∷◌, length, drop, get_or, replicate, refl, ◌∙◌, ap, arith, eqb-true, []}
 use Rattle.std.proofs.lemmas.Bool.{cond_both}

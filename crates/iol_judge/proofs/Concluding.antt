@@ -1,4 +1,5 @@
 -- A state that doesn't explain a reply, and what the judge makes of one that is alone.
+-- For the clauses of `Judge::hear_alone` and `next::reply_part`.
 use Rattle.std.proofs.Common.{◌≡◌, ℕ, List, [], ◌∷◌, sym, ◌∙◌, ap}
 use Rattle.std.specs.Prelude.{Option, Result, Ok, Err}
 use Rattle.iol_page.specs.declared.page.Layouts.{Layouts}

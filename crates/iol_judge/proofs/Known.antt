@@ -1,4 +1,6 @@
 -- What is known of an answer's octets, and which answers have them.
+-- For the clauses of `answer::has_answer_of`, `octets::note_octets` and
+--     `laws::honest_lines_are_never_blamed`.
 use Rattle.std.proofs.lemmas.Grind.{common_steps}
 use Rattle.std.proofs.lemmas.Bool.Decides.{nat_tests}
 use Rattle.std.proofs.Common.{◌≡◌, ℕ, zero, suc, ◌+◌, ◌-◌, ◌*◌, ◌/◌, ◌<◌, ◌≤◌, Bool, true, false, List, [], ◌∷◌, ◌++◌, length, take, drop, replicate, get_or, set, refl, sym, ◌∙◌, ap, arith, ⊎_elim, Result, Ok, length-set}

@@ -1,5 +1,6 @@
 -- A judge that is told the mode of a device behind what it didn't hear, for
 -- `resumed_judges_are_fair`.
+-- For the clauses of `laws::resumed_judges_are_fair`.
 use Rattle.std.proofs.Common.{◌≡◌, inl, inr, ℕ, Bool, List, true, refl, arith, sym, subst}
 use Rattle.std.specs.Prelude.{if◌then◌else◌, None}
 use Rattle.iol_far.specs.Far.{Far}

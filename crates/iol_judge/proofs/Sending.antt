@@ -1,4 +1,5 @@
 -- Which segments of an answer were sent, once a device worked a read.
+-- For the clauses of `laws::honest_lines_are_never_blamed`.
 use Rattle.std.proofs.lemmas.Grind.{common_steps}
 use Rattle.std.proofs.Common.{◌≡◌, ℕ, ◌+◌, ◌*◌, ◌%◌, ◌<◌, ◌≤◌, max, ⊎_elim, Bool, true, false, List, [], ◌∷◌, length, refl, sym, ◌∙◌, ap, arith, inl, inr, eqb-true}
 use Rattle.std.specs.Prelude.{min, Option, Some, not, ◌&&◌, ◌==◌, if◌then◌else◌, slice_index, nat_lt, IsTrue}

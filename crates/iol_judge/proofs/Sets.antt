@@ -1,5 +1,6 @@
 -- Sets of states and what they stand for: what a device's events show, what one state covers of
 -- another, and what the device does by itself, or at a wake-up.
+-- For the clauses of `laws::honest_lines_are_never_blamed`.
 use Rattle.std.proofs.Common.{◌≡◌, ℕ, zero, suc, ◌+◌, ◌-◌, ◌/◌, ◌%◌, ◌^◌, ◌<◌, ◌≤◌, max, Bool, true, false, List, [], ◌∷◌, length, refl, ◌∙◌, ap, arith, ◌⊎◌, inl, inr, ◌*◌, ◌++◌}
 use Rattle.std.proofs.lemmas.Bool.{and_parts, cond_both, or_cases}
 use Rattle.std.proofs.lemmas.Grind.{common_steps}

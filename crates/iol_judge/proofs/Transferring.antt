@@ -1,4 +1,5 @@
 -- What is known of an ISDU transfer holds once a device worked a message.
+-- For the clauses of `laws::honest_lines_are_never_blamed`.
 use Rattle.std.proofs.lemmas.Grind.{common_steps}
 use Rattle.std.proofs.Common.{◌≡◌, inl, inr, ℕ, zero, suc, Bool, true, false, List, refl, ap, ◌⊎◌, arith}
 use Rattle.std.specs.Prelude.{Option, Some, None, ◌==◌, if◌then◌else◌, ◌++◌, IfSome, IsTrue}

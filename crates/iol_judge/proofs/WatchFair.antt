@@ -1,5 +1,6 @@
 -- What the watch never blames, for `repeats_and_wakes_are_fair`. Begin at the end, with
 -- `repeats_are_fair`.
+-- For the clauses of `watch_laws::repeats_and_wakes_are_fair`.
 use Rattle.std.proofs.Common.{◌≡◌, ℕ, Bool, true, false, List, arith}
 use Rattle.std.proofs.lemmas.Grind.{common_steps}
 use Rattle.std.proofs.lemmas.Slice.Eq.{bytes_eq-Decides}

@@ -1,4 +1,5 @@
 -- What tickets that are abandoned leave of where the others stand.
+-- For the clauses of `tickets::abandon` and `tickets::abandon_each`.
 use Rattle.std.proofs.Common.{◌≡◌, ℕ, ◌+◌, ◌<◌, ◌≤◌, true, false, ◌||◌, ◌&&◌, cond, refl, ap, arith, List, [], ◌∷◌, ◌++◌, Option, Some, None, is_some, length}
 use Rattle.std.specs.Prelude.{not}
 use Rattle.std.specs.List.{FoldsTo}

@@ -1,4 +1,5 @@
 -- A ticket is abandoned until it is outstanding no more, and so is one more: what that leaves.
+-- For the clauses of `tickets::abandon_each` and `tickets::abandon`.
 use Rattle.std.proofs.Common.{◌≡◌, ℕ, ◌+◌, ◌<◌, ◌&&◌, Bool, true, false, List, [], ◌∷◌, ◌++◌, All, refl, ◌∙◌, length, get_or, take}
 use Rattle.std.specs.Prelude.{not}
 use Rattle.std.specs.List.{Contains}

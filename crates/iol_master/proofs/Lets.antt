@@ -1,4 +1,5 @@
 -- A gate that lets one turn more pass.
+-- For the clauses of `LineWorker::serve` and `serve::work`.
 use Rattle.std.proofs.Common.{◌≡◌, ◌+◌, ◌<◌, ◌≤◌, inl, inr, ℕ, true, arith}
 use Rattle.std.proofs.lemmas.Bool.{cases_lt}
 use Rattle.iol_master.specs.Served.{GateFacts}

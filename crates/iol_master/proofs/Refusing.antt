@@ -1,5 +1,6 @@
 -- Why a submit is refused at a port without Data Storage, and with it: the clause `refused` of
 -- `submit_as`. And that a withdrawal gives no ticket: the invariant behind `Held::withdraw`.
+-- For the clauses of `Held::withdraw` and `wired::submit_as`.
 use Rattle.std.proofs.Common.{◌≡◌, ℕ, Bool, true, false, cond, refl, ap, Some, None, is_some, nat_le, nat_eq, ◌+◌, ◌^◌, Result, Ok, Err, inl, inr}
 use Rattle.std.specs.Prelude.{IfErr, IfNone, IfSome}
 use Rattle.iol_book.specs.declared.entries.Ticket.{Ticket}

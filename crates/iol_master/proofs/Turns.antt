@@ -1,4 +1,5 @@
 -- The number by which a line and its worker count turns.
+-- For the clauses of `LinePort::receive_wake` and `LinePort::receive`.
 use Rattle.std.proofs.Common.{◌≡◌, ◌≤◌, ℕ, ◌+◌, ◌/◌, ◌%◌, arith}
 
 -- what is out is answered, which makes one turn more

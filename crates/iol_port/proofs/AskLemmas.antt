@@ -1,4 +1,5 @@
 -- What a turn tells the book.
+-- For the clauses of `PortCore::turn`.
 use Rattle.std.proofs.Common.{◌≡◌, ◌∷◌, [], ◌++◌, Bool, cond, not, ◌&&◌, Option, arith}
 use Rattle.std.proofs.lemmas.Grind.{common_steps}
 use Rattle.iol_isdu.specs.declared.values.Request.{Request}

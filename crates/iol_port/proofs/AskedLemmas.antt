@@ -1,4 +1,5 @@
 -- only a cancel sets the mark, and only a request that has it is cancelled
+-- For the clauses of `laws::cancelled_requests_were_asked`.
 use Rattle.std.proofs.Common.{◌≡◌, ◌⊎◌, inl, inr, ◌∷◌, [], List, true, ap, ◌∙◌, arith}
 use Rattle.std.proofs.lemmas.Grind.{common_steps}
 use Rattle.iol_isdu.specs.declared.values.Cause.TheVariants.{Cancelled}

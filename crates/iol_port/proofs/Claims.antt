@@ -1,4 +1,5 @@
 -- The claim holds of each port: for the clauses `claim` of `run` and `keeps_record`.
+-- For the clauses of `Port::keeps_record` and `Port::run`.
 use Rattle.std.proofs.Common.{◌≡◌, Bool, List, [], ◌∷◌, ◌++◌, refl, sym, map, append-nil}
 use Rattle.iol_event.specs.declared.event.Event.{Event}
 use Rattle.iol_app.specs.Abstract.Events.{frozen_events}

@@ -1,4 +1,5 @@
 -- A session that has nothing to do but its request, and one turn of it over a clean wire.
+-- For the clauses of `Port::run` and `PortCore::turn`.
 use Rattle.std.proofs.Common.{append-nil, ◌≡◌, inl, inr, ℕ, Bool, true, false, ◌&&◌, List, [], ◌∷◌, ◌++◌, refl, sym, ap, subst, ◌∙◌, Option, Some, None, arith}
 use Rattle.std.proofs.lemmas.Grind.{common_steps}
 use Rattle.std.specs.Prelude.{IsTrue, if◌then◌else◌, MatchBool}

@@ -1,4 +1,5 @@
 -- One turn brings a request one stage on.
+-- For the clauses of `Port::run` and `PortCore::turn`.
 use Rattle.std.proofs.Common.{◌≡◌, inl, inr, ℕ, zero, suc, ◌+◌, ◌*◌, ◌%◌, ◌<◌, ◌≤◌, Bool, true, false, ◌==◌, List, [], length, refl, sym, ap, ◌∙◌, arith, Option, Some, None, Ok, ◌++◌, subst}
 use Rattle.std.proofs.lemmas.Grind.{common_steps}
 use Rattle.std.specs.Prelude.{IsTrue, if◌then◌else◌, MatchBool}

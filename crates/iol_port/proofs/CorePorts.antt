@@ -1,5 +1,7 @@
 -- A port without the wire: what goes out, and what comes back, are pieces of a run of the abstract
 -- port.
+-- For the clauses of `PortCore::expect_any`, `PortCore::expect`, `PortCore::receive_wake` and 12
+--     more.
 use Rattle.std.proofs.Common.{◌≡◌, ◌∷◌, ◌++◌, [], List, ℕ, Bool, true, false, cond, not, ◌&&◌, Option, Some, None, refl, ap, sym, ◌∙◌, subst, inl, inr, arith}
 use Rattle.std.specs.Prelude.{IsTrue}
 use Rattle.std.specs.List.{list_all}

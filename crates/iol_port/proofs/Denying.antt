@@ -1,4 +1,5 @@
 -- What a turn denies: a request that waited, and only where the device has no ISDU.
+-- For the clauses of `PortCore::turn`.
 use Rattle.std.proofs.Common.{◌≡◌, ◌⊎◌, ◌∷◌, ◌++◌, [], List, Bool, true, false, cond, Option, Some, None, refl, ◌∙◌, inl, inr, arith}
 use Rattle.std.proofs.lemmas.Bool.Decides.{nat_tests}
 use Rattle.std.proofs.lemmas.Grind.{common_steps}

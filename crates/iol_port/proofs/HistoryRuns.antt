@@ -1,5 +1,6 @@
 -- What a run says of events, images and outputs, by its pieces: for the law `runs_tell_history` and
 -- the claim.
+-- For the clauses of `laws::runs_fit_history`, `Port::keeps_record` and `Port::run`.
 use Rattle.std.proofs.Common.{◌≡◌, ◌⊎◌, inl, inr, ℕ, Bool, true, false, ◌||◌, List, [], ◌∷◌, ◌++◌, length, drop, refl, sym, ◌∙◌, ap, subst, arith}
 use Rattle.std.proofs.lemmas.Grind.{common_steps}
 use Rattle.std.proofs.lemmas.List.{append_assoc, append-nil}

@@ -1,4 +1,6 @@
 -- A run goes on by one piece, and of each run the record fits the journal.
+-- For the clauses of `HonestPort::keeps_record`, `HonestPort::open_for`,
+--     `HonestPort::receive_wake` and 2 more.
 use Rattle.std.proofs.Common.{◌∷◌, ◌++◌, [], List, ℕ, Bool, Option, refl, subst}
 use Rattle.iol_far.specs.Far.{Far}
 use Rattle.iol_link.specs.Honest.{HonestWake}

@@ -1,5 +1,7 @@
 -- The journal, and the one that it makes with what drains handed out before: what one more entry
 -- does to both, and what a drain leaves.
+-- For the clauses of `laws::denied_requests_stay_out`, `laws::each_done_has_its_pair`,
+--     `laws::late_requests_end` and 10 more.
 use Rattle.std.proofs.Common.{◌≡◌, Bool, true, false, List, [], ◌∷◌, ◌++◌, Option, None, Some, ◌||◌, cond, drop, length, refl, ap, sym, ◌∙◌, arith, filter}
 use Rattle.std.proofs.lemmas.List.{append_assoc, append-nil, drop-append-le, length-append}
 use Rattle.std.proofs.Math.Seq.{drop-length}

@@ -1,6 +1,8 @@
 -- The owners in a whole run: it stays sound, their requests were submitted in the run, and none
 -- that
 -- was cut off before a reset of the device, or for good, has more answers then.
+-- For the clauses of `laws::denied_requests_stay_out`, `laws::each_done_has_its_pair`,
+--     `laws::late_requests_end` and 10 more.
 use Rattle.std.proofs.Common.{◌≡◌, ◌⊎◌, ◌∷◌, ◌++◌, [], List, ℕ, ◌+◌, ◌≤◌, Bool, true, false, Option, Some, None, append-nil, refl, sym, ap, ◌∙◌, inl, inr, subst, arith}
 use Rattle.std.proofs.lemmas.Bool.{eq-eqb}
 use Rattle.std.proofs.lemmas.Bool.Decides.{nat_tests}

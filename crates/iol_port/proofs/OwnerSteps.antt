@@ -1,4 +1,6 @@
 -- What each step does to the owners of a sound port: it stays sound, and they go on.
+-- For the clauses of `laws::denied_requests_stay_out`, `laws::each_done_has_its_pair`,
+--     `laws::late_requests_end` and 10 more.
 use Rattle.std.proofs.Common.{◌≡◌, ◌⊎◌, ◌∷◌, ◌++◌, [], List, ℕ, ◌+◌, Bool, true, false, ◌≤◌, Option, Some, None, append_assoc, append-nil, length, ◌||◌, refl, ap, sym, ◌∙◌, subst, arith, inl, inr, map}
 use Rattle.std.proofs.lemmas.Grind.{common_steps}
 use Rattle.std.specs.Prelude.{IsTrue, IsSome}

@@ -1,4 +1,6 @@
 -- Owners that go on: what they had stays, and those that have no more answers.
+-- For the clauses of `laws::denied_requests_stay_out`, `laws::each_done_has_its_pair`,
+--     `laws::late_requests_end` and 10 more.
 use Rattle.std.proofs.Common.{◌≡◌, ◌⊎◌, ◌∷◌, ◌++◌, [], List, Bool, false, Option, Some, None, append_assoc, refl, ap, sym, ◌∙◌, subst, arith, inl, inr, drop}
 use Rattle.std.proofs.lemmas.Grind.{common_steps}
 use Rattle.iol_isdu.specs.declared.values.Request.{Request}

@@ -1,5 +1,7 @@
 -- What is said of each pair of a list, as of the outcomes of a book; and how often a number stands
 -- among the requests that wait.
+-- For the clauses of `PortCore::turn`, `laws::denied_requests_stay_out`,
+--     `laws::each_done_has_its_pair` and 11 more.
 use Rattle.std.proofs.Common.{◌≡◌, ◌∷◌, ◌++◌, [], List, ℕ, ◌+◌, Bool, true, false, cond, ◌≤◌, nat_eq, Some, arith}
 use Rattle.std.proofs.lemmas.Grind.{common_steps}
 use Rattle.std.specs.Map.{remove_entry, lookup}

@@ -1,4 +1,5 @@
 -- what a piece of a run of the abstract port leaves, and what each piece keeps
+-- For the clauses of `laws::runs_join`, `Port::keeps_record`, `Port::run` and 13 more.
 use Rattle.std.proofs.Common.{◌≡◌, ◌∷◌, ◌++◌, [], List, true, Option, Some, None, IsTrue, refl, ap, sym, ◌∙◌, arith, inl, inr, ◌⊎◌, drop, map}
 use Rattle.std.proofs.lemmas.Grind.{common_steps}
 use Rattle.std.proofs.lemmas.List.{map-append}

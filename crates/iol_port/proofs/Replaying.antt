@@ -1,4 +1,6 @@
 -- each change of a book keeps it the replay of its journal
+-- For the clauses of `PortCore::turn`, `laws::denied_requests_stay_out`,
+--     `laws::each_done_has_its_pair` and 11 more.
 use Rattle.std.proofs.Common.{◌≡◌, Bool, true, List, [], ◌∷◌, ◌++◌, Option, None, Some, cond, is_some, refl, sym, ap, ◌∙◌, arith, ◌||◌, ◌⊎◌, inl, inr}
 use Rattle.std.proofs.lemmas.Bool.{eq-eqb}
 use Rattle.std.proofs.lemmas.Grind.{common_steps}

@@ -1,4 +1,5 @@
 -- a core that operates does so for the right device
+-- For the clauses of `PortCore::serves_right_device`.
 use Rattle.std.proofs.Common.{◌≡◌, true, false, Option, Some, None}
 use Rattle.std.specs.Prelude.{IsTrue}
 use Rattle.iol_page.specs.declared.page.Layouts.{Layouts}

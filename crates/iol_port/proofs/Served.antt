@@ -1,5 +1,6 @@
 -- Turns of a port over a clean wire, one after the other: requests that wait are served in order,
 -- each in its number of turns.
+-- For the clauses of `Port::run`.
 use Rattle.std.proofs.Common.{◌≡◌, ◌⊎◌, inl, inr, ℕ, zero, suc, ◌+◌, ◌-◌, ◌<◌, ◌≤◌, Bool, true, false, cond, List, [], ◌∷◌, ◌++◌, length, append_assoc, refl, sym, ap, subst, ◌∙◌, Option, Some, take_all, take, get_or, replicate, arith}
 use Rattle.std.specs.Prelude.{IsTrue, is_some, slice_get, drop, filter}
 use Rattle.std.proofs.lemmas.Bool.{eq-eqb}

@@ -1,4 +1,5 @@
 -- the three pieces of a turn make one turn of the abstract port
+-- For the clauses of `PortCore::turn`, `Port::abandon`, `Port::open_for` and 12 more.
 use Rattle.std.proofs.Common.{◌≡◌, ◌∷◌, ◌++◌, [], List, ℕ, Bool, Option, None, refl, sym, subst, inl, inr, arith, ap}
 use Rattle.std.proofs.lemmas.Grind.{common_steps}
 use Rattle.iol_isdu.specs.declared.values.Answer.{Answer}

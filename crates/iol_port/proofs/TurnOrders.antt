@@ -1,4 +1,5 @@
 -- what comes of the order of a turn's steps
+-- For the clauses of `laws::turns_rule_out`.
 use Rattle.std.proofs.Common.{◌≡◌, ◌≢◌, ◌⊎◌, inl, inr, ◌∷◌, ◌++◌, [], List, filter, ℕ, length, true, false, Some, None, refl, sym, ◌∙◌, ap, arith, subst, Option}
 use Rattle.std.proofs.lemmas.Grind.{common_steps}
 use Rattle.std.proofs.lemmas.List.Folds.{list_all-append}

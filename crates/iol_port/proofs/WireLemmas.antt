@@ -1,5 +1,6 @@
 -- on every wire a run is its calls, one after another, and its wire comes from the first by calls
 -- alone
+-- For the clauses of `Port::abandon`, `Port::open_for`, `Port::run` and 3 more.
 use Rattle.std.proofs.Common.{ap, OnOk, OnErr, ◌<◌, ◌+◌, ◌∷◌, ◌++◌, [], List, ℕ, Result, false, ◌≡◌, ◌∙◌, length, take, get_or, refl, arith}
 use Rattle.std.proofs.lemmas.Grind.{common_steps}
 use Rattle.std.proofs.lemmas.List.{take_more}

@@ -1,5 +1,6 @@
 -- The shortest cycle time of at least so many microseconds is the least octet that takes so long:
 -- `cycle_of_micros` needs `computed`.
+-- For the clauses of `call_line::cycle_of_micros`.
 use Rattle.std.proofs.Common.{◌≡◌, ℕ, ◌<◌, ◌≤◌, Bool, true, false, nat_le, nat_lt, Some, Result, Ok, Err, IfOk, get_or, refl, sym, subst, arith}
 use Rattle.std.specs.List.{range_with_len}
 use Rattle.std.proofs.lemmas.Bool.{ltb-true}

@@ -1,5 +1,7 @@
 -- A plain word is a number where it is the text of that number. `number_of_digits`, `plain_number`
 -- and `decimal_number` need these, from the first to the last.
+-- For the clauses of `numerals::decimal_number`, `numerals::number_of_digits` and
+--     `numerals::plain_number`.
 use Rattle.std.proofs.Common.{◌≡◌, ℕ, zero, suc, ◌+◌, ◌*◌, ◌<◌, ◌≤◌, ◌^◌, true, false, Option, Some, None, List, [], ◌∷◌, length, get_or, take, sym, ap, ◌∙◌, arith, subst}
 use Rattle.std.specs.Char.{digit_value}
 use Rattle.std.specs.Option.{SomeIff}

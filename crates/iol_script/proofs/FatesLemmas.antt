@@ -1,4 +1,5 @@
 -- How many steps are fates: `WireLine.fates` and `Draft.add_steps` need these.
+-- For the clauses of `Draft::add_steps` and `wire_line::fates`.
 use Rattle.std.proofs.Common.{◌≡◌, ◌≤◌, ◌+◌, ℕ, zero, suc, List, [], ◌∷◌, ◌++◌, length, replicate, refl, arith, length-append}
 use Rattle.std.proofs.lemmas.List.{length-replicate}
 use Rattle.iol_sim.specs.declared.script.Fate.{Fate as FateOf}

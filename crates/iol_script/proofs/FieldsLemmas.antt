@@ -1,4 +1,5 @@
 -- What octets within bounds say of an image and of a page: `image_of` and `page_of` need these.
+-- For the clauses of `fields::image_of` and `setting::page_of`.
 use Rattle.std.proofs.Common.{◌≡◌, ◌↔◌, ℕ, ◌≤◌, Bool, true, false, cond, Option, Some, None, Result, Ok, Err, IsOk, IfOk, is_ok, List, length, option_and_then, refl, arith}
 use Rattle.std.specs.Result.{result_ok}
 use Rattle.std.proofs.lemmas.Bool.Decides.{nat_tests}

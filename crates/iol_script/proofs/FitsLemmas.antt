@@ -1,5 +1,6 @@
 -- Whether words fit a form, of which no value is built: `write_fits`, `are_pairs` and
 -- `take_call` need these.
+-- For the clauses of `Draft::take_call`, `call_check::write_fits` and `numerals::are_pairs`.
 use Rattle.std.proofs.Common.{◌≡◌, true, false, Option, Some, None, is_some, ◌&&◌, refl}
 use Rattle.iol_port.specs.declared.call.Call.{Call}
 use Rattle.iol_script.specs.DraftInside.{after_form}

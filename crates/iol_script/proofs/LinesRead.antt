@@ -1,4 +1,5 @@
 -- Lines that are read one after the other: `Plan.read` and `Script.read` need these at a bad line.
+-- For the clauses of `Plan::read` and `Script::read`.
 use Rattle.std.proofs.Common.{◌≡◌, ℕ, Option, Result, Ok, Err, List, [], ◌∷◌, fold, refl, ap, ◌∙◌}
 use Rattle.iol_script.specs.Text.{line_read}
 

@@ -1,4 +1,5 @@
 -- Octets that are read one after the other, by `octets_of_pairs` and `parted_octets`.
+-- For the clauses of `numerals::pairs_of` and `numerals::parted_octets`.
 use Rattle.std.proofs.Common.{◌≡◌, ℕ, ◌-◌, ◌≤◌, Option, Some, None, List, [], ◌∷◌, ◌++◌, length, get_or, take, drop, option_map, option_and_then, arith, append-nil, append_assoc, length-append}
 use Rattle.std.proofs.lemmas.Bool.Decides.{nat_tests}
 use Rattle.std.proofs.lemmas.List.{take_rest}

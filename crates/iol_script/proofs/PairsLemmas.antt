@@ -1,4 +1,5 @@
 -- Pairs of digits, of which only their number is told. `are_pairs` needs these at each return.
+-- For the clauses of `numerals::are_pairs`.
 use Rattle.std.proofs.Common.{◌≡◌, ℕ, ◌+◌, ◌*◌, Bool, cond, Option, Some, None, List, [], ◌∷◌, length, is_some, option_map, option_and_then, nat_le, ◌&&◌, refl, arith, zero, suc}
 use Rattle.std.specs.List.{list_all}
 use Rattle.std.proofs.lemmas.Bool.Decides.{nat_tests}

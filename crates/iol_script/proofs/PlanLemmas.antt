@@ -1,4 +1,5 @@
 -- A text has no more lines than octets, so that `Plan.read` can count them.
+-- For the clauses of `Plan::read`.
 use Rattle.std.proofs.Common.{ℕ, ◌+◌, ◌≤◌, List, [], ◌∷◌, length, arith}
 use Rattle.std.specs.List.{onto_first}
 use Rattle.std.proofs.lemmas.Bool.Decides.{nat_tests}

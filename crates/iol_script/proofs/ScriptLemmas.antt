@@ -1,5 +1,6 @@
 -- Good lines of `run`, and the calls that they make: the clauses `calls` and `forms` of
 -- `Script.read` need these. Begin at `Goods`.
+-- For the clauses of `Script::read`.
 use Rattle.std.proofs.Common.{◌≡◌, ℕ, ◌+◌, Option, Some, None, IfSome, IsSome, option_and_then, Ok, Err, List, [], ◌∷◌, length, fold, All, refl, sym, ◌∙◌, subst, arith, length-append}
 use Rattle.std.specs.Option.{ok_or, option_map_or}
 use Rattle.std.proofs.lemmas.List.Elements.{All-nil, All-cons}

@@ -1,4 +1,5 @@
 -- Members, one for each parameter: `TableLines.members` needs this.
+-- For the clauses of `TableLines::members`.
 use Rattle.std.proofs.Common.{ℕ, ◌<◌, ◌+◌, List, [], ◌∷◌, ◌++◌, take, length, get_or, sym, subst}
 use Rattle.std.proofs.lemmas.List.{take_more}
 use Rattle.std.specs.List.{AllZip}

@@ -1,4 +1,6 @@
 -- What an attempt asks, whatever came of its requests: the laws of that.
+-- For the clauses of `laws::acknowledged_sets_are_saved`, `laws::attempts_ask_no_more`,
+--     `laws::ended_uploads_were_saved` and 2 more.
 use Rattle.std.proofs.Common.{◌≡◌, ◌≤◌, ◌⊎◌, inl, inr, ◌∷◌, ◌++◌, ◌∙◌, [], ℕ, zero, suc, List, Option, Some, Bool, true, false, refl, sym, ap, arith, subst}
 use Rattle.std.specs.Prelude.{map, slice_get, ◌||◌, if◌then◌else◌}
 use Rattle.iol_isdu.specs.declared.values.Place.{Place}

@@ -1,5 +1,7 @@
 -- No outcome leads to the end of an upload: the program's saving alone does. What the laws of
 -- checks at a stored port rest on (StoredChecks).
+-- For the clauses of `laws::ended_uploads_were_saved`, `laws::fetched_sets_are_whole` and
+--     `laws::restored_standings_are_taken`.
 use Rattle.std.proofs.Common.{◌≡◌, ℕ, Bool, true, false, List, [], ◌∷◌, Option, None, Some, ap, refl, cond, ◌+◌, ◌*◌, ◌&&◌}
 use Rattle.std.specs.Prelude.{if◌then◌else◌, bytes_eq, nat_le, nat_lt}
 use Rattle.iol_isdu.specs.declared.values.Answer.TheVariants.{Refused as AnswerRefused, Read, Written}

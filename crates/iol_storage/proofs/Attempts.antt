@@ -1,4 +1,6 @@
 -- An attempt, whatever comes of its requests, and whenever its set is saved: the laws.
+-- For the clauses of `laws::restored_sets_are_taken`, `laws::unsaved_sets_are_whole`,
+--     `laws::acknowledged_sets_are_saved` and 6 more.
 use Rattle.std.proofs.Common.{◌≡◌, ◌+◌, ◌*◌, ◌∷◌, ◌++◌, ◌∙◌, [], ℕ, List, Option, Some, None, Bool, true, false, refl, sym, ap, subst, append_assoc}
 use Rattle.std.specs.Prelude.{bytes_eq, ◌&&◌, nat_le, nat_lt, if◌then◌else◌}
 use Rattle.std.proofs.lemmas.List.{append-nil, map-append}

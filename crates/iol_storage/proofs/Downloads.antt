@@ -1,4 +1,6 @@
 -- A download, whatever comes of its requests: the laws.
+-- For the clauses of `laws::applied_is_whole`, `laws::others_are_cut_off`,
+--     `laws::acknowledged_sets_are_saved` and 10 more.
 use Rattle.std.proofs.Common.{◌≡◌, ◌≤◌, ◌<◌, ◌+◌, ◌∷◌, ◌++◌, ◌∙◌, [], ℕ, suc, List, Option, Some, Bool, true, false, refl, sym, ap, arith, length, get_or, take, drop, subst}
 use Rattle.std.specs.Prelude.{slice_get, nat_lt, not}
 use Rattle.std.specs.Option.{option_map_or}

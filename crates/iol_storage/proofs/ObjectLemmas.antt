@@ -1,4 +1,5 @@
 -- What `any_owned` of values rests on.
+-- For the clauses of `Objects::any_owned`.
 use Rattle.std.proofs.Common.{◌≡◌, ◌∙◌, ℕ, ◌+◌, true, false, ◌||◌, List, drop, Some, sym, ap, refl}
 use Rattle.std.specs.Prelude.{slice_get}
 use Rattle.std.proofs.lemmas.List.{drop_more}

@@ -1,4 +1,5 @@
 -- The octets of a set, one parameter behind the other: the clauses of `write_into` and `read`.
+-- For the clauses of `Set::write_into` and `set::read_object`.
 use Rattle.std.proofs.Common.{◌≡◌, ◌≤◌, ◌<◌, ◌+◌, ◌*◌, ◌/◌, ◌%◌, ◌-◌, ◌∷◌, ◌++◌, ◌∙◌, [], ℕ, List, Some, refl, sym, ap, arith, length, take, drop, get_or, append_assoc, length-append}
 use Rattle.std.specs.Prelude.{slice_get}
 use Rattle.std.proofs.Math.Seq.{take-length}

@@ -1,5 +1,7 @@
 -- The spans of values among octets: what one more at the end leaves (the clauses of `push`), and
 -- that each lies within (those of `get`).
+-- For the clauses of `Objects::are_few`, `Objects::push`, `objects::object_at` and
+--     `laws::attempts_ask_few`.
 use Rattle.std.proofs.Common.{◌≡◌, ◌≤◌, ◌<◌, get_or, ◌+◌, ◌-◌, ◌*◌, ◌∷◌, ◌++◌, ◌∙◌, [], ℕ, zero, suc, List, Some, refl, sym, ap, arith, length, take, drop, length-append, length-drop}
 use Rattle.std.specs.Prelude.{slice_range, slice_get, true}
 use Rattle.std.specs.Option.{option_map}

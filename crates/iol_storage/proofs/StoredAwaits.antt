@@ -1,4 +1,5 @@
 -- What a stored port waits for behind `send`: what the clause `awaits` rests on.
+-- For the clauses of `port::send`.
 use Rattle.std.proofs.Common.{◌≡◌, true, refl}
 use Rattle.iol_mode.specs.declared.states.State.{State}
 use Rattle.iol_mode.specs.declared.states.State.TheVariants.{Down as AtDown, Startup as AtStartup, Preoperate as AtPreoperate, Operate as AtOperate}

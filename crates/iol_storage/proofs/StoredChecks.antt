@@ -1,5 +1,7 @@
 -- A check at a stored port is an attempt by itself, whatever happens meanwhile: what the laws of
 -- fetched, saved and restored sets rest on.
+-- For the clauses of `laws::ended_uploads_were_saved`, `laws::fetched_sets_are_whole` and
+--     `laws::restored_standings_are_taken`.
 use Rattle.std.proofs.Common.{◌≡◌, ◌∙◌, ℕ, Bool, true, false, IsTrue, List, [], ◌∷◌, ◌++◌, Option, None, Some, ap, sym, refl, subst, cond, ◌+◌, ◌&&◌, ◌==◌}
 use Rattle.std.proofs.lemmas.List.{append_assoc, append-nil}
 use Rattle.std.specs.Prelude.{is_some, nat_le, not}

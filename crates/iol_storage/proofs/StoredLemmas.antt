@@ -1,4 +1,6 @@
 -- What the calls of a stored port rest on.
+-- For the clauses of `StoredPort::collect_asked`, `StoredPort::set_output`,
+--     `StoredPort::show_output` and 2 more.
 use Rattle.std.proofs.Common.{◌≡◌, Bool, true, false, [], ◌∷◌, Some, Option, Result, Ok, Err, refl, subst}
 use Rattle.std.specs.Prelude.{is_ok}
 use Rattle.iol_book.specs.BookModel.{in_place}

@@ -1,4 +1,5 @@
 -- Whatever happens at a stored port is a run, in pieces, of the port within.
+-- For the clauses of `laws::stored_ports_are_ports`.
 use Rattle.std.proofs.Common.{List, [], ◌∷◌, refl, subst, sym}
 use Rattle.iol_port.specs.declared.call.Call.{Call}
 use Rattle.iol_port.specs.declared.call.Answered.{Answered}

@@ -1,5 +1,6 @@
 -- No set that is kept has a value where commands are written: what `backups_hold_no_command`
 -- rests on.
+-- For the clauses of `laws::backups_hold_no_command`.
 use Rattle.std.proofs.Common.{◌≡◌, ◌||◌, ℕ, Bool, true, false, List, [], ◌∷◌, ◌++◌, Option, None, Some, ap, refl, cond, length, ◌+◌, ◌==◌, ◌-◌}
 use Rattle.std.specs.Option.{option_map}
 use Rattle.std.specs.Prelude.{if◌then◌else◌, Err, Ok, is_ok, is_some, nat_lt}

@@ -1,4 +1,6 @@
 -- A job's step: which calls it makes, and which requests may be taken behind it.
+-- For the clauses of `laws::attempts_are_for_the_device`, `laws::jobs_are_alone`,
+--     `laws::stored_ports_are_ports` and 3 more.
 use Rattle.std.proofs.Common.{◌≡◌, ◌∙◌, ℕ, Bool, true, false, IsTrue, List, [], ◌∷◌, ◌++◌, Option, None, Some, Result, Ok, Err, ap, sym, refl, subst, cond, ◌-◌}
 use Rattle.std.specs.Prelude.{slice_get, is_some, nat_lt, bytes_eq, All, filter}
 use Rattle.std.proofs.lemmas.List.Elements.{filter_passes, All-head}

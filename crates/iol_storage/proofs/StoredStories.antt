@@ -1,4 +1,6 @@
 -- What a job asks stays until it hears of it, and a block is whole or known not to be.
+-- For the clauses of `laws::asked_requests_stay`, `laws::blocks_are_whole`,
+--     `laws::ended_uploads_were_saved` and 2 more.
 use Rattle.std.proofs.Common.{◌≡◌, ◌∙◌, ◌+◌, ◌==◌, ℕ, Bool, true, false, IsTrue, List, [], ◌∷◌, ◌++◌, Option, None, Some, ap, sym, refl, subst, cond, inl, inr}
 use Rattle.std.proofs.lemmas.List.{append_assoc, append-nil}
 use Rattle.std.specs.Prelude.{is_some}

@@ -1,4 +1,6 @@
 -- An upload, whatever comes of its requests: the law that sets are whole.
+-- For the clauses of `laws::sets_are_whole`, `laws::restored_sets_are_taken`,
+--     `laws::unsaved_sets_are_whole` and 7 more.
 use Rattle.std.proofs.Common.{◌≡◌, ◌∷◌, ◌++◌, ◌∙◌, [], ℕ, List, Bool, true, false, refl, sym, ap, arith, length, subst, append_assoc, length-append}
 use Rattle.std.specs.Prelude.{not, map, bytes_eq, if◌then◌else◌}
 use Rattle.std.proofs.lemmas.List.{append-nil}

@@ -1,5 +1,6 @@
 -- How many calls a script makes: each counts where its lines are read, so `traced_stored` may trace
 -- them.
+-- For the clauses of `stored_trace::traced_stored`.
 use Rattle.std.proofs.Common.{ℕ, ◌≤◌, Option, Some, None, List, [], ◌∷◌, length, lit≤, map, arith}
 use Rattle.std.proofs.lemmas.List.{length-append, length-map}
 use Rattle.std.specs.Option.{option_map_or}

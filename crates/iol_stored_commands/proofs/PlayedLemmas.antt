@@ -1,5 +1,7 @@
 -- Calls that are made one after the other, for the clauses of `play_stored` and those below it.
 -- Begin with `stored_plays_join`.
+-- For the clauses of `StoredTracer::follow_turns`, `stored_playing::make_turns`,
+--     `stored_playing::play_call` and 2 more.
 use Rattle.std.proofs.Common.{◌≡◌, ◌∙◌, ℕ, ◌+◌, List, [], ◌∷◌, ◌++◌, map, replicate, refl, sym, ap, subst, append-nil, append_assoc}
 use Rattle.std.proofs.lemmas.List.{map-append, replicate-append-replicate}
 use Rattle.iol_link.specs.WireFacts.{WireFacts}

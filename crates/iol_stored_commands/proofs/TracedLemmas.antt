@@ -1,5 +1,7 @@
 -- Calls that are traced one after the other, for the clauses of the tracer and of `traced_on`.
 -- Begin with `stored_traces_more`.
+-- For the clauses of `StoredTracer::follow_line`, `StoredTracer::follow_storage`,
+--     `StoredTracer::follow_turns` and 2 more.
 use Rattle.std.proofs.Common.{◌≡◌, ℕ, ◌+◌, false, List, [], ◌∷◌, ◌++◌, Result, refl, sym, subst, append-nil, append_assoc}
 use Rattle.std.proofs.KnownBytes.{Appends-nil}
 use Rattle.iol_app.specs.declared.asked.Asked.{Asked}

@@ -1,5 +1,6 @@
 -- A text that is put together of lines, each with a line feed behind it: the clause of `plain_text`
 -- needs these. Begin with `more_lines`.
+-- For the clauses of `as_plain::plain_text`.
 use Rattle.std.proofs.Common.{◌≡◌, ℕ, ◌+◌, Bool, true, false, ◌==◌, List, [], ◌∷◌, ◌++◌, cond, refl, ap, ◌∙◌, Option, Some, None, codes, subst, map, append_assoc}
 use Rattle.std.specs.List.{enumerate_from, onto_first}
 use Rattle.iol_script.specs.Text.{lines_of, lines_left}

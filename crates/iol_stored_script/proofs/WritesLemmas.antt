@@ -1,4 +1,5 @@
 -- The writes of a block, one more of which is read: the clause of `block_of` needs these.
+-- For the clauses of `storage_line::block_of`.
 use Rattle.std.proofs.Common.{◌≡◌, ℕ, Bool, true, false, cond, List, [], ◌∷◌, Option, Some, None, codes, option_and_then, option_map, refl}
 use Rattle.std.specs.Str.{bytes_eq}
 use Rattle.iol_isdu.specs.declared.values.Place.{Place}
