@@ -2,6 +2,7 @@
 use anyhow::{Context, Result, bail};
 use iol_isdu::{Octets, Place, Request};
 use iol_mseq::Message;
+use std::str::SplitWhitespace;
 
 /// The next line of the input, none at its end. A line that was cut off is no line.
 pub fn next_line(rt: &(impl Input + AllocGlobal)) -> Result<Option<String>> {
@@ -38,15 +39,17 @@ pub fn request_of(line: &str) -> Result<Request> {
     };
     match kind {
         "read" => Ok(Request::read(place)),
-        "write" => {
-            let mut octets = Octets::new();
-            for word in words {
-                if octets.try_push(octet_of(word)?).is_err() {
-                    bail!("there are too many octets");
-                }
-            }
-            Ok(Request::write(place, octets.as_slice())?)
-        }
+        "write" => Ok(Request::write(place, data_of(words)?.as_slice())?),
         _ => bail!("that is no request"),
     }
+}
+
+fn data_of(words: SplitWhitespace<'_>) -> Result<Octets> {
+    let mut octets = Octets::new();
+    for word in words {
+        if octets.try_push(octet_of(word)?).is_err() {
+            bail!("there are too many octets");
+        }
+    }
+    Ok(octets)
 }

@@ -1,6 +1,7 @@
 //! What the lines say that were kept of earlier processes.
 use anyhow::{Context, Result, bail};
 use std::alloc::Global;
+use std::str::SplitWhitespace;
 
 /// Where an open ticket stands.
 #[derive(Drop)]
@@ -50,16 +51,7 @@ impl Past {
             "submitted" | "urgent" => self.enter(ticket),
             "taken" => self.put(ticket, Stand::Taken),
             "withdrawn" => self.put(ticket, Stand::Ended(String::from_str(self.alloc, kind)?)),
-            "answered" => {
-                let mut outcome = String::new(self.alloc);
-                for word in words {
-                    if !outcome.is_empty() {
-                        outcome.push_str(" ")?;
-                    }
-                    outcome.push_str(word)?;
-                }
-                self.put(ticket, Stand::Ended(outcome))
-            }
+            "answered" => self.put(ticket, Stand::Ended(outcome_of(self.alloc, words)?)),
             "collected" | "abandoned" => self.close(ticket),
             _ => bail!("that is no entry"),
         }
@@ -88,4 +80,16 @@ impl Past {
         self.open.retain(|own| own.ticket != ticket);
         Ok(())
     }
+}
+
+/// The words of an outcome, as they stood.
+fn outcome_of(alloc: Global, words: SplitWhitespace<'_>) -> Result<String> {
+    let mut outcome = String::new(alloc);
+    for word in words {
+        if !outcome.is_empty() {
+            outcome.push_str(" ")?;
+        }
+        outcome.push_str(word)?;
+    }
+    Ok(outcome)
 }

@@ -301,64 +301,84 @@ fn print_because<A: Allocator>(
     writeln!(output, "{call}{joint}{number} {text}")
 }
 
+// What each reason means, with its rule.
+const NOT_TAKEN: &str =
+    "NotTaken: a reply to a message that the device doesn't take in its mode (DEV-2)";
+
+const REPLY_LENGTH: &str =
+    "ReplyLength: a reply of another length than the layout of its mode gives (MSG-4)";
+
+const STATUS_WITHOUT_DATA: &str =
+    "StatusWithoutData: PD status 1 in a layout without process data in (DEV-8)";
+
+const INVALID_NOT_ZERO: &str =
+    "InvalidNotZero: PD status 1 with process data in that isn't zeros (DEV-8)";
+
+const FLAG_AT_CONFIRM: &str =
+    "FlagAtConfirm: Event flag 1 in the reply to the confirm of events (EVT-2)";
+
+const FLAG_GONE: &str = "FlagGone: Event flag 0 before the events were confirmed (EVT-2)";
+
+const STATUS_CODE: &str =
+    "StatusCode: another StatusCode than that of the events that the device shows (EVT-4)";
+
+const EVENT_OCTET: &str =
+    "EventOctet: an octet of an event that is another than before, or of none and not 0 (EVT-4)";
+
+const PAGE_CHANGED: &str = "PageChanged: an octet of the page that was another before (PAGE-1)";
+
+const PAGE_ZERO: &str = "PageZero: a page address outside 01 to 0B that isn't 0 (PAGE-1)";
+
+const CYCLE_TIME: &str = "CycleTime: page address 01 isn't what was written or read there (DEV-9)";
+
+const PROCESS_NOT_ZERO: &str =
+    "ProcessNotZero: a read of the process channel that isn't zeros (DEV-7)";
+
+const REST_NOT_ZERO: &str = "RestNotZero: octets behind the first that aren't zeros (MSG-6)";
+
+const NO_ANSWER_DUE: &str = "NoAnswerDue: an answer where no request was begun (DEV-14)";
+
+const NOT_BUSY: &str = "NotBusy: a first reply behind a whole request that isn't busy (DEV-12)";
+
+const BUSY_AGAIN: &str = "BusyAgain: busy, though the answer's first segment was read (DEV-13)";
+
+const ANSWER_KIND: &str = "AnswerKind: an answer that is none to such a request (ISDU-4, ISDU-8)";
+
+const ANSWER_LENGTH: &str = "AnswerLength: an answer of a total length that no text has (ISDU-2)";
+
+const ANSWER_SUM: &str = "AnswerSum: an answer of which the XOR of all octets isn't 0 (ISDU-1)";
+
+const ANSWER_PADDING: &str = "AnswerPadding: octets behind an answer that aren't zeros (SEG-1)";
+
+const SEGMENT_CHANGED: &str =
+    "SegmentChanged: a segment of an answer that was another before (DEV-13)";
+
 /// The name of a reason, what a device by the rules doesn't send, and the rule.
 fn reason_text(reason: Reason) -> &'static str
     ensures { result.now ≡ reason_text reason }
 {
     match reason {
-        Reason::NotTaken => {
-            "NotTaken: a reply to a message that the device doesn't take in its mode (DEV-2)"
-        }
-        Reason::ReplyLength => {
-            "ReplyLength: a reply of another length than the layout of its mode gives (MSG-4)"
-        }
-        Reason::StatusWithoutData => {
-            "StatusWithoutData: PD status 1 in a layout without process data in (DEV-8)"
-        }
-        Reason::InvalidNotZero => {
-            "InvalidNotZero: PD status 1 with process data in that isn't zeros (DEV-8)"
-        }
-        Reason::FlagAtConfirm => {
-            "FlagAtConfirm: Event flag 1 in the reply to the confirm of events (EVT-2)"
-        }
-        Reason::FlagGone => "FlagGone: Event flag 0 before the events were confirmed (EVT-2)",
-        Reason::StatusCode => {
-            "StatusCode: another StatusCode than that of the events that the device shows (EVT-4)"
-        }
-        Reason::EventOctet => {
-            "EventOctet: an octet of an event that is another than before, or of none and not 0 (EVT-4)"
-        }
-        Reason::PageChanged => "PageChanged: an octet of the page that was another before (PAGE-1)",
-        Reason::PageZero => "PageZero: a page address outside 01 to 0B that isn't 0 (PAGE-1)",
-        Reason::CycleTime => {
-            "CycleTime: page address 01 isn't what was written or read there (DEV-9)"
-        }
-        Reason::ProcessNotZero => {
-            "ProcessNotZero: a read of the process channel that isn't zeros (DEV-7)"
-        }
-        Reason::RestNotZero => "RestNotZero: octets behind the first that aren't zeros (MSG-6)",
-        Reason::NoAnswerDue => { "NoAnswerDue: an answer where no request was begun (DEV-14)" }
-        Reason::NotBusy => {
-            "NotBusy: a first reply behind a whole request that isn't busy (DEV-12)"
-        }
-        Reason::BusyAgain => {
-            "BusyAgain: busy, though the answer's first segment was read (DEV-13)"
-        }
-        Reason::AnswerKind => {
-            "AnswerKind: an answer that is none to such a request (ISDU-4, ISDU-8)"
-        }
-        Reason::AnswerLength => {
-            "AnswerLength: an answer of a total length that no text has (ISDU-2)"
-        }
-        Reason::AnswerSum => {
-            "AnswerSum: an answer of which the XOR of all octets isn't 0 (ISDU-1)"
-        }
-        Reason::AnswerPadding => {
-            "AnswerPadding: octets behind an answer that aren't zeros (SEG-1)"
-        }
-        Reason::SegmentChanged => {
-            "SegmentChanged: a segment of an answer that was another before (DEV-13)"
-        }
+        Reason::NotTaken => NOT_TAKEN,
+        Reason::ReplyLength => REPLY_LENGTH,
+        Reason::StatusWithoutData => STATUS_WITHOUT_DATA,
+        Reason::InvalidNotZero => INVALID_NOT_ZERO,
+        Reason::FlagAtConfirm => FLAG_AT_CONFIRM,
+        Reason::FlagGone => FLAG_GONE,
+        Reason::StatusCode => STATUS_CODE,
+        Reason::EventOctet => EVENT_OCTET,
+        Reason::PageChanged => PAGE_CHANGED,
+        Reason::PageZero => PAGE_ZERO,
+        Reason::CycleTime => CYCLE_TIME,
+        Reason::ProcessNotZero => PROCESS_NOT_ZERO,
+        Reason::RestNotZero => REST_NOT_ZERO,
+        Reason::NoAnswerDue => NO_ANSWER_DUE,
+        Reason::NotBusy => NOT_BUSY,
+        Reason::BusyAgain => BUSY_AGAIN,
+        Reason::AnswerKind => ANSWER_KIND,
+        Reason::AnswerLength => ANSWER_LENGTH,
+        Reason::AnswerSum => ANSWER_SUM,
+        Reason::AnswerPadding => ANSWER_PADDING,
+        Reason::SegmentChanged => SEGMENT_CHANGED,
     }
 }
 

@@ -348,7 +348,7 @@ fn bad_lines_are_refused(rt: HostRuntime) {
 }
 
 #[test]
-fn exports_of_tools_are_read(rt: HostRuntime) {
+fn exports_of_sigrok_are_read(rt: HostRuntime) {
     let timed = ExportForm::Timed;
     assert_eq!(rt;
         OctetLine::parse_in(timed, b"\xEF\xBB\xBF3 wake\r"),
@@ -375,6 +375,11 @@ fn exports_of_tools_are_read(rt: HostRuntime) {
         OctetLine::parse_in(sampled, b"2010-2090 UART: RX warnings: Frame error"),
         Some(OctetLine::DamagedBefore)
     );
+}
+
+#[test]
+fn exports_of_saleae_are_read(rt: HostRuntime) {
+    let timed = ExportForm::Timed;
     let logic1 = ExportForm::Logic1;
     assert_eq!(rt;
         OctetLine::parse_in(timed, b"Time [s],Value,Parity Error,Framing Error"),

@@ -5,7 +5,7 @@ ghost use Rattle.std.specs.Option.{option_copied};
 use iol_image::Image;
 use iol_isdu::Request;
 
-pub(crate) fn copy_of_request(request: &Request) -> Request
+pub(crate) fn request_copy(request: &Request) -> Request
     ensures { result ≡ request.now }
 {
     request.clone().unwrap()

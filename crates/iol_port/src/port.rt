@@ -24,9 +24,9 @@ ghost use Rattle.iol_port.specs.WireCalls.{ComesFrom};
 ghost use Rattle.iol_port.specs.View.{Does, Runs, StandsOver, IsNew, IsNewFor, IsRun, KeepsLimits, OpensWell, opening_for, opening_of, over};
 ghost use Rattle.iol_port.specs.View.{KeepsRecordOver, writer_after_publish};
 ghost use Rattle.iol_port.specs.Clean.{CleanTurn, CleanRuns, CleanServes, IsLevelBetween};
-ghost use Rattle.iol_port.specs.Replies.{ticket_reply, nothing_reply};
+ghost use Rattle.iol_port.specs.Replies.{ticket_reply, nothing_reply, outcome_reply, event_reply, result_reply, drained_answer};
 
-use crate::copies::{copy_of_image, copy_of_request};
+use crate::copies::{copy_of_image, request_copy};
 use crate::laws::clean_laws;
 use crate::port_core::PortCore;
 use crate::{Answered, Call, Counters, Counting, Drained, PortFault};
@@ -367,14 +367,9 @@ impl<W: Wire, A: Handle> Port<W, A> {
             ≡ record self.old { parts = self.new.parts; wire = self.new.wire } }
     {
         match asked {
-            Call::Submit(request) => ticket_or(self.submit(copy_of_request(request))),
-            Call::SubmitUrgent(request) => {
-                ticket_or(self.submit_urgent(copy_of_request(request)))
-            }
-            Call::Collect(ticket) => match self.collect(*ticket) {
-                Ok(outcome) => Answered::Outcome(outcome),
-                Err(fault) => Answered::Refused(fault),
-            },
+            Call::Submit(request) => ticket_or(self.submit(request_copy(request))),
+            Call::SubmitUrgent(request) => { ticket_or(self.submit_urgent(request_copy(request))) }
+            Call::Collect(ticket) => outcome_or(self.collect(*ticket)),
             Call::Withdraw(ticket) => nothing_or(self.withdraw(*ticket)),
             Call::Cancel(ticket) => nothing_or(self.cancel(*ticket)),
             Call::Abandon(ticket) => nothing_or(self.abandon(*ticket)),
@@ -398,25 +393,10 @@ impl<W: Wire, A: Handle> Port<W, A> {
             Call::Page => Answered::Page(self.page()),
             Call::Counters => Answered::Counters(*self.counters()),
             Call::LastLoss => Answered::LastLoss(self.last_loss()),
-            Call::TakeEvent => match self.take_event() {
-                Ok(event) => Answered::Event(event),
-                Err(fault) => Answered::Refused(fault),
-            },
+            Call::TakeEvent => event_or(self.take_event()),
             Call::Status => Answered::Status(self.status()),
-            Call::Archive => match self.archive() {
-                Ok(entries) => Answered::Archived(entries.len() as u32),
-                Err(fault) => Answered::Refused(fault),
-            },
-            Call::Drain => {
-                let restated = self.restated();
-                match self.drain() {
-                    Ok(entries) => Answered::Drained(Drained {
-                        entries: entries.len() as u32,
-                        restated: restated as u32,
-                    }),
-                    Err(fault) => Answered::Refused(fault),
-                }
-            }
+            Call::Archive => archived_or(self.archive()),
+            Call::Drain => drained_or(self.restated(), self.drain()),
             Call::Turn => {
                 self.turn();
                 Answered::Nothing
@@ -570,6 +550,50 @@ fn nothing_or(outcome: Result<(), PortFault>) -> Answered
 {
     match outcome {
         Ok(()) => Answered::Nothing,
+        Err(fault) => Answered::Refused(fault),
+    }
+}
+
+fn outcome_or(outcome: Result<Outcome, PortFault>) -> Answered
+    ensures { result ≡ outcome_reply outcome }
+{
+    match outcome {
+        Ok(outcome) => Answered::Outcome(outcome),
+        Err(fault) => Answered::Refused(fault),
+    }
+}
+
+fn event_or(event: Result<Event, PortFault>) -> Answered
+    ensures { result ≡ event_reply event }
+{
+    match event {
+        Ok(event) => Answered::Event(event),
+        Err(fault) => Answered::Refused(fault),
+    }
+}
+
+fn archived_or<A: Handle>(entries: Result<Journal<A>, PortFault>) -> Answered
+    requires within { IfOk entries (λ journal. length journal.items ≤ 1000000) }
+    ensures { result
+        ≡ result_reply (λ journal. answered.Archived (length journal.items)) entries }
+{
+    match entries {
+        Ok(journal) => Answered::Archived(journal.len() as u32),
+        Err(fault) => Answered::Refused(fault),
+    }
+}
+
+fn drained_or<A: Handle>(restated: usize, entries: Result<Journal<A>, PortFault>) -> Answered
+    requires within { IfOk entries (λ journal. length journal.items ≤ 1000000) }
+    requires part { IfOk entries (λ journal. restated ≤ length journal.items) }
+    ensures { result
+        ≡ result_reply (λ journal. drained_answer (length journal.items) restated) entries }
+{
+    match entries {
+        Ok(journal) => Answered::Drained(Drained {
+            entries: journal.len() as u32,
+            restated: restated as u32,
+        }),
         Err(fault) => Answered::Refused(fault),
     }
 }

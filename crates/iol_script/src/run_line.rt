@@ -1,6 +1,7 @@
 //! What a line of `run` says.
 ghost use Rattle.std.specs.Prelude.{◌≡◌, IfSome};
-ghost use Rattle.iol_script.specs.RunLines.{page_line, run_words, IsGoodLine};
+ghost use Rattle.std.specs.Option.{option_map};
+ghost use Rattle.iol_script.specs.RunLines.{limits_form, page_line, param_form, run_words, IsGoodLine};
 ghost use Rattle.iol_script.specs.Text.{words_left};
 
 use crate::call_line::{CallLine, parse_call, turns_of};
@@ -60,19 +61,9 @@ fn parse_words(mut words: Words) -> Option<RunLine>
     } else if is(name, b"devices") {
         Some(RunLine::Setting(Setting::Devices(devices_of(words)?)))
     } else if is(name, b"limits") {
-        let limits = limits_of(words)?;
-        Some(RunLine::Setting(Setting::Limits {
-            busy: limits.busy,
-            journal: limits.journal,
-            queue: limits.queue,
-        }))
+        limits_line(words)
     } else if is(name, b"param") {
-        let param = param_of(words)?;
-        Some(RunLine::Setting(Setting::Param {
-            place: param.place,
-            writable: param.writable,
-            value: param.value,
-        }))
+        param_line(words)
     } else if is(name, b"kept") {
         Some(RunLine::Setting(Setting::Stored(stored_of(words)?)))
     } else if is(name, b"range") {
@@ -86,6 +77,30 @@ fn parse_words(mut words: Words) -> Option<RunLine>
     } else {
         Some(RunLine::Call(CallLine::Once(parse_call(name, words)?)))
     }
+}
+
+fn limits_line(words: Words) -> Option<RunLine>
+    ensures form { result ≡ option_map RunLine.Setting (limits_form (words_left words.entry)) }
+    ensures range { IfSome result IsGoodLine }
+{
+    let limits = limits_of(words)?;
+    Some(RunLine::Setting(Setting::Limits {
+        busy: limits.busy,
+        journal: limits.journal,
+        queue: limits.queue,
+    }))
+}
+
+fn param_line(words: Words) -> Option<RunLine>
+    ensures form { result ≡ option_map RunLine.Setting (param_form (words_left words.entry)) }
+    ensures range { IfSome result IsGoodLine }
+{
+    let param = param_of(words)?;
+    Some(RunLine::Setting(Setting::Param {
+        place: param.place,
+        writable: param.writable,
+        value: param.value,
+    }))
 }
 
 /// The words behind `page`: with none it is the call.

@@ -229,6 +229,18 @@ fn trace_flag<'a>(alloc: Global) -> Result<Arg<'a>, AllocError> {
         .requires_arg(OCTETS)
 }
 
+fn judge<'a>(alloc: Global, texts: &'a Help) -> Result<Command<'a>, AllocError> {
+    Command::new(alloc, "judge")
+        .about(
+            "Reads what trace prints, and says whether a device by the rules could have brought it",
+        )
+        .after_help(texts.judge.as_str())
+        .arg(octets_option(alloc))?
+        .arg(trace_flag(alloc)?)?
+        .arg(odd_flag(alloc))?
+        .arg(why_flag(alloc))
+}
+
 /// The command line of the program.
 fn command<'a>(alloc: Global, texts: &'a Help) -> Result<Command<'a>, AllocError> {
     let check = Command::new(alloc, "check")
@@ -251,15 +263,6 @@ fn command<'a>(alloc: Global, texts: &'a Help) -> Result<Command<'a>, AllocError
         )
         .after_help(texts.many.as_str())
         .arg(why_flag(alloc))?;
-    let judge = Command::new(alloc, "judge")
-        .about(
-            "Reads what trace prints, and says whether a device by the rules could have brought it",
-        )
-        .after_help(texts.judge.as_str())
-        .arg(octets_option(alloc))?
-        .arg(trace_flag(alloc)?)?
-        .arg(odd_flag(alloc))?
-        .arg(why_flag(alloc))?;
     Command::new(alloc, "iolink")
         .about("IO-Link master and device")
         .version(help::VERSION)
@@ -269,5 +272,5 @@ fn command<'a>(alloc: Global, texts: &'a Help) -> Result<Command<'a>, AllocError
         .subcommand(run)?
         .subcommand(trace)?
         .subcommand(many)?
-        .subcommand(judge)
+        .subcommand(judge(alloc, texts)?)
 }
