@@ -1,14 +1,15 @@
 -- What `check` prints for each line.
-use Rattle.std.specs.Prelude.{◌≡◌, ℕ, Bool, true, false, Result, Ok, MatchOption, MatchResult, List, [], ◌∷◌, ◌++◌}
+use Rattle.std.specs.Prelude.{◌≡◌, ℕ, Bool, true, false, Result, Ok, MatchOption, MatchResult, List, [], ◌∷◌, ◌++◌, Some, None, ⊥}
 use Rattle.std.specs.Result.{result_unwrap_or}
 use Rattle.iol_mseq.specs.Shape.{Shape, startup_shape, preoperate_shape, operate_shape}
 use Rattle.iol_mseq.specs.declared.fault.MseqFault.{MseqFault}
-use Rattle.iol_script.specs.CheckLines.{CheckForm, skip, layout, master, read_reply, write_reply, check_form}
+use Rattle.iol_script.specs.CheckLines.{CheckForm, skip, layout, master, read_reply, write_reply, check_form, first_bad}
 use Rattle.iol_print.specs.Printed.{refusal_text}
 use Rattle.iol_print.specs.Meanings.{PrintsMessage, PrintsReply}
 use Rattle.iol_commands.specs.Printed.{layout_text}
 use Rattle.iol_script.specs.declared.check_line.LayoutLine.{LayoutLine}
 use Rattle.iol_script.specs.declared.check_line.LayoutLine.TheVariants.{Startup, Preoperate, Operate}
+use Rattle.iol_commands.specs.Input.{CommandReading}
 
 -- the layout that a line asks for
 abbrev pub asked_layout : LayoutLine → Result Shape MseqFault
@@ -38,3 +39,12 @@ PrintsAll present ((number, line) ∷ lines) text =
     MatchOption (check_form line) ⊥
     (λ form. (first : List ℕ) × (later : List ℕ) × (text ≡ first ++ later)
     × PrintsLine present form first × PrintsAll (layout_after present form) lines later)
+
+-- what `check` makes of its lines
+abbrev pub check_reading : CommandReading
+check_reading = record {
+  bad_at = λ lines n. first_bad lines ≡ Some n;
+  are_good = λ lines. first_bad lines ≡ None;
+  bad_table = λ lines why. ⊥;
+  prints = PrintsAll startup_shape;
+}

@@ -27,19 +27,30 @@ abbrev pub Writes : Option (List ℕ) → Option (List ℕ) → Option (List ℕ
 Writes remaining before after prints = (text : List ℕ) × Appends before after text
     × IfSome remaining (λ input. prints (numbered_lines input) text)
 
--- what a command answers that reads its input whole, and then its lines: of these it is said when
--- one is bad, by its number, when all are good, which flaw the table has that they make, and what
--- is printed for them
-pub record AnswersInput (bad_at : List (ℕ × List ℕ) → ℕ → Type 0)
-    (are_good : List (ℕ × List ℕ) → Type 0)
-    (bad_table : List (ℕ × List ℕ) → TableFault → Type 0)
-    (prints : List (ℕ × List ℕ) → List ℕ → Type 0)
-    (before after written_before written : Option (List ℕ))
+-- What a command makes of the lines of its input: which one is bad, by its number; whether all are
+-- good; which flaw the table has that they make; and what is printed for them
+pub record CommandReading : Type 1 where
+  pub bad_at : List (ℕ × List ℕ) → ℕ → Type 0
+  pub are_good : List (ℕ × List ℕ) → Type 0
+  pub bad_table : List (ℕ × List ℕ) → TableFault → Type 0
+  pub prints : List (ℕ × List ℕ) → List ℕ → Type 0
+
+-- What is left of a command's input before and after it, and what was written, where that is known
+pub record Streams : Type 0 where
+  pub input : Option (List ℕ)
+  pub input_left : Option (List ℕ)
+  pub output : Option (List ℕ)
+  pub output_new : Option (List ℕ)
+
+-- what a command answers that reads its input whole, and then its lines
+pub record AnswersInput (reading : CommandReading) (streams : Streams)
     (result : Result (Unit {0}) ProgramFault) : Type 0 where
-  pub too_long : result ≡ Err TooLong → IsTooLong before
-  pub bad_line : (n : ℕ) → result ≡ Err (Line n) → OfLines before (λ lines. bad_at lines n)
-  pub good : OnOk result (OfLines before are_good)
+  pub too_long : result ≡ Err TooLong → IsTooLong streams.input
+  pub bad_line : (n : ℕ) → result ≡ Err (Line n)
+      → OfLines streams.input (λ lines. reading.bad_at lines n)
+  pub good : OnOk result (OfLines streams.input reading.are_good)
   pub flaw : (why : TableFault) → result ≡ Err (Table why)
-      → OfLines before (λ lines. bad_table lines why)
-  pub taken : TakesInput before after
-  pub printed : OnOk result (Writes before written_before written prints)
+      → OfLines streams.input (λ lines. reading.bad_table lines why)
+  pub taken : TakesInput streams.input streams.input_left
+  pub printed :
+      OnOk result (Writes streams.input streams.output streams.output_new reading.prints)

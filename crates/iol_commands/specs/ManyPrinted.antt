@@ -1,5 +1,5 @@
 -- What `many` prints.
-use Rattle.std.specs.Prelude.{◌≡◌, ℕ, List, [], ◌++◌, All, Ok, vec_len, flat_map, codes}
+use Rattle.std.specs.Prelude.{◌≡◌, ℕ, List, [], ◌++◌, All, Ok, vec_len, flat_map, codes, Err, IsOk, ⊥}
 use Rattle.std.specs.List.{enumerate_from}
 use Rattle.iol_sim.specs.Beside.{plain_facts}
 use Rattle.iol_sim.specs.Params.{Stores}
@@ -15,6 +15,7 @@ use Rattle.iol_script.specs.declared.plan.ShownCounts.{ShownCounts}
 use Rattle.iol_script.specs.declared.plan.ShownCounts.TheVariants as shown
 use Rattle.iol_commands.specs.Printed.{number_text}
 use Rattle.iol_commands.specs.CountersPrinted.{counters_text}
+use Rattle.iol_commands.specs.Input.{CommandReading}
 
 -- the line of a port's tickets: its number, and how many tickets it gave, how many are done,
 -- unknown and waiting
@@ -57,3 +58,12 @@ pub record PrintsCounts (lines : List (ℕ × List ℕ)) (text : List ℕ) : Typ
   pub up : All (λ port. AddsUp port.requests) counts.ports.items
   pub served : ClientsAreServed (sim_facts (plain_facts Stores)) plan counts
   pub text_is : text ≡ counts_text plan.shown counts
+
+-- what `many` makes of its lines
+abbrev pub many_reading : CommandReading
+many_reading = record {
+  bad_at = λ lines n. plan_of lines ≡ Err n;
+  are_good = λ lines. IsOk (plan_of lines);
+  bad_table = λ lines why. ⊥;
+  prints = PrintsCounts;
+}

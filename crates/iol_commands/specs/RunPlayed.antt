@@ -27,9 +27,10 @@ use Rattle.iol_port.specs.declared.fault.PortFault.TheVariants as fault
 use Rattle.iol_port.specs.Run.{PortState, Run, port_at_opening}
 use Rattle.iol_port.specs.View.{PortOver, Runs, IsNewFor}
 use Rattle.iol_port.specs.EveryWire.{RunGives}
-use Rattle.iol_script.specs.Script.{ScriptValue, script_in, calls_in}
+use Rattle.iol_script.specs.Script.{ScriptValue, script_in, calls_in, first_bad_run}
 use Rattle.iol_script.specs.Tables.{AreMembers, has_no_table, order_rule_of}
 use Rattle.iol_commands.specs.RunPrinted.{answers_text, record_text, away_text, refused_events_text}
+use Rattle.iol_commands.specs.Input.{CommandReading}
 
 -- the far end of a new device of this kind and page, which may miss pulses or not
 abbrev pub first_far : Kind → Bool → List ℕ → Far
@@ -161,3 +162,12 @@ PrintsRun lines text =
 -- lines are a script whose table has this flaw
 abbrev pub IsBadTable : List (ℕ × List ℕ) → TableFault → Type 0
 IsBadTable lines why = IsSomeAnd (script_in lines) (λ script. HasFlaw script why)
+
+-- what `run` makes of its lines
+abbrev pub run_reading : CommandReading
+run_reading = record {
+  bad_at = λ lines n. first_bad_run lines ≡ Some n;
+  are_good = λ lines. first_bad_run lines ≡ None;
+  bad_table = IsBadTable;
+  prints = PrintsRun;
+}

@@ -26,6 +26,8 @@ use Rattle.iol_script.specs.Tables.{has_no_table}
 use Rattle.iol_commands.specs.Passing.{PrintsPassed}
 use Rattle.iol_commands.specs.RunPlayed.{HasItsDevice, OverTable, RunsAlike, first_table_wire, first_wire, ending_text, lacks_memory}
 use Rattle.iol_commands.specs.RunPrinted.{printed_answer}
+use Rattle.iol_commands.specs.RunPlayed.{run_reading}
+use Rattle.iol_commands.specs.Input.{CommandReading}
 
 -- the layout of a mode, if a page asks for these; in down no message is sent
 abbrev pub layout_of_mode : Mode → Layouts → Shape
@@ -163,3 +165,7 @@ abbrev pub PrintsNoteOf : Call → ℕ → Shape → Option TapNote → ℕ → 
 PrintsNoteOf Turn number layout (Some note) after text = PrintsPassed number layout note text
     × (after ≡ number + 1)
 PrintsNoteOf other number layout last after text = (text ≡ []) × (after ≡ number)
+
+-- what `trace` makes of its lines
+abbrev pub trace_reading : CommandReading
+trace_reading = record run_reading { prints = PrintsTrace }

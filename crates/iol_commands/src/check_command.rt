@@ -6,7 +6,7 @@ ghost use Rattle.iol_mseq.specs.Shape.{startup_shape};
 ghost use Rattle.iol_commands.specs.declared.fault.ProgramFault.TheVariants.{Line, NoThread, OutOfMemory, WriteFailed};
 ghost use Rattle.iol_script.specs.CheckLines.{first_bad, parsed_form};
 ghost use Rattle.iol_commands.specs.Printed.{PrintsSome};
-ghost use Rattle.iol_commands.specs.Checked.{asked_layout, layout_after, PrintsLine, PrintsAll};
+ghost use Rattle.iol_commands.specs.Checked.{asked_layout, layout_after, PrintsLine, PrintsAll, check_reading};
 ghost use Rattle.iol_script.specs.Text.{numbered_lines};
 ghost use Rattle.iol_commands.specs.Input.{AnswersInput};
 
@@ -31,10 +31,12 @@ pub fn check<A: Allocator + Copy, R: Read, W: Write>(
     reader: &mut R,
     writer: &mut W,
 ) -> Result<(), ProgramFault>
-    ensures answers { AnswersInput (λ lines n. first_bad lines ≡ Some n)
-        (λ lines. first_bad lines ≡ None) (λ lines why. ⊥) (PrintsAll startup_shape)
-        (R.remaining reader.old) (R.remaining reader.new)
-        (W.contents writer.old) (W.contents writer.new) result }
+    ensures answers { AnswersInput check_reading (record {
+      input = R.remaining reader.old;
+      input_left = R.remaining reader.new;
+      output = W.contents writer.old;
+      output_new = W.contents writer.new;
+    }) result }
     ensures nothing { OnErr result (result ≢ Err WriteFailed
         → Keeps (W.contents writer.old) (W.contents writer.new)) }
     ensures threads { result ≢ Err NoThread }

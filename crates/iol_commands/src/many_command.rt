@@ -8,7 +8,7 @@ ghost use Rattle.iol_script.specs.Text.{numbered_lines};
 ghost use Rattle.iol_commands.specs.declared.fault.ProgramFault.TheVariants.{Line, NoDesk};
 ghost use Rattle.iol_commands.specs.declared.fault.ProgramFault.TheVariants.{NoThread, OutOfMemory};
 ghost use Rattle.iol_commands.specs.declared.fault.ProgramFault.TheVariants.{WriteFailed};
-ghost use Rattle.iol_commands.specs.ManyPrinted.{PrintsCounts};
+ghost use Rattle.iol_commands.specs.ManyPrinted.{PrintsCounts, many_reading};
 ghost use Rattle.iol_commands.specs.Input.{AnswersInput, OfLines};
 
 use crate::fault::ProgramFault;
@@ -35,12 +35,14 @@ pub fn many<T: Threads + Wait + Sync, R: Read, W: Write>(
     reader: &mut R,
     writer: &mut W,
 ) -> Result<(), ProgramFault>
-    ensures answers { AnswersInput (λ lines n. plan_of lines ≡ Err n)
-        (λ lines. IsOk (plan_of lines)) (λ lines why. ⊥) PrintsCounts
-        (R.remaining reader.old) (R.remaining reader.new)
-        (W.contents writer.old) (W.contents writer.new) result }
+    ensures answers { AnswersInput many_reading (record {
+      input = R.remaining reader.old;
+      input_left = R.remaining reader.new;
+      output = W.contents writer.old;
+      output_new = W.contents writer.new;
+    }) result }
     ensures no_thread { result ≡ Err NoThread
-        → OfLines (R.remaining reader.old) (λ lines. IsOk (plan_of lines)) }
+        → OfLines (R.remaining reader.old) many_reading.are_good }
     ensures nothing { OnErr result (result ≢ Err WriteFailed
         → Keeps (W.contents writer.old) (W.contents writer.new)) }
 {

@@ -9,7 +9,7 @@ ghost use Rattle.iol_script.specs.Script.{IsScript, calls_in, first_bad_run, val
 ghost use Rattle.iol_script.specs.Text.{numbered_lines};
 ghost use Rattle.iol_commands.specs.declared.fault.ProgramFault.TheVariants.{Line, NoThread, OutOfMemory, WriteFailed};
 ghost use Rattle.iol_commands.specs.declared.fault.ProgramFault.TheVariants as fault;
-ghost use Rattle.iol_commands.specs.RunPlayed.{first_far, first_table_wire, first_wire, HasFlaw, IsBadTable, new_device, OverTable, PlaysOut, PrintsRun};
+ghost use Rattle.iol_commands.specs.RunPlayed.{first_far, first_table_wire, first_wire, HasFlaw, IsBadTable, new_device, OverTable, PlaysOut, PrintsRun, run_reading};
 ghost use Rattle.iol_commands.specs.Input.{AnswersInput};
 
 use crate::ending::print_ending;
@@ -45,10 +45,12 @@ pub fn run<A: Handle, R: Read, W: Write>(
     reader: &mut R,
     writer: &mut W,
 ) -> Result<(), ProgramFault>
-    ensures answers { AnswersInput (λ lines n. first_bad_run lines ≡ Some n)
-        (λ lines. first_bad_run lines ≡ None) IsBadTable PrintsRun
-        (R.remaining reader.old) (R.remaining reader.new)
-        (W.contents writer.old) (W.contents writer.new) result }
+    ensures answers { AnswersInput run_reading (record {
+      input = R.remaining reader.old;
+      input_left = R.remaining reader.new;
+      output = W.contents writer.old;
+      output_new = W.contents writer.new;
+    }) result }
     ensures nothing { OnErr result (result ≢ Err WriteFailed
         → Keeps (W.contents writer.old) (W.contents writer.new)) }
     ensures threads { result ≢ Err NoThread }

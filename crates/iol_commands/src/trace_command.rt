@@ -1,14 +1,14 @@
 //! `trace`: what `run` prints, and what goes over the wire.
-ghost use Rattle.std.specs.Prelude.{◌≡◌, ◌≢◌, ◌≤◌, ◌⊎◌, length, List, ℕ, Err, OnErr, OnOk, IfErr, None};
+ghost use Rattle.std.specs.Prelude.{◌≡◌, ◌≢◌, ◌≤◌, ◌⊎◌, length, List, ℕ, Err, OnErr, OnOk, IfErr};
 ghost use Rattle.std.specs.Io.KnownBytes.{Appends, Keeps};
 ghost use Rattle.iol_params.specs.declared.table.TableFault.{TableFault};
 ghost use Rattle.iol_param_sim.specs.Parameters.{parameters_facts};
-ghost use Rattle.iol_script.specs.Script.{IsScript, calls_in, first_bad_run, value_of};
+ghost use Rattle.iol_script.specs.Script.{IsScript, calls_in, value_of};
 ghost use Rattle.iol_script.specs.Text.{numbered_lines};
 ghost use Rattle.iol_commands.specs.declared.fault.ProgramFault.TheVariants.{NoThread, OutOfMemory, WriteFailed};
 ghost use Rattle.iol_commands.specs.declared.fault.ProgramFault.TheVariants as fault;
-ghost use Rattle.iol_commands.specs.RunPlayed.{first_table_wire, HasFlaw, IsBadTable, OverTable};
-ghost use Rattle.iol_commands.specs.TracePrinted.{PrintsTrace, TracesOut, TracesScript};
+ghost use Rattle.iol_commands.specs.RunPlayed.{first_table_wire, HasFlaw, OverTable};
+ghost use Rattle.iol_commands.specs.TracePrinted.{TracesOut, TracesScript, trace_reading};
 ghost use Rattle.iol_commands.specs.Input.{AnswersInput};
 
 use crate::ending::print_ending;
@@ -39,10 +39,12 @@ pub fn trace<A: Handle, R: Read, W: Write>(
     reader: &mut R,
     writer: &mut W,
 ) -> Result<(), ProgramFault>
-    ensures answers { AnswersInput (λ lines n. first_bad_run lines ≡ Some n)
-        (λ lines. first_bad_run lines ≡ None) IsBadTable PrintsTrace
-        (R.remaining reader.old) (R.remaining reader.new)
-        (W.contents writer.old) (W.contents writer.new) result }
+    ensures answers { AnswersInput trace_reading (record {
+      input = R.remaining reader.old;
+      input_left = R.remaining reader.new;
+      output = W.contents writer.old;
+      output_new = W.contents writer.new;
+    }) result }
     ensures nothing { OnErr result (result ≢ Err WriteFailed → result ≢ Err OutOfMemory
         → Keeps (W.contents writer.old) (W.contents writer.new)) }
     ensures threads { result ≢ Err NoThread }

@@ -8,13 +8,13 @@ use Rattle.iol_param_sim.specs.Parameters.{parameters_facts}
 use Rattle.iol_port.specs.declared.call.Answered.{Answered}
 use Rattle.iol_port.specs.declared.call.Call.{Call}
 use Rattle.iol_script.specs.RunLines.{run_form}
-use Rattle.iol_script.specs.Script.{ScriptValue, calls_in, calls_of, script_in}
+use Rattle.iol_script.specs.Script.{ScriptValue, calls_in, calls_of, script_in, first_bad_run}
 use Rattle.iol_script.specs.Tables.{has_no_table}
 use Rattle.iol_script.specs.declared.run_line.RunLine.{RunLine}
 use Rattle.iol_sim.specs.Beside.{BesideFacts, plain_facts}
 use Rattle.iol_sim.specs.Params.{Stores}
 use Rattle.iol_sim.specs.Sim.{SimulatedWire, sim_facts}
-use Rattle.iol_commands.specs.RunPlayed.{OverTable, PrintsRun, ending_text, first_table_wire, first_wire}
+use Rattle.iol_commands.specs.RunPlayed.{OverTable, PrintsRun, ending_text, first_table_wire, first_wire, IsBadTable}
 use Rattle.iol_storage.specs.declared.attempt.StorageMode.{StorageMode}
 use Rattle.iol_storage.specs.declared.stored.fault.StoredFault.{StoredFault}
 use Rattle.iol_storage.specs.declared.stored.fault.StoredFault.TheVariants.{SmallQueue}
@@ -28,6 +28,7 @@ use Rattle.iol_stored_script.specs.declared.storage_line.StorageLine.TheVariants
 use Rattle.iol_stored_commands.specs.declared.storage_answer.StorageAnswer.{StorageAnswer}
 use Rattle.iol_stored_commands.specs.StoredPrinted.{plain_answer_text, storage_text, stored_refusal_text}
 use Rattle.iol_stored_commands.specs.Wired.{CallMakes, IsNewStored, StorageMakes, StoredOver, lacks_room}
+use Rattle.iol_commands.specs.Input.{CommandReading}
 
 -- The calls of a script
 
@@ -120,3 +121,12 @@ lines_by_mode (Some mode) lines = plain_lines Awaited lines
 
 abbrev pub lines_read : List (ℕ × List ℕ) → List (ℕ × List ℕ)
 lines_read lines = lines_by_mode (storage_mode_in lines) lines
+
+-- what `run` makes of its lines, with Data Storage or without
+abbrev pub script_reading : CommandReading
+script_reading = record {
+  bad_at = λ lines n. first_bad_run (lines_read lines) ≡ Some n;
+  are_good = λ lines. first_bad_run (lines_read lines) ≡ None;
+  bad_table = λ lines why. IsBadTable (lines_read lines) why;
+  prints = PrintsScript;
+}

@@ -24,6 +24,8 @@ use Rattle.iol_stored_script.specs.PlainText.{storage_mode_in, plain_lines}
 use Rattle.iol_stored_script.specs.declared.as_plain.StoreLine.TheVariants.{Awaited}
 use Rattle.iol_stored_commands.specs.StoredPlayed.{OpensNone, Plain, StoredCall, StoredMakes, stored_calls_in}
 use Rattle.iol_stored_commands.specs.Wired.{IsNewStored, StoredOver}
+use Rattle.iol_stored_commands.specs.StoredPlayed.{script_reading}
+use Rattle.iol_commands.specs.Input.{CommandReading}
 
 -- the layout in which a port sends, as the page of its session asks for it
 abbrev pub stored_layout : PortParts → Shape
@@ -124,3 +126,7 @@ TracesByMode (Some mode) lines text = IsSomeAnd (script_in (plain_lines Awaited 
 
 abbrev pub TracesLines : List (ℕ × List ℕ) → List ℕ → Type 0
 TracesLines lines text = TracesByMode (storage_mode_in lines) lines text
+
+-- what `trace` makes of its lines, with Data Storage or without
+abbrev pub script_trace_reading : CommandReading
+script_trace_reading = record script_reading { prints = TracesLines }

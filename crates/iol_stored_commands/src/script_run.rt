@@ -1,11 +1,9 @@
 //! `run`: a port over a simulated wire, as a script says.
-ghost use Rattle.std.specs.Prelude.{◌≡◌, ◌≢◌, Err, None, OnErr, Some};
+ghost use Rattle.std.specs.Prelude.{◌≢◌, Err, None, OnErr, Some};
 ghost use Rattle.std.specs.Io.KnownBytes.{Keeps};
-ghost use Rattle.iol_script.specs.Script.{first_bad_run};
 ghost use Rattle.iol_commands.specs.declared.fault.ProgramFault.TheVariants.{NoThread, WriteFailed};
 ghost use Rattle.iol_commands.specs.Input.{AnswersInput};
-ghost use Rattle.iol_commands.specs.RunPlayed.{IsBadTable};
-ghost use Rattle.iol_stored_commands.specs.StoredPlayed.{PrintsScript, lines_read};
+ghost use Rattle.iol_stored_commands.specs.StoredPlayed.{script_reading};
 
 use crate::stored_run::played_stored;
 use iol_cell::Handle;
@@ -21,11 +19,12 @@ pub fn run_script<A: Handle, R: Read, W: Write>(
     reader: &mut R,
     writer: &mut W,
 ) -> Result<(), ProgramFault>
-    ensures answers { AnswersInput (λ lines n. first_bad_run (lines_read lines) ≡ Some n)
-        (λ lines. first_bad_run (lines_read lines) ≡ None)
-        (λ lines why. IsBadTable (lines_read lines) why) PrintsScript
-        (R.remaining reader.old) (R.remaining reader.new)
-        (W.contents writer.old) (W.contents writer.new) result }
+    ensures answers { AnswersInput script_reading (record {
+      input = R.remaining reader.old;
+      input_left = R.remaining reader.new;
+      output = W.contents writer.old;
+      output_new = W.contents writer.new;
+    }) result }
     ensures nothing { OnErr result (result ≢ Err WriteFailed
         → Keeps (W.contents writer.old) (W.contents writer.new)) }
     ensures threads { result ≢ Err NoThread }

@@ -9,8 +9,8 @@ ghost use Rattle.iol_commands.specs.declared.fault.ProgramFault.TheVariants as f
 ghost use Rattle.iol_commands.specs.Input.{AnswersInput};
 ghost use Rattle.iol_commands.specs.RunPlayed.{IsBadTable};
 ghost use Rattle.iol_commands.specs.TracePrinted.{PrintsTrace};
-ghost use Rattle.iol_stored_commands.specs.StoredPlayed.{lines_by_mode, lines_read};
-ghost use Rattle.iol_stored_commands.specs.StoredTraced.{TracesByMode, TracesLines};
+ghost use Rattle.iol_stored_commands.specs.StoredPlayed.{lines_by_mode};
+ghost use Rattle.iol_stored_commands.specs.StoredTraced.{TracesByMode, script_trace_reading};
 
 use crate::stored_trace::traced_stored;
 use iol_cell::Handle;
@@ -27,11 +27,12 @@ pub fn trace_script<A: Handle, R: Read, W: Write>(
     reader: &mut R,
     writer: &mut W,
 ) -> Result<(), ProgramFault>
-    ensures answers { AnswersInput (λ lines n. first_bad_run (lines_read lines) ≡ Some n)
-        (λ lines. first_bad_run (lines_read lines) ≡ None)
-        (λ lines why. IsBadTable (lines_read lines) why) TracesLines
-        (R.remaining reader.old) (R.remaining reader.new)
-        (W.contents writer.old) (W.contents writer.new) result }
+    ensures answers { AnswersInput script_trace_reading (record {
+      input = R.remaining reader.old;
+      input_left = R.remaining reader.new;
+      output = W.contents writer.old;
+      output_new = W.contents writer.new;
+    }) result }
     ensures nothing { OnErr result (result ≢ Err WriteFailed → result ≢ Err OutOfMemory
         → Keeps (W.contents writer.old) (W.contents writer.new)) }
     ensures threads { result ≢ Err NoThread }

@@ -3,7 +3,7 @@ ghost use Rattle.std.specs.Prelude.{◌≡◌, ◌≢◌, ◌⊎◌, ℕ, Err, O
 ghost use Rattle.std.specs.Io.KnownBytes.{Keeps};
 ghost use Rattle.iolink.specs.declared.command.PrintingCommand.TheVariants.{Many, Trace};
 ghost use Rattle.iol_commands.specs.declared.fault.ProgramFault.TheVariants.{NoThread, OutOfMemory, WriteFailed};
-ghost use Rattle.iolink.specs.Performed.{IsBadAt, IsGood, HasBadTable, CommandPrints};
+ghost use Rattle.iolink.specs.Performed.{reading_of};
 ghost use Rattle.iol_commands.specs.Input.{AnswersInput, OfLines};
 
 use crate::command::PrintingCommand;
@@ -26,11 +26,15 @@ pub(crate) fn perform<T: Threads + Wait + Sync, R: Read, W: Write>(
     reader: &mut R,
     writer: &mut W,
 ) -> Result<(), ProgramFault>
-    ensures answers { AnswersInput (IsBadAt mode) (IsGood mode) (HasBadTable mode)
-        (CommandPrints mode) (R.remaining reader.old) (R.remaining reader.new)
-        (W.contents writer.old) (W.contents writer.new) result }
+    ensures answers { AnswersInput (reading_of mode) (record {
+      input = R.remaining reader.old;
+      input_left = R.remaining reader.new;
+      output = W.contents writer.old;
+      output_new = W.contents writer.new;
+    }) result }
     ensures threads { mode ≢ Many → result ≢ Err NoThread }
-    ensures no_thread { result ≡ Err NoThread → OfLines (R.remaining reader.old) (IsGood mode) }
+    ensures no_thread { result ≡ Err NoThread → OfLines (R.remaining reader.old)
+        (reading_of mode).are_good }
     ensures nothing { OnErr result
         (result ≢ Err WriteFailed → (mode ≡ Trace → result ≢ Err OutOfMemory)
         → Keeps (W.contents writer.old) (W.contents writer.new)) }
