@@ -7,7 +7,7 @@ ghost use Rattle.iol_port.specs.View.{IsRun, OpensWell, KeepsRecordOver, over};
 ghost use Rattle.iol_port.specs.Called.{Collects, Withdraws, Cancels, Abandons, Restarts, SetsOutput, ClearsOutput};
 ghost use Rattle.iol_port.specs.Called.{Expects, SetsCycle, TakesEvent, Archives, Drains, DrainsInto, Turns, PublishesAfter};
 ghost use Rattle.iol_port.specs.Called.{ShowsPage, ShowsCounters, ShowsLastLoss, ShowsImage, ShowsStatus, CoreCalled, MakesCall};
-ghost use Rattle.iol_port.specs.Claim.{Claim};
+ghost use Rattle.iol_port.specs.Claim.{TiedClaim};
 ghost use Rattle.iol_port.specs.WireCalls.{ComesFrom};
 ghost use Rattle.iol_port.specs.RightDevice.{IsForRightDevice};
 ghost use Rattle.iol_port.specs.Clean.{IsLevelBetween};
@@ -342,7 +342,7 @@ impl<W: Wire, K: Ledger, A: Handle> Held<W, K, A> {
         ensures replayed { IsReplayed self.now.parts.book.state }
         ensures run { IsRun W.facts self.now.opening (over self.now) }
         ensures claim { OpensWell self.now.opening
-            → Claim W.facts self.now.opening [] [] (over self.now) }
+            → TiedClaim W.facts self.now.opening (over self.now) }
         ensures wire { ComesFrom W.facts
             self.now.opening.wire self.now.wire }
         ensures record_fits { OpensWell self.now.opening → KeepsRecordOver W.facts (over self.now) }

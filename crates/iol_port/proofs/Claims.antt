@@ -8,7 +8,7 @@ use Rattle.iol_link.specs.WireFacts.{WireFacts}
 use Rattle.iol_port.specs.declared.call.Call.{Call}
 use Rattle.iol_port.specs.declared.call.Answered.{Answered}
 use Rattle.iol_port.specs.Run.{PortState, Run, Whole}
-use Rattle.iol_port.specs.Claim.{Claim, Has, opened_with}
+use Rattle.iol_port.specs.Claim.{Claim, ClaimGoesOn, Has, TiedClaim, opened_with}
 use Rattle.iol_port.specs.View.{PortOver, Opening, OpensWell, StandsOver, IsRun, Runs}
 use Rattle.iol_port.proofs.OwnerRuns.{each_done_has_its_pair, opened_sound, runs_sound}
 use Rattle.iol_port.proofs.PieceLemmas.{runs_join}
@@ -41,7 +41,7 @@ module _ {W : Type 0} (facts : WireFacts W) (o : Opening W) (q : PortOver W) whe
         page = refl;
       }
 
-  holds : (earlier calls : List Call) (answered replies : List Answered) (b : PortState)
+  abbrev holds : (earlier calls : List Call) (answered replies : List Answered) (b : PortState)
       → Run (opened_with o) (earlier ++ calls) (answered ++ replies) b → StandsOver facts q b
       → Claim facts o calls replies q
   holds earlier calls answered replies b run stands = record {
@@ -58,11 +58,24 @@ module _ {W : Type 0} (facts : WireFacts W) (o : Opening W) (q : PortOver W) whe
         (opened_sound o.devices o.limits o.far o.silence)).fits;
   }
 
-  pub claim_holds : IsRun facts o q → OpensWell o → Claim facts o [] [] q
+  pub claim_holds : IsRun facts o q → OpensWell o → TiedClaim facts o q
   unfolding IsRun
   claim_holds is well =
       let (calls, replies, b, run, stands) = is well in
-      holds calls [] replies [] b (rw (append-nil calls, append-nil replies) run) stands
+      (holds calls [] replies [] b (rw (append-nil calls, append-nil replies) run) stands, stands)
+
+  pub claim_goes_on : (old : PortOver W) (calls : List Call) (replies : List Answered)
+      → Runs facts old calls replies q → ClaimGoesOn facts o old calls replies q
+  unfolding Runs
+  claim_goes_on old calls replies goes these answers before stood =
+      let (b, more, stands) = goes before.port stood in (
+        holds (before.earlier ++ these) calls (before.answered ++ answers) replies b
+            (runs_join (opened_with o) before.port b (before.earlier ++ these) calls
+            (before.answered ++ answers) replies before.run more) stands,
+        stands,
+        refl,
+        refl,
+      )
 
   pub claim_grows : (old : PortOver W) (calls : List Call) (replies : List Answered)
       → IsRun facts o old → Runs facts old calls replies q → OpensWell o

@@ -1,5 +1,5 @@
 -- The claim, in one record: what those who use a port may rely on over a lossy line.
-use Rattle.std.specs.Prelude.{◌≡◌, List, ◌++◌, map, option_map}
+use Rattle.std.specs.Prelude.{◌≡◌, List, [], ◌++◌, map, option_map}
 use Rattle.iol_app.specs.Abstract.Events.{frozen_events}
 use Rattle.iol_app.specs.StationState.{mode_in, why_in}
 use Rattle.iol_far.specs.Far.{output_of}
@@ -11,7 +11,7 @@ use Rattle.iol_port.specs.Owners.{allowance_of}
 use Rattle.iol_port.specs.Sound.{RecordFits}
 use Rattle.iol_port.specs.CarriesOut.{CarriesOut}
 use Rattle.iol_port.specs.History.{FitsHistory}
-use Rattle.iol_port.specs.View.{PortOver, Opening}
+use Rattle.iol_port.specs.View.{PortOver, Opening, StandsOver}
 
 -- the abstract port with which a port begins
 abbrev pub opened_with : {W : Type 0} → Opening W → PortState
@@ -69,3 +69,15 @@ module _ {W : Type 0} (facts : WireFacts W) where
     pub carries :
         CarriesOut (opened_with o) (map Whole (earlier ++ calls)) (answered ++ replies) port
     pub in_order : RecordFits (allowance_of port.terms) port.book port.session port.owners
+
+  -- At each moment there is a claim whose abstract port stands for what is there
+  abbrev pub TiedClaim : Opening W → PortOver W → Type 0
+  TiedClaim o q = (claim : Claim o [] [] q) × StandsOver facts q claim.port
+
+  -- What a claim has said stays said: each claim of before, whose abstract port stood for what was
+  -- there, has one now that goes on from it, with its calls and answers for the earlier ones
+  abbrev pub ClaimGoesOn : Opening W → PortOver W → List Call → List Answered → PortOver W → Type 0
+  ClaimGoesOn o old calls replies q = (these : List Call) (answers : List Answered)
+      (before : Claim o these answers old) → StandsOver facts old before.port
+      → (now : Claim o calls replies q) × StandsOver facts q now.port
+      × (now.earlier ≡ before.earlier ++ these) × (now.answered ≡ before.answered ++ answers)

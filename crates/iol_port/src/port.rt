@@ -17,7 +17,7 @@ ghost use Rattle.iol_port.specs.Asks.{asks_of, IsWireCall};
 ghost use Rattle.iol_port.specs.Called.{Submits, SubmitsUrgent, Collects, Withdraws, Cancels, Abandons, Serves, Restarts, SetsOutput};
 ghost use Rattle.iol_port.specs.Called.{ClearsOutput, Expects, SetsCycle, TakesEvent, Archives, Drains, DrainsInto, Turns, PublishesAfter};
 ghost use Rattle.iol_port.specs.Called.{ShowsPage, ShowsCounters, ShowsLastLoss, ShowsImage, ShowsStatus, CoreCalled, MakesCall};
-ghost use Rattle.iol_port.specs.Claim.{Claim};
+ghost use Rattle.iol_port.specs.Claim.{Claim, ClaimGoesOn, TiedClaim};
 ghost use Rattle.iol_port.specs.EveryWire.{PortCallGives, RunGives};
 ghost use Rattle.iol_port.specs.RightDevice.{IsForRightDevice};
 ghost use Rattle.iol_port.specs.WireCalls.{ComesFrom};
@@ -420,6 +420,8 @@ impl<W: Wire, A: Handle> Port<W, A> {
             (over self.old) calls.now replies.items (over self.new)) }
         ensures claim { OpensWell self.old.opening → IfOk result (λ replies. Claim W.facts
             self.old.opening calls.now replies.items (over self.new)) }
+        ensures goes_on { IfOk result (λ replies. ClaimGoesOn W.facts
+            self.old.opening (over self.old) calls.now replies.items (over self.new)) }
         ensures gives { IfOk result (λ replies. RunGives W.facts
             (over self.old) calls.now replies.items (over self.new)) }
         ensures clean { IfOk result (λ _. CleanRuns W.facts (over self.old) calls.now
@@ -518,7 +520,7 @@ impl<W: Wire, A: Handle> Port<W, A> {
         ensures limits { KeepsLimits (book.empty_book self.now.opening.limits)
             self.now.parts.book.state }
         ensures claim { OpensWell self.now.opening
-            → Claim W.facts self.now.opening [] [] (over self.now) }
+            → TiedClaim W.facts self.now.opening (over self.now) }
         ensures record_fits { OpensWell self.now.opening → KeepsRecordOver W.facts (over self.now) }
         ensures level { OpensWell self.now.opening
             → IsLevelBetween (W.facts.far self.now.wire) self.now.parts }

@@ -7,7 +7,7 @@ use Rattle.iol_app.specs.Abstract.Events.{frozen_events}
 use Rattle.iol_app.specs.Abstract.Shown.{frozen_of}
 use Rattle.iol_port.specs.Owners.{IsOneOf}
 use Rattle.iol_port.specs.History.{events_handed_out}
-use Rattle.iol_port.specs.Claim.{Claim}
+use Rattle.iol_port.specs.Claim.{TiedClaim}
 use Rattle.iol_port.specs.View.{PortValue, over}
 use Rattle.iol_port_tests.specs.ShowsHistory.{ShowsHistory}
 
@@ -26,8 +26,8 @@ frozen_are [] reported = refl
 frozen_are (event ∷ events) reported = refl
 
 pub shows_history : {W : Type 0} (facts : WireFacts W) (v : PortValue W)
-    → Claim facts v.opening [] [] (over v) → ShowsHistory facts v
-shows_history facts v claim =
+    → TiedClaim facts v.opening (over v) → ShowsHistory facts v
+shows_history facts v (claim, stands) =
     let history = claim.history in
     let memory = v.opening.far.events in
     record {
