@@ -1,5 +1,5 @@
 -- What `check` prints for each line.
-use Rattle.std.specs.Prelude.{◌≡◌, ℕ, Bool, true, false, Result, Ok, MatchOption, MatchResult, List, [], ◌∷◌, ◌++◌, Some, None, ⊥}
+use Rattle.std.specs.Prelude.{◌≡◌, ℕ, Bool, true, false, Result, Ok, MatchOption, MatchResult, List, [], ◌∷◌, ◌++◌, Some, None}
 use Rattle.std.specs.Result.{result_unwrap_or}
 use Rattle.iol_mseq.specs.Shape.{Shape, startup_shape, preoperate_shape, operate_shape}
 use Rattle.iol_mseq.specs.declared.fault.MseqFault.{MseqFault}

@@ -1,5 +1,5 @@
 -- What `many` prints.
-use Rattle.std.specs.Prelude.{◌≡◌, ℕ, List, [], ◌++◌, All, Ok, vec_len, flat_map, codes, Err, IsOk, ⊥}
+use Rattle.std.specs.Prelude.{◌≡◌, ℕ, List, [], ◌++◌, All, Ok, vec_len, flat_map, codes, Err, IsOk}
 use Rattle.std.specs.List.{enumerate_from}
 use Rattle.iol_sim.specs.Beside.{plain_facts}
 use Rattle.iol_sim.specs.Params.{Stores}
