@@ -2,7 +2,7 @@
 use crate::cable::Cable;
 use anyhow::Result;
 use example_kept::print_set;
-use iol_app::Asked;
+use iol_app::Transmission;
 use iol_book::{Journal, Limits};
 use iol_mode::Devices;
 use iol_storage::{Set, StorageMode, StorageStanding, StoredPort};
@@ -59,11 +59,11 @@ impl<'a> Gateway<'a> {
     /// What the port sends goes out, and the port is told what came back.
     fn exchange(&mut self, rt: &impl Print) -> Result<()> {
         match self.port.send() {
-            Asked::Wake => {
+            Transmission::Wake => {
                 let rate = self.cable.wake();
                 self.port.receive_wake(rate);
             }
-            Asked::Exchange(sent) => {
+            Transmission::Exchange(sent) => {
                 let received = self.cable.exchange(rt, sent.octets.as_slice())?;
                 self.port.receive(&received);
             }

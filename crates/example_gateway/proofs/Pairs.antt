@@ -1,4 +1,5 @@
 -- Lists of two.
+-- For the clauses of `serve::serve`.
 use Rattle.std.proofs.Common.{◌≡◌, List, [], ◌∷◌, All}
 use Rattle.std.proofs.lemmas.List.Elements.{All-nil, All-cons}
 

@@ -3,7 +3,7 @@ use crate::lines::{next_line, octets_of, request_of};
 use crate::past::{Past, Stand};
 use crate::text::{EntryText, OutcomeText};
 use anyhow::{Result, bail};
-use iol_app::Asked;
+use iol_app::Transmission;
 use iol_book::{BookFault, Journal, Limits, Outcome, Ticket};
 use iol_link::Rate;
 use iol_port::{AwaitedAnswer, PortCore, PortFault};
@@ -141,10 +141,10 @@ enum Line {
 }
 
 /// What goes out, as a line.
-fn put_out<R: Runtime<A = Global>>(rt: &R, asked: &Asked) -> Result<()> {
+fn put_out<R: Runtime<A = Global>>(rt: &R, asked: &Transmission) -> Result<()> {
     match asked {
-        Asked::Wake => println!(rt; "wake")?,
-        Asked::Exchange(sent) => {
+        Transmission::Wake => println!(rt; "wake")?,
+        Transmission::Exchange(sent) => {
             print!(rt; "send")?;
             for octet in sent.octets.as_slice() {
                 print!(rt; " {octet:02X}")?;

@@ -11,7 +11,7 @@ mod line;
 
 use crate::line::{exchange, wake};
 use anyhow::Result;
-use iol_app::Asked;
+use iol_app::Transmission;
 use iol_book::{Limits, Ticket};
 use iol_isdu::{Place, Request};
 use iol_port::PortCore;
@@ -30,11 +30,11 @@ const TURNS: u32 = 60;
 /// One turn: what the port sends goes out, and the port is told what came back.
 fn turn(rt: &(impl Input + Print + AllocGlobal), port: &mut PortCore) -> Result<()> {
     match port.send() {
-        Asked::Wake => {
+        Transmission::Wake => {
             let rate = wake(rt)?;
             port.receive_wake(rate);
         }
-        Asked::Exchange(sent) => {
+        Transmission::Exchange(sent) => {
             let received = exchange(rt, sent.octets.as_slice())?;
             port.receive(&received);
         }

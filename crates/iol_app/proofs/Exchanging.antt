@@ -30,7 +30,7 @@ use Rattle.iol_app.specs.declared.report.Said.TheVariants.{Busy as SaidBusy, Ans
 use Rattle.iol_app.specs.Abstract.Steps.{PortStep, Moment, silence_left, repeats_at, doubts_at, Report, WireCall, Exchanged, silence_by, CallFits, is_report}
 use Rattle.iol_app.specs.Abstract.OfDevice.{Hidden, IsOpen, hidden_through, hidden_redelivered, redeliver_steps, reported_through, exchange_steps, reported_exchanged}
 use Rattle.iol_app.specs.Abstract.Shown.{MasterFields}
-use Rattle.iol_app.specs.Abstract.OfMaster.{ExchangeResult, Missed, Unconfirmed, Gone, WasBusy, WasAnswered, WasAborted, WasReported, PlainReply, lost_steps, received_steps, quiet_report, lost_report, is_for_book, book_said, reports_said}
+use Rattle.iol_app.specs.Abstract.OfMaster.{ExchangeResult, Missed, Unconfirmed, Gone, WasBusy, WasAnswered, WasAborted, WasReported, PlainReply, lost_steps, received_steps, quiet_report, lost_report, is_for_book, steps_for_book, steps_for_queue}
 use Rattle.iol_app.specs.Abstract.Shown.{images_of}
 use Rattle.iol_app.specs.BothEnds.{ReadingState, AnswerFits, wants_confirm}
 use Rattle.iol_app.specs.Exchange.{hidden_lost, acknowledged_by}
@@ -105,8 +105,8 @@ Says kind request report = ⊥
 
 report_of : (kind : ExchangeResult) (request : Option Request) (report : Said)
     → Says kind request report
-    → (filter is_for_book (received_steps kind request) ≡ book_said report)
-    × (filter is_report (received_steps kind request) ≡ reports_said report)
+    → (filter is_for_book (received_steps kind request) ≡ steps_for_book report)
+    × (filter is_report (received_steps kind request) ≡ steps_for_queue report)
 report_of kind request report says = grind (arith, common_steps)
 
 -- a loss, with a request under way or none
@@ -158,7 +158,7 @@ pub record RequestWords : Type 0 where
 
 -- what is said to be reported was frozen, and not reported yet
 abbrev pub ReportWasFrozen : Said → Option Frozen → Type 0
-ReportWasFrozen report f = (events : List Event) → reports_said report ≡ Report events ∷ []
+ReportWasFrozen report f = (events : List Event) → steps_for_queue report ≡ Report events ∷ []
     → f ≡ Some (record { events = events; reported = false })
 
 quiet_frozen : (r : Option Request) (f : Option Frozen) → ReportWasFrozen (quiet_report r) f

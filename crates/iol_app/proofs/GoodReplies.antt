@@ -26,7 +26,7 @@ use Rattle.iol_mode.specs.Stands.{StateStands, operate_link, IsAccepted}
 use Rattle.iol_mode.specs.States.{NextMode, InOperate, StateFits, next_state}
 use Rattle.iol_app.specs.declared.report.Said.{Said}
 use Rattle.iol_app.specs.Abstract.Steps.{repeats_at, Report, Exchanged, Moment, input_length}
-use Rattle.iol_app.specs.Abstract.OfMaster.{ExchangeResult, PlainReply, WasReported, received_steps, quiet_report, reports_said}
+use Rattle.iol_app.specs.Abstract.OfMaster.{ExchangeResult, PlainReply, WasReported, received_steps, quiet_report, steps_for_queue}
 use Rattle.iol_app.specs.Abstract.Shown.{images_of, frozen_of}
 use Rattle.iol_app.specs.BothEnds.{ReadingState, Due, wants_confirm, wants_octet, AnswerFits, ProgressFits, EventsFit}
 use Rattle.iol_app.specs.Exchange.{reading_continued, acknowledged_by}
@@ -90,7 +90,7 @@ continued_at other flag event due h = grind (arith, common_steps)
 
 -- what is said to be reported came so
 reported_kind : (kind : ExchangeResult) (request : Option Request) (report : Said)
-    → Says kind request report → (events : List Event) → reports_said report ≡ Report events ∷ []
+    → Says kind request report → (events : List Event) → steps_for_queue report ≡ Report events ∷ []
     → kind ≡ WasReported events
 reported_kind kind request report says events k = grind (arith, common_steps)
 

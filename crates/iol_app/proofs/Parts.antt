@@ -1,5 +1,5 @@
 -- Lists of steps in one part of the abstract port, one behind the other.
--- For the clauses of `laws::receive_gives`, `laws::rise_gives`, `laws::wake_gives` and 15 more.
+-- For the clauses of `laws::receive_gives`, `laws::rise_gives`, `laws::wake_gives` and 40 more.
 use Rattle.std.proofs.Common.{◌≡◌, List, [], ◌∷◌, ◌++◌, refl}
 use Rattle.std.specs.Prelude.{Option}
 use Rattle.iol_isdu.specs.declared.values.Request.{Request}

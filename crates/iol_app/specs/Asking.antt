@@ -11,9 +11,9 @@ use Rattle.iol_isdu.specs.declared.values.Request.{Request}
 use Rattle.iol_link.specs.declared.wire.Rate.{Rate}
 use Rattle.iol_link.specs.WireFacts.{WireFacts}
 use Rattle.iol_mode.specs.Next.{message_out}
-use Rattle.iol_app.specs.declared.asked.Asked.{Asked}
+use Rattle.iol_app.specs.declared.transmission.Transmission.{Transmission}
 use Rattle.iol_app.specs.declared.asked.Outgoing.{Outgoing}
-use Rattle.iol_app.specs.declared.asked.Asked.TheVariants.{Wake, Exchange}
+use Rattle.iol_app.specs.declared.transmission.Transmission.TheVariants.{Wake, Exchange}
 use Rattle.iol_app.specs.declared.event_work.EventRoom.{EventRoom}
 use Rattle.iol_app.specs.declared.session.Purpose as purpose
 use Rattle.iol_mode.specs.declared.states.State.{State}
@@ -84,7 +84,7 @@ outgoing_of layout octets = record {
   reply = reply_size layout octets;
 }
 
-abbrev pub asked_in : State → SessionState → EventRoom → Asked
+abbrev pub asked_in : State → SessionState → EventRoom → Transmission
 asked_in (AtDown state) s room = Wake
 asked_in (AtStartup state) s room =
     Exchange (outgoing_of startup_shape (master_text startup_shape state.sent.message))
@@ -99,14 +99,14 @@ core_with_request next c room =
     record c { session = beginning_in next c.state c.session room }
 
 -- the call that the next turn makes, where there is room for events or not
-abbrev pub asked_by : CoreState → EventRoom → Asked
+abbrev pub asked_by : CoreState → EventRoom → Transmission
 asked_by c room = asked_in c.state c.session room
 
 -- one call of the wire is the one that was asked
 module _ {W : Type 0} (facts : WireFacts W) where
   open facts use {wake_gives, exchange_gives}
 
-  abbrev pub IsCall : Asked → W → W → Type 0
+  abbrev pub IsCall : Transmission → W → W → Type 0
   IsCall Wake old new = (answer : Option Rate) × wake_gives old answer new
   IsCall (Exchange out) old new = (answer : Option (ArrayVec ℕ))
       × exchange_gives old out.octets.items answer new

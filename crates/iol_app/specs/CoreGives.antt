@@ -6,7 +6,7 @@ use Rattle.iol_mode.specs.declared.states.State.TheVariants.{Operate as AtOperat
 use Rattle.iol_mode.specs.States.{is_reset}
 use Rattle.iol_app.specs.declared.report.Said.{Said}
 use Rattle.iol_app.specs.Abstract.Steps.{PortStep, WireCall, Exchanged, Moment, ImageOctets, silence_by, CallFits, is_report, TakesSteps}
-use Rattle.iol_app.specs.Abstract.OfMaster.{is_for_book, book_said, reports_said, resets}
+use Rattle.iol_app.specs.Abstract.OfMaster.{is_for_book, steps_for_book, steps_for_queue, resets}
 use Rattle.iol_app.specs.Abstract.Session.{MaySession, session_after}
 use Rattle.iol_app.specs.Abstract.Events.{MayFrozen, frozen_after}
 use Rattle.iol_app.specs.Abstract.Images.{MayImages, images_after}
@@ -67,8 +67,8 @@ pub record CallGives (c : CoreState) (g : Ghost) (far : Far) (silence : ℕ) (re
   pub silent : silence_new ≡ silence_by call silence
   pub terms : TermsStay c next g after
   pub book_steps_are : filter is_for_book steps
-      ≡ resets (is_reset c.state) (is_reset next.state) ++ book_said report
-  pub report_steps_are : filter is_report steps ≡ reports_said report
+      ≡ resets (is_reset c.state) (is_reset next.state) ++ steps_for_book report
+  pub report_steps_are : filter is_report steps ≡ steps_for_queue report
   pub was_frozen : WasFrozen steps (frozen_in g far)
   pub session :
       TakesSteps (MaySession (moment_of c g silence call)) session_after (session_in c g far) steps

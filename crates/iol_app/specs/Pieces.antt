@@ -18,8 +18,8 @@ use Rattle.iol_mode.specs.Messages.{new_sending}
 use Rattle.iol_mode.specs.States.{IsDown, StateFits, NextModeFits, next_state}
 use Rattle.iol_app.specs.declared.report.Said.{Said}
 use Rattle.iol_app.specs.declared.report.Said.TheVariants.{Idle}
-use Rattle.iol_app.specs.declared.asked.Asked.{Asked}
-use Rattle.iol_app.specs.declared.asked.Asked.TheVariants.{Wake, Exchange}
+use Rattle.iol_app.specs.declared.transmission.Transmission.{Transmission}
+use Rattle.iol_app.specs.declared.transmission.Transmission.TheVariants.{Wake, Exchange}
 use Rattle.iol_app.specs.declared.wire_result.WireResult.{WireResult}
 use Rattle.iol_app.specs.declared.event_work.EventRoom.{EventRoom}
 use Rattle.iol_app.specs.declared.event_work.EventRoom.TheVariants.{Left, Full}
@@ -39,14 +39,14 @@ use Rattle.iol_app.specs.CoreTurns.{SendGives, after_exchange, after_wake, recei
 -- What is out
 
 -- the message that is out, in the layout of its mode, with the right checksum; in down a wake
-abbrev pub IsAskedOut : Asked → State → Type 0
+abbrev pub IsAskedOut : Transmission → State → Type 0
 IsAskedOut Wake state = IsDown state
 IsAskedOut (Exchange out) state =
     IsSending state × (out ≡ outgoing_of (layout_out state) (text_out state))
     × IsTrue (has_checksum 1 out.octets.items)
 
 -- whether a message is out, and it is the one asked for
-abbrev pub IsOutAsAsked : Bool → Asked → State → Type 0
+abbrev pub IsOutAsAsked : Bool → Transmission → State → Type 0
 IsOutAsAsked true asked state =
     IsSending state × (asked ≡ Exchange (outgoing_of (layout_out state) (text_out state)))
 IsOutAsAsked false asked state = IsDown state × (asked ≡ Wake)
@@ -184,7 +184,8 @@ pub record IsWoken {W : Type 0} (facts : WireFacts W) (wire wire_new : W) (old :
 
 -- The one call of the wire between the two pieces of a turn is the one asked for; what it brought
 -- was taken up
-abbrev pub IsMade : {W : Type 0} → WireFacts W → W → W → Asked → CoreState → Said → WireResult
+abbrev pub IsMade : {W : Type 0} → WireFacts W → W → W → Transmission → CoreState → Said
+    → WireResult
     → CoreState → Type 0
 IsMade facts wire wire_new asked mid report wire_result new =
     (IsOutAsAsked true asked mid.state × IsPassed facts wire wire_new mid report wire_result new)

@@ -18,12 +18,12 @@ ghost use Rattle.iol_app.specs.CoreTurns.{after_missed, settled_core, after_wake
 ghost use Rattle.iol_app.specs.Pieces.{IsAskedOut, IsOutAsAsked, IsSettledBy, IsTakenUp, IsPassed, IsWholeTurn, PutsOut, WakeSteps, ReceiveSteps};
 ghost use Rattle.iol_app.specs.CallSteps.{NewSteps, BeginSteps, DenySteps, AbortSteps, CancelSteps, WantSteps, RestartSteps, LinkStands};
 
-use crate::asked::{Asked, Outgoing};
 use crate::event_work::EventRoom;
 use crate::laws::station_laws;
 use crate::message::blank;
 use crate::output::OutputFault;
 use crate::session::PortSession;
+use crate::transmission::{Outgoing, Transmission};
 use crate::wire_result::{Out, WireResult};
 use crate::{Mode, Said};
 use iol_far::page_and_room_stay;
@@ -131,12 +131,12 @@ impl Core {
     }
 
     /// What `send` will give, if this request is begun before it where it may be.
-    pub fn asks(&self, room: EventRoom, next: Option<&Request>) -> Asked
+    pub fn asks(&self, room: EventRoom, next: Option<&Request>) -> Transmission
         ensures { result ≡ asked_in self.now.state
             (beginning_in (option_copied next.entry) self.now.state self.now.session room) room }
     {
         match &self.state {
-            State::Down(_) => Asked::Wake,
+            State::Down(_) => Transmission::Wake,
             State::Startup(startup) => goes_out(Layout::startup(), startup.octets()),
             State::Preoperate(preoperate) => goes_out(preoperate.pre, preoperate.octets()),
             State::Operate(operate) => {
@@ -276,7 +276,7 @@ impl Core {
     /// Until it is answered the same octets are given again, and nothing changes.
     ///
     /// Rule PORT-8.
-    pub fn send(&mut self, room: EventRoom) -> Asked
+    pub fn send(&mut self, room: EventRoom) -> Transmission
         ensures puts { PutsOut room self.old self.new }
         ensures says { IsAskedOut result self.new.state }
         ensures asked { result ≡ asked_in self.old.state self.old.session room }
@@ -284,7 +284,7 @@ impl Core {
         if self.put_next(room) {
             goes_out(self.state.layout(), self.state.sends())
         } else {
-            Asked::Wake
+            Transmission::Wake
         }
     }
 
@@ -445,10 +445,10 @@ impl Core {
 }
 
 /// These octets go out, in this layout.
-fn goes_out(layout: Layout, octets: Message) -> Asked
-    ensures { result ≡ Asked.Exchange (outgoing_of layout octets.items) }
+fn goes_out(layout: Layout, octets: Message) -> Transmission
+    ensures { result ≡ Transmission.Exchange (outgoing_of layout octets.items) }
 {
-    Asked::Exchange(Outgoing::new(layout, octets))
+    Transmission::Exchange(Outgoing::new(layout, octets))
 }
 
 /// Takes up the mode after an exchange, in OPERATE with the good reply that it brought.

@@ -16,6 +16,8 @@ use iol_segment::texts_join;
 /// Each new message of a session is the move that the request's progress asks for:
 /// its next segment, START until the answer begins, the COUNT of the answer's next
 /// segment, or none of these.
+///
+/// Needed by `laws::send_gives`.
 pub(crate) fn messages_are_moves()
     ensures { MessagesAreMoves }
 {
@@ -25,6 +27,8 @@ pub(crate) fn messages_are_moves()
 
 /// No segment of an answer that fits the request is refused, and the answer that is
 /// whole with its last one is that one.
+///
+/// Needed by `laws::receive_gives`.
 pub(crate) fn answers_are_taken_up()
     ensures { AnswersAreTakenUp }
 {
@@ -34,6 +38,8 @@ pub(crate) fn answers_are_taken_up()
 }
 
 /// A wake.
+///
+/// Needed by `laws::station_laws`.
 #[tactic(auto, using(crate::proofs::Waking::wakes))]
 pub(crate) fn wake_gives()
     ensures { WakesDevice }
@@ -48,6 +54,8 @@ pub(crate) fn wake_gives()
 }
 
 /// An exchange of a start-up, in STARTUP and in PREOPERATE.
+///
+/// Needed by `laws::station_laws`.
 #[tactic(auto, using(crate::proofs::Starting::rises))]
 pub(crate) fn rise_gives()
     ensures { Rises }
@@ -64,6 +72,8 @@ pub(crate) fn rise_gives()
 
 /// Octets that begin with the text of an answer to a request name it: they are the
 /// text, or the first segments of the text, of no other answer.
+///
+/// Needed by `laws::receive_gives`.
 pub(crate) fn text_names_its_answer()
     ensures { TextNamesAnswer }
 {
@@ -72,6 +82,8 @@ pub(crate) fn text_names_its_answer()
 }
 
 /// What comes back in OPERATE.
+///
+/// Needed by `laws::station_laws`.
 pub(crate) fn receive_gives()
     ensures { Receives }
 {
@@ -88,6 +100,8 @@ pub(crate) fn receive_gives()
 }
 
 /// A new message goes out in OPERATE.
+///
+/// Needed by `laws::station_laws`.
 pub(crate) fn send_gives()
     ensures { Sends }
 {
@@ -97,6 +111,8 @@ pub(crate) fn send_gives()
 }
 
 /// What one call of an honest wire gives.
+///
+/// Needed by `core_data::put_due`, `core_data::receive_wake`, `core_data::receive` and 2 more.
 pub(crate) fn station_laws()
     ensures { StationLaws }
 {

@@ -1,4 +1,5 @@
 -- What an abandon leaves: the law `abandons_hold`.
+-- For the clauses of `laws::abandons_hold`.
 use Rattle.std.proofs.Common.{◌≡◌, ℕ, ◌≤◌, Bool, true, false, ◌||◌, ◌&&◌, cond, refl, ap, arith, List, [], ◌∷◌, ◌++◌, Option, Some, None, is_some, nat_eq}
 use Rattle.std.specs.Prelude.{not}
 use Rattle.std.specs.Map.{lookup}

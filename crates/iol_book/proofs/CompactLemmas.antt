@@ -1,5 +1,6 @@
 -- A book is sound once the entries of tickets that are over are gone, and stands as it stood: the
 -- invariant of `Book` after `compact`, and its clause `state`.
+-- For the clauses of `Book::compact`.
 use Rattle.std.proofs.Common.{◌≡◌, ℕ, ◌+◌, ◌≤◌, Bool, true, false, refl, List, Option, None, Some, ap, arith, ◌∙◌, sym, subst, length, IsTrue, IsFalse}
 use Rattle.std.specs.Prelude.{filter}
 use Rattle.std.specs.Option.{option_map_or, option_to_list}

@@ -1,4 +1,5 @@
 -- Journals that drains handed out are one: the law `drains_join`.
+-- For the clauses of `laws::drains_join`.
 use Rattle.std.proofs.Common.{◌≡◌, ◌≤◌, Bool, true, false, cond, refl, List, [], ◌∷◌, ◌++◌, length, drop, Option, Some, None, is_some, ◌||◌}
 use Rattle.std.specs.Prelude.{is_ok}
 use Rattle.std.proofs.lemmas.List.{append-nil}

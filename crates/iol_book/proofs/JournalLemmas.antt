@@ -1,5 +1,6 @@
 -- The entries that lines and octets stand for, and how many octets these have: after one more entry
 -- (`push` of `Journal`), and for the memory that a journal needs.
+-- For the clauses of `EntriesIterator::next`, `Journal::add`, `Journal::entry_at` and 51 more.
 use Rattle.std.proofs.Common.{◌≡◌, ℕ, List, [], ◌∷◌, ◌++◌, length, refl, ap, arith, ◌+◌, ◌*◌, ◌≤◌, take, drop, map, sym, ◌∙◌, Bool, true, false, cond, zero, suc, Option, None, Some, ◌<◌}
 use Rattle.std.specs.Prelude.{filter, slice_get, slice_index_or}
 use Rattle.std.specs.Option.{option_map}

@@ -3,6 +3,7 @@
 -- say, after one more entry and after edits of its lists: the part `lines`, and the clauses that
 -- look a ticket up (`answer` of `collect_into` and of `withdraw`). Last the place of a key in a
 -- list of pairs, and the list without it: the clauses of `place_in` and `outcome_at`.
+-- For the clauses of `Book::abandon`, `Book::archive`, `Book::collect_into` and 33 more.
 use Rattle.std.proofs.Common.{◌≡◌, ℕ, Bool, true, false, List, [], ◌∷◌, ◌++◌, length, Option, None, Some, is_some, refl, ap, cond, suc, zero, arith, ◌+◌, ◌≤◌, ◌<◌, sym, nat_lt, add-one, add_comm, get_or, ◌∙◌, Bor, drop}
 use Rattle.std.proofs.lemmas.List.{append_assoc, drop-append-le}
 use Rattle.std.specs.Prelude.{slice_get, not, IfSome, IfNone, ◌||◌, find, filter, if◌then◌else◌}

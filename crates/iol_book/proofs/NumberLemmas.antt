@@ -1,5 +1,7 @@
 -- The lines of a book say what they said once the entries of tickets that are over are gone: the
 -- part `lines` of `IsSoundBook` after `compact`, and the clauses of `renumber` and of `move_queue`.
+-- For the clauses of `compacting::move_outcomes`, `compacting::move_queue`, `compacting::renumber`
+--     and `Book::compact`.
 use Rattle.std.proofs.Common.{◌≡◌, ℕ, ◌+◌, ◌<◌, ◌≤◌, Bool, true, false, refl, cond, List, [], ◌∷◌, ◌++◌, Option, Some, None, ap, arith, ◌∙◌, length, zero, suc, subst, sym, drop}
 use Rattle.std.specs.Prelude.{slice_get, map}
 use Rattle.std.specs.Option.{option_map_or, option_to_list}

@@ -1,6 +1,8 @@
 -- A journal without the entries of tickets that are over says what it said (the clauses `state` and
 -- `replayed` of `drain_into`, the parts `in_turn` and `replayed` of `IsSoundBook`): each step, with
 -- what isn't kept left out of the standing, is the step of an entry that is kept, or none.
+-- For the clauses of `Book::compact`, `compacting::move_outcomes`, `compacting::move_queue` and
+--     `compacting::renumber`.
 use Rattle.std.proofs.Common.{◌≡◌, ℕ, Bool, true, false, ◌||◌, ◌&&◌, refl, cond, List, [], ◌∷◌, ◌++◌, Option, Some, None, ap, arith, sym}
 use Rattle.std.specs.Prelude.{filter, if◌then◌else◌}
 use Rattle.std.specs.Option.{option_map, option_map_or}

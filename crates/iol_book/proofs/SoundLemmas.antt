@@ -3,6 +3,7 @@
 -- request (`numbered` of `IsSoundBook`), and which have no outcome (the clause `answer` of
 -- `collect_into`). Then that the step of an entry is what its call does to the standing (the clause
 -- `state` of each call), and last a lemma of each call, from what the call did to the fields.
+-- For the clauses of `Book::abandon`, `Book::archive`, `Book::collect_into` and 25 more.
 use Rattle.std.proofs.Common.{◌≡◌, ℕ, ◌+◌, ◌≤◌, Bool, true, false, ◌||◌, refl, cond, List, [], ◌∷◌, ◌++◌, Option, Some, None, ap, arith, is_some, nat_eq, length, drop, sym, subst, ◌∙◌, IsTrue}
 use Rattle.std.specs.Prelude.{slice_get}
 use Rattle.std.specs.Option.{option_map, option_map_or, option_to_list}

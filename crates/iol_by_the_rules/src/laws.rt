@@ -7,6 +7,8 @@ use iol_segment::texts_join;
 
 /// No message of a port is ever blamed: in each run of a port as it is opened, for our own devices
 /// or for any, whatever comes back, and whatever calls come between.
+///
+/// Needed by the promises of assurance.md.
 pub fn ports_are_by_the_rules()
     ensures { PortsAreByTheRules }
 {

@@ -15,6 +15,8 @@ use iol_judge::honest_lines_are_never_blamed;
 /// comes to a test read, or none, or up to two octets that are none, and behind that one more test
 /// read. Of requests in a row that aren't shown the last alone is told. Where a test read may be a
 /// read of page address 0x02 as well, both are told, the request as unanswered.
+///
+/// Needed by `split_laws::octets_are_never_blamed` and the promises of assurance.md.
 #[tactic(auto, using(crate::proofs::Splits::written_is_split, crate::proofs::ExampleSplits::some_are_written))]
 pub fn what_is_written_is_split()
     ensures split { WrittenIsSplit }
@@ -25,6 +27,8 @@ pub fn what_is_written_is_split()
 /// damages them so that it shows, a judge that is told what they are split into never calls it not
 /// honest, nor anything in it odd, where they are written by the rules. The device may hear wake-up
 /// requests that aren't shown, nor told.
+///
+/// Needed by `laws::honest_octets_are_never_blamed`.
 pub fn octets_are_never_blamed()
     ensures { OctetsNeverBlamed }
 {

@@ -1,4 +1,5 @@
 -- Thirty-two octets in four pieces of eight: `words_of` and `image_in` need these.
+-- For the clauses of `packing::image_in` and `packing::words_of`.
 use Rattle.std.proofs.Common.{◌≡◌, ℕ, ◌≤◌, List, ◌++◌, length, take, drop, sym, refl, ap, ◌∙◌, arith, min, true, false, [], ◌∷◌, zero, suc, Some, Result, Ok, Err, IfOk, IsOk}
 use Rattle.std.specs.Int.{to_le_bytes, w64}
 use Rattle.std.specs.Result.{result_ok}

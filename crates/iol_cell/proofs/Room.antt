@@ -1,5 +1,6 @@
 -- A cell with the handle of its allocator fits into memory: each call that takes or frees it needs
 -- `has_room`.
+-- For the clauses of `ImageSeat::drop`, `ImageSeat::load`, `ImageWriter::drop` and 3 more.
 use Rattle.std.proofs.Common.{ℕ, ◌+◌, ◌<◌, max, inl, inr, lit<}
 use prog.Memory.{up}
 use Rattle.iol_cell.specs.Handle.{IsNoneOrAddress}

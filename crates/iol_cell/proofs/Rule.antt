@@ -1,5 +1,7 @@
 -- Each kind of step keeps the rule of a cell: the law `each_step_keeps_the_rule`, and each step in
 -- `cell`. Begin at `each`.
+-- For the clauses of `ImageSeat::load`, `ImageWriter::publish`, `cell::seats_of` and
+--     `laws::each_step_keeps_the_rule`.
 use Rattle.std.proofs.Common.{length, nat_lt, if◌then◌else◌, ◌≡◌, ◌≢◌, ℕ, true, false, Option, List, [], ◌∷◌, ◌++◌, set, ⊎_elim, refl, sym, ap, subst, ◌∙◌, append_assoc, append-nil}
 use mathlib.Core.Option.{some}
 use lib.ListN.{get_elem?}

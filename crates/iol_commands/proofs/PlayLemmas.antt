@@ -1,6 +1,6 @@
 -- Calls that are made one after the other, for the clauses of `play_lines` and those below it.
 -- Begin with `port_plays_join`.
--- For the clauses of `Tracer::follow`, `playing::play_lines`, `playing::play_turns` and 13 more.
+-- For the clauses of `Tracer::follow`, `playing::play_lines`, `playing::play_turns` and 20 more.
 use Rattle.std.proofs.Common.{◌≡◌, ℕ, ◌⊎◌, inl, inr, Some, List, [], ◌∷◌, ◌++◌, refl, sym, append_assoc, append-nil}
 use Rattle.std.proofs.lemmas.List.Folds.{list_any-append}
 use Rattle.iol_link.specs.WireFacts.{WireFacts}

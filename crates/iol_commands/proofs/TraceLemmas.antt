@@ -1,13 +1,13 @@
 -- Calls that are traced one after the other, for the clauses of the tracer and of `traced`. Begin
 -- with `traces_more`.
--- For the clauses of `Tracer::follow_call`, `Tracer::follow_turns`, `Tracer::follow` and 10 more.
+-- For the clauses of `Tracer::follow_call`, `Tracer::follow_turns`, `Tracer::follow` and 17 more.
 use Rattle.std.proofs.Common.{◌≡◌, ℕ, false, Option, List, [], ◌∷◌, ◌++◌, length, replicate, refl, sym, ap, ◌∙◌, append_assoc, append-nil}
 use Rattle.std.proofs.lemmas.List.{length-replicate}
 use Rattle.std.proofs.KnownBytes.{Appends-nil, Appends-trans}
 use Rattle.std.specs.Io.KnownBytes.{Appends}
 use Rattle.iol_sim.specs.Tapped.{TappedWire, wake_noted, exchange_noted, tap_facts}
-use Rattle.iol_app.specs.declared.asked.Asked.{Asked}
-use Rattle.iol_app.specs.declared.asked.Asked.TheVariants.{Wake, Exchange}
+use Rattle.iol_app.specs.declared.transmission.Transmission.{Transmission}
+use Rattle.iol_app.specs.declared.transmission.Transmission.TheVariants.{Wake, Exchange}
 use Rattle.iol_port.specs.declared.call.Call.{Call}
 use Rattle.iol_port.specs.declared.call.Call.TheVariants as call
 use Rattle.iol_port.specs.declared.call.Answered.{Answered}
@@ -51,7 +51,7 @@ whole_written a b c waits shown text last flows is wrote =
 
 module _ {W : Type 0} (facts : WireFacts W) where
   -- what passes in a call is what is noted of it
-  passes_of : (call : Call) (asked : Asked) (s t : TraceStage W) (text : List ℕ)
+  passes_of : (call : Call) (asked : Transmission) (s t : TraceStage W) (text : List ℕ)
       → IsWireCall (tap_facts facts) call asked (tap_at s) (tap_at t)
       → PrintsNoteOf call s.number (layout_at s.port) (tap_at t).last t.number text
       → CallPasses facts s call t text
@@ -84,7 +84,7 @@ module _ {W : Type 0} (facts : WireFacts W) where
 
   -- one call, by what its port says of itself, of the call and of the wire
   pub call_traced : (n m : ℕ) (p q : PortOver (TappedWire W)) (made : Call) (reply : Answered)
-      (asked : Asked) (passed : List ℕ) → IsAbstractCall (tap_facts facts) p made reply q
+      (asked : Transmission) (passed : List ℕ) → IsAbstractCall (tap_facts facts) p made reply q
       → PortCallGives (tap_facts facts) p made reply q
       → IsWireCall (tap_facts facts) made asked p.wire q.wire
       → lacks_memory reply ≡ false

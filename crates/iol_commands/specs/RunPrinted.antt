@@ -28,7 +28,7 @@ use Rattle.iol_port.specs.declared.call.Counting.{Counting}
 use Rattle.iol_port.specs.declared.call.Counting.TheVariants.{Now, Later}
 use Rattle.iol_port.specs.declared.call.Answered.{Answered}
 use Rattle.iol_port.specs.declared.call.Answered.TheVariants as answered
-use Rattle.iol_port.specs.declared.call.Drained.{Drained}
+use Rattle.iol_port.specs.declared.call.DrainCounts.{DrainCounts}
 use Rattle.iol_port.specs.declared.fault.PortFault.{PortFault}
 use Rattle.iol_port.specs.declared.fault.PortFault.TheVariants.{Book, Output, NoEvent}
 use Rattle.iol_print.specs.Printed.{hexadecimal, octets_text}
@@ -189,7 +189,7 @@ nothing_text call.Turn = []
 nothing_text other = codes "ok\n"
 
 -- the line of a drain: how many entries it handed out, and how many of these are restated
-abbrev pub drained_text : Drained → List ℕ
+abbrev pub drained_text : DrainCounts → List ℕ
 drained_text drained = codes "drained " ++ decimal drained.entries ++ codes " restated "
     ++ decimal drained.restated ++ codes "\n"
 

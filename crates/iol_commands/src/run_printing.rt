@@ -24,7 +24,7 @@ use iol_image::Image;
 use iol_isdu::{Answer, Place, Request};
 use iol_mode::Why;
 use iol_page::Page;
-use iol_port::{Answered, Call, Counting, Drained, PortFault};
+use iol_port::{Answered, Call, Counting, DrainCounts, PortFault};
 use iol_print::{print_hexadecimal, print_octets};
 use iol_sim::{Beside, Sim};
 use std::alloc::{AllocError, Allocator};
@@ -336,10 +336,13 @@ fn print_page<A: Allocator>(output: &mut String<A>, page: Option<&Page>) -> Resu
 }
 
 /// How many entries a drain handed out.
-fn print_drained<A: Allocator>(output: &mut String<A>, drained: Drained) -> Result<(), AllocError>
+fn print_drained<A: Allocator>(
+    output: &mut String<A>,
+    drained: DrainCounts,
+) -> Result<(), AllocError>
     ensures { Prints result output.old output.new (drained_text drained) }
 {
-    let Drained { entries, restated } = drained;
+    let DrainCounts { entries, restated } = drained;
     writeln!(output, "drained {entries} restated {restated}")
 }
 

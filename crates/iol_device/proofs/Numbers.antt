@@ -1,5 +1,6 @@
 -- What is past stays past, and a number has one request: `numbers_are_own` of a device needs both.
 -- Begin with `Heeds`.
+-- For the clauses of `device::numbers_are_own`.
 use Rattle.std.proofs.Common.{◌≡◌, ◌≢◌, ℕ, ◌+◌, ◌^◌, ◌<◌, ◌≤◌, Bool, true, false, not, ◌&&◌, List, [], ◌∷◌, refl, sym, subst, arith}
 use Rattle.std.proofs.Math.Nat.{mod-eq_of_lt}
 use Rattle.std.proofs.lemmas.Bool.Decides.{nat_tests}

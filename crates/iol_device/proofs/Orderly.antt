@@ -1,4 +1,5 @@
 -- A device that is found to be orderly is so: `is_orderly` needs it.
+-- For the clauses of `far_end::is_orderly`.
 use Rattle.std.proofs.Common.{◌≡◌, true, arith}
 use Rattle.std.proofs.lemmas.Grind.{common_steps}
 use Rattle.std.specs.Prelude.{Option, Some}

@@ -1,4 +1,5 @@
 -- How a reader takes the octets of the frozen events: the law of the frozen list.
+-- For the clauses of `laws::reading_gives_the_frozen_list`.
 use Rattle.std.proofs.Common.{◌≡◌, ℕ, zero, suc, ◌+◌, ◌-◌, ◌*◌, ◌/◌, ◌%◌, ◌<◌, ◌≤◌, true, false, ◌==◌, List, [], ◌∷◌, ◌++◌, length, take, get_or, map, refl, sym, ◌∙◌, ap, arith, add-one}
 use Rattle.std.specs.Prelude.{Some, None, Ok, slice_get, slice_index, replicate}
 use Rattle.std.proofs.Math.Nat.{div-add-mod}

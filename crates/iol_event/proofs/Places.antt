@@ -1,5 +1,7 @@
 -- The places that a StatusCode marks, for the laws of reading and the clause `range` of
 -- `marked_places`.
+-- For the clauses of `status::marked_places`, `status::status_with`,
+--     `laws::reading_gives_the_frozen_list` and `laws::reading_gives_the_marked_places`.
 use Rattle.std.proofs.Common.{◌≡◌, ℕ, zero, suc, ◌+◌, ◌-◌, ◌*◌, ◌%◌, ◌^◌, ◌<◌, ◌≤◌, true, List, [], ◌∷◌, length, take, get_or, eqb, refl, arith, bit_or}
 use Rattle.std.specs.Prelude.{All, bytes_eq}
 use Rattle.std.proofs.lemmas.List.Elements.{All-filter, All-get_or, All-from_get_or}

@@ -1,5 +1,7 @@
 -- What a reader does with the octets of a device, and the events that it gives: the law of the
 -- marked places. Begin at `so_far`.
+-- For the clauses of `laws::reading_gives_the_marked_places` and
+--     `laws::reading_gives_the_frozen_list`.
 use Rattle.std.proofs.Common.{◌≡◌, ℕ, zero, suc, ◌+◌, ◌-◌, ◌*◌, ◌/◌, ◌%◌, ◌<◌, ◌≤◌, Bool, true, false, List, [], ◌∷◌, ◌++◌, length, take, get_or, ltb, map, refl, sym, ◌∙◌, ap, arith}
 use Rattle.std.specs.Prelude.{Some, None, Ok, replicate}
 use Rattle.std.proofs.Math.Seq.{take-suc}

@@ -1,4 +1,5 @@
 -- The fetch of a set, carried out by a device.
+-- For the clauses of `laws::fetched_sets_are_the_devices` and `laws::sets_move`.
 use Rattle.std.proofs.Common.{◌≡◌, ◌≤◌, ◌<◌, ◌+◌, ◌∷◌, ◌++◌, ◌∙◌, [], ℕ, zero, suc, List, Option, Some, None, Bool, true, false, refl, sym, ap, arith, length, drop, subst, length-append, append_assoc}
 use Rattle.std.specs.Prelude.{◌*◌, ◌/◌, ◌%◌, ◌-◌, slice_index, nat_lt, nat_le, not, if◌then◌else◌, ◌==◌, ◌&&◌, ◌||◌, bytes_eq, count_by}
 use Rattle.std.specs.List.{list_any}

@@ -1,4 +1,6 @@
 -- The restore of a set, carried out by a device of its table.
+-- For the clauses of `laws::restored_sets_are_in_force`, `laws::fetched_sets_are_the_devices` and
+--     `laws::sets_move`.
 use Rattle.std.proofs.Common.{◌≡◌, ◌≤◌, ◌<◌, ◌+◌, ◌∷◌, ◌++◌, ◌∙◌, [], ℕ, zero, suc, List, Option, Some, None, Bool, true, false, refl, ap, arith, length, drop, subst, length-append}
 use Rattle.std.specs.Prelude.{◌*◌, slice_get, nat_lt, nat_le, not, map, if◌then◌else◌, ◌==◌, ◌&&◌, ◌||◌, is_none}
 use Rattle.std.proofs.lemmas.List.{length-map}

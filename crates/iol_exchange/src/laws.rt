@@ -7,6 +7,8 @@ use iol_params::sets_fit;
 /// of its table. That is at rest and not locked, and its flag, if it counts, isn't set. Each
 /// request of the restore is taken. Behind the last one it is applied, and the device has this
 /// set, and its checksum.
+///
+/// Needed by `laws::sets_move` and the promises of assurance.md.
 pub fn restored_sets_are_in_force()
     ensures { RestoredSetsAreInForce }
 {
@@ -16,12 +18,16 @@ pub fn restored_sets_are_in_force()
 /// A law of the definitions: what a master fetches of a device is the device's set. The fetch
 /// begins with the device's checksum, at rest and with no lock of Data Storage. It ends as Whole,
 /// each value has room, and at the device no value and no flag has changed.
+///
+/// Needed by `laws::sets_move` and the promises of assurance.md.
 pub fn fetched_sets_are_the_devices()
     ensures { FetchedSetsAreTheDevices }
 {}
 
 /// A law of the definitions: what was fetched of one device is in force at another one of its
 /// table, once it is restored there.
+///
+/// Needed by the promises of assurance.md.
 pub fn sets_move()
     ensures { SetsMove }
 {

@@ -1,4 +1,6 @@
 -- What hearing and local steps keep, whatever is under way, and what a reply tells of the mode.
+-- For the clauses of `laws::links_stay_level`, `laws::devices_leave_their_mode`,
+--     `laws::ends_stay_level` and 7 more.
 use Rattle.std.proofs.Common.{◌≡◌, suc, ◌⊎◌, inl, inr, ℕ, ◌+◌, ◌≤◌, Bool, true, false, ◌&&◌, List, [], ◌∷◌, ◌++◌, refl, sym, ap, subst, arith}
 use Rattle.std.proofs.lemmas.Bool.{cond_both}
 use Rattle.std.proofs.lemmas.Bool.Decides.{nat_tests}

@@ -1,4 +1,5 @@
 -- What hearing a message leaves of a request at the far end, whatever its kind.
+-- For the clauses of `laws::requests_are_received` and `laws::ends_stay_level`.
 use Rattle.std.proofs.Common.{◌≡◌, ◌⊎◌, inl, inr, ℕ, suc, ◌*◌, ◌%◌, ◌<◌, ◌≤◌, List, length, refl, sym, ◌∙◌, ap, length-append, arith, zero, Bool, true, false, ◌++◌, replicate, [], ◌∷◌, Result}
 use Rattle.std.specs.Prelude.{Option, Some, None, IsTrue}
 use Rattle.std.proofs.lemmas.Bool.Decides.{nat_tests}

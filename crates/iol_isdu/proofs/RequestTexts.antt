@@ -1,4 +1,6 @@
 -- Requests and their texts: begin at `requests`, what the texts of requests have in common.
+-- For the clauses of `laws::one_text_each`, `laws::one_text_in_front`, `requests::put_body` and 2
+--     more.
 use Rattle.std.proofs.Common.{◌≡◌, ℕ, ◌+◌, ◌-◌, ◌<◌, ◌≤◌, true, List, ◌∷◌, length, get_or, take, drop, refl, sym, ap₂, ◌∙◌, arith, [], Option, Some, None, OnSome, is_some, nat_le}
 use Rattle.std.proofs.lemmas.Bool.Decides.{nat_tests}
 use Rattle.std.proofs.lemmas.Grind.{common_steps}

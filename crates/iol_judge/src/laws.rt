@@ -14,6 +14,9 @@ use iol_segment::{cut_is_whole, texts_join};
 /// states, whatever it does by itself between the exchanges, and at each wake-up request and power
 /// cycle. Of wake-up requests in a row the last alone may be told. Its kind is among those that are
 /// left.
+///
+/// Needed by `iol_capture::laws::honest_captures_are_never_blamed`,
+/// `iol_capture::split_laws::octets_are_never_blamed` and the promises of assurance.md.
 pub fn honest_lines_are_never_blamed()
     ensures { NeverBlamed }
 {
@@ -28,6 +31,8 @@ pub fn honest_lines_are_never_blamed()
 }
 
 /// Whatever a device did meanwhile, a judge that is told its mode goes on fairly.
+///
+/// Needed by the promises of assurance.md.
 #[tactic(auto, using(crate::proofs::Resuming::resumed_is_fair))]
 pub fn resumed_judges_are_fair()
     ensures { ResumedIsFair }

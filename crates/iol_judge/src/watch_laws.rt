@@ -3,6 +3,8 @@ ghost use Rattle.iol_judge.specs.WatchLaws.{FaultsStay, RepeatsAreFair, WakesAre
 
 /// What the watch never blames, and that it stays with its verdict: a message without a good reply
 /// that is sent again, a wake-up request; the first fault, whatever comes behind it.
+///
+/// For who has a master judged that repeats messages and wakes devices.
 #[tactic(auto, using(crate::proofs::WatchFair::repeats_are_fair))]
 pub fn repeats_and_wakes_are_fair()
     ensures repeats { RepeatsAreFair }

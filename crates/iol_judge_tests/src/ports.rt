@@ -1,7 +1,7 @@
 //! Random calls of ports, while anything comes back: the watch never blames one.
 
 use crate::honest::Random;
-use iol_app::{Asked, Outgoing};
+use iol_app::{Outgoing, Transmission};
 use iol_book::{Limits, Ticket};
 use iol_image::Image;
 use iol_isdu::{Place, Request};
@@ -236,7 +236,7 @@ impl<A: Allocator + Copy> WatchedPort<A> {
                 self.port.receive_wake(rate);
             }
             AwaitedAnswer::Reply => {
-                let Asked::Exchange(sent) = self.port.asks() else {
+                let Transmission::Exchange(sent) = self.port.asks() else {
                     return;
                 };
                 let received = self.device.reply(&sent);

@@ -1,4 +1,5 @@
 -- Octets that are no reply in the layouts of a device: bad ones, and those of one that lost a few.
+-- For the clauses of `laws::damaged_replies_are_unread`.
 use Rattle.std.proofs.Common.{◌≡◌, ◌⊎◌, ℕ, ◌+◌, ◌/◌, ◌≤◌, Bool, true, false, List, length, inl, inr, refl, sym, ◌∙◌, ap, arith}
 use Rattle.std.proofs.lemmas.Bool.Decides.{nat_tests}
 use Rattle.std.specs.Prelude.{Option, Some, None, Result, Ok, Err, IfOk, IfSome, IsTrue, if◌then◌else◌, slice_index, unwrap_or}

@@ -5,7 +5,7 @@ use crate::counts::Counts;
 use crate::fault::{LongFault, Wrong};
 use crate::line::Line;
 use crate::plain::PlainList;
-use iol_app::Asked;
+use iol_app::Transmission;
 use iol_book::{BookFault, Journal, JournalLimit, Limits, Outcome};
 use iol_port::{AwaitedAnswer, Counters, PortCore, PortFault};
 use std::alloc::Global;
@@ -186,14 +186,14 @@ fn left_in_doubt(counters: &Counters) -> u64 {
 /// One turn.
 fn turn(port: &mut PortCore, line: &mut Line, list: &mut PlainList) -> Result<(), LongFault> {
     match port.send() {
-        Asked::Wake => {
+        Transmission::Wake => {
             let rate = line.wake(list)?;
             if rate.is_some() {
                 list.reset();
             }
             port.receive_wake(rate);
         }
-        Asked::Exchange(sent) => {
+        Transmission::Exchange(sent) => {
             let received = line.exchange(&sent.octets, list)?;
             port.receive(&received);
         }

@@ -4,8 +4,8 @@ use Rattle.arrayvec.specs.ArrayVec.{ArrayVec}
 use Rattle.iol_far.specs.Octets.{octets_in}
 use Rattle.iol_link.specs.declared.wire.Rate.{Rate}
 use Rattle.iol_link.specs.WireFacts.{WireFacts}
-use Rattle.iol_app.specs.declared.asked.Asked.{Asked}
-use Rattle.iol_app.specs.declared.asked.Asked.TheVariants as asked
+use Rattle.iol_app.specs.declared.transmission.Transmission.{Transmission}
+use Rattle.iol_app.specs.declared.transmission.Transmission.TheVariants as asked
 use Rattle.iol_port.specs.declared.awaited.AwaitedAnswer.{AwaitedAnswer}
 use Rattle.iol_port.specs.declared.awaited.AwaitedAnswer.TheVariants.{Nothing, Wake, Reply}
 use Rattle.iol_port.specs.declared.call.Call.{Call}
@@ -21,7 +21,7 @@ use Rattle.iol_master.specs.Served.{GateFacts, IsLet}
 -- the worker makes
 pub record LineFacts (P : Type 0) : Type 1 where
   pub awaits : P → AwaitedAnswer
-  pub sends : P → Asked → P → Type 0
+  pub sends : P → Transmission → P → Type 0
   -- what came back to the octets that were sent, or that nothing did
   pub receives : P → Option (List ℕ) → P → Type 0
   -- whether a device answered the wake
@@ -110,7 +110,7 @@ module _ {P : Type 0} (line : LineFacts P) where
   RestartsWhere false p next = next ≡ p
 
   -- The port's own sending, which the restart that waits waits through
-  pub record LineSends (p : LineState P) (asked : Asked) (next : LineState P) : Type 0 where
+  pub record LineSends (p : LineState P) (asked : Transmission) (next : LineState P) : Type 0 where
     pub port : sends p.port asked next.port
     pub rest : next ≡ record p { port = next.port }
 
@@ -145,7 +145,7 @@ awaited_number Nothing = 0
 awaited_number Wake = 1
 awaited_number Reply = 2
 
-abbrev pub awaited_of : Asked → AwaitedAnswer
+abbrev pub awaited_of : Transmission → AwaitedAnswer
 awaited_of asked.Wake = Wake
 awaited_of (asked.Exchange out) = Reply
 
@@ -164,14 +164,14 @@ pub record WorkerState (W : Type 0) : Type 0 where
 
 -- the wire was called as often as turns were made, which are so many at most
 abbrev pub IsServed : {W : Type 0} → WireFacts W → ℕ → W → W → Type 0
-IsServed facts turns old new = (calls : List Asked) × AreCalls facts calls old new
+IsServed facts turns old new = (calls : List Transmission) × AreCalls facts calls old new
     × (length calls ≤ turns)
 
 module _ {W P : Type 0} (facts : WireFacts W) (line : LineFacts P) where
   open facts use {wake_gives, exchange_gives}
 
   -- the wire is called once, as was asked, and what came of that is taken
-  abbrev pub Brings : Asked → W → W → LineState P → LineState P → Type 0
+  abbrev pub Brings : Transmission → W → W → LineState P → LineState P → Type 0
   Brings asked.Wake old new p next =
       (rate : Option Rate) × wake_gives old rate new × TakesRate line p (is_some rate) next
   Brings (asked.Exchange out) old new p next =
@@ -182,7 +182,7 @@ module _ {W P : Type 0} (facts : WireFacts W) (line : LineFacts P) where
   -- the port, whose lock was held again, awaited that, and took what came. It was the port's next
   -- turn and no other was made, and nothing is out behind it.
   pub record IsLineTurn (old new : WorkerState W) : Type 0 where
-    pub asked : Asked
+    pub asked : Transmission
     pub first : LineState P
     pub after : first.turns ≡ old.turns
     pub sent : LineState P

@@ -5,8 +5,8 @@ use Rattle.iol_isdu.specs.declared.values.Request.{Request}
 use Rattle.iol_far.specs.Octets.{octets_in}
 use Rattle.iol_link.specs.declared.wire.Rate.{Rate}
 use Rattle.iol_link.specs.WireFacts.{WireFacts}
-use Rattle.iol_app.specs.declared.asked.Asked.{Asked}
-use Rattle.iol_app.specs.declared.asked.Asked.TheVariants as asked
+use Rattle.iol_app.specs.declared.transmission.Transmission.{Transmission}
+use Rattle.iol_app.specs.declared.transmission.Transmission.TheVariants as asked
 use Rattle.iol_book.specs.declared.entries.Ticket.{Ticket}
 use Rattle.iol_port.specs.declared.awaited.AwaitedAnswer.TheVariants.{Nothing}
 use Rattle.iol_port.specs.declared.fault.PortFault.{PortFault}
@@ -33,7 +33,7 @@ module _ {W P : Type 0} (facts : WireFacts W) (line : LineFacts P) where
   open facts use {wake_gives, exchange_gives}
 
   -- the wire is called once, as was asked, and what came of that is taken
-  abbrev pub WireBrings : Asked → W → W → P → P → Type 0
+  abbrev pub WireBrings : Transmission → W → W → P → P → Type 0
   WireBrings asked.Wake old new p next =
       (rate : Option Rate) × wake_gives old rate new × line.wakes p (is_some rate) next
   WireBrings (asked.Exchange out) old new p next =
@@ -42,7 +42,7 @@ module _ {W P : Type 0} (facts : WireFacts W) (line : LineFacts P) where
 
   -- A turn: the port sends, the wire is called once, as it asked, and the port takes what came
   pub record IsWiredTurn (old new : WiredParts W P) : Type 0 where
-    pub asked : Asked
+    pub asked : Transmission
     pub sent : P
     pub sends : line.sends old.port asked sent
     pub brings : WireBrings asked old.wire new.wire sent new.port

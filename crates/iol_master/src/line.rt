@@ -2,7 +2,7 @@
 //! wire.
 ghost use Rattle.std.specs.Prelude.{◌≡◌, ◌≤◌, ◌+◌, false, is_some};
 ghost use Rattle.iol_far.specs.Octets.{octets_in};
-ghost use Rattle.iol_app.specs.declared.asked.Asked.{Asked};
+ghost use Rattle.iol_app.specs.declared.transmission.Transmission.{Transmission};
 ghost use Rattle.iol_app.specs.Asking.{IsCall};
 ghost use Rattle.iol_port.specs.declared.awaited.AwaitedAnswer.TheVariants as AwaitedAnswer;
 ghost use Rattle.iol_master.specs.Ledgers.{IsBlankFor};
@@ -14,7 +14,7 @@ mod core_calls;
 mod stored_calls;
 
 use crate::serve::Gate;
-use iol_app::Asked;
+use iol_app::Transmission;
 use iol_link::{Rate, Wire};
 use iol_mseq::Message;
 use iol_port::{AwaitedAnswer, PortCore};
@@ -38,7 +38,7 @@ pub trait LineCore: Drop {
         ensures { result ≡ facts.awaits self.now };
 
     /// What goes out. The port waits for its answer from then on.
-    fn send(&mut self) -> Asked
+    fn send(&mut self) -> Transmission
         ensures sends { facts.sends self.old result self.new }
         ensures awaits { facts.awaits self.new ≡ awaited_of result };
 
@@ -82,12 +82,12 @@ fn amount_of(awaited: AwaitedAnswer) -> u64
 }
 
 /// What a port waits for that has sent this.
-fn answer_to(asked: &Asked) -> AwaitedAnswer
+fn answer_to(asked: &Transmission) -> AwaitedAnswer
     ensures { result ≡ awaited_of asked.now }
 {
     match asked {
-        Asked::Wake => AwaitedAnswer::Wake,
-        Asked::Exchange(_) => AwaitedAnswer::Reply,
+        Transmission::Wake => AwaitedAnswer::Wake,
+        Transmission::Exchange(_) => AwaitedAnswer::Reply,
     }
 }
 
@@ -169,7 +169,7 @@ impl<K: Ledger, P: LineCore> LinePort<K, P> {
     }
 
     /// What goes out, which the worker's hand knows from then on.
-    fn send(&mut self, hand: &mut Share<K>) -> Asked
+    fn send(&mut self, hand: &mut Share<K>) -> Transmission
         requires whole { HasWholeLedger hand.old.parts K.parts }
         ensures sends { LineSends P.facts self.old result self.new }
         ensures whole { HasWholeLedger hand.new.parts K.parts }
@@ -319,17 +319,17 @@ impl<W: Wire, K: Ledger> LineWorker<W, K> {
     /// Under the lock the port says what goes out; without it the wire is called, once; under it
     /// again the port takes what came, and makes a restart that was wanted meanwhile.
     pub fn turn<P: LineCore, R: Wait>(&mut self, rt: &R, line: &Line<K, P>)
-        ensures asked { (asked : Asked) × IsCall W.facts asked self.old.wire self.new.wire }
+        ensures asked { (asked : Transmission) × IsCall W.facts asked self.old.wire self.new.wire }
         ensures turned { IsLineTurn W.facts P.facts self.old self.new }
     {
         let LineWorker { wire, hand } = self;
         let asked = line.port.lock(rt).send(hand);
         match asked {
-            Asked::Wake => {
+            Transmission::Wake => {
                 let rate = wire.wake();
                 line.port.lock(rt).receive_wake(hand, rate);
             }
-            Asked::Exchange(out) => {
+            Transmission::Exchange(out) => {
                 let received = wire.exchange(out.octets.as_slice());
                 line.port.lock(rt).receive(hand, &received);
             }

@@ -7,7 +7,7 @@ ghost use Rattle.iol_master.specs.Wired.{IsWiredTurn, StoredSubmits, WiredRefuse
 use crate::fault::MasterFault;
 use crate::line::LineCore;
 use crate::ports::{DeskUrgency, MasterPort};
-use iol_app::Asked;
+use iol_app::Transmission;
 use iol_book::Ticket;
 use iol_isdu::Request;
 use iol_link::Wire;
@@ -48,11 +48,11 @@ impl<W: Wire, P: LineCore> Wired<W, P> {
         ensures rests { P.facts.awaits self.new.port ≡ AwaitedAnswer.Nothing }
     {
         match self.port.send() {
-            Asked::Wake => {
+            Transmission::Wake => {
                 let rate = self.wire.wake();
                 self.port.receive_wake(rate);
             }
-            Asked::Exchange(out) => {
+            Transmission::Exchange(out) => {
                 let received = self.wire.exchange(out.octets.as_slice());
                 self.port.receive(&received);
             }

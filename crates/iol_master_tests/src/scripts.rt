@@ -6,7 +6,7 @@ ghost use Rattle.iol_master.specs.Ledgers.{IsBlankFor};
 
 use crate::calls::{Expected, Noted, check};
 use crate::slow::{Flags, START_UP, is_set, slow_wire};
-use iol_app::{Asked, Mode};
+use iol_app::{Mode, Transmission};
 use iol_event::Event;
 use iol_isdu::Place;
 use iol_link::Wire;
@@ -211,7 +211,7 @@ pub fn start_up<W: Wire, P: LineCore>(port: &mut P, wire: &mut W) {
         let asked = port.send();
         match (port.awaits(), asked) {
             (AwaitedAnswer::Wake, _) => port.receive_wake(wire.wake()),
-            (AwaitedAnswer::Reply, Asked::Exchange(out)) => {
+            (AwaitedAnswer::Reply, Transmission::Exchange(out)) => {
                 port.receive(&wire.exchange(out.octets.as_slice()));
             }
             _ => {}

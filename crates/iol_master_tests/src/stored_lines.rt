@@ -21,8 +21,8 @@ use iol_params::Table;
 use iol_peers::AnyWire;
 use iol_port::{Counting, PortFault};
 use iol_storage::{
-    BlockTicket, DownloadResult, Keep, Objects, Served, Set, SetImage, SetNumber, StorageStanding,
-    StoredFault, StoredPort,
+    Agreement, BlockTicket, DownloadResult, Keep, Objects, Set, SetImage, SetNumber,
+    StorageStanding, StoredFault, StoredPort,
 };
 use std::alloc::Global;
 use std::marker::Brand;
@@ -189,7 +189,7 @@ const FETCHES: Script = Script {
         Stage::Calls(&SAVED),
         Stage::Turns(MANY),
         Stage::Calls(&[
-            Call::Standing(StorageStanding::Served(Served::Fetched)),
+            Call::Standing(StorageStanding::Served(Agreement::Fetched)),
             Call::HasImage(true),
             Call::Collect(1, Expected::Reads(&[CHANGED])),
         ]),
@@ -203,7 +203,7 @@ const RESTORES: Script = Script {
         Stage::Calls(&[Call::Submit(LIMIT, 1)]),
         Stage::Turns(MANY),
         Stage::Calls(&[
-            Call::Standing(StorageStanding::Served(Served::Restored)),
+            Call::Standing(StorageStanding::Served(Agreement::Restored)),
             Call::HasImage(true),
             Call::Collect(1, Expected::Reads(&[CHANGED])),
         ]),

@@ -20,7 +20,7 @@ use iol_params::Table;
 use iol_peers::{AnyWire, PROCESS_DATA};
 use iol_port::{Counting, PortFault};
 use iol_storage::{
-    BlockTicket, DownloadResult, Keep, Objects, Served, Set, SetNumber, StorageStanding,
+    Agreement, BlockTicket, DownloadResult, Keep, Objects, Set, SetNumber, StorageStanding,
     StoredFault, StoredPort,
 };
 use std::alloc::{AllocError, Global};
@@ -184,7 +184,7 @@ const FETCHES: [Step; 10] = [
     Step::Calls(
         1,
         &[
-            Call::Standing(StorageStanding::Served(Served::Fetched)),
+            Call::Standing(StorageStanding::Served(Agreement::Fetched)),
             Call::HasImage(true),
             Call::Collect(1, Expected::Reads(&[CHANGED])),
         ],
@@ -204,7 +204,7 @@ const DESKS: [Step; 14] = [
     Step::Calls(
         1,
         &[
-            Call::Standing(StorageStanding::Served(Served::Restored)),
+            Call::Standing(StorageStanding::Served(Agreement::Restored)),
             Call::HasImage(true),
             Call::Collect(1, Expected::Reads(&[CHANGED])),
         ],
@@ -374,7 +374,7 @@ const SERVED: [Step; 3] = [
     Step::Call(1, Call::Collect(1, Expected::Reads(&[0x42, 7]))),
     Step::Call(
         1,
-        Call::Standing(StorageStanding::Served(Served::Unsupported)),
+        Call::Standing(StorageStanding::Served(Agreement::Unsupported)),
     ),
     Step::Settle(Who::One, Settled::Last(1, 1)),
 ];

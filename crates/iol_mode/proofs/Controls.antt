@@ -1,4 +1,6 @@
 -- The control octets of the page's messages, and the parts of these messages.
+-- For the clauses of `messages::page_control`, `messages::page_read`, `messages::page_write` and 7
+--     more.
 use Rattle.std.proofs.Common.{◌≡◌, ℕ, ◌+◌, ◌/◌, ◌%◌, ◌≤◌, Bool, true, false, refl, sym, ap, ◌∙◌, arith}
 use Rattle.std.specs.Prelude.{IsTrue}
 use Rattle.std.proofs.Math.Bridge.{le_prop}

@@ -1,4 +1,5 @@
 -- What a turn in OPERATE keeps of how both ends stand; and one exchange, whatever the mode.
+-- For the clauses of `Link::exchange`, `Link::rise`, `exchange::put_instead` and 3 more.
 use Rattle.std.proofs.Common.{◌≡◌, inl, inr, ℕ, ◌+◌, ◌/◌, ◌<◌, ◌≤◌, true, false, List, length, slice_index, refl, sym, ◌∙◌, ap, arith, [], Option, IsTrue}
 use Rattle.std.specs.Prelude.{Some, None, bytes_eq, IfSome, IsSome}
 use Rattle.std.proofs.lemmas.Bool.Decides.{nat_tests}

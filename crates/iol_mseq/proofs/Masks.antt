@@ -1,4 +1,5 @@
 -- Six bits put into an octet.
+-- For the clauses of `parts::seal`.
 use Rattle.std.proofs.Common.{◌≡◌, ℕ, ◌+◌, ◌*◌, ◌/◌, ◌%◌, ◌<◌, sym, ap, ◌∙◌, arith, bit_or}
 use Rattle.std.proofs.lemmas.Nat.{or_shifted}
 

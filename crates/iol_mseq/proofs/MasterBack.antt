@@ -1,4 +1,5 @@
 -- What is written of a master message is read back as it: laws.
+-- For the clauses of `laws::what_is_written_is_read`.
 use Rattle.std.proofs.Common.{◌≡◌, ℕ, ◌+◌, ◌*◌, ◌<◌, List, ◌∷◌, ◌++◌, take, drop, refl, ap, arith, true, Some}
 use Rattle.std.proofs.lemmas.Bool.{eq-eqb}
 use Rattle.std.proofs.lemmas.Bool.Decides.{nat_tests}

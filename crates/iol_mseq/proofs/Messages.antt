@@ -1,4 +1,6 @@
 -- What the definitions of messages say of each other: octets spell one reply, `reply_back`.
+-- For the clauses of `parts::push_sealed`, `reply::view_reply` and
+--     `laws::what_is_written_is_read`.
 use Rattle.std.proofs.Common.{◌≡◌, ℕ, ◌+◌, ◌%◌, ◌<◌, Bool, List, [], ◌∷◌, ◌++◌, length, get_or, set, take, drop, nat_le, refl, ap, arith}
 use Rattle.std.proofs.lemmas.Bool.Decides.{nat_tests}
 use Rattle.std.proofs.lemmas.Grind.{common_steps}

@@ -1,4 +1,5 @@
 -- What is written of a reply is read back as it: a law.
+-- For the clauses of `laws::what_is_written_is_read`.
 use Rattle.std.proofs.Common.{◌≡◌, ℕ, ◌+◌, ◌-◌, ◌%◌, Bool, List, [], ◌∷◌, ◌++◌, length, refl, ap, subst, length-append, arith, Some}
 use Rattle.std.specs.Prelude.{IsTrue}
 use Rattle.std.proofs.Math.Seq.{get_or-append_seam}

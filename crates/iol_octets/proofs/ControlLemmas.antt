@@ -1,5 +1,6 @@
 -- A control octet is pinned by its octet: begin at `same_from_octet`, which the clauses `only` and
 -- `read` of `from_octet` need.
+-- For the clauses of `Mc::from_octet` and `laws::control_octets_are_read_back`.
 use Rattle.std.proofs.Common.{◌≡◌, ℕ, ◌<◌, ◌≤◌, arith}
 use Rattle.std.proofs.lemmas.Bool.Decides.{nat_tests}
 use Rattle.std.proofs.lemmas.Grind.{common_steps}

@@ -1,5 +1,7 @@
 -- One flipped bit is seen by the checksum, and octets have theirs once it is put in. Begin at
 -- `flip_is_detected` and `checksums_fit`, the laws; `has_checksum6` needs `has_checksum-is`.
+-- For the clauses of `checksum::checksum6`, `checksum::has_checksum6`, `laws::checksums_fit` and
+--     `laws::one_flip_is_seen`.
 use Rattle.std.proofs.Common.{◌≡◌, ◌≢◌, ℕ, ◌+◌, ◌*◌, ◌/◌, ◌%◌, ◌^◌, ◌<◌, ◌≤◌, inl, inr, zero, suc, Bool, true, not, eqb, ltb, leb, ◌&&◌, ◌||◌, List, [], ◌∷◌, length, get_or, set, fold, refl, sym, ap, ◌∙◌, arith, bit_and, bit_xor}
 use Rattle.std.proofs.lemmas.Bool.Decides.{nat_tests}
 use Rattle.std.proofs.lemmas.Grind.{common_steps}

@@ -1,4 +1,5 @@
 -- An answer for the request that is handed over.
+-- For the clauses of `device::answer_handed`.
 use Rattle.std.proofs.Common.{◌≡◌, ◌∙◌, ◌&&◌, ℕ, Bool, true, false, Some, Result, Ok, Err, OnOk, refl, sym, ap}
 use Rattle.std.specs.Prelude.{◌↔◌, IsOk, IsTrue, OnErr}
 use Rattle.iol_isdu.specs.declared.values.Answer.{Answer}

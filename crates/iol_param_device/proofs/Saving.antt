@@ -1,4 +1,6 @@
 -- What outlives the power, by what a manager does.
+-- For the clauses of `ParamDevice::work`, `SavedManager::power_cycle`, `SavedManager::set` and 2
+--     more.
 use Rattle.std.proofs.Common.{◌≡◌, ◌∙◌, ℕ, List, Bool, true, false, Option, Some, None, refl, sym, ap, subst, []}
 use Rattle.std.specs.Prelude.{if◌then◌else◌}
 use Rattle.iol_isdu.specs.declared.values.Place.{Place}

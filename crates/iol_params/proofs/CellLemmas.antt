@@ -1,4 +1,5 @@
 -- How values lie in their cells.
+-- For the clauses of `cells::read_into`, `cells::reset`, `cells::set_defaults` and 2 more.
 use Rattle.std.proofs.Common.{true, false, get_or, ◌≡◌, ℕ, ◌+◌, ◌-◌, ◌≤◌, ◌<◌, refl, List, [], ◌∷◌, ◌++◌, ap, arith, drop, take, length, ◌∙◌, sym, min}
 use Rattle.std.proofs.lemmas.Grind.{common_steps}
 use Rattle.std.proofs.lemmas.List.{append_assoc, drop-drop, drop-take, drop_at, take_at, take-take, length-append, length-drop, length-take, length-take-le, take_more, drop_more}

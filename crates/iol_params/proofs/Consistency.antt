@@ -1,4 +1,5 @@
 -- Values fit and order rules hold, whatever happens.
+-- For the clauses of `Manager::alone_refusal`, `Manager::put`, `Manager::reset` and 16 more.
 use Rattle.std.specs.Prelude.{if◌then◌else◌, ◌&&◌, ◌||◌, ◌==◌, not, nat_le, nat_lt, length, count_by, ◌+◌}
 use Rattle.std.specs.List.{list_all, list_any}
 use Rattle.std.proofs.Common.{◌≡◌, ℕ, ◌≤◌, Bool, true, false, refl, List, [], ◌∷◌, ◌++◌, Option, Some, None, ap, arith, ◌∙◌, drop}

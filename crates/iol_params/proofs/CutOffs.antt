@@ -1,4 +1,5 @@
 -- What is left of a download that silence cut off: the clause of `cut_offs_stay_out`.
+-- For the clauses of `laws::cut_offs_stay_out`.
 use Rattle.std.specs.Prelude.{is_some, ◌&&◌, ◌||◌, filter}
 use Rattle.std.specs.List.{list_all, list_any}
 use Rattle.std.proofs.Common.{◌≡◌, ℕ, Bool, true, false, refl, List, [], ◌∷◌, Option, Some, None, ap, ◌∙◌, sym}

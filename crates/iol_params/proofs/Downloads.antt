@@ -1,4 +1,6 @@
 -- What writes do to a download, and what its end makes of it.
+-- For the clauses of `laws::downloads_are_whole`, `laws::uploads_are_one_moment`,
+--     `laws::cut_offs_stay_out` and `laws::sets_fit`.
 use Rattle.std.specs.Prelude.{is_none, ◌&&◌, not, if◌then◌else◌}
 use Rattle.std.specs.List.{list_all}
 use Rattle.std.proofs.Common.{◌≡◌, ℕ, Bool, true, false, refl, List, [], ◌∷◌, Option, Some, None, ap, ◌∙◌, sym}

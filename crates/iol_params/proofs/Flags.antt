@@ -1,4 +1,5 @@
 -- What clears the flag.
+-- For the clauses of `laws::flag_stays`.
 use Rattle.std.proofs.Common.{◌≡◌, ℕ, Bool, true, false, refl, List, Option, Some, None, ◌∙◌}
 use Rattle.std.specs.Prelude.{if◌then◌else◌}
 use Rattle.iol_isdu.specs.declared.values.Place.{Place}

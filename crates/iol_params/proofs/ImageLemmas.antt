@@ -1,4 +1,5 @@
 -- An image says what it keeps.
+-- For the clauses of `Manager::image_into`.
 use borrow.Rule.Slice.PartMut.{put_mid}
 use Rattle.std.proofs.Math.Seq.{drop-length}
 use Rattle.std.proofs.lemmas.List.{append-nil}

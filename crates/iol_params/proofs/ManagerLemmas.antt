@@ -1,4 +1,6 @@
 -- What a manager does with a write and the end of a download.
+-- For the clauses of `Manager::alone_refusal`, `Manager::write`, `manager::end_download` and 2
+--     more.
 use Rattle.std.specs.Prelude.{nat_lt, length}
 use Rattle.std.proofs.Common.{◌≡◌, ℕ, Bool, true, false, refl, List, Some, None, ap}
 use Rattle.iol_isdu.specs.declared.values.Place.{Place}

@@ -1,4 +1,6 @@
 -- A set of one device fits each device of its table.
+-- For the clauses of `laws::cut_offs_stay_out`, `laws::downloads_are_whole`, `laws::sets_fit` and
+--     2 more.
 use Rattle.std.specs.Prelude.{if◌then◌else◌, ◌&&◌, ◌||◌, not, length, count_by, ◌+◌, cond}
 use Rattle.std.specs.List.{list_all}
 use Rattle.std.proofs.Common.{◌≡◌, ◌≤◌, ℕ, Bool, true, false, refl, List, [], ◌∷◌, ◌++◌, ap, sym, ◌∙◌, arith, take, drop}

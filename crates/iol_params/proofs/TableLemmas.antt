@@ -1,4 +1,5 @@
 -- What a table without a fault is.
+-- For the clauses of `Table::is_sound`, `cells::read_into`, `table::check_members` and 3 more.
 use Rattle.std.specs.Prelude.{if◌then◌else◌, ◌&&◌, not, nat_le, length}
 use Rattle.std.specs.List.{list_any}
 use Rattle.std.proofs.Common.{◌≡◌, ℕ, ◌+◌, ◌≤◌, Bool, true, false, refl, List, [], ◌∷◌, Option, Some, None, arith, length-append}

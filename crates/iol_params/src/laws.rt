@@ -8,6 +8,8 @@ ghost use Rattle.iol_params.specs.Laws.{DownloadsAreWhole, CutOffsStayOut, Stays
 /// values are as they were.
 ///
 /// Rule ACT-2.
+///
+/// Needed by the promises of assurance.md.
 pub fn downloads_are_whole()
     ensures { DownloadsAreWhole }
 {}
@@ -17,11 +19,15 @@ pub fn downloads_are_whole()
 /// device doesn't let the rest in.
 ///
 /// Rule ACT-7.
+///
+/// Needed by the promises of assurance.md.
 pub fn cut_offs_stay_out()
     ensures { CutOffsStayOut }
 {}
 
 /// A law of the definitions: what an upload reads is of one moment, whatever comes in it.
+///
+/// Needed by the promises of assurance.md.
 pub fn uploads_are_one_moment()
     ensures { UploadsAreOneMoment }
 {}
@@ -30,6 +36,8 @@ pub fn uploads_are_one_moment()
 /// the flag, and only if they are Written.
 ///
 /// Rule DSD-4.
+///
+/// Needed by the promises of assurance.md.
 pub fn flag_stays()
     ensures { FlagStays }
 {}
@@ -37,6 +45,8 @@ pub fn flag_stays()
 /// A law of the definitions: a set fits each device of its table. What Data Storage fetched of one
 /// device is Written, all of it, at another one that isn't locked and has no activity. Behind the
 /// end, which is Written too, that has the same set and the same checksum.
+///
+/// Needed by `iol_exchange::laws::restored_sets_are_in_force` and the promises of assurance.md.
 pub fn sets_fit()
     ensures { SetsFit }
 {}
@@ -45,6 +55,8 @@ pub fn sets_fit()
 /// value that fits, and each order rule holds.
 ///
 /// Rule PAR-6.
+///
+/// Needed by the promises of assurance.md.
 pub fn stays_consistent()
     ensures { StaysConsistent }
 {}

@@ -7,7 +7,7 @@ use Rattle.iol_link.specs.WireFacts.{WireFacts}
 use Rattle.iol_book.specs.BookModel.{BookState}
 use Rattle.iol_app.specs.declared.report.Said.{Said}
 use Rattle.iol_app.specs.Abstract.Steps.{Reset, through_steps}
-use Rattle.iol_app.specs.Abstract.OfMaster.{resets, book_said}
+use Rattle.iol_app.specs.Abstract.OfMaster.{resets, steps_for_book}
 use Rattle.iol_app.specs.declared.event_work.EventRoom.{EventRoom}
 use Rattle.iol_app.specs.Core.{CoreState}
 use Rattle.iol_app.specs.Pieces.{SendsMessage, IsMade, IsWholeTurn}
@@ -21,9 +21,9 @@ pub book_reported : (old mid new : CoreState) (next : Option Request)
     (room : EventRoom) (reset began ended : Bool) (report : Said) (b : BookState)
     → mid ≡ core_with_request next old room → began ≡ is_reset mid.state
     → ended ≡ is_reset new.state → reset ≡ (not began && ended)
-    → through_steps book_after (cond reset (Reset ∷ []) [] ++ book_said report) b
+    → through_steps book_after (cond reset (Reset ∷ []) [] ++ steps_for_book report) b
     ≡ through_steps book_after (resets (is_reset old.state) (is_reset new.state)
-    ++ book_said report) b
+    ++ steps_for_book report) b
 book_reported old mid new next room reset began ended report b begun from to is =
     grind (arith, common_steps)
 

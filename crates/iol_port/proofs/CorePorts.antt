@@ -16,7 +16,7 @@ use Rattle.iol_app.specs.declared.mode.Mode.TheVariants.{Operate}
 use Rattle.iol_app.specs.declared.report.Said.{Said}
 use Rattle.iol_app.specs.declared.report.Said.TheVariants.{Idle}
 use Rattle.iol_app.specs.Abstract.Steps.{PortStep, Make, Reset, WireCall, Moment, through_steps, TakesSteps}
-use Rattle.iol_app.specs.Abstract.OfMaster.{resets, book_said}
+use Rattle.iol_app.specs.Abstract.OfMaster.{resets, steps_for_book}
 use Rattle.iol_app.specs.Abstract.Session.{MaySession, session_after}
 use Rattle.iol_app.specs.declared.event_work.EventRoom.{EventRoom}
 use Rattle.iol_app.specs.declared.wire_result.WireResult.{WireResult}
@@ -280,8 +280,9 @@ module _ (p next : PortParts) (far far' : Far) (n n' : ℕ) (report : Said) (fre
 pub heard_reset : {reset began ended : Bool} (old new : State) (report : Said) (b : BookState)
     {after : BookState} → began ≡ is_reset old → ended ≡ is_reset new
     → reset ≡ (not began && ended)
-    → after ≡ through_steps book_after (cond reset (Reset ∷ []) [] ++ book_said report) b
-    → after ≡ through_steps book_after (resets (is_reset old) (is_reset new) ++ book_said report) b
+    → after ≡ through_steps book_after (cond reset (Reset ∷ []) [] ++ steps_for_book report) b
+    → after ≡ through_steps book_after
+    (resets (is_reset old) (is_reset new) ++ steps_for_book report) b
 heard_reset old new report b from to is book_is = rw (is, from, to) at book_is
 
 pub receive_does : (p next : PortParts) (received : Option (List ℕ)) (report : Said) → p.sent ≡ true

@@ -1,4 +1,6 @@
 -- A port crosses to another thread where its wire and its allocator do.
+-- For the clauses of `example_gateway::serve::serve`, `example_gateway::serve::submit_beside`,
+--     `iol_bench::served::with_ledgers` and 7 more.
 use denote.RattleType.{RattleType}
 use denote.Struct.Declared.{shape}
 use denote.Param.Send.{IsSend, IsSync, Frees, view_send, recorded_send, struct_send, sendable}

@@ -13,7 +13,7 @@ use Rattle.iol_book.specs.Replay.{same_ticket}
 use Rattle.iol_book.specs.BookModel.{BookState, next_taken, book_after_denial, book_after_post}
 use Rattle.iol_app.specs.declared.report.Said.{Said}
 use Rattle.iol_app.specs.Abstract.Steps.{Reset, through_steps}
-use Rattle.iol_app.specs.Abstract.OfMaster.{book_said}
+use Rattle.iol_app.specs.Abstract.OfMaster.{steps_for_book}
 use Rattle.iol_port.specs.Asks.{lacks_isdu}
 use Rattle.iol_port.specs.EveryWire.{book_after_taking, HasNoIsdu, IsDenied}
 use Rattle.iol_port.specs.View.{PortParts, Asks}
@@ -35,13 +35,13 @@ posted_none : (b : BookState) (o : Outcome) (k : Ticket) → (o ≡ NoIsdu → �
 posted_none b o k differs premise = grind (arith, common_steps, lookup-entered)
 
 report_none : (report : Said) (b : BookState) (k : Ticket)
-    → HasNoIsdu (through_steps book_after (book_said report) b) k → HasNoIsdu b k
+    → HasNoIsdu (through_steps book_after (steps_for_book report) b) k → HasNoIsdu b k
 report_none report b k premise = grind (arith, common_steps, posted_none)
 
 module _ (old next : PortParts) (mid : BookState) (reset : Bool) (report : Said)
     (asks : Asks report mid.standing.taken)
     (book : next.book.state ≡ through_steps book_after
-    (cond reset (Reset ∷ []) [] ++ book_said report) mid)
+    (cond reset (Reset ∷ []) [] ++ steps_for_book report) mid)
     (k : Ticket) (has : HasNoIsdu next.book.state k) where
   abbrev b : BookState
   b = old.book.state
@@ -59,7 +59,7 @@ module _ (old next : PortParts) (mid : BookState) (reset : Bool) (report : Said)
       by true e =
           let first = next_is b t q head in
           let none : mid.standing.taken ≡ None = rw is first.free in
-          let quiet : through_steps book_after (cond reset (Reset ∷ []) [] ++ book_said report)
+          let quiet : through_steps book_after (cond reset (Reset ∷ []) [] ++ steps_for_book report)
           mid ≡ mid =
           let asks_none = rw none at asks in rw asleep (grind (arith, common_steps)) in
           inr (rw (ticket_is t k e) (record {

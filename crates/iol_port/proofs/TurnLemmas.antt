@@ -10,7 +10,7 @@ use Rattle.iol_far.specs.Far.{Far}
 use Rattle.iol_app.specs.Abstract.Images.{Images, MayImages, images_after}
 use Rattle.iol_app.specs.declared.request.Current.{Current}
 use Rattle.iol_app.specs.Abstract.Steps.{PortStep, Take, Deny, Moment, Terms, through_steps, TakesSteps}
-use Rattle.iol_app.specs.Abstract.OfMaster.{resets, book_said, reports_said}
+use Rattle.iol_app.specs.Abstract.OfMaster.{resets, steps_for_book, steps_for_queue}
 use Rattle.iol_app.specs.Abstract.Shown.{job_of}
 use Rattle.iol_mode.specs.declared.states.State.{State}
 use Rattle.iol_mode.specs.States.{is_reset}
@@ -87,8 +87,8 @@ terms_of same = cc
 pub record Settles (p next : PortParts) (report : Said) (began : Bool) (start : BookState) :
     Type 0 where
   pub posts : next.book.state ≡ through_steps book_after
-      (resets began (is_reset next.core.state) ++ book_said report) start
-  pub keeps : next.queued ≡ through_steps queued_after (reports_said report) p.queued
+      (resets began (is_reset next.core.state) ++ steps_for_book report) start
+  pub keeps : next.queued ≡ through_steps queued_after (steps_for_queue report) p.queued
 
 abbrev pub under : Option Current → CoreState → CoreState
 under current s = record s { session = record s.session { current = current } }

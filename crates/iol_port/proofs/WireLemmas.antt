@@ -13,7 +13,7 @@ use Rattle.iol_mode.specs.declared.states.State.{State}
 use Rattle.iol_app.specs.declared.mode.Mode.TheVariants.{Down}
 use Rattle.iol_app.specs.Asking.{IsCall}
 use Rattle.iol_link.specs.WireFacts.{WireFacts}
-use Rattle.iol_app.specs.declared.asked.Asked.{Asked}
+use Rattle.iol_app.specs.declared.transmission.Transmission.{Transmission}
 use Rattle.iol_app.specs.StationState.{mode_in}
 use Rattle.iol_port.specs.declared.call.Call.{Call}
 use Rattle.iol_port.specs.declared.call.Call.TheVariants as call
@@ -78,7 +78,7 @@ module _ {W : Type 0} (facts : WireFacts W) where
       (run_snoc p mid next (take i calls) replies (get_or calls i d) reply run one)
 
   -- one call of the wire more
-  calls_snoc : (first old new : W) (calls : List Asked) (asked : Asked)
+  calls_snoc : (first old new : W) (calls : List Transmission) (asked : Transmission)
       → AreCalls facts calls first old → IsCall facts asked old new
       → AreCalls facts (calls ++ asked ∷ []) first new
   calls_snoc first old new [] asked is one = (new, rw is at one, refl)

@@ -6,7 +6,7 @@ use Rattle.iol_event.specs.declared.event.Event.{Event}
 use Rattle.iol_link.specs.WireFacts.{WireFacts}
 use Rattle.iol_book.specs.declared.entries.Ticket.{Ticket}
 use Rattle.iol_book.specs.BookModel.{next_taken}
-use Rattle.iol_app.specs.declared.asked.Asked.{Asked}
+use Rattle.iol_app.specs.declared.transmission.Transmission.{Transmission}
 use Rattle.iol_app.specs.declared.event_work.EventRoom.{EventRoom}
 use Rattle.iol_app.specs.declared.event_work.EventRoom.TheVariants.{Left, Full}
 use Rattle.iol_app.specs.Asking.{asked_by, core_with_request, IsCall}
@@ -35,13 +35,13 @@ begun_next p = to_begin (lacks_isdu p.core.session.isdu) (next_taken p.book.stat
 -- the one call of the wire in the next turn: that request is begun first, where
 -- nothing else is due
 -- PORT-2
-abbrev pub asks_of : PortParts → Asked
+abbrev pub asks_of : PortParts → Transmission
 asks_of p = asked_by (core_with_request (begun_next p) p.core (event_room p.queued))
     (event_room p.queued)
 
 -- a turn makes the call of the wire that was asked, and no other call of the port
 -- touches the wire
 -- PORT-2
-abbrev pub IsWireCall : {W : Type 0} → WireFacts W → Call → Asked → W → W → Type 0
+abbrev pub IsWireCall : {W : Type 0} → WireFacts W → Call → Transmission → W → W → Type 0
 IsWireCall facts Turn asked old new = IsCall facts asked old new
 IsWireCall facts other asked old new = new ≡ old

@@ -12,7 +12,7 @@ use Rattle.iol_mode.specs.declared.configuration.Devices.TheVariants.{Own}
 use Rattle.iol_book.specs.declared.limits.Limits.{Limits}
 use Rattle.iol_app.specs.declared.report.Said.{Said}
 use Rattle.iol_app.specs.Abstract.Steps.{through_steps}
-use Rattle.iol_app.specs.Abstract.OfMaster.{resets, book_said, reports_said}
+use Rattle.iol_app.specs.Abstract.OfMaster.{resets, steps_for_book, steps_for_queue}
 use Rattle.iol_app.specs.StationState.{IsSettledReport}
 use Rattle.iol_app.specs.CoreTurns.{after_exchange, after_wake, received_mode}
 use Rattle.iol_app.specs.WireResults.{wire_result_in, woken_by}
@@ -121,10 +121,10 @@ pub record PortReceiveGives (old : PortParts) (received : Option (List ℕ))
   pub book : new.book.state
       ≡ through_steps book_after
       (resets (is_reset old.core.state) (is_reset new.core.state)
-      ++ book_said report)
+      ++ steps_for_book report)
       old.book.state
   pub memory : KeepsMemory old new
-  pub queued : new.queued ≡ through_steps queued_after (reports_said report) old.queued
+  pub queued : new.queued ≡ through_steps queued_after (steps_for_queue report) old.queued
   pub sent : new.sent ≡ false
   pub counters : new.counters
       ≡ report_counted report (call_counted (wire_result_in old.core.state received) old.counters)

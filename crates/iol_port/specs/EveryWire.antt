@@ -24,7 +24,7 @@ use Rattle.iol_mode.specs.declared.why.Why.{Why}
 use Rattle.iol_app.specs.declared.mode.Mode.TheVariants.{Down}
 use Rattle.iol_app.specs.declared.report.Said.{Said}
 use Rattle.iol_app.specs.Abstract.Steps.{ImageOctets, through_steps}
-use Rattle.iol_app.specs.Abstract.OfMaster.{restart_steps, resets, book_said, reports_said}
+use Rattle.iol_app.specs.Abstract.OfMaster.{restart_steps, resets, steps_for_book, steps_for_queue}
 use Rattle.iol_app.specs.State as session
 use Rattle.iol_app.specs.Due.{is_ready}
 use Rattle.iol_app.specs.Asking.{core_with_request, IsCall}
@@ -336,10 +336,10 @@ module _ {W : Type 0} (facts : WireFacts W) where
     pub book : new.parts.book.state
         ≡ through_steps book_after
         (resets (is_reset old.parts.core.state) (is_reset new.parts.core.state)
-        ++ book_said report)
+        ++ steps_for_book report)
         (book_begun old.parts)
     pub memory : KeepsMemory old.parts new.parts
-    pub queued : new.parts.queued ≡ through_steps queued_after (reports_said report)
+    pub queued : new.parts.queued ≡ through_steps queued_after (steps_for_queue report)
         old.parts.queued
     pub counters : new.parts.counters
         ≡ report_counted report (call_counted wire_result old.parts.counters)

@@ -25,7 +25,7 @@ use crate::laws::record_fits_journal;
 use crate::place::GhostPlace;
 use crate::port_core::PortCore;
 use crate::{Counting, PortFault};
-use iol_app::Asked;
+use iol_app::Transmission;
 use iol_book::{Journal, Limits, Outcome, Ticket};
 use iol_event::Event;
 use iol_image::Image;
@@ -306,7 +306,7 @@ impl<A: Allocator + Copy> HonestPort<A> {
     }
 
     /// What goes out, as [`PortCore::send`] gives it.
-    pub fn send(&mut self) -> Asked
+    pub fn send(&mut self) -> Transmission
         ensures says { IsAskedOut result self.new.parts.core.state }
         ensures asked { result ≡ asks_of self.old.parts }
         ensures repeat { IsTrue self.old.parts.sent → self.new ≡ self.old }

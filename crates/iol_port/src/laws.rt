@@ -28,6 +28,8 @@ use iol_segment::{cut_is_whole, segments_join, texts_join};
 /// may be another than that of the pair.
 ///
 /// Rule BOOK-10.
+///
+/// Needed by `honest_port::keeps_record` and the promises of assurance.md.
 #[tactic(auto, using(crate::proofs::OwnerRuns::opened_sound, crate::proofs::OwnerRuns::runs_sound, crate::proofs::OwnerRuns::pieces_sound))]
 pub fn record_fits_journal()
     ensures opens { OpensSound }
@@ -47,6 +49,8 @@ pub fn record_fits_journal()
 /// page goes on to no mode but down, and it does not read the page of a device that is not the
 /// expected one. What a turn does on every wire is said by the clause `gives` of
 /// [`Port::turn`](crate::Port::turn).
+///
+/// Needed by the promises of assurance.md.
 pub fn turns_rule_out()
     ensures stays { GoodLinkStays }
     ensures nothing { NothingIsNoTurn }
@@ -65,6 +69,8 @@ pub fn turns_rule_out()
 /// OPERATE reports events that were frozen, and shows the device's input. Where
 /// none comes, a power cycle may have taken the events, the input and the output. A start-up reads
 /// the page of the right device, and goes on by it.
+///
+/// Needed by the promises of assurance.md.
 pub fn turns_admit()
     ensures wakes { WakesAreMissed }
     ensures reports { FrozenAreReported }
@@ -86,6 +92,8 @@ pub fn turns_admit()
 /// In a run in which nothing that was reported counts as unreported again, each event is reported
 /// at most once, in the order of raising. It counts so behind a wake or a reset of the device, and,
 /// at a port for any device, where a confirm had no good reply: then it may come once more.
+///
+/// Needed by the promises of assurance.md.
 #[tactic(auto, using(crate::proofs::HistoryRuns::each_fits_history, crate::proofs::HistoryRuns::each_is_reported_once))]
 pub fn runs_fit_history()
     ensures fits { EachFitsHistory }
@@ -93,11 +101,16 @@ pub fn runs_fit_history()
 {}
 
 /// A law of the definitions: the two pieces of a turn, with no call between, are that turn.
+///
+/// Needed by the promises of assurance.md.
 pub fn pieces_are_turns()
     ensures { HalvesAreTurns }
 {}
 
 /// A law of the definitions: a run, and one that goes on from where it led, are one run.
+///
+/// Needed by `iol_commands::playing::play_lines`, `iol_commands::playing::play_turns`,
+/// `iol_commands::tracing::follow` and 2 more.
 #[tactic(auto, using(crate::proofs::PieceLemmas::runs_join, crate::proofs::PieceLemmas::pieces_join))]
 pub fn runs_join()
     ensures runs { RunsJoin }
@@ -120,6 +133,8 @@ pub fn runs_join()
 /// segment was sent, the answer that is told may be another than that of the pair.
 ///
 /// Rule REQ-15.
+///
+/// Needed by the promises of assurance.md.
 #[tactic(auto, using(crate::proofs::OwnerRuns::each_done_has_its_pair))]
 pub fn each_done_has_its_pair()
     ensures { EachDoneHasItsPair }
@@ -137,6 +152,8 @@ pub fn each_done_has_its_pair()
 /// all.
 ///
 /// Rule REQ-12.
+///
+/// Needed by the promises of assurance.md.
 pub fn late_requests_end()
     ensures wakes { LateEnds }
     ensures for_good { CutForGoodStaysOut }
@@ -145,6 +162,8 @@ pub fn late_requests_end()
 /// A law of the definitions, over whole runs of a port that is opened: a device without ISDU
 /// carries nothing out but, once, what it had been handed when the port was opened; and each
 /// outcome NoIsdu that was collected is that of such a device.
+///
+/// Needed by the promises of assurance.md.
 #[tactic(auto, using(crate::proofs::OwnerRuns::carries_none, crate::proofs::OwnerRuns::denied_without_isdu))]
 pub fn denied_requests_stay_out()
     ensures carries { CarriesNone }
@@ -155,12 +174,16 @@ pub fn denied_requests_stay_out()
 ///
 /// The turn that says so began with the request marked, and only a cancel of its
 /// ticket sets the mark.
+///
+/// Needed by the promises of assurance.md.
 pub fn cancelled_requests_were_asked()
     ensures turns { CancelledWasAsked }
     ensures marks { AskedByCancel }
 {}
 
 /// What the number of turns on a clean wire rests on.
+///
+/// Needed by `port::run` and `port_core::turn`.
 pub(crate) fn clean_laws()
     ensures { CleanLaws }
 {

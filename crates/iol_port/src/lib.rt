@@ -40,7 +40,7 @@ mod port_core;
 mod settle;
 
 pub use awaited::AwaitedAnswer;
-pub use call::{Answered, Call, Counting, Drained};
+pub use call::{Answered, Call, Counting, DrainCounts};
 pub use counters::{Counters, Unknown};
 pub use fault::PortFault;
 pub use honest_port::HonestPort;

@@ -29,8 +29,8 @@ ghost use Rattle.iol_port.specs.Replies.{ticket_reply, nothing_reply, outcome_re
 use crate::copies::{copy_of_image, request_copy};
 use crate::laws::clean_laws;
 use crate::port_core::PortCore;
-use crate::{Answered, Call, Counters, Counting, Drained, PortFault};
-use iol_app::{Asked, Status};
+use crate::{Answered, Call, Counters, Counting, DrainCounts, PortFault};
+use iol_app::{Status, Transmission};
 use iol_book::{BookFault, Journal, Limits, Outcome, Serve, Ticket};
 use iol_cell::{Handle, ImageWriter};
 use iol_event::Event;
@@ -334,7 +334,7 @@ impl<W: Wire, A: Handle> Port<W, A> {
     }
 
     /// As [`PortCore::asks`].
-    pub fn asks(&self) -> Asked
+    pub fn asks(&self) -> Transmission
         ensures { result ≡ asks_of self.now.parts }
     {
         self.core.asks()
@@ -592,7 +592,7 @@ fn drained_or<A: Handle>(restated: usize, entries: Result<Journal<A>, PortFault>
         ≡ result_reply (λ journal. drained_answer (length journal.items) restated) entries }
 {
     match entries {
-        Ok(journal) => Answered::Drained(Drained {
+        Ok(journal) => Answered::Drained(DrainCounts {
             entries: journal.len() as u32,
             restated: restated as u32,
         }),

@@ -36,7 +36,7 @@ use crate::settle::{
     MOST_QUEUED, ROOM, begin_next, by_book, by_output, lacks_isdu, resets, settle,
 };
 use arrayvec::ArrayVec;
-use iol_app::{Asked, Core, EventRoom, Mode, Said, Status, WireResult};
+use iol_app::{Core, EventRoom, Mode, Said, Status, Transmission, WireResult};
 use iol_book::{Book, Journal, Limits, Outcome, Serve, Ticket};
 use iol_event::Event;
 use iol_image::Image;
@@ -473,7 +473,7 @@ impl<A: Allocator + Copy> PortCore<A> {
     /// Each call but this and the others that only look may change it: ask right before the turn.
     ///
     /// Rule PORT-2.
-    pub fn asks(&self) -> Asked
+    pub fn asks(&self) -> Transmission
         ensures { result ≡ asks_of self.now }
     {
         let next = if lacks_isdu(self.core.isdu()) {
@@ -508,7 +508,7 @@ impl<A: Allocator + Copy> PortCore<A> {
     /// Until what goes out is answered it is given again, and nothing changes.
     ///
     /// Rule PORT-8.
-    pub fn send(&mut self) -> Asked
+    pub fn send(&mut self) -> Transmission
         ensures says { IsAskedOut result self.new.core.state }
         ensures asked { result ≡ asks_of self.old }
         ensures repeat { IsTrue self.old.sent → self.new ≡ self.old }

@@ -12,7 +12,7 @@ ghost use Rattle.iol_port.specs.Asks.{lacks_isdu, to_begin};
 ghost use Rattle.iol_port.specs.EveryWire.{book_after_taking};
 ghost use Rattle.iol_app.specs.declared.mode.Mode.TheVariants as mode;
 ghost use Rattle.iol_app.specs.Abstract.Steps.{Reset, through_steps};
-ghost use Rattle.iol_app.specs.Abstract.OfMaster.{book_said, reports_said};
+ghost use Rattle.iol_app.specs.Abstract.OfMaster.{steps_for_book, steps_for_queue};
 ghost use Rattle.iol_port.specs.Replies.{by_book, by_output};
 ghost use Rattle.iol_port.specs.View.{BeginsNext, TakesNext, Asks, ReportHasRoom};
 ghost use Rattle.iol_port.specs.Steps.{book_after, queued_after};
@@ -129,10 +129,10 @@ pub(crate) fn settle<A: Allocator + Copy>(
     requires asked { Asks report.old book.old.state.standing.taken }
     requires room { ReportHasRoom report.old queued.old.items }
     ensures book { book.new.state ≡ through_steps book_after
-        (cond reset (Reset ∷ []) [] ++ book_said report.old) book.old.state }
+        (cond reset (Reset ∷ []) [] ++ steps_for_book report.old) book.old.state }
     ensures memory { book.new.memory ≡ book.old.memory }
     ensures queued { queued.new.items
-        ≡ through_steps queued_after (reports_said report.old) queued.old.items }
+        ≡ through_steps queued_after (steps_for_queue report.old) queued.old.items }
 {
     if reset {
         book.reset();
@@ -152,10 +152,11 @@ fn deliver<A: Allocator + Copy>(
 )
     requires asked { Asks report.old book.old.state.standing.taken }
     requires room { ReportHasRoom report.old queued.old.items }
-    ensures book { book.new.state ≡ through_steps book_after (book_said report.old) book.old.state }
+    ensures book { book.new.state
+        ≡ through_steps book_after (steps_for_book report.old) book.old.state }
     ensures memory { book.new.memory ≡ book.old.memory }
     ensures queued { queued.new.items
-        ≡ through_steps queued_after (reports_said report.old) queued.old.items }
+        ≡ through_steps queued_after (steps_for_queue report.old) queued.old.items }
 {
     match replace(report, Said::Idle) {
         Said::Idle | Said::Busy => {}

@@ -1,9 +1,11 @@
 -- over every simulated wire a port leaves the devices of the opening, each with its first
 -- application
+-- For the clauses of `laws::each_app_follows_record`, `laws::first_app_follows_record` and
+--     `laws::record_is_answered_by_the_first_params`.
 use Rattle.std.proofs.Common.{◌≡◌, ◌⊎◌, inl, inr, List, [], ◌∷◌, Option, Some, None, option_map, refl, ap, subst, ◌∙◌}
 use Rattle.iol_device.specs.App.{Gives, Follows}
-use Rattle.iol_app.specs.declared.asked.Asked.{Asked}
-use Rattle.iol_app.specs.declared.asked.Asked.TheVariants.{Wake, Exchange}
+use Rattle.iol_app.specs.declared.transmission.Transmission.{Transmission}
+use Rattle.iol_app.specs.declared.transmission.Transmission.TheVariants.{Wake, Exchange}
 use Rattle.iol_app.specs.Asking.{IsCall}
 use Rattle.iol_port.specs.WireCalls.{AreCalls, ComesFrom}
 use Rattle.iol_sim.specs.declared.params.ParameterEntry.{ParameterEntry}
@@ -33,12 +35,13 @@ one_first (first, None) y (inr e) one = ap (λ (z : _ × Option _). z.0) e
 one_first (first, Some other) y same one = absurd (cc)
 
 module _ {P M : Type 0} (facts : BesideFacts P M) where
-  those_by : (asked : Asked) (old new : SimulatedWire P M) → IsCall (sim_facts facts) asked old new
+  those_by : (asked : Transmission) (old new : SimulatedWire P M)
+      → IsCall (sim_facts facts) asked old new
       → AreThose (sim_devices old) (sim_devices new)
   those_by Wake old new (answer, woken) = woken.those
   those_by (Exchange sent) old new (answer, exchanged) = exchanged.those
 
-  those_through : (calls : List Asked) (old new : SimulatedWire P M)
+  those_through : (calls : List Transmission) (old new : SimulatedWire P M)
       → AreCalls (sim_facts facts) calls old new → AreThose (sim_devices old) (sim_devices new)
   those_through [] old new same = inl
       (ap (λ (s : SimulatedWire P M). firsts_of (sim_devices s)) same)

@@ -1,4 +1,5 @@
 -- An exchange with a device that is there, on a line that loses, is an honest one.
+-- For the clauses of `honest::lose_reply`, `honest::lose`, `honest::pass` and `honest::wake`.
 use Rattle.std.proofs.Common.{◌≡◌, inl, refl, ◌∙◌, ap, Bool, true, false, List, [], ◌∷◌, ℕ, Option, Some, None, IsTrue}
 use Rattle.std.specs.Prelude.{MatchBool}
 use Rattle.iol_isdu.specs.declared.values.Request.{Request}

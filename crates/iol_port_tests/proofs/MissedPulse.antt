@@ -1,4 +1,5 @@
 -- A device that runs TYPE_0 in OPERATE answers a wake whose pulse it misses, and keeps its request.
+-- For the clauses of `laws::pulses_are_missed`.
 use Rattle.std.proofs.Common.{◌≡◌, ℕ, true, List, [], ◌∷◌, refl, ap, subst, ◌∙◌, arith}
 use Rattle.std.specs.Prelude.{Option, Some, None, is_some, option_map}
 use Rattle.iol_octets.specs.Control.{control_of}

@@ -1,4 +1,5 @@
 -- From the claim to what it says of the image that is shown and of the events that are kept.
+-- For the clauses of `laws::ports_show_what_devices_had`.
 use Rattle.std.proofs.Common.{◌≡◌, List, [], ◌∷◌, ◌++◌, inl, inr, refl, sym, ◌∙◌, ap, subst}
 use Rattle.std.specs.Prelude.{Bool, false, Option, Some, None, IfSome}
 use Rattle.iol_event.specs.declared.event.Event.{Event}

@@ -7,7 +7,7 @@ use iol_cell::Handle;
 use iol_link::Rate;
 use iol_mseq::Message;
 use iol_peers::{AnyWire, Peer};
-use iol_port::{Answered, Call, Drained, Port, PortCore, PortFault};
+use iol_port::{Answered, Call, DrainCounts, Port, PortCore, PortFault};
 use refusing_alloc::{Refusal, RefusingAlloc};
 
 /// A peer that answers nothing.
@@ -96,11 +96,11 @@ fn is_counted<A: Handle>(alloc: A, refusing: &RefusingAlloc) -> bool {
     let is_refused = port.call(&Call::Drain) == Answered::Refused(OUT_OF_MEMORY);
     let has_refused = refusing.has_refused();
     refusing.order(Refusal::Never);
-    let first = Drained {
+    let first = DrainCounts {
         entries: 1,
         restated: 0,
     };
-    let second = Drained {
+    let second = DrainCounts {
         entries: 1,
         restated: 1,
     };

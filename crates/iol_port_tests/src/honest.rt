@@ -8,7 +8,7 @@ ghost use Rattle.iol_port.specs.CorePort.{awaited_answer};
 ghost use Rattle.iol_port.specs.Honestly.{Exchanges};
 
 use crate::device::{PLACE, Parameter, octets_of, open_device};
-use iol_app::{Asked, Mode};
+use iol_app::{Mode, Transmission};
 use iol_book::{Limits, Outcome, Ticket};
 use iol_device::{App, Device};
 use iol_isdu::{Answer, Request};
@@ -96,11 +96,11 @@ fn meet(port: &mut HonestPort, device: &mut Device<Parameter>, fate: Fate)
     ensures far { port.new.at.far ≡ device.new.far }
 {
     match port.send() {
-        Asked::Wake => {
+        Transmission::Wake => {
             wake(device);
             woken_by(port, device);
         }
-        Asked::Exchange(sent) => {
+        Transmission::Exchange(sent) => {
             let received = exchange(device, sent.octets.as_slice(), fate);
             answered_by(port, &received, device);
         }

@@ -73,6 +73,8 @@ pub fn ports_show_what_devices_had<W: Wire, A: Handle>(port: &Port<W, A>)
 
 /// A law of the definitions, without code: a lossy line may have a device that answers a wake whose
 /// pulse it missed, and then has the request still that it was handed before.
+///
+/// Needed by the promises of assurance.md.
 #[tactic(auto, using(crate::proofs::MissedPulse::pulses_are_missed))]
 pub fn pulses_are_missed()
     ensures { PulsesAreMissed }

@@ -1,4 +1,6 @@
 -- How many bytes texts have at most, for the clauses `fits`.
+-- For the clauses of `LineCall::print`, `meaning::print_message_of`, `meaning::print_reply_of` and
+--     3 more.
 use Rattle.std.proofs.Common.{◌≡◌, ℕ, ◌+◌, ◌*◌, ◌<◌, ◌≤◌, ◌^◌, Bool, true, false, if◌then◌else◌, Option, Some, None, List, [], ◌∷◌, ◌++◌, length, codes, refl, ap, arith, length-append}
 use Rattle.std.proofs.lemmas.Fmt.{length-decimal-le}
 use Rattle.std.specs.Prelude.{MatchOption}

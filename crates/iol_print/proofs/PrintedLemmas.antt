@@ -1,5 +1,7 @@
 -- Texts that are printed one behind the other, for clauses that say what a function prints. Begin
 -- with `behind`.
+-- For the clauses of `LineCall::print`, `passing::print_exchange`, `passing::print_front` and 30
+--     more.
 use Rattle.std.proofs.Common.{◌≡◌, ℕ, ◌+◌, ◌*◌, ◌<◌, ◌≤◌, false, true, Result, OnOk, List, [], ◌∷◌, ◌++◌, length, take, refl, ap, arith, append_assoc, length-append, length-take-le}
 use Rattle.std.proofs.lemmas.Grind.{common_steps}
 use Rattle.std.proofs.lemmas.Result.{on_ok_weaker}

@@ -2,7 +2,7 @@
 use crate::messages::print_layout;
 use crate::printing::{print_named, print_ok, print_refused};
 use crate::reading::{Line, is};
-use iol_app::Asked;
+use iol_app::Transmission;
 use iol_page::{CycleFault, CycleTime, Identity, Page};
 use iol_port::{Counting, PortCore};
 use std::alloc::AllocError;
@@ -105,10 +105,10 @@ fn print_page(output: &mut String, page: Option<Page>) -> Result<(), AllocError>
 }
 
 /// The layout of what goes out next, and how many octets a good reply has.
-fn print_reply(output: &mut String, asked: &Asked) -> Result<(), AllocError> {
+fn print_reply(output: &mut String, asked: &Transmission) -> Result<(), AllocError> {
     match asked {
-        Asked::Wake => output.push_str("wake\n"),
-        Asked::Exchange(out) => {
+        Transmission::Wake => output.push_str("wake\n"),
+        Transmission::Exchange(out) => {
             output.push_str("layout")?;
             print_layout(output, &out.layout)?;
             let reply = out.reply;

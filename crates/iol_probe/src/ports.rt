@@ -15,7 +15,7 @@ use crate::reading::{Line, is};
 use crate::tickets::{
     limits, print_archived, print_collected, print_done, print_submitted, ticket,
 };
-use iol_app::{Asked, Status};
+use iol_app::{Status, Transmission};
 use iol_event::Event;
 use iol_image::Image;
 use iol_link::Rate;
@@ -198,10 +198,10 @@ fn print_taken(output: &mut String, taken: Result<Event, PortFault>) -> Result<(
 }
 
 /// A wake-up request, or the octets of a message.
-fn print_asked(output: &mut String, name: &str, asked: Asked) -> Result<(), AllocError> {
+fn print_asked(output: &mut String, name: &str, asked: Transmission) -> Result<(), AllocError> {
     match asked {
-        Asked::Wake => writeln!(output, "{name} wake"),
-        Asked::Exchange(out) => print_named(output, name, out.octets.as_slice()),
+        Transmission::Wake => writeln!(output, "{name} wake"),
+        Transmission::Exchange(out) => print_named(output, name, out.octets.as_slice()),
     }
 }
 

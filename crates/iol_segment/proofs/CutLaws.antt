@@ -1,4 +1,6 @@
 -- The cut of a text, pair by pair: the laws of `cut_is_whole`. Begin at `cut_is_pairs`.
+-- For the clauses of `laws::cut_is_whole`, `laws::segments_join`, `laws::texts_join` and
+--     `iol_by_the_rules::laws::ports_are_by_the_rules`.
 use Rattle.std.proofs.Common.{◌≡◌, ℕ, zero, suc, ◌+◌, ◌-◌, ◌*◌, ◌<◌, ◌≤◌, nat_lt, if◌then◌else◌, List, length, refl, ap, arith, Some, None}
 use Rattle.std.specs.Prelude.{slice_get}
 use Rattle.std.proofs.lemmas.Bool.Decides.{nat_tests}

@@ -1,4 +1,6 @@
 -- A text that grows by the octets of a segment, as the clause `grown` of `grow` says it.
+-- For the clauses of `joiner::grow`, `laws::segments_join`, `laws::texts_join` and
+--     `iol_by_the_rules::laws::ports_are_by_the_rules`.
 use Rattle.std.proofs.Common.{◌≡◌, ℕ, suc, sym, ap, ◌∙◌, ◌<◌, ◌≤◌, List, length, take, arith, Ok}
 use Rattle.std.proofs.lemmas.Bool.Decides.{nat_tests}
 use Rattle.std.proofs.lemmas.Grind.{common_steps}

@@ -1,5 +1,6 @@
 -- A joiner given the segments of a text, each one or more times: the laws of `segments_join`.
 -- Begin at `join_laws`, then `Runs`.
+-- For the clauses of `laws::segments_join`.
 use Rattle.std.proofs.Common.{◌≡◌, ℕ, zero, suc, ◌+◌, ◌*◌, ◌<◌, ◌≤◌, true, List, [], ◌∷◌, ◌++◌, length, replicate, refl, sym, ap, ◌∙◌, arith, Option, Some, None, Result, Ok}
 use Rattle.std.proofs.lemmas.Bool.Decides.{nat_tests}
 use Rattle.std.proofs.lemmas.Grind.{common_steps}

@@ -1,4 +1,5 @@
 -- A segment piece by piece, as `put_piece` and `put_segment` put it behind other octets.
+-- For the clauses of `cutter::put_piece` and `cutter::put_segment`.
 use Rattle.std.proofs.Common.{◌≡◌, ℕ, zero, suc, ◌+◌, ◌-◌, ◌*◌, ◌<◌, ◌≤◌, List, [], ◌∷◌, ◌++◌, length, take, drop, replicate, refl, sym, ap, ◌∙◌, append_assoc, length-append, arith}
 use Rattle.std.proofs.lemmas.Grind.{common_steps}
 use Rattle.std.proofs.lemmas.List.{drop-append-le, take-replicate}

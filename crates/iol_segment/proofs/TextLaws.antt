@@ -1,4 +1,6 @@
 -- The laws of segments joined, of `texts_join`: begin at `text_laws`.
+-- For the clauses of `laws::texts_join`, `laws::segments_join` and
+--     `iol_by_the_rules::laws::ports_are_by_the_rules`.
 use Rattle.std.proofs.Common.{◌≡◌, ℕ, zero, suc, ◌+◌, ◌-◌, ◌*◌, ◌<◌, ◌≤◌, Bool, false, ◌==◌, List, [], ◌∷◌, ◌++◌, length, take, drop, replicate, get_or, refl, sym, ap, ◌∙◌, length-drop, append_assoc, arith, Ok}
 use Rattle.std.proofs.lemmas.Bool.Decides.{nat_tests}
 use Rattle.std.proofs.lemmas.Grind.{common_steps}

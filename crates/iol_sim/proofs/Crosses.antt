@@ -1,4 +1,6 @@
 -- A simulated wire with the device of the parameters may go to another thread.
+-- For the clauses of `example_gateway::serve::serve`, `iol_bench::served::with_ledgers`,
+--     `iol_clients::serve::with_ledgers` and 7 more.
 use denote.Param.Send.{IsSend, sendable}
 use Rattle.std.proofs.Crossing.{crosses}
 use Rattle.std.specs.contracts.alloc.Global as Heap

@@ -1,4 +1,6 @@
 -- Wherever the power fails, what is loaded is the content of the last save that was done.
+-- For the clauses of `image::save`, `laws::each_save_is_whole_or_nothing` and
+--     `laws::saves_outlive_power_cuts`.
 use Rattle.std.proofs.Common.{◌≡◌, ◌≤◌, ◌<◌, ◌+◌, ◌∷◌, ◌++◌, ◌∙◌, [], ℕ, zero, suc, List, Bool, true, false, Option, Some, None, refl, sym, ap, arith, length, take, drop, nat_le}
 use Rattle.std.specs.Prelude.{if◌then◌else◌}
 use Rattle.std.proofs.lemmas.List.{append-nil, take_all}

@@ -1,4 +1,6 @@
 -- A save is whole, or nothing.
+-- For the clauses of `image::save`, `laws::each_save_is_whole_or_nothing` and
+--     `laws::saves_outlive_power_cuts`.
 use Rattle.std.proofs.Common.{◌≡◌, ◌≤◌, ◌<◌, ◌+◌, ◌-◌, ◌∷◌, ◌++◌, ◌∙◌, [], ℕ, zero, suc, List, Bool, true, false, Option, Some, refl, sym, ap, arith, length, take, drop}
 use Rattle.std.specs.Prelude.{slice_set, slice_index, ◌==◌, option_map}
 use Rattle.std.proofs.lemmas.Grind.{common_steps}

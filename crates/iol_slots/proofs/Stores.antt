@@ -1,4 +1,5 @@
 -- Stores, one behind the other.
+-- For the clauses of `image::store_all`, `image::store_image`, `image::save` and 2 more.
 use Rattle.std.proofs.Common.{◌≡◌, ◌≤◌, ◌<◌, ◌+◌, ◌∷◌, ◌++◌, ◌∙◌, [], ℕ, List, refl, subst, sym, ap, arith, length, get_or, take}
 use Rattle.std.specs.Prelude.{slice_set}
 use Rattle.std.proofs.lemmas.List.{take_more, length-set, length-take-le}

@@ -28,7 +28,7 @@ use Rattle.iol_storage.specs.declared.attempt.StorageAttempt.{StorageAttempt}
 use Rattle.iol_storage.specs.declared.attempt.StorageMode.TheVariants.{Both, Off, Own, Restore}
 use Rattle.iol_storage.specs.declared.attempt.StorageMode.{StorageMode}
 use Rattle.iol_storage.specs.declared.set.Set.{Set}
-use Rattle.iol_storage.specs.declared.stored.standing.Served.TheVariants as served
+use Rattle.iol_storage.specs.declared.stored.standing.Agreement.TheVariants as served
 use Rattle.iol_storage.specs.declared.stored.standing.StorageStanding.TheVariants.{Served, Trouble}
 use Rattle.iol_storage.specs.declared.stored.standing.StorageStanding.{StorageStanding}
 use Rattle.iol_storage.specs.declared.stored.standing.Trouble.TheVariants as trouble

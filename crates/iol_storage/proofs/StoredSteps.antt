@@ -20,7 +20,7 @@ use Rattle.iol_storage.specs.declared.attempt.AttemptPurpose.{AttemptPurpose}
 use Rattle.iol_storage.specs.declared.set.Set.{Set}
 use Rattle.iol_storage.specs.declared.stored.standing.StorageStanding.{StorageStanding}
 use Rattle.iol_storage.specs.declared.stored.standing.StorageStanding.TheVariants.{Served, Trouble}
-use Rattle.iol_storage.specs.declared.stored.standing.Served.TheVariants.{Off}
+use Rattle.iol_storage.specs.declared.stored.standing.Agreement.TheVariants.{Off}
 use Rattle.iol_storage.specs.declared.stored.standing.Trouble.TheVariants.{WrongIdentity}
 use Rattle.iol_storage.specs.declared.stored.storage.Storage.{Storage}
 use Rattle.iol_storage.specs.declared.stored.storage.StorageJob.TheVariants.{Check}

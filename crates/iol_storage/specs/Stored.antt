@@ -32,7 +32,7 @@ use Rattle.iol_storage.specs.declared.stored.fault.StoredFault.{StoredFault}
 use Rattle.iol_storage.specs.declared.stored.fault.StoredFault.TheVariants as fault
 use Rattle.iol_storage.specs.declared.stored.standing.StorageStanding.{StorageStanding}
 use Rattle.iol_storage.specs.declared.stored.standing.StorageStanding.TheVariants.{Awaited, Served, Trouble, Released}
-use Rattle.iol_storage.specs.declared.stored.standing.Served.TheVariants as served
+use Rattle.iol_storage.specs.declared.stored.standing.Agreement.TheVariants as served
 use Rattle.iol_storage.specs.declared.stored.standing.Trouble.TheVariants as trouble
 use Rattle.iol_storage.specs.declared.stored.storage.BlockTicket.{BlockTicket}
 use Rattle.iol_storage.specs.declared.stored.storage.SetNumber.{SetNumber}

@@ -4,7 +4,7 @@ use Rattle.iol_storage.specs.declared.set.Set.{Set}
 use Rattle.iol_storage.specs.declared.attempt.StorageMode.{StorageMode}
 use Rattle.iol_storage.specs.declared.stored.standing.StorageStanding.{StorageStanding}
 use Rattle.iol_storage.specs.declared.stored.standing.StorageStanding.TheVariants.{Served}
-use Rattle.iol_storage.specs.declared.stored.standing.Served.TheVariants.{Restored}
+use Rattle.iol_storage.specs.declared.stored.standing.Agreement.TheVariants.{Restored}
 use Rattle.iol_storage.specs.declared.stored.storage.Storage.{Storage}
 use Rattle.iol_storage.specs.declared.stored.storage.StorageJob.{StorageJob}
 use Rattle.iol_storage.specs.declared.stored.storage.StorageJob.TheVariants.{Check}

@@ -8,8 +8,8 @@ use Rattle.iol_book.specs.declared.entries.Ticket.{Ticket}
 use Rattle.iol_book.specs.declared.fault.BookFault.TheVariants.{Full, UnknownTicket, OutOfMemory}
 use Rattle.iol_book.specs.declared.limits.Limits.{Limits}
 use Rattle.iol_app.specs.Abstract.Steps.{ImageOctets}
-use Rattle.iol_app.specs.declared.asked.Asked.{Asked}
-use Rattle.iol_app.specs.declared.asked.Asked.TheVariants as asked
+use Rattle.iol_app.specs.declared.transmission.Transmission.{Transmission}
+use Rattle.iol_app.specs.declared.transmission.Transmission.TheVariants as asked
 use Rattle.iol_app.specs.declared.mode.Mode.{Mode}
 use Rattle.iol_app.specs.declared.mode.Mode.TheVariants.{Operate}
 use Rattle.iol_app.specs.StationState.{mode_in}
@@ -57,7 +57,7 @@ pub record CoreMakes (p : PortParts) (c : Call) (reply : Answered) (next : PortP
 
 -- all that is said of its sending: what goes out is what it asks, and while a message is out the
 -- same goes out again and nothing changes
-pub record PortSends (p : PortParts) (asked : Asked) (next : PortParts) : Type 0 where
+pub record PortSends (p : PortParts) (asked : Transmission) (next : PortParts) : Type 0 where
   pub says : IsAskedOut asked next.core.state
   pub asked_is : asked ≡ asks_of p
   pub repeat : IsTrue p.sent → next ≡ p
@@ -146,7 +146,7 @@ abbrev pub TendsIfFree : Bool → StoredParts → StoredParts → Type 0
 TendsIfFree true old new = new ≡ old
 TendsIfFree false old new = Tends old new
 
-pub record StoredSends (old : StoredParts) (sent : Asked) (new : StoredParts) : Type 0 where
+pub record StoredSends (old : StoredParts) (sent : Transmission) (new : StoredParts) : Type 0 where
   pub mid : StoredParts
   pub tends : TendsIfFree old.port.sent old mid
   pub sends : PortSends mid.port sent new.port
@@ -155,7 +155,7 @@ pub record StoredSends (old : StoredParts) (sent : Asked) (new : StoredParts) : 
   pub repeat : IsTrue old.port.sent → new ≡ old
 
 -- what the port waits for behind it
-abbrev pub answer_to : Asked → AwaitedAnswer
+abbrev pub answer_to : Transmission → AwaitedAnswer
 answer_to asked.Wake = awaited.Wake
 answer_to (asked.Exchange message) = awaited.Reply
 

@@ -30,7 +30,7 @@ pub use laws::{
 pub use objects::{MOST_OBJECTS, MOST_OCTETS, Object, Objects};
 pub use set::{SerialNumber, Set, SetImage};
 pub use stored::{
-    BlockTicket, Retry, Served, SetNumber, Storage, StorageJob, StorageStanding, StoredFault,
+    Agreement, BlockTicket, Retry, SetNumber, Storage, StorageJob, StorageStanding, StoredFault,
     StoredPort, Trouble,
 };
 pub use upload::{Upload, UploadResult, UploadStage};

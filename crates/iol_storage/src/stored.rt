@@ -6,5 +6,5 @@ mod storage;
 
 pub use fault::StoredFault;
 pub use port::StoredPort;
-pub use standing::{Served, StorageStanding, Trouble};
+pub use standing::{Agreement, StorageStanding, Trouble};
 pub use storage::{BlockTicket, Retry, SetNumber, Storage, StorageJob};

@@ -6,10 +6,10 @@ use crate::temper::Temper;
 use crate::text::{Hex, StandingText};
 use crate::unit::{Owner, Unit};
 use anyhow::Result;
-use iol_app::{Asked, Mode};
+use iol_app::{Mode, Transmission};
 use iol_isdu::Place;
 use iol_port::AwaitedAnswer;
-use iol_storage::{Served, Set, SetImage, StorageStanding, StoredPort, Trouble};
+use iol_storage::{Agreement, Set, SetImage, StorageStanding, StoredPort, Trouble};
 use std::alloc::Global;
 
 /// The most turns behind the disturbances.
@@ -252,12 +252,12 @@ impl<'a> Life<'a> {
             .act(rt, &mut self.port, &self.temper, &mut self.chance)?;
         self.reported.tell(rt, &self.port, self.turn)?;
         match self.port.send() {
-            Asked::Wake => {
+            Transmission::Wake => {
                 self.reported.tell(rt, &self.port, self.turn)?;
                 let rate = self.line.wake(rt, &mut self.chance)?;
                 self.port.receive_wake(rate);
             }
-            Asked::Exchange(sent) => {
+            Transmission::Exchange(sent) => {
                 self.reported.tell(rt, &self.port, self.turn)?;
                 let owner = Owner {
                     port: self.number,

@@ -1,7 +1,7 @@
 //! How requests, answers, outcomes and standings are printed.
 use iol_book::Outcome;
 use iol_isdu::{Answer, Place, Request};
-use iol_storage::{DownloadResult, Served, StorageStanding, Trouble};
+use iol_storage::{Agreement, DownloadResult, StorageStanding, Trouble};
 use std::fmt;
 
 /// Octets in one word, `-` for none.
@@ -95,14 +95,14 @@ impl fmt::Display for BlockText {
     }
 }
 
-fn served_word(served: Served) -> &'static str {
+fn served_word(served: Agreement) -> &'static str {
     match served {
-        Served::Off => "off",
-        Served::Unsupported => "unsupported",
-        Served::Empty => "empty",
-        Served::Same => "same",
-        Served::Restored => "restored",
-        Served::Fetched => "fetched",
+        Agreement::Off => "off",
+        Agreement::Unsupported => "unsupported",
+        Agreement::Empty => "empty",
+        Agreement::Same => "same",
+        Agreement::Restored => "restored",
+        Agreement::Fetched => "fetched",
     }
 }
 

@@ -1,6 +1,6 @@
 //! Units stand at a port with Data Storage, one behind the other, and blocks are written.
 use crate::sensor::{at, check, has_limits, limits, table_of_sensor};
-use iol_app::Asked;
+use iol_app::Transmission;
 use iol_book::Limits;
 use iol_isdu::{Place, Request};
 use iol_link::Rate;
@@ -10,7 +10,7 @@ use iol_param_device::{ParamDevice, slot_size};
 use iol_params::Table;
 use iol_slots::RamSlots;
 use iol_storage::{
-    BlockTicket, DownloadResult, Keep, Served, SetNumber, StorageMode, StorageStanding,
+    Agreement, BlockTicket, DownloadResult, Keep, SetNumber, StorageMode, StorageStanding,
     StoredFault, StoredPort, Trouble,
 };
 use std::alloc::Global;
@@ -57,11 +57,11 @@ fn port_of(alloc: Global) -> Result<StoredPort, Fail> {
 /// One turn over a clean line.
 fn pass(port: &mut StoredPort, unit: &mut Unit<'_>) {
     match port.send() {
-        Asked::Wake => {
+        Transmission::Wake => {
             unit.wake();
             port.receive_wake(Some(Rate::Com2));
         }
-        Asked::Exchange(sent) => {
+        Transmission::Exchange(sent) => {
             unit.work();
             let received = unit.hear(sent.octets.as_slice());
             port.receive(&received);
@@ -96,8 +96,8 @@ fn fetched(port: &mut StoredPort, unit: &mut Unit<'_>) -> Option<SetNumber> {
 fn lose(port: &mut StoredPort) {
     for _ in 0..4 {
         match port.send() {
-            Asked::Wake => port.receive_wake(None),
-            Asked::Exchange(_) => port.receive(&None),
+            Transmission::Wake => port.receive_wake(None),
+            Transmission::Exchange(_) => port.receive(&None),
         }
     }
 }
@@ -118,7 +118,7 @@ fn fetches(alloc: Global, port: &mut StoredPort, table: &Table<'_>) -> bool {
     let Some(mut unit) = unit_of(alloc, table, &PAGE) else {
         return false;
     };
-    let fetched = StorageStanding::Served(Served::Fetched);
+    let fetched = StorageStanding::Served(Agreement::Fetched);
     is_changed(&mut unit, 50) && comes(port, &mut unit, MANY, fetched) && !unit.manager().flag()
 }
 
@@ -127,7 +127,7 @@ fn restores(alloc: Global, port: &mut StoredPort, table: &Table<'_>) -> bool {
     let Some(mut unit) = unit_of(alloc, table, &PAGE) else {
         return false;
     };
-    let restored = StorageStanding::Served(Served::Restored);
+    let restored = StorageStanding::Served(Agreement::Restored);
     let is_new = has_limits(unit.manager(), 10, 90);
     lose(port);
     is_new && comes(port, &mut unit, MANY, restored) && has_limits(unit.manager(), 10, 50)
@@ -183,7 +183,7 @@ fn serves(alloc: Global, port: &mut StoredPort, table: &Table<'_>) -> bool {
             port,
             &mut unit,
             MANY,
-            StorageStanding::Served(Served::Fetched),
+            StorageStanding::Served(Agreement::Fetched),
         ),
         None => false,
     }

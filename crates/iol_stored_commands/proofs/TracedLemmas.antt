@@ -4,8 +4,8 @@
 --     `StoredTracer::follow_turns` and 2 more.
 use Rattle.std.proofs.Common.{◌≡◌, ℕ, ◌+◌, false, List, [], ◌∷◌, ◌++◌, Result, refl, sym, subst, append-nil, append_assoc}
 use Rattle.std.proofs.KnownBytes.{Appends-nil}
-use Rattle.iol_app.specs.declared.asked.Asked.{Asked}
-use Rattle.iol_app.specs.declared.asked.Asked.TheVariants.{Wake, Exchange}
+use Rattle.iol_app.specs.declared.transmission.Transmission.{Transmission}
+use Rattle.iol_app.specs.declared.transmission.Transmission.TheVariants.{Wake, Exchange}
 use Rattle.iol_link.specs.WireFacts.{WireFacts}
 use Rattle.iol_mseq.specs.Shape.{Shape}
 use Rattle.iol_port.specs.declared.call.Answered.{Answered}
@@ -26,7 +26,7 @@ use Rattle.iol_stored_commands.specs.Wired.{CallMakes, StorageMakes, StoredOver,
 
 module _ {W : Type 0} (facts : WireFacts W) where
   -- the call of the wire that a turn makes is what is noted of it
-  noted : (sent : Asked) (mid next : StoredOver (TappedWire W)) (n m : ℕ) (layout : Shape)
+  noted : (sent : Transmission) (mid next : StoredOver (TappedWire W)) (n m : ℕ) (layout : Shape)
       (text : List ℕ) → TakesAnswer (tap_facts facts) sent mid next
       → PrintsNoteOf call.Turn n layout next.wire.last m text
       → (note : TapNote) × IsNoteOf facts note mid.wire.wire next.wire.wire

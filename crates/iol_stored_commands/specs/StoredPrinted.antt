@@ -13,8 +13,8 @@ use Rattle.iol_storage.specs.declared.download.DownloadResult.TheVariants.{Appli
 use Rattle.iol_storage.specs.declared.download.Refusal.{Refusal}
 use Rattle.iol_storage.specs.declared.stored.fault.StoredFault.{StoredFault}
 use Rattle.iol_storage.specs.declared.stored.fault.StoredFault.TheVariants as fault
-use Rattle.iol_storage.specs.declared.stored.standing.Served.{Served}
-use Rattle.iol_storage.specs.declared.stored.standing.Served.TheVariants as served
+use Rattle.iol_storage.specs.declared.stored.standing.Agreement.{Agreement}
+use Rattle.iol_storage.specs.declared.stored.standing.Agreement.TheVariants as served
 use Rattle.iol_storage.specs.declared.stored.standing.StorageStanding.{StorageStanding}
 use Rattle.iol_storage.specs.declared.stored.standing.StorageStanding.TheVariants as standing
 use Rattle.iol_storage.specs.declared.stored.standing.Trouble.{Trouble}
@@ -64,7 +64,7 @@ block_end_text NoIsdu = codes " noisdu"
 
 -- The standing
 
-abbrev pub served_name : Served → List ℕ
+abbrev pub served_name : Agreement → List ℕ
 served_name served.Off = codes " off"
 served_name served.Unsupported = codes " unsupported"
 served_name served.Empty = codes " empty"

@@ -12,8 +12,8 @@ use Rattle.iol_book.specs.declared.fault.BookFault.TheVariants.{OutOfMemory}
 use Rattle.iol_book.specs.declared.limits.Limits.{Limits}
 use Rattle.iol_link.specs.WireFacts.{WireFacts}
 use Rattle.iol_link.specs.declared.wire.Rate.{Rate}
-use Rattle.iol_app.specs.declared.asked.Asked.{Asked}
-use Rattle.iol_app.specs.declared.asked.Asked.TheVariants.{Wake, Exchange}
+use Rattle.iol_app.specs.declared.transmission.Transmission.{Transmission}
+use Rattle.iol_app.specs.declared.transmission.Transmission.TheVariants.{Wake, Exchange}
 use Rattle.iol_port.specs.declared.awaited.AwaitedAnswer.{AwaitedAnswer}
 use Rattle.iol_port.specs.declared.awaited.AwaitedAnswer.TheVariants as awaited
 use Rattle.iol_port.specs.declared.call.Answered.{Answered}
@@ -60,7 +60,7 @@ pub record IsNewStored (mode : StorageMode) (devices : Devices) (limits : Limits
 
 module _ {W : Type 0} (facts : WireFacts W) where
   -- what goes out goes over the wire, and the port is told what came back
-  abbrev pub TakesAnswer : Asked → StoredOver W → StoredOver W → Type 0
+  abbrev pub TakesAnswer : Transmission → StoredOver W → StoredOver W → Type 0
   TakesAnswer Wake mid next = (rate : Option Rate) × facts.wake_gives mid.wire rate next.wire
       × WakeDoes mid.port.port (is_some rate) next.port.port
       × WakeGives mid.port.port (is_some rate) next.port.port
@@ -72,7 +72,7 @@ module _ {W : Type 0} (facts : WireFacts W) where
       × (next.port ≡ record mid.port { port = next.port.port })
 
   pub record StoredTurns (old new : StoredOver W) : Type 0 where
-    pub sent : Asked
+    pub sent : Transmission
     pub mid : StoredParts
     pub sends : StoredSends old.port sent mid
     pub takes : TakesAnswer sent (record old { port = mid }) new

@@ -9,7 +9,7 @@ use iol_commands::{cause_name, port_fault_name, print_answer, print_place};
 use iol_port::{Answered, Call};
 use iol_print::print_octets;
 use iol_storage::{
-    BlockTicket, DownloadResult, Refusal, Served, SetImage, SetNumber, StorageStanding,
+    Agreement, BlockTicket, DownloadResult, Refusal, SetImage, SetNumber, StorageStanding,
     StoredFault, Trouble,
 };
 use std::alloc::{AllocError, Allocator};
@@ -80,16 +80,16 @@ fn print_block<A: Allocator>(output: &mut String<A>, block: BlockTicket) -> Resu
     write!(output, "block {number}")
 }
 
-fn served_name(served: Served) -> &'static str
+fn served_name(served: Agreement) -> &'static str
     ensures { result.now ≡ served_name served }
 {
     match served {
-        Served::Off => " off",
-        Served::Unsupported => " unsupported",
-        Served::Empty => " empty",
-        Served::Same => " same",
-        Served::Restored => " restored",
-        Served::Fetched => " fetched",
+        Agreement::Off => " off",
+        Agreement::Unsupported => " unsupported",
+        Agreement::Empty => " empty",
+        Agreement::Same => " same",
+        Agreement::Restored => " restored",
+        Agreement::Fetched => " fetched",
     }
 }
 

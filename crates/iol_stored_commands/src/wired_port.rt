@@ -8,13 +8,13 @@ ghost use Rattle.iol_stored_commands.specs.Wired.{CallMakes, IsNewStored, Storag
 ghost use Rattle.iol_stored_script.specs.declared.storage_line.StorageCall.TheVariants as storage;
 
 use crate::storage_answer::StorageAnswer;
-use iol_app::Asked;
+use iol_app::Transmission;
 use iol_book::{BookFault, Limits, Ticket};
 use iol_image::Image;
 use iol_isdu::Request;
 use iol_link::Wire;
 use iol_mode::Devices;
-use iol_port::{Answered, AwaitedAnswer, Call, Drained, PortFault};
+use iol_port::{Answered, AwaitedAnswer, Call, DrainCounts, PortFault};
 use iol_storage::{
     BlockTicket, Keep, Objects, Set, SetImage, StorageMode, StoredFault, StoredPort,
 };
@@ -78,11 +78,11 @@ impl<W: Wire, A: Allocator + Copy> WiredPort<W, A> {
         ensures { StoredTurns W.facts self.old self.new }
     {
         match self.port.send() {
-            Asked::Wake => {
+            Transmission::Wake => {
                 let rate = self.wire.wake();
                 self.port.receive_wake(rate);
             }
-            Asked::Exchange(sent) => {
+            Transmission::Exchange(sent) => {
                 let received = self.wire.exchange(sent.octets.as_slice());
                 self.port.receive(&received);
             }
@@ -227,7 +227,7 @@ impl<W: Wire, A: Allocator + Copy> WiredPort<W, A> {
     {
         let restated = self.port.port().restated();
         let entries = self.port.drain()?;
-        Ok(Answered::Drained(Drained {
+        Ok(Answered::Drained(DrainCounts {
             entries: entries.len() as u32,
             restated: restated as u32,
         }))

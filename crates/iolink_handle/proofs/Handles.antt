@@ -3,6 +3,9 @@
 -- names alone, so what makes one of a `Loose`, and takes the `Loose` out again, is proved here,
 -- once.
 -- Assumes `Logic`.
+-- For the clauses of `iolink_device_c::DevicePointer::of_loose`,
+--     `iolink_device_c::DevicePointer::take`, `iolink_params_c::ParamsPointer::of_loose` and 5
+--     more.
 pub mod Steps
 use Steps.*
 use Rattle.iolink_handle.specs.contracts.loose.Loose as loose

@@ -1,4 +1,5 @@
 -- What a request leaves as it was saved.
+-- For the clauses of `ParamSensor::work`.
 use Rattle.std.proofs.Common.{◌≡◌, ◌∙◌, ◌==◌, ◌&&◌, ◌||◌, ℕ, List, [], ◌∷◌, Bool, true, false, Option, Some, None, refl, sym, ap}
 use Rattle.std.specs.Prelude.{not, nat_le, nat_lt, if◌then◌else◌}
 use Rattle.iol_isdu.specs.declared.values.Place.{Place}

@@ -1,4 +1,5 @@
 -- Which numbers tell of a table's flaw.
+-- For the clauses of `open::iol_params_open` and `open::sensor_with`.
 use Rattle.std.proofs.Common.{◌≡◌, true, false, refl}
 use Rattle.iol_page.specs.declared.fault.PageFault.{PageFault}
 use Rattle.iol_page.specs.declared.fault.PageFault.TheVariants.{Revision, BadPdLength, UnsupportedCode}

@@ -1,4 +1,5 @@
 -- The handle of C, as what the lemmas on such structs take.
+-- For the clauses of `PortPointer::of_loose` and `PortPointer::take`.
 pub use Rattle.iolink_handle.proofs.Handles.{of_loose, take}
 use Rattle.iolink_handle.proofs.Handles.{Handle}
 use Rattle.std.proofs.Common.{refl}

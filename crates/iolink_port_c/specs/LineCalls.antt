@@ -1,8 +1,8 @@
 -- What the calls of C on the line answer and leave, where the handle is open.
 use Rattle.std.specs.Prelude.{◌≡◌, ℕ, List, Option, Some, None, IsTrue, is_some}
 use Rattle.iol_link.specs.declared.wire.Rate.{Rate}
-use Rattle.iol_app.specs.declared.asked.Asked.{Asked}
-use Rattle.iol_app.specs.declared.asked.Asked.TheVariants.{Wake, Exchange}
+use Rattle.iol_app.specs.declared.transmission.Transmission.{Transmission}
+use Rattle.iol_app.specs.declared.transmission.Transmission.TheVariants.{Wake, Exchange}
 use Rattle.iol_app.specs.Pieces.{IsAskedOut}
 use Rattle.iol_port.specs.Asks.{asks_of}
 use Rattle.iol_port.specs.CorePort.{PortSendGives, SendDoes, PortReceiveGives, ReceiveDoes, WakeGives, WakeDoes}
@@ -26,7 +26,7 @@ pub record HandleSends (old : IolPort) (number : ℕ) (out : IolMessage) (new : 
     pub does : SendDoes (held_parts old) (held_parts new)
 
 -- what was asked for is noted as a message in the layout of the mode, with what came back
-abbrev pub NotesExchange : Asked → Option (List ℕ) → Option LineCall → Type 0
+abbrev pub NotesExchange : Transmission → Option (List ℕ) → Option LineCall → Type 0
 NotesExchange (Exchange sent) received (Some (call.Exchange layout octets answer)) =
     (layout ≡ sent.layout) × (octets.items ≡ sent.octets.items) × (octets_in answer ≡ received)
 NotesExchange Wake received noted = noted ≡ None

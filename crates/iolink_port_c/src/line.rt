@@ -11,7 +11,7 @@ ghost use Rattle.iolink_port_forms.specs.Arguments.{answer_of};
 ghost use Rattle.iolink_port_c.specs.LineCalls.{HandleSends, HandleReceives, HandleWakes, NotesExchange};
 
 use crate::held::IolPort;
-use iol_app::Asked;
+use iol_app::Transmission;
 use iol_mseq::Message;
 use iol_octets::checksum6;
 use iol_port::{AwaitedAnswer, PortCore};
@@ -119,10 +119,10 @@ fn exchange_noted(port: &mut PortCore<Global>, received: &Option<Message>) -> Op
     ensures noted { NotesExchange (asks_of port.old) (octets_in received.now) result }
 {
     match port.send() {
-        Asked::Exchange(sent) => {
+        Transmission::Exchange(sent) => {
             Some(LineCall::Exchange(sent.layout, sent.octets, copy_of(received)))
         }
-        Asked::Wake => None,
+        Transmission::Wake => None,
     }
 }
 

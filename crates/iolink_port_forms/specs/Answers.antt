@@ -3,8 +3,8 @@ use Rattle.std.specs.Prelude.{◌≡◌, ℕ, Result, Ok, Err}
 use Rattle.iol_octets.specs.CheckOctets.{type_bits}
 use Rattle.iol_mseq.specs.Shape.{Shape}
 use Rattle.iol_book.specs.declared.entries.Ticket.{Ticket}
-use Rattle.iol_app.specs.declared.asked.Asked.{Asked}
-use Rattle.iol_app.specs.declared.asked.Asked.TheVariants.{Wake, Exchange}
+use Rattle.iol_app.specs.declared.transmission.Transmission.{Transmission}
+use Rattle.iol_app.specs.declared.transmission.Transmission.TheVariants.{Wake, Exchange}
 use Rattle.iol_port.specs.declared.call.Counting.{Counting}
 use Rattle.iol_port.specs.declared.call.Counting.TheVariants.{Now, Later}
 use Rattle.iol_port.specs.declared.fault.PortFault.{PortFault}
@@ -34,7 +34,7 @@ IsLaidOut layout out = (out.kind ≡ type_bits layout.kind) × (out.od ≡ layou
 
 -- what goes out as C is shown it: a message's octets, its layout and how many octets a good
 -- reply has, or no length for a wake
-abbrev pub IsMessage : Asked → IolMessage → Type 0
+abbrev pub IsMessage : Transmission → IolMessage → Type 0
 IsMessage Wake out = out.length ≡ 0
 IsMessage (Exchange sent) out = AreShown sent.octets.items out.length out.octets
     × (out.reply ≡ sent.reply) × IsLaidOut sent.layout out

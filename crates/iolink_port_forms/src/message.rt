@@ -2,7 +2,7 @@
 ghost use Rattle.std.specs.Prelude.{◌≡◌};
 ghost use Rattle.iolink_port_forms.specs.Answers.{IsMessage};
 
-use iol_app::Asked;
+use iol_app::Transmission;
 use iolink_handle::put;
 
 /// What goes out: `length` octets, or a wake-up request where that is 0, which leaves the rest.
@@ -20,12 +20,12 @@ pub struct IolMessage {
 }
 
 /// Shows C what goes out.
-pub fn show_message(asked: Asked, out: &mut IolMessage)
+pub fn show_message(asked: Transmission, out: &mut IolMessage)
     ensures { IsMessage asked out.new }
 {
     match asked {
-        Asked::Wake => out.length = 0,
-        Asked::Exchange(sent) => {
+        Transmission::Wake => out.length = 0,
+        Transmission::Exchange(sent) => {
             out.length = sent.octets.len() as u8;
             put(sent.octets.as_slice(), &mut out.octets);
             out.reply = sent.reply;

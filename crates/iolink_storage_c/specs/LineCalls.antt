@@ -1,6 +1,6 @@
 -- What the calls of C on the line answer and leave, where the handle is open.
 use Rattle.std.specs.Prelude.{◌≡◌, ℕ, Bool, List, Option}
-use Rattle.iol_app.specs.declared.asked.Asked.{Asked}
+use Rattle.iol_app.specs.declared.transmission.Transmission.{Transmission}
 use Rattle.iol_port.specs.CorePort.{awaited_answer, PortReceiveGives, ReceiveDoes, WakeGives, WakeDoes}
 use Rattle.iol_storage.specs.StoredPort.{StoredParts, StoredSends, answer_to}
 use Rattle.iolink_port_forms.specs.Answers.{IsMessage}
@@ -9,7 +9,7 @@ use Rattle.iolink_port_forms.specs.declared.message.IolMessage.{IolMessage}
 -- what the port sends goes out, and is what it then waits to have answered
 pub record StoreSends (old : StoredParts) (number : ℕ) (out : IolMessage) (new : StoredParts) :
     Type 0 where
-  pub asked : Asked
+  pub asked : Transmission
   pub number_is : number ≡ 0
   pub shown : IsMessage asked out
   pub sends : StoredSends old asked new

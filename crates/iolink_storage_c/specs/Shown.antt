@@ -3,8 +3,8 @@ use Rattle.std.specs.Prelude.{◌≡◌, ℕ, Option, Some, None}
 use Rattle.iol_storage.specs.declared.download.Refusal.{Refusal}
 use Rattle.iol_storage.specs.declared.download.DownloadResult.{DownloadResult}
 use Rattle.iol_storage.specs.declared.download.DownloadResult.TheVariants as ended
-use Rattle.iol_storage.specs.declared.stored.standing.Served.{Served}
-use Rattle.iol_storage.specs.declared.stored.standing.Served.TheVariants as served
+use Rattle.iol_storage.specs.declared.stored.standing.Agreement.{Agreement}
+use Rattle.iol_storage.specs.declared.stored.standing.Agreement.TheVariants as served
 use Rattle.iol_storage.specs.declared.stored.standing.Trouble.{Trouble}
 use Rattle.iol_storage.specs.declared.stored.standing.Trouble.TheVariants as trouble
 use Rattle.iol_storage.specs.declared.stored.standing.StorageStanding.{StorageStanding}
@@ -29,7 +29,7 @@ refusal_shown (Some refusal) = record {
 }
 
 -- how a device is served
-abbrev pub served_number : Served → ℕ
+abbrev pub served_number : Agreement → ℕ
 served_number served.Off = 1
 served_number served.Unsupported = 2
 served_number served.Empty = 3

@@ -3,7 +3,7 @@ ghost use Rattle.std.specs.Prelude.{◌≡◌};
 ghost use Rattle.std.specs.Option.{option_copied};
 ghost use Rattle.iolink_storage_c.specs.Shown.{SetIsShown, refusal_shown, standing_shown, block_shown, served_number, trouble_number};
 
-use iol_storage::{DownloadResult, Refusal, Served, Set, SetImage, StorageStanding, Trouble};
+use iol_storage::{Agreement, DownloadResult, Refusal, Set, SetImage, StorageStanding, Trouble};
 use iolink_handle::put;
 use iolink_port_forms::cause_number;
 
@@ -94,16 +94,16 @@ pub(crate) fn standing_of(standing: StorageStanding) -> IolStanding
     }
 }
 
-fn served_number(how: Served) -> u8
+fn served_number(how: Agreement) -> u8
     ensures { result ≡ served_number how }
 {
     match how {
-        Served::Off => 1,
-        Served::Unsupported => 2,
-        Served::Empty => 3,
-        Served::Same => 4,
-        Served::Restored => 5,
-        Served::Fetched => 6,
+        Agreement::Off => 1,
+        Agreement::Unsupported => 2,
+        Agreement::Empty => 3,
+        Agreement::Same => 4,
+        Agreement::Restored => 5,
+        Agreement::Fetched => 6,
     }
 }
 

@@ -1,4 +1,5 @@
 -- `Tally::refuses` at a call: what it is handed, and what a caller has of it. Assumes `Logic`.
+-- For the clauses of `RefusingAllocAllocator::allocate`.
 use Rattle.std.proofs.Common.{◌≡◌, ℕ, List, [], ◌∷◌, refl, ap}
 use mathlib.Core.Bool.{Bool}
 use seplogic.Ra.Ura.{Ura}

@@ -81,14 +81,14 @@ is_for_book Reset = true
 is_for_book step = false
 
 -- what a turn says tells of its steps
-abbrev pub book_said : Said → List PortStep
-book_said (Answered answer) = Done answer ∷ []
-book_said (Cut cause) = Unknown cause ∷ []
-book_said report = []
+abbrev pub steps_for_book : Said → List PortStep
+steps_for_book (Answered answer) = Done answer ∷ []
+steps_for_book (Cut cause) = Unknown cause ∷ []
+steps_for_book report = []
 
-abbrev pub reports_said : Said → List PortStep
-reports_said (Reported events) = Report events ∷ []
-reports_said report = []
+abbrev pub steps_for_queue : Said → List PortStep
+steps_for_queue (Reported events) = Report events ∷ []
+steps_for_queue report = []
 
 -- the device wasn't known to be reset when a turn began, and is behind it
 abbrev pub resets : Bool → Bool → List PortStep

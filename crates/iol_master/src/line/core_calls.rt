@@ -9,7 +9,7 @@ ghost use Rattle.iol_port.specs.Called.{Expects, SetsCycle, TakesEvent, Archives
 ghost use Rattle.iol_master.specs.Line.{LineCalled};
 
 use crate::line::{LineCore, LinePort};
-use iol_app::Asked;
+use iol_app::Transmission;
 use iol_book::{Journal, Outcome, Ticket};
 use iol_event::Event;
 use iol_image::Image;
@@ -30,7 +30,7 @@ impl<A: Allocator + Copy> LineCore for PortCore<A> {
         self.awaits()
     }
 
-    fn send(&mut self) -> Asked {
+    fn send(&mut self) -> Transmission {
         self.send()
     }
 

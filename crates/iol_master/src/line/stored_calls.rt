@@ -11,7 +11,7 @@ ghost use Rattle.iol_storage.specs.StoredPort.{StoredCalled, StoredForwards, cli
 ghost use Rattle.iol_storage.specs.StoredPort.{tickets_behind_submit, tickets_without};
 
 use crate::line::{LineCore, LinePort};
-use iol_app::Asked;
+use iol_app::Transmission;
 use iol_book::{Journal, Outcome, Ticket};
 use iol_event::Event;
 use iol_image::Image;
@@ -35,7 +35,7 @@ impl<A: Allocator + Copy> LineCore for StoredPort<A> {
         self.awaits()
     }
 
-    fn send(&mut self) -> Asked {
+    fn send(&mut self) -> Transmission {
         self.send()
     }
 

@@ -21,7 +21,7 @@ use crate::set::Set;
 use crate::stored::fault::StoredFault;
 use crate::stored::standing::StorageStanding;
 use crate::stored::storage::{BlockTicket, SetNumber, Storage, is_no_set};
-use iol_app::{Asked, Mode};
+use iol_app::{Mode, Transmission};
 use iol_book::{BookFault, Journal, Limits, Outcome, Ticket};
 use iol_event::Event;
 use iol_image::Image;
@@ -144,7 +144,7 @@ impl<A: Allocator + Copy> StoredPort<A> {
     /// What goes out, as [`PortCore::send`]. Before it, where nothing is out, the step of a job.
     /// Until it is answered it is given again, and nothing changes.
     #[tactic(auto, using(crate::proofs::StoredAwaits::awaits_out))]
-    pub fn send(&mut self) -> Asked
+    pub fn send(&mut self) -> Transmission
         ensures is { StoredSends self.old result self.new }
         ensures awaits { awaited_answer self.new.port ≡ answer_to result }
     {

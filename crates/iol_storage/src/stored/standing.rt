@@ -4,9 +4,9 @@ ghost use Rattle.iol_storage.specs.Stored.{is_served_standing, standing_behind, 
 
 use crate::download::Refusal;
 
-/// The device is served: how its parameters and the kept set agree.
+/// How the parameters of a device that is served and the kept set agree.
 #[derive(Clone, Copy, Debug, PartialEq, Eq)]
-pub enum Served {
+pub enum Agreement {
     /// Data Storage is off.
     Off,
     /// The device has none, and no set is kept.
@@ -46,7 +46,7 @@ pub enum StorageStanding {
     /// Nothing yet. Clients' requests wait.
     Awaited,
     /// The device is served.
-    Served(Served),
+    Served(Agreement),
     /// It isn't: no image is handed out, and no output is wanted.
     Trouble(Trouble),
     /// It is served in spite of this.

@@ -13,7 +13,7 @@ use crate::download::{
 use crate::objects::Objects;
 use crate::set::{SerialNumber, Set};
 use crate::stored::fault::StoredFault;
-use crate::stored::standing::{Served, StorageStanding, Trouble};
+use crate::stored::standing::{Agreement, StorageStanding, Trouble};
 use crate::upload::UploadStage;
 use iol_book::{Outcome, Serve, Ticket};
 use iol_event::Event;
@@ -303,10 +303,10 @@ impl Storage {
             AttemptResult::TooLarge => StorageStanding::Trouble(Trouble::TooLarge),
             AttemptResult::BadList => StorageStanding::Trouble(Trouble::BadList),
             AttemptResult::Refused(refusal) => StorageStanding::Trouble(Trouble::Refused(refusal)),
-            AttemptResult::Empty => StorageStanding::Served(Served::Empty),
-            AttemptResult::Same => StorageStanding::Served(Served::Same),
-            AttemptResult::Restored => StorageStanding::Served(Served::Restored),
-            AttemptResult::Fetched => StorageStanding::Served(Served::Fetched),
+            AttemptResult::Empty => StorageStanding::Served(Agreement::Empty),
+            AttemptResult::Same => StorageStanding::Served(Agreement::Same),
+            AttemptResult::Restored => StorageStanding::Served(Agreement::Restored),
+            AttemptResult::Fetched => StorageStanding::Served(Agreement::Fetched),
             AttemptResult::Transient
                 if self.standing == StorageStanding::Awaited && self.retry.tries >= 2 => {
                 StorageStanding::Trouble(Trouble::Attempts)
@@ -321,7 +321,7 @@ impl Storage {
     {
         match self.backup {
             Some(_) => StorageStanding::Trouble(Trouble::NoStorage),
-            None => StorageStanding::Served(Served::Unsupported),
+            None => StorageStanding::Served(Agreement::Unsupported),
         }
     }
 
@@ -411,7 +411,7 @@ impl Storage {
             page.now }
     {
         if let StorageMode::Off = self.mode {
-            return Some(StorageStanding::Served(Served::Off));
+            return Some(StorageStanding::Served(Agreement::Off));
         }
         if !has_storage(page) {
             return Some(self.without_storage());

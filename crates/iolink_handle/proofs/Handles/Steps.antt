@@ -1,5 +1,6 @@
 -- What the walks of this crate cite; and of a struct of one pointer its machine value and what its
 -- field owns, which is had for nothing. Assumes `Logic`.
+-- For the clauses of `Loose::into_box` and `Loose::of`.
 pub use Rattle.std.proofs.Common.{◌≡◌, List, [], ◌∷◌, ◌++◌, refl, sym, ap, ◌∙◌, subst, Bool, true, false}
 pub use lib.Dec.{T, lit<}
 pub use seplogic.Ra.Ura.{Ura}

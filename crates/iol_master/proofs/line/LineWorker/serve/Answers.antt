@@ -1,6 +1,6 @@
 -- What the search can't prove of the body of `LineWorker::serve`.
 use Rattle.std.proofs.Common.{◌≡◌, ◌+◌, ◌<◌, ◌≤◌, inl, inr, ℕ, List, [], ◌∷◌, length, refl, add-one, arith}
-use Rattle.iol_app.specs.declared.asked.Asked.{Asked}
+use Rattle.iol_app.specs.declared.transmission.Transmission.{Transmission}
 use Rattle.iol_master.proofs.Lets.{one_more as one_turn_more}
 use Rattle.iol_master.proofs.line.LineWorker.serve.Goals as goal
 
@@ -10,7 +10,7 @@ none_yet more = omega arith
 not_below : (turn : ℕ) → turn < 0 → ⊥
 not_below turn below = omega arith
 
-one_more : (calls turn : ℕ) (asked : Asked) (more : List Asked)
+one_more : (calls turn : ℕ) (asked : Transmission) (more : List Transmission)
     → calls ≡ length (asked ∷ more) + turn → calls ≡ length more + (turn + 1)
 one_more calls turn asked more e = omega arith
 

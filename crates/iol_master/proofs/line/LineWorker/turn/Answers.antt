@@ -1,6 +1,6 @@
 -- The clauses of `LineWorker::turn` that the search can't prove.
 use Rattle.std.proofs.Common.{sym, ◌∙◌}
-use Rattle.iol_app.specs.declared.asked.Asked.TheVariants as asked
+use Rattle.iol_app.specs.declared.transmission.Transmission.TheVariants as asked
 use Rattle.iol_master.proofs.line.LineWorker.turn.Goals as goal
 use Rattle.iol_master.proofs.line.LineWorker.turn.Goals.{in-Wake, in-Exchange}
 

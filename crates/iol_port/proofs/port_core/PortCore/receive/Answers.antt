@@ -5,7 +5,7 @@ use Rattle.iol_app.specs.Core.{CoreState}
 use Rattle.iol_app.specs.CoreTurns.{received_mode}
 use Rattle.iol_mode.specs.States.{is_reset}
 use Rattle.iol_app.specs.Abstract.Steps.{through_steps}
-use Rattle.iol_app.specs.Abstract.OfMaster.{resets, book_said}
+use Rattle.iol_app.specs.Abstract.OfMaster.{resets, steps_for_book}
 use Rattle.iol_port.specs.View.{PortParts}
 use Rattle.iol_port.specs.CorePort.{awaited_answer}
 use Rattle.iol_port.proofs.CorePorts.{parts_in, reply_out, receive_does, heard_reset}
@@ -32,7 +32,7 @@ invariant_of-self g c =
 book_is : (g : given.Over) (c : goal.After-settle g) → c.settle.new.book.state
     ≡ through_steps book_after
     (resets (is_reset c.self.inside.core.state) (is_reset c.receive-wire_result.new.self.state)
-    ++ book_said c.receive-wire_result.new.report) c.self.inside.book.state
+    ++ steps_for_book c.receive-wire_result.new.report) c.self.inside.book.state
 book_is g c = heard_reset _ _ _ _ c.is_reset-began.ensures c.is_reset.ensures
     c.resets-reset.ensures c.settle.ensures.book
 

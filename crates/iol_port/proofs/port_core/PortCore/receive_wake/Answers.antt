@@ -3,7 +3,7 @@ use Rattle.std.proofs.Common.{◌≡◌, ◌∙◌, ◌++◌, refl, ap, append-n
 use Rattle.std.specs.Prelude.{is_some}
 use Rattle.iol_mode.specs.States.{is_reset}
 use Rattle.iol_app.specs.Abstract.Steps.{through_steps}
-use Rattle.iol_app.specs.Abstract.OfMaster.{resets, book_said}
+use Rattle.iol_app.specs.Abstract.OfMaster.{resets, steps_for_book}
 use Rattle.iol_app.specs.declared.report.Said.TheVariants.{Idle}
 use Rattle.iol_app.specs.Core.{CoreState}
 use Rattle.iol_port.specs.View.{PortParts}
@@ -27,7 +27,7 @@ invariant_of-self g c =
 book_is : (g : given.Over) (c : goal.After-settle g) → c.settle.new.book.state
     ≡ through_steps book_after
     (resets (is_reset c.self.inside.core.state) (is_reset c.receive_wake.new.self.state)
-    ++ book_said Idle) c.self.inside.book.state
+    ++ steps_for_book Idle) c.self.inside.book.state
 book_is g c = heard_reset _ _ Idle c.self.inside.book.state c.is_reset-began.ensures
     c.is_reset.ensures
     c.resets-reset.ensures c.settle.ensures.book

@@ -2,7 +2,7 @@
 use Rattle.std.proofs.Common.{◌≡◌, ◌&&◌, Option, true, false, refl, ap, sym, ◌∙◌, cond, ◌∷◌, [], ◌++◌, arith}
 use Rattle.std.proofs.lemmas.Grind.{common_steps}
 use Rattle.iol_app.specs.Abstract.Steps.{Reset}
-use Rattle.iol_app.specs.Abstract.OfMaster.{book_said}
+use Rattle.iol_app.specs.Abstract.OfMaster.{steps_for_book}
 use Rattle.iol_app.specs.Due.{is_ready}
 use Rattle.iol_app.specs.StationState.{operates}
 use Rattle.iol_app.specs.Core.{CoreState}
@@ -99,7 +99,8 @@ returns-clause-does g c =
           c.turn-wire_result.ensures.turn c.turn-wire_result.ensures.honest
           (record { posts = cc; keeps = c.settle.ensures.queued });
       book = turn_gives_none _ _ _ _ _
-          (cond c.resets-reset.result (Reset ∷ []) [] ++ book_said c.turn-wire_result.new.report)
+          (cond c.resets-reset.result (Reset ∷ []) []
+          ++ steps_for_book c.turn-wire_result.new.report)
           c.begin_next.ensures.next c.settle.ensures.book;
     })
 
