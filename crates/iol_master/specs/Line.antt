@@ -10,11 +10,11 @@ use Rattle.iol_port.specs.declared.awaited.AwaitedAnswer.{AwaitedAnswer}
 use Rattle.iol_port.specs.declared.awaited.AwaitedAnswer.TheVariants.{Nothing, Wake, Reply}
 use Rattle.iol_port.specs.declared.call.Call.{Call}
 use Rattle.iol_port.specs.declared.call.Answered.{Answered}
-use Rattle.iol_port.specs.Called.{CoreCalled, Restarts}
+use Rattle.iol_port.specs.Called.{CallAt, CoreCalled, core_call, Restarts}
 use Rattle.iol_port.specs.View.{PortParts}
 use Rattle.iol_port.specs.WireCalls.{AreCalls}
 use Rattle.iol_port.specs.CorePort.{awaited_answer, PortReceiveGives, ReceiveDoes, WakeGives, WakeDoes}
-use Rattle.iol_storage.specs.StoredPort.{StoredParts, PortSends, StoredSends, StoredForwards}
+use Rattle.iol_storage.specs.StoredPort.{StoredParts, PortSends, StoredSends, stored_forward}
 use Rattle.iol_master.specs.Served.{GateFacts, IsLet}
 
 -- What a line needs of the port under its lock: what it waits for, and what each call gives that
@@ -40,7 +40,7 @@ pub record CoreWakes (p : PortParts) (answered : Bool) (next : PortParts) : Type
   pub does : WakeDoes p answered next
 
 abbrev pub CoreRestarts : PortParts → PortParts → Type 0
-CoreRestarts p next = Restarts (CoreCalled p next) p next
+CoreRestarts p next = Restarts (core_call p next)
 
 abbrev pub core_facts : LineFacts PortParts
 core_facts = record {
@@ -65,7 +65,7 @@ pub record StoredWakes (p : StoredParts) (answered : Bool) (next : StoredParts) 
   pub rest : next ≡ record p { port = next.port }
 
 abbrev pub StoredRestarts : StoredParts → StoredParts → Type 0
-StoredRestarts p next = Restarts (StoredForwards p next) p.port next.port
+StoredRestarts p next = Restarts (stored_forward p next)
 
 abbrev pub stored_facts : LineFacts StoredParts
 stored_facts = record {
@@ -90,6 +90,9 @@ pub record LineCalled (old new : LineState PortParts) (c : Call) (reply : Answer
     (effect : Type 0) : Type 0 where
   pub call : CoreCalled old.port new.port c reply effect
   pub rest : new ≡ record old { port = new.port }
+
+abbrev pub core_line_call : LineState PortParts → LineState PortParts → CallAt
+core_line_call old new = record { old = old.port; new = new.port; Says = LineCalled old new }
 
 module _ {P : Type 0} (line : LineFacts P) where
   open line use {awaits, sends, receives, wakes, restarts}

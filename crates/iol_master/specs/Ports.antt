@@ -8,7 +8,7 @@ use Rattle.iol_book.specs.BookModel.{is_outstanding}
 use Rattle.iol_book.specs.declared.fault.BookFault.TheVariants.{Full, JournalFull, TicketsSpent, OutOfMemory as NoMemory}
 use Rattle.iol_port.specs.declared.fault.PortFault.{PortFault}
 use Rattle.iol_port.specs.declared.fault.PortFault.TheVariants.{Book}
-use Rattle.iol_port.specs.Called.{Abandons, Turns, PublishesAfter, MakesCall}
+use Rattle.iol_port.specs.Called.{Abandons, Turns, PublishesAfter, port_call}
 use Rattle.iol_port.specs.View.{PortValue}
 use Rattle.iol_master.specs.declared.ports.DeskUrgency.{DeskUrgency}
 use Rattle.iol_master.specs.declared.fault.MasterFault.{MasterFault}
@@ -56,7 +56,7 @@ WireRefuses other = ⊥
 
 -- the port's own abandon, which is not refused, as the ticket is outstanding
 abbrev pub AbandonsOne : {W : Type 0} → PortValue W → Ticket → PortValue W → Type 0
-AbandonsOne p ticket next = Abandons (MakesCall p next) p.parts next.parts ticket (Ok tt)
+AbandonsOne p ticket next = Abandons (port_call p next) ticket (Ok tt)
 
 abbrev pub port_facts : {W : Type 0} → WireFacts W → PortFacts (PortValue W)
 port_facts facts = record {

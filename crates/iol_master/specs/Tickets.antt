@@ -5,7 +5,7 @@ use Rattle.iol_book.specs.declared.entries.Ticket.{Ticket}
 use Rattle.iol_book.specs.declared.fault.BookFault.TheVariants.{OutOfMemory as NoMemory}
 use Rattle.iol_port.specs.declared.fault.PortFault.{PortFault}
 use Rattle.iol_port.specs.declared.fault.PortFault.TheVariants.{Book}
-use Rattle.iol_port.specs.Called.{Submits, SubmitsUrgent, MakesCall}
+use Rattle.iol_port.specs.Called.{Submits, SubmitsUrgent, port_call}
 use Rattle.iol_port.specs.View.{PortValue}
 use Rattle.iol_master.specs.declared.ports.DeskUrgency.{DeskUrgency}
 use Rattle.iol_master.specs.declared.ports.DeskUrgency.TheVariants.{Ordinary, Urgent}
@@ -18,9 +18,9 @@ HasIssued p count = p.parts.book.state.last ≡ p.opening.limits.given + count
 abbrev pub SubmitsBy : {W : Type 0} → DeskUrgency → PortValue W → Request → Result Ticket PortFault
     → PortValue W → Type 0
 SubmitsBy Ordinary p request answer p' =
-    Submits (MakesCall p p') p.parts p'.parts request answer
+    Submits (port_call p p') request answer
 SubmitsBy Urgent p request answer p' =
-    SubmitsUrgent (MakesCall p p') p.parts p'.parts request answer
+    SubmitsUrgent (port_call p p') request answer
 
 -- memory is lacking only where the book had no room left
 abbrev pub SubmitsAs : {W : Type 0} → PortValue W → DeskUrgency → Request → Result Ticket PortFault

@@ -15,7 +15,7 @@ use Rattle.iol_port.specs.CorePort.{awaited_answer}
 use Rattle.iol_storage.specs.declared.stored.fault.StoredFault.{StoredFault}
 use Rattle.iol_storage.specs.declared.stored.fault.StoredFault.TheVariants as stored_fault
 use Rattle.iol_storage.specs.Stored.{is_own}
-use Rattle.iol_storage.specs.StoredPort.{StoredParts, StoredCalled, client_refusal, PortAnswers, tickets_behind_submit}
+use Rattle.iol_storage.specs.StoredPort.{StoredParts, stored_call, client_refusal, PortAnswers, tickets_behind_submit}
 use Rattle.iol_master.specs.declared.ports.DeskUrgency.{DeskUrgency}
 use Rattle.iol_master.specs.declared.ports.DeskUrgency.TheVariants.{Ordinary, Urgent}
 use Rattle.iol_master.specs.declared.fault.MasterFault.{MasterFault}
@@ -52,9 +52,9 @@ module _ {W P : Type 0} (facts : WireFacts W) (line : LineFacts P) where
 abbrev pub SubmitsWithin : DeskUrgency → StoredParts → StoredParts → Request
     → Result Ticket PortFault → Type 0
 SubmitsWithin Ordinary p p' request =
-    Submits (StoredCalled p p') p.port p'.port request
+    Submits (stored_call p p') request
 SubmitsWithin Urgent p p' request =
-    SubmitsUrgent (StoredCalled p p') p.port p'.port request
+    SubmitsUrgent (stored_call p p') request
 
 -- the stored port's own submit, or its urgent one
 pub record StoredSubmits (p : StoredParts) (kind : DeskUrgency) (request : Request)
@@ -87,7 +87,7 @@ WiredRefuses other = ⊥
 
 pub record StoredAbandonsOne {W : Type 0} (p : WiredParts W StoredParts) (ticket : Ticket)
     (next : WiredParts W StoredParts) : Type 0 where
-  pub call : Abandons (StoredCalled p.port next.port) p.port.port next.port.port ticket (Ok tt)
+  pub call : Abandons (stored_call p.port next.port) ticket (Ok tt)
   pub tickets : next.port.tickets ≡ p.port.tickets - 1
   pub wire : next.wire ≡ p.wire
 

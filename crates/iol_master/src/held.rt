@@ -6,7 +6,7 @@ ghost use Rattle.iol_book.specs.BookModel.{IsReplayed};
 ghost use Rattle.iol_port.specs.View.{IsRun, OpensWell, KeepsRecordOver, over};
 ghost use Rattle.iol_port.specs.Called.{Collects, Withdraws, Cancels, Abandons, Restarts, SetsOutput, ClearsOutput};
 ghost use Rattle.iol_port.specs.Called.{Expects, SetsCycle, TakesEvent, Archives, Drains, DrainsInto, Turns, PublishesAfter};
-ghost use Rattle.iol_port.specs.Called.{ShowsPage, ShowsCounters, ShowsLastLoss, ShowsImage, ShowsStatus, CoreCalled, MakesCall};
+ghost use Rattle.iol_port.specs.Called.{ShowsPage, ShowsCounters, ShowsLastLoss, ShowsImage, ShowsStatus, core_look, port_call};
 ghost use Rattle.iol_port.specs.Claim.{TiedClaim};
 ghost use Rattle.iol_port.specs.WireCalls.{ComesFrom};
 ghost use Rattle.iol_port.specs.RightDevice.{IsForRightDevice};
@@ -166,32 +166,28 @@ impl<W: Wire, K: Ledger, A: Handle, P: MasterPort> Held<W, K, A, P> {
 impl<W: Wire, K: Ledger, A: Handle> Held<W, K, A> {
     /// As [`PortCore::collect`](iol_port::PortCore::collect).
     pub fn collect(&mut self, ticket: Ticket) -> Result<Outcome, PortFault>
-        ensures { Collects (MakesCall self.old self.new) self.old.parts self.new.parts
-            ticket result }
+        ensures { Collects (port_call self.old self.new) ticket result }
     {
         self.port.collect(ticket)
     }
 
     /// As [`PortCore::withdraw`](iol_port::PortCore::withdraw).
     pub fn withdraw(&mut self, ticket: Ticket) -> Result<(), PortFault>
-        ensures { Withdraws (MakesCall self.old self.new) self.old.parts self.new.parts
-            ticket result }
+        ensures { Withdraws (port_call self.old self.new) ticket result }
     {
         self.port.withdraw(ticket)
     }
 
     /// As [`PortCore::cancel`](iol_port::PortCore::cancel).
     pub fn cancel(&mut self, ticket: Ticket) -> Result<(), PortFault>
-        ensures { Cancels (MakesCall self.old self.new) self.old.parts self.new.parts
-            ticket result }
+        ensures { Cancels (port_call self.old self.new) ticket result }
     {
         self.port.cancel(ticket)
     }
 
     /// As [`PortCore::abandon`](iol_port::PortCore::abandon).
     pub fn abandon(&mut self, ticket: Ticket) -> Result<(), PortFault>
-        ensures { Abandons (MakesCall self.old self.new) self.old.parts self.new.parts
-            ticket result }
+        ensures { Abandons (port_call self.old self.new) ticket result }
     {
         self.port.abandon(ticket)
     }
@@ -199,69 +195,63 @@ impl<W: Wire, K: Ledger, A: Handle> Held<W, K, A> {
     /// As [`Port::restart_shown`].
     pub fn restart<R: Wait>(&mut self, rt: &R)
         ensures { PublishesAfter
-            (λ new. Restarts (MakesCall self.old new) self.old.parts new.parts)
-            self.old self.new }
+            (λ new. Restarts (port_call self.old new)) self.old self.new }
     {
         self.port.restart_shown(rt);
     }
 
     /// As [`PortCore::set_output`](iol_port::PortCore::set_output).
     pub fn set_output(&mut self, image: &Image) -> Result<(), PortFault>
-        ensures { SetsOutput (MakesCall self.old self.new) self.old.parts self.new.parts
-            image.now result }
+        ensures { SetsOutput (port_call self.old self.new) image.now result }
     {
         self.port.set_output(image)
     }
 
     /// As [`PortCore::clear_output`](iol_port::PortCore::clear_output).
     pub fn clear_output(&mut self)
-        ensures { ClearsOutput (MakesCall self.old self.new) self.old.parts self.new.parts }
+        ensures { ClearsOutput (port_call self.old self.new) }
     {
         self.port.clear_output();
     }
 
     /// As [`PortCore::expect`](iol_port::PortCore::expect).
     pub fn expect(&mut self, identity: Identity) -> Counting
-        ensures { Expects (MakesCall self.old self.new) self.old.parts self.new.parts
-            (Some identity) result }
+        ensures { Expects (port_call self.old self.new) (Some identity) result }
     {
         self.port.expect(identity)
     }
 
     /// As [`PortCore::expect_any`](iol_port::PortCore::expect_any).
     pub fn expect_any(&mut self) -> Counting
-        ensures { Expects (MakesCall self.old self.new) self.old.parts self.new.parts
-            None result }
+        ensures { Expects (port_call self.old self.new) None result }
     {
         self.port.expect_any()
     }
 
     /// As [`PortCore::set_cycle`](iol_port::PortCore::set_cycle).
     pub fn set_cycle(&mut self, cycle: Option<CycleTime>) -> Counting
-        ensures { SetsCycle (MakesCall self.old self.new) self.old.parts self.new.parts
-            cycle result }
+        ensures { SetsCycle (port_call self.old self.new) cycle result }
     {
         self.port.set_cycle(cycle)
     }
 
     /// As [`PortCore::page`](iol_port::PortCore::page).
     pub fn page(&self) -> Option<Page>
-        ensures { ShowsPage (CoreCalled self.now.parts self.now.parts) self.now.parts result }
+        ensures { ShowsPage (core_look self.now.parts) result }
     {
         self.port.page()
     }
 
     /// As [`PortCore::counters`](iol_port::PortCore::counters).
     pub fn counters(&self) -> &Counters
-        ensures { ShowsCounters (CoreCalled self.now.parts self.now.parts) self.now.parts
-            result.now }
+        ensures { ShowsCounters (core_look self.now.parts) result.now }
     {
         self.port.counters()
     }
 
     /// As [`PortCore::last_loss`](iol_port::PortCore::last_loss).
     pub fn last_loss(&self) -> Option<Why>
-        ensures { ShowsLastLoss (CoreCalled self.now.parts self.now.parts) self.now.parts result }
+        ensures { ShowsLastLoss (core_look self.now.parts) result }
     {
         self.port.last_loss()
     }
@@ -269,31 +259,28 @@ impl<W: Wire, K: Ledger, A: Handle> Held<W, K, A> {
     /// As [`PortCore::image`](iol_port::PortCore::image), under the port's lock. A seat at the cell
     /// in which the port publishes (crate iol_cell) reads the image without it.
     pub fn image(&self) -> Option<&Image>
-        ensures { ShowsImage (CoreCalled self.now.parts self.now.parts) self.now.parts
-            (option_copied result) }
+        ensures { ShowsImage (core_look self.now.parts) (option_copied result) }
     {
         self.port.image()
     }
 
     /// As [`PortCore::take_event`](iol_port::PortCore::take_event).
     pub fn take_event(&mut self) -> Result<Event, PortFault>
-        ensures { TakesEvent (MakesCall self.old self.new) self.old.parts self.new.parts
-            result }
+        ensures { TakesEvent (port_call self.old self.new) result }
     {
         self.port.take_event()
     }
 
     /// As [`PortCore::status`](iol_port::PortCore::status).
     pub fn status(&self) -> Status
-        ensures { ShowsStatus (CoreCalled self.now.parts self.now.parts) self.now.parts result }
+        ensures { ShowsStatus (core_look self.now.parts) result }
     {
         self.port.status()
     }
 
     /// As [`PortCore::archive`](iol_port::PortCore::archive).
     pub fn archive(&mut self) -> Result<Journal<A>, PortFault>
-        ensures is { Archives (MakesCall self.old self.new) self.old.parts self.new.parts
-            (λ entries. entries.items) result }
+        ensures is { Archives (port_call self.old self.new) (λ entries. entries.items) result }
         ensures within { IfOk result (λ entries. length entries.items ≤ 1000000) }
     {
         self.port.archive()
@@ -301,8 +288,7 @@ impl<W: Wire, K: Ledger, A: Handle> Held<W, K, A> {
 
     /// As [`PortCore::drain`](iol_port::PortCore::drain).
     pub fn drain(&mut self) -> Result<Journal<A>, PortFault>
-        ensures is { Drains (MakesCall self.old self.new) self.old.parts self.new.parts
-            (λ entries. entries.items) result }
+        ensures is { Drains (port_call self.old self.new) (λ entries. entries.items) result }
         ensures within { IfOk result (λ entries. length entries.items ≤ 1000000) }
     {
         self.port.drain()
@@ -310,8 +296,7 @@ impl<W: Wire, K: Ledger, A: Handle> Held<W, K, A> {
 
     /// As [`PortCore::drain_into`](iol_port::PortCore::drain_into).
     pub fn drain_into(&mut self, list: &mut Journal<A>) -> Result<usize, PortFault>
-        ensures is { DrainsInto (MakesCall self.old self.new) self.old.parts self.new.parts
-            list.old.items list.new.items result }
+        ensures is { DrainsInto (port_call self.old self.new) list.old.items list.new.items result }
         ensures full { OnErr result (LacksRoomFor self.old.parts.book.state list.old) }
     {
         self.port.drain_into(list)

@@ -30,95 +30,98 @@ use Rattle.iol_port.specs.Clean.{CleanTurn}
 use Rattle.iol_port.specs.CorePort.{CoreDoes}
 use Rattle.iol_port.specs.EveryWire.{SubmitGives, CollectGives, WithdrawGives, CancelGives, AbandonGives, ServeGives, ArchiveGives, DrainGives, DrainIntoGives, TakeEventGives, SetOutputGives, ClearOutputGives, ExpectGives, SetCycleGives, RestartGives, PortTurnGives, page_shown}
 
--- what is said of a call with its reply, and of what else it gives, at who has the parts
-abbrev pub Carrier : Type 1
-Carrier = Call → Answered → Type 0 → Type 0
+-- A call between two moments of whatever has a port's parts: the parts then, and what is said of
+-- the call, of its reply and of what else it gives
+pub record CallAt : Type 1 where
+  pub old : PortParts
+  pub new : PortParts
+  pub Says : Call → Answered → Type 0 → Type 0
 
--- The calls, between these parts
-module _ (Carries : Carrier) (p next : PortParts) where
+module _ (at : CallAt) where
+  open at use {old, new, Says}
+
   abbrev pub Submits : Request → Result Ticket PortFault → Type 0
-  Submits request result = Carries (call.Submit request) (ticket_reply result)
-      (SubmitGives p (book_after_submit p.book.state request) result next)
+  Submits request result = Says (call.Submit request) (ticket_reply result)
+      (SubmitGives old (book_after_submit old.book.state request) result new)
 
   abbrev pub SubmitsUrgent : Request → Result Ticket PortFault → Type 0
-  SubmitsUrgent request result = Carries (call.SubmitUrgent request) (ticket_reply result)
-      (SubmitGives p (book_after_urgent p.book.state request) result next)
+  SubmitsUrgent request result = Says (call.SubmitUrgent request) (ticket_reply result)
+      (SubmitGives old (book_after_urgent old.book.state request) result new)
 
   abbrev pub Collects : Ticket → Result Outcome PortFault → Type 0
-  Collects ticket result = Carries (call.Collect ticket) (outcome_reply result)
-      (CollectGives p ticket result next)
+  Collects ticket result = Says (call.Collect ticket) (outcome_reply result)
+      (CollectGives old ticket result new)
 
   abbrev pub Withdraws : Ticket → Result (Unit {0}) PortFault → Type 0
-  Withdraws ticket result = Carries (call.Withdraw ticket) (nothing_reply result)
-      (WithdrawGives p ticket result next)
+  Withdraws ticket result = Says (call.Withdraw ticket) (nothing_reply result)
+      (WithdrawGives old ticket result new)
 
   abbrev pub Cancels : Ticket → Result (Unit {0}) PortFault → Type 0
-  Cancels ticket result = Carries (call.Cancel ticket) (nothing_reply result)
-      (CancelGives p ticket result next)
+  Cancels ticket result = Says (call.Cancel ticket) (nothing_reply result)
+      (CancelGives old ticket result new)
 
   abbrev pub Abandons : Ticket → Result (Unit {0}) PortFault → Type 0
-  Abandons ticket result = Carries (call.Abandon ticket) (nothing_reply result)
-      (AbandonGives p ticket result next)
+  Abandons ticket result = Says (call.Abandon ticket) (nothing_reply result)
+      (AbandonGives old ticket result new)
 
   abbrev pub Serves : Serve → Type 0
-  Serves which = Carries (call.Serve which) answered.Nothing (ServeGives p which next)
+  Serves which = Says (call.Serve which) answered.Nothing (ServeGives old which new)
 
   abbrev pub Restarts : Type 0
-  Restarts = Carries call.Restart answered.Nothing (RestartGives p next)
+  Restarts = Says call.Restart answered.Nothing (RestartGives old new)
 
   abbrev pub SetsOutput : ImageOctets → Result (Unit {0}) PortFault → Type 0
-  SetsOutput image result = Carries (call.SetOutput image) (nothing_reply result)
-      (SetOutputGives p image result next)
+  SetsOutput image result = Says (call.SetOutput image) (nothing_reply result)
+      (SetOutputGives old image result new)
 
   abbrev pub ClearsOutput : Type 0
-  ClearsOutput = Carries call.ClearOutput answered.Nothing (ClearOutputGives p next)
+  ClearsOutput = Says call.ClearOutput answered.Nothing (ClearOutputGives old new)
 
   abbrev pub Expects : Option Identity → Counting → Type 0
-  Expects identity result = Carries (call.Expect identity) (answered.Counts result)
-      (ExpectGives p identity result next)
+  Expects identity result = Says (call.Expect identity) (answered.Counts result)
+      (ExpectGives old identity result new)
 
   abbrev pub SetsCycle : Option CycleTime → Counting → Type 0
-  SetsCycle cycle result = Carries (call.Cycle cycle) (answered.Counts result)
-      (SetCycleGives p cycle result next)
+  SetsCycle cycle result = Says (call.Cycle cycle) (answered.Counts result)
+      (SetCycleGives old cycle result new)
 
   abbrev pub TakesEvent : Result Event PortFault → Type 0
-  TakesEvent result = Carries call.TakeEvent (event_reply result) (TakeEventGives p result next)
+  TakesEvent result = Says call.TakeEvent (event_reply result) (TakeEventGives old result new)
 
   -- with the entries of what is handed out
   abbrev pub Archives : {X : Type 0} → (X → List Entry) → Result X PortFault → Type 0
-  Archives entries result = Carries call.Archive
+  Archives entries result = Says call.Archive
       (result_reply (λ x. answered.Archived (length (entries x))) result)
-      (ArchiveGives p (result_map_both entries (λ why. why) result) next)
+      (ArchiveGives old (result_map_both entries (λ why. why) result) new)
 
   abbrev pub Drains : {X : Type 0} → (X → List Entry) → Result X PortFault → Type 0
-  Drains entries result = Carries call.Drain
-      (result_reply (λ x. drained_answer (length (entries x)) p.book.state.restated) result)
-      (DrainGives p (result_map_both entries (λ why. why) result) next)
+  Drains entries result = Says call.Drain
+      (result_reply (λ x. drained_answer (length (entries x)) old.book.state.restated) result)
+      (DrainGives old (result_map_both entries (λ why. why) result) new)
 
   -- the same at the end of a list, which becomes the other
   abbrev pub DrainsInto : List Entry → List Entry → Result ℕ PortFault → Type 0
-  DrainsInto list list_new result = Carries call.Drain
-      (result_reply (λ count. drained_answer (length p.book.state.journal) count) result)
-      (DrainIntoGives p list list_new result next)
+  DrainsInto list list_new result = Says call.Drain
+      (result_reply (λ count. drained_answer (length old.book.state.journal) count) result)
+      (DrainIntoGives old list list_new result new)
 
--- and those that only look
-module _ (Carries : Carrier) (p : PortParts) where
+  -- and those that only look
   abbrev pub ShowsPage : Option (List ℕ) → Type 0
-  ShowsPage page = Carries call.Page (answered.Page page) (page ≡ page_shown p)
+  ShowsPage page = Says call.Page (answered.Page page) (page ≡ page_shown old)
 
   abbrev pub ShowsCounters : Counters → Type 0
-  ShowsCounters counters = Carries call.Counters (answered.Counters counters)
-      (counters ≡ p.counters)
+  ShowsCounters counters = Says call.Counters (answered.Counters counters)
+      (counters ≡ old.counters)
 
   abbrev pub ShowsLastLoss : Option Why → Type 0
-  ShowsLastLoss loss = Carries call.LastLoss (answered.LastLoss loss) (loss ≡ p.last_loss)
+  ShowsLastLoss loss = Says call.LastLoss (answered.LastLoss loss) (loss ≡ old.last_loss)
 
   abbrev pub ShowsImage : Option ImageOctets → Type 0
-  ShowsImage image = Carries call.Look (answered.Image image) (image ≡ p.core.session.image)
+  ShowsImage image = Says call.Look (answered.Image image) (image ≡ old.core.session.image)
 
   abbrev pub ShowsStatus : Status → Type 0
-  ShowsStatus status = Carries call.Status (answered.Status status)
-      (status ≡ status_of p.core)
+  ShowsStatus status = Says call.Status (answered.Status status)
+      (status ≡ status_of old.core)
 
 -- A core's call, with whatever far end
 pub record CoreCalled (old new : PortParts) (c : Call) (reply : Answered) (effect : Type 0) :
@@ -132,6 +135,17 @@ pub record MakesCall {W : Type 0} (old new : PortValue W) (c : Call) (reply : An
   pub does : CoreDoes old.parts c reply new.parts
   pub gives : effect
   pub rest : new ≡ record old { parts = new.parts }
+
+-- a core's call, and what a core shows
+abbrev pub core_call : PortParts → PortParts → CallAt
+core_call old new = record { old = old; new = new; Says = CoreCalled old new }
+
+abbrev pub core_look : PortParts → CallAt
+core_look p = record { old = p; new = p; Says = CoreCalled p p }
+
+-- a port's
+abbrev pub port_call : {W : Type 0} → PortValue W → PortValue W → CallAt
+port_call old new = record { old = old.parts; new = new.parts; Says = MakesCall old new }
 
 -- a turn makes the one call of the wire that the port asks for
 pub record Turns {W : Type 0} (facts : WireFacts W) (old new : PortValue W) : Type 0 where

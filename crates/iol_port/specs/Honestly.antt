@@ -10,7 +10,7 @@ use Rattle.iol_port.specs.declared.call.Answered.{Answered}
 use Rattle.iol_port.specs.Run.{PortState, Piece, Pieces, port_at_opening}
 use Rattle.iol_port.specs.View.{PortParts, StandsFor, KeepsRecord}
 use Rattle.iol_port.specs.Clean.{IsLevelBetween}
-use Rattle.iol_port.specs.Called.{CoreCalled}
+use Rattle.iol_port.specs.Called.{CallAt, CoreCalled}
 use Rattle.iol_port.specs.Standing.{LinePosition}
 
 pub record HonestParts : Type 0 where
@@ -50,6 +50,9 @@ pub record Calls (p next : HonestParts) (c : Call) (reply : Answered) (effect : 
   where
     pub call : CoreCalled p.parts next.parts c reply effect
     pub moves : Moves p p.at next
+
+abbrev pub honest_call : HonestParts → HonestParts → CallAt
+honest_call p next = record { old = p.parts; new = next.parts; Says = Calls p next }
 
 -- The premise: this is what an honest exchange of the octets that are out could bring, and the
 -- line stands there then

@@ -11,7 +11,6 @@ pub mod View
 pub mod Asks
 pub mod EveryWire
 pub mod Promises
-pub mod Admitted
 pub mod Replies
 pub mod Turns
 pub mod Clean

@@ -90,7 +90,7 @@ impl<A: Allocator + Copy> Model for HonestPort<A> {
 }
 
 impl<A: Allocator + Copy> HonestPort<A> {
-    ghost use Rattle.iol_port.specs.Honestly.{IsRunInPieces, BeganWell, RecordFitsJournal, BothEndsAreLevel, Moves, Calls, Exchanges};
+    ghost use Rattle.iol_port.specs.Honestly.{IsRunInPieces, BeganWell, RecordFitsJournal, BothEndsAreLevel, Moves, honest_call, Exchanges};
 
     /// A port as [`PortCore::open`] gives it, whose line stands there.
     ///
@@ -156,8 +156,7 @@ impl<A: Allocator + Copy> HonestPort<A> {
 
     /// As [`PortCore::submit`].
     pub fn submit(&mut self, request: Request) -> Result<Ticket, PortFault>
-        ensures is { Submits (Calls self.old self.new) self.old.parts self.new.parts
-            request result }
+        ensures is { Submits (honest_call self.old self.new) request result }
         ensures lacks { IfErr result (λ e. e ≡ fault.Book OutOfMemory → self.old.parts.book.room
             ≡ 0) }
     {
@@ -166,8 +165,7 @@ impl<A: Allocator + Copy> HonestPort<A> {
 
     /// As [`PortCore::submit_urgent`].
     pub fn submit_urgent(&mut self, request: Request) -> Result<Ticket, PortFault>
-        ensures is { SubmitsUrgent (Calls self.old self.new) self.old.parts self.new.parts
-            request result }
+        ensures is { SubmitsUrgent (honest_call self.old self.new) request result }
         ensures lacks { IfErr result (λ e. e ≡ fault.Book OutOfMemory → self.old.parts.book.room
             ≡ 0) }
     {
@@ -176,16 +174,14 @@ impl<A: Allocator + Copy> HonestPort<A> {
 
     /// As [`PortCore::collect`].
     pub fn collect(&mut self, ticket: Ticket) -> Result<Outcome, PortFault>
-        ensures { Collects (Calls self.old self.new) self.old.parts self.new.parts
-            ticket result }
+        ensures { Collects (honest_call self.old self.new) ticket result }
     {
         self.core.collect(ticket)
     }
 
     /// As [`PortCore::collect_into`].
     pub fn collect_into(&mut self, ticket: Ticket, into: &mut Outcome) -> Result<(), PortFault>
-        ensures is { Collects (Calls self.old self.new) self.old.parts self.new.parts
-            ticket (in_place into.new result) }
+        ensures is { Collects (honest_call self.old self.new) ticket (in_place into.new result) }
         ensures unchanged { IfErr result (λ _. into.new ≡ into.old) }
     {
         self.core.collect_into(ticket, into)
@@ -193,24 +189,21 @@ impl<A: Allocator + Copy> HonestPort<A> {
 
     /// As [`PortCore::withdraw`].
     pub fn withdraw(&mut self, ticket: Ticket) -> Result<(), PortFault>
-        ensures { Withdraws (Calls self.old self.new) self.old.parts self.new.parts
-            ticket result }
+        ensures { Withdraws (honest_call self.old self.new) ticket result }
     {
         self.core.withdraw(ticket)
     }
 
     /// As [`PortCore::cancel`].
     pub fn cancel(&mut self, ticket: Ticket) -> Result<(), PortFault>
-        ensures { Cancels (Calls self.old self.new) self.old.parts self.new.parts
-            ticket result }
+        ensures { Cancels (honest_call self.old self.new) ticket result }
     {
         self.core.cancel(ticket)
     }
 
     /// As [`PortCore::abandon`].
     pub fn abandon(&mut self, ticket: Ticket) -> Result<(), PortFault>
-        ensures { Abandons (Calls self.old self.new) self.old.parts self.new.parts
-            ticket result }
+        ensures { Abandons (honest_call self.old self.new) ticket result }
     {
         self.core.abandon(ticket)
     }
@@ -218,62 +211,56 @@ impl<A: Allocator + Copy> HonestPort<A> {
     /// As [`PortCore::restart`]: what was sent has to be answered first.
     pub fn restart(&mut self)
         requires { awaited_answer self.old.parts ≡ AwaitedAnswer.Nothing }
-        ensures { Restarts (Calls self.old self.new) self.old.parts self.new.parts }
+        ensures { Restarts (honest_call self.old self.new) }
     {
         self.core.restart();
     }
 
     /// As [`PortCore::set_output`].
     pub fn set_output(&mut self, image: &Image) -> Result<(), PortFault>
-        ensures { SetsOutput (Calls self.old self.new) self.old.parts self.new.parts
-            image.now result }
+        ensures { SetsOutput (honest_call self.old self.new) image.now result }
     {
         self.core.set_output(image)
     }
 
     /// As [`PortCore::clear_output`].
     pub fn clear_output(&mut self)
-        ensures { ClearsOutput (Calls self.old self.new) self.old.parts self.new.parts }
+        ensures { ClearsOutput (honest_call self.old self.new) }
     {
         self.core.clear_output();
     }
 
     /// As [`PortCore::expect`].
     pub fn expect(&mut self, identity: Identity) -> Counting
-        ensures { Expects (Calls self.old self.new) self.old.parts self.new.parts
-            (Some identity) result }
+        ensures { Expects (honest_call self.old self.new) (Some identity) result }
     {
         self.core.expect(identity)
     }
 
     /// As [`PortCore::expect_any`].
     pub fn expect_any(&mut self) -> Counting
-        ensures { Expects (Calls self.old self.new) self.old.parts self.new.parts
-            None result }
+        ensures { Expects (honest_call self.old self.new) None result }
     {
         self.core.expect_any()
     }
 
     /// As [`PortCore::set_cycle`].
     pub fn set_cycle(&mut self, cycle: Option<CycleTime>) -> Counting
-        ensures { SetsCycle (Calls self.old self.new) self.old.parts self.new.parts
-            cycle result }
+        ensures { SetsCycle (honest_call self.old self.new) cycle result }
     {
         self.core.set_cycle(cycle)
     }
 
     /// As [`PortCore::take_event`].
     pub fn take_event(&mut self) -> Result<Event, PortFault>
-        ensures { TakesEvent (Calls self.old self.new) self.old.parts self.new.parts
-            result }
+        ensures { TakesEvent (honest_call self.old self.new) result }
     {
         self.core.take_event()
     }
 
     /// As [`PortCore::archive`].
     pub fn archive(&mut self) -> Result<Journal<A>, PortFault>
-        ensures is { Archives (Calls self.old self.new) self.old.parts self.new.parts
-            (λ entries. entries.items) result }
+        ensures is { Archives (honest_call self.old self.new) (λ entries. entries.items) result }
         ensures within { IfOk result (λ entries. length entries.items ≤ 1000000) }
     {
         self.core.archive()
@@ -281,8 +268,7 @@ impl<A: Allocator + Copy> HonestPort<A> {
 
     /// As [`PortCore::drain`].
     pub fn drain(&mut self) -> Result<Journal<A>, PortFault>
-        ensures is { Drains (Calls self.old self.new) self.old.parts self.new.parts
-            (λ entries. entries.items) result }
+        ensures is { Drains (honest_call self.old self.new) (λ entries. entries.items) result }
         ensures within { IfOk result (λ entries. length entries.items ≤ 1000000) }
     {
         self.core.drain()
@@ -290,7 +276,7 @@ impl<A: Allocator + Copy> HonestPort<A> {
 
     /// As [`PortCore::drain_into`].
     pub fn drain_into(&mut self, list: &mut Journal<A>) -> Result<usize, PortFault>
-        ensures is { DrainsInto (Calls self.old self.new) self.old.parts self.new.parts
+        ensures is { DrainsInto (honest_call self.old self.new)
             list.old.items list.new.items result }
         ensures full { OnErr result (LacksRoomFor self.old.parts.book.state list.old) }
     {

@@ -1,6 +1,5 @@
 //! What a client may conclude of a whole run of a port: laws, without code.
 ghost use Rattle.iol_port.specs.Promises.{OpensSound, RunsSound, GoodLinkStays, NothingIsNoTurn, EventsAreRead, NoneIsSwallowed, AsleepAnswersNothing, OnlyMissesUnreport, ImagesHaveLength, StartsByPage};
-ghost use Rattle.iol_port.specs.Admitted.{WakesAreMissed, FrozenAreReported, PowerIsLost, InputsAreShown, RightPagesAreRead, PagesLeadOn};
 ghost use Rattle.iol_port.specs.Promises.{WrongPagesStayUnread, RunsJoin};
 ghost use Rattle.iol_port.specs.Promises.{PiecesSound, PiecesJoin, HalvesAreTurns};
 ghost use Rattle.iol_port.specs.Promises.{CancelledWasAsked, AskedByCancel};
@@ -61,23 +60,6 @@ pub fn turns_rule_out()
     ensures images { ImagesHaveLength }
     ensures pages { StartsByPage }
     ensures wrong { WrongPagesStayUnread }
-{}
-
-/// A law of the definitions: what a turn of the abstract port may be, by examples.
-///
-/// A wake that isn't answered brings nothing, whatever the device does by itself. A good reply in
-/// OPERATE reports events that were frozen, and shows the device's input. Where
-/// none comes, a power cycle may have taken the events, the input and the output. A start-up reads
-/// the page of the right device, and goes on by it.
-///
-/// Needed by the promises of assurance.md.
-pub fn turns_admit()
-    ensures wakes { WakesAreMissed }
-    ensures reports { FrozenAreReported }
-    ensures loses { PowerIsLost }
-    ensures shows { InputsAreShown }
-    ensures reads { RightPagesAreRead }
-    ensures leads { PagesLeadOn }
 {}
 
 /// A law of the definitions, over whole runs of a port that is opened, and over their pieces: what

@@ -47,7 +47,7 @@ pub use honest_port::HonestPort;
 pub use laws::{
     cancelled_requests_were_asked, denied_requests_stay_out, each_done_has_its_pair,
     late_requests_end, pieces_are_turns, record_fits_journal, runs_fit_history, runs_join,
-    turns_admit, turns_rule_out,
+    turns_rule_out,
 };
 pub use port::Port;
 pub use port_core::PortCore;

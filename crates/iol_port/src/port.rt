@@ -16,7 +16,7 @@ ghost use Rattle.iol_port.specs.Run.{port_at_opening};
 ghost use Rattle.iol_port.specs.Asks.{asks_of, IsWireCall};
 ghost use Rattle.iol_port.specs.Called.{Submits, SubmitsUrgent, Collects, Withdraws, Cancels, Abandons, Serves, Restarts, SetsOutput};
 ghost use Rattle.iol_port.specs.Called.{ClearsOutput, Expects, SetsCycle, TakesEvent, Archives, Drains, DrainsInto, Turns, PublishesAfter};
-ghost use Rattle.iol_port.specs.Called.{ShowsPage, ShowsCounters, ShowsLastLoss, ShowsImage, ShowsStatus, CoreCalled, MakesCall};
+ghost use Rattle.iol_port.specs.Called.{ShowsPage, ShowsCounters, ShowsLastLoss, ShowsImage, ShowsStatus, core_look, port_call};
 ghost use Rattle.iol_port.specs.Claim.{Claim, ClaimGoesOn, TiedClaim};
 ghost use Rattle.iol_port.specs.EveryWire.{PortCallGives, RunGives};
 ghost use Rattle.iol_port.specs.RightDevice.{IsForRightDevice};
@@ -133,8 +133,7 @@ impl<W: Wire, A: Handle> Port<W, A> {
 
     /// As [`PortCore::submit`].
     pub fn submit(&mut self, request: Request) -> Result<Ticket, PortFault>
-        ensures is { Submits (MakesCall self.old self.new) self.old.parts self.new.parts
-            request result }
+        ensures is { Submits (port_call self.old self.new) request result }
         ensures lacks { IfErr result (λ e. e ≡ fault.Book OutOfMemory → self.old.parts.book.room
             ≡ 0) }
     {
@@ -143,9 +142,7 @@ impl<W: Wire, A: Handle> Port<W, A> {
 
     /// As [`PortCore::submit_urgent`].
     pub fn submit_urgent(&mut self, request: Request) -> Result<Ticket, PortFault>
-        ensures is { SubmitsUrgent (MakesCall self.old self.new) self.old.parts
-            self.new.parts
-            request result }
+        ensures is { SubmitsUrgent (port_call self.old self.new) request result }
         ensures lacks { IfErr result (λ e. e ≡ fault.Book OutOfMemory → self.old.parts.book.room
             ≡ 0) }
     {
@@ -154,16 +151,14 @@ impl<W: Wire, A: Handle> Port<W, A> {
 
     /// As [`PortCore::collect`].
     pub fn collect(&mut self, ticket: Ticket) -> Result<Outcome, PortFault>
-        ensures { Collects (MakesCall self.old self.new) self.old.parts self.new.parts
-            ticket result }
+        ensures { Collects (port_call self.old self.new) ticket result }
     {
         self.core.collect(ticket)
     }
 
     /// As [`PortCore::collect_into`].
     pub fn collect_into(&mut self, ticket: Ticket, into: &mut Outcome) -> Result<(), PortFault>
-        ensures is { Collects (MakesCall self.old self.new) self.old.parts self.new.parts
-            ticket (in_place into.new result) }
+        ensures is { Collects (port_call self.old self.new) ticket (in_place into.new result) }
         ensures unchanged { IfErr result (λ _. into.new ≡ into.old) }
     {
         self.core.collect_into(ticket, into)
@@ -171,24 +166,21 @@ impl<W: Wire, A: Handle> Port<W, A> {
 
     /// As [`PortCore::withdraw`].
     pub fn withdraw(&mut self, ticket: Ticket) -> Result<(), PortFault>
-        ensures { Withdraws (MakesCall self.old self.new) self.old.parts self.new.parts
-            ticket result }
+        ensures { Withdraws (port_call self.old self.new) ticket result }
     {
         self.core.withdraw(ticket)
     }
 
     /// As [`PortCore::cancel`].
     pub fn cancel(&mut self, ticket: Ticket) -> Result<(), PortFault>
-        ensures { Cancels (MakesCall self.old self.new) self.old.parts self.new.parts
-            ticket result }
+        ensures { Cancels (port_call self.old self.new) ticket result }
     {
         self.core.cancel(ticket)
     }
 
     /// As [`PortCore::abandon`].
     pub fn abandon(&mut self, ticket: Ticket) -> Result<(), PortFault>
-        ensures { Abandons (MakesCall self.old self.new) self.old.parts self.new.parts
-            ticket result }
+        ensures { Abandons (port_call self.old self.new) ticket result }
     {
         self.core.abandon(ticket)
     }
@@ -202,106 +194,98 @@ impl<W: Wire, A: Handle> Port<W, A> {
 
     /// As [`PortCore::serve`].
     pub fn serve(&mut self, which: Serve)
-        ensures { Serves (MakesCall self.old self.new) self.old.parts self.new.parts which }
+        ensures { Serves (port_call self.old self.new) which }
     {
         self.core.serve(which);
     }
 
     /// As [`PortCore::restart`]. Between two calls nothing is out.
     pub fn restart(&mut self)
-        ensures { Restarts (MakesCall self.old self.new) self.old.parts self.new.parts }
+        ensures { Restarts (port_call self.old self.new) }
     {
         self.core.restart();
     }
 
     /// As [`PortCore::set_output`].
     pub fn set_output(&mut self, image: &Image) -> Result<(), PortFault>
-        ensures { SetsOutput (MakesCall self.old self.new) self.old.parts self.new.parts
-            image.now result }
+        ensures { SetsOutput (port_call self.old self.new) image.now result }
     {
         self.core.set_output(image)
     }
 
     /// As [`PortCore::clear_output`].
     pub fn clear_output(&mut self)
-        ensures { ClearsOutput (MakesCall self.old self.new) self.old.parts self.new.parts }
+        ensures { ClearsOutput (port_call self.old self.new) }
     {
         self.core.clear_output();
     }
 
     /// As [`PortCore::expect`].
     pub fn expect(&mut self, identity: Identity) -> Counting
-        ensures { Expects (MakesCall self.old self.new) self.old.parts self.new.parts
-            (Some identity) result }
+        ensures { Expects (port_call self.old self.new) (Some identity) result }
     {
         self.core.expect(identity)
     }
 
     /// As [`PortCore::expect_any`].
     pub fn expect_any(&mut self) -> Counting
-        ensures { Expects (MakesCall self.old self.new) self.old.parts self.new.parts
-            None result }
+        ensures { Expects (port_call self.old self.new) None result }
     {
         self.core.expect_any()
     }
 
     /// As [`PortCore::set_cycle`].
     pub fn set_cycle(&mut self, cycle: Option<CycleTime>) -> Counting
-        ensures { SetsCycle (MakesCall self.old self.new) self.old.parts self.new.parts
-            cycle result }
+        ensures { SetsCycle (port_call self.old self.new) cycle result }
     {
         self.core.set_cycle(cycle)
     }
 
     /// As [`PortCore::page`].
     pub fn page(&self) -> Option<Page>
-        ensures { ShowsPage (CoreCalled self.now.parts self.now.parts) self.now.parts result }
+        ensures { ShowsPage (core_look self.now.parts) result }
     {
         self.core.page()
     }
 
     /// As [`PortCore::counters`].
     pub fn counters(&self) -> &Counters
-        ensures { ShowsCounters (CoreCalled self.now.parts self.now.parts) self.now.parts
-            result.now }
+        ensures { ShowsCounters (core_look self.now.parts) result.now }
     {
         self.core.counters()
     }
 
     /// As [`PortCore::last_loss`].
     pub fn last_loss(&self) -> Option<Why>
-        ensures { ShowsLastLoss (CoreCalled self.now.parts self.now.parts) self.now.parts result }
+        ensures { ShowsLastLoss (core_look self.now.parts) result }
     {
         self.core.last_loss()
     }
 
     /// As [`PortCore::image`].
     pub fn image(&self) -> Option<&Image>
-        ensures { ShowsImage (CoreCalled self.now.parts self.now.parts) self.now.parts
-            (option_copied result) }
+        ensures { ShowsImage (core_look self.now.parts) (option_copied result) }
     {
         self.core.image()
     }
 
     /// As [`PortCore::take_event`].
     pub fn take_event(&mut self) -> Result<Event, PortFault>
-        ensures { TakesEvent (MakesCall self.old self.new) self.old.parts self.new.parts
-            result }
+        ensures { TakesEvent (port_call self.old self.new) result }
     {
         self.core.take_event()
     }
 
     /// As [`PortCore::status`].
     pub fn status(&self) -> Status
-        ensures { ShowsStatus (CoreCalled self.now.parts self.now.parts) self.now.parts result }
+        ensures { ShowsStatus (core_look self.now.parts) result }
     {
         self.core.status()
     }
 
     /// As [`PortCore::archive`].
     pub fn archive(&mut self) -> Result<Journal<A>, PortFault>
-        ensures is { Archives (MakesCall self.old self.new) self.old.parts self.new.parts
-            (λ entries. entries.items) result }
+        ensures is { Archives (port_call self.old self.new) (λ entries. entries.items) result }
         ensures within { IfOk result (λ entries. length entries.items ≤ 1000000) }
     {
         self.core.archive()
@@ -309,8 +293,7 @@ impl<W: Wire, A: Handle> Port<W, A> {
 
     /// As [`PortCore::drain`].
     pub fn drain(&mut self) -> Result<Journal<A>, PortFault>
-        ensures is { Drains (MakesCall self.old self.new) self.old.parts self.new.parts
-            (λ entries. entries.items) result }
+        ensures is { Drains (port_call self.old self.new) (λ entries. entries.items) result }
         ensures within { IfOk result (λ entries. length entries.items ≤ 1000000) }
     {
         self.core.drain()
@@ -318,8 +301,7 @@ impl<W: Wire, A: Handle> Port<W, A> {
 
     /// As [`PortCore::drain_into`].
     pub fn drain_into(&mut self, list: &mut Journal<A>) -> Result<usize, PortFault>
-        ensures is { DrainsInto (MakesCall self.old self.new) self.old.parts self.new.parts
-            list.old.items list.new.items result }
+        ensures is { DrainsInto (port_call self.old self.new) list.old.items list.new.items result }
         ensures full { OnErr result (LacksRoomFor self.old.parts.book.state list.old) }
     {
         self.core.drain_into(list)
@@ -467,8 +449,7 @@ impl<W: Wire, A: Handle> Port<W, A> {
     /// writer was given.
     pub fn restart_shown<R: Wait>(&mut self, rt: &R)
         ensures { PublishesAfter
-            (λ new. Restarts (MakesCall self.old new) self.old.parts new.parts)
-            self.old self.new }
+            (λ new. Restarts (port_call self.old new)) self.old self.new }
     {
         self.restart();
         self.show(rt);

@@ -23,7 +23,7 @@ ghost use Rattle.iol_port.specs.Run.{counting_of};
 ghost use Rattle.iol_port.specs.Clean.{CleanTurn};
 ghost use Rattle.iol_port.specs.CorePort.{CoreOpens, CoreOpensFor, CoreKeeps, awaited_answer, PortSendGives, SendDoes, PortReceiveGives, ReceiveDoes, WakeGives, WakeDoes};
 ghost use Rattle.iol_port.specs.Called.{Submits, SubmitsUrgent, Collects, Withdraws, Cancels, Abandons, Serves, Restarts, SetsOutput};
-ghost use Rattle.iol_port.specs.Called.{ClearsOutput, Expects, SetsCycle, TakesEvent, Archives, Drains, DrainsInto, CoreCalled};
+ghost use Rattle.iol_port.specs.Called.{ClearsOutput, Expects, SetsCycle, TakesEvent, Archives, Drains, DrainsInto, core_call, core_look};
 ghost use Rattle.iol_port.specs.Called.{ShowsPage, ShowsCounters, ShowsLastLoss, ShowsImage, ShowsStatus};
 
 use crate::PortFault;
@@ -155,8 +155,7 @@ impl<A: Allocator + Copy> PortCore<A> {
     /// as the limit of the opening says, 22 where the journal has no room for the request's
     /// entries, 23 where the last ticket was 2^64 - 1, and 24 where a growth was refused.
     pub fn submit(&mut self, request: Request) -> Result<Ticket, PortFault>
-        ensures is { Submits (CoreCalled self.old self.new) self.old self.new
-            request result }
+        ensures is { Submits (core_call self.old self.new) request result }
         ensures lacks { IfErr result (λ e. e ≡ fault.Book OutOfMemory → self.old.book.room ≡ 0) }
     {
         by_book(self.book.submit(request))
@@ -167,8 +166,7 @@ impl<A: Allocator + Copy> PortCore<A> {
     ///
     /// Refused, with nothing changed, as `submit` is: 21, 22 and 23 count both kinds.
     pub fn submit_urgent(&mut self, request: Request) -> Result<Ticket, PortFault>
-        ensures is { SubmitsUrgent (CoreCalled self.old self.new) self.old self.new
-            request result }
+        ensures is { SubmitsUrgent (core_call self.old self.new) request result }
         ensures lacks { IfErr result (λ e. e ≡ fault.Book OutOfMemory → self.old.book.room ≡ 0) }
     {
         by_book(self.book.submit_urgent(request))
@@ -179,8 +177,7 @@ impl<A: Allocator + Copy> PortCore<A> {
     /// Refused, with nothing changed, by 25 where no such ticket is outstanding,
     /// and by 26 where it has no outcome yet.
     pub fn collect(&mut self, ticket: Ticket) -> Result<Outcome, PortFault>
-        ensures { Collects (CoreCalled self.old self.new) self.old self.new
-            ticket result }
+        ensures { Collects (core_call self.old self.new) ticket result }
     {
         by_book(self.book.collect(ticket))
     }
@@ -189,8 +186,7 @@ impl<A: Allocator + Copy> PortCore<A> {
     /// the caller, which a refusal leaves as it was. Most asks come before the outcome, and cost
     /// little.
     pub fn collect_into(&mut self, ticket: Ticket, into: &mut Outcome) -> Result<(), PortFault>
-        ensures is { Collects (CoreCalled self.old self.new) self.old self.new
-            ticket (in_place into.new result) }
+        ensures is { Collects (core_call self.old self.new) ticket (in_place into.new result) }
         ensures unchanged { IfErr result (λ _. into.new ≡ into.old) }
     {
         by_book(self.book.collect_into(ticket, into))
@@ -201,8 +197,7 @@ impl<A: Allocator + Copy> PortCore<A> {
     /// Refused, with nothing changed, by 25 where no such ticket is outstanding,
     /// and by 27 where it waits no longer.
     pub fn withdraw(&mut self, ticket: Ticket) -> Result<(), PortFault>
-        ensures { Withdraws (CoreCalled self.old self.new) self.old self.new
-            ticket result }
+        ensures { Withdraws (core_call self.old self.new) ticket result }
     {
         by_book(self.book.withdraw(ticket))
     }
@@ -219,8 +214,7 @@ impl<A: Allocator + Copy> PortCore<A> {
     ///
     /// Rule REQ-8.
     pub fn cancel(&mut self, ticket: Ticket) -> Result<(), PortFault>
-        ensures { Cancels (CoreCalled self.old self.new) self.old self.new
-            ticket result }
+        ensures { Cancels (core_call self.old self.new) ticket result }
     {
         match self.book.in_flight(ticket) {
             Ok(()) => {
@@ -241,8 +235,7 @@ impl<A: Allocator + Copy> PortCore<A> {
     ///
     /// Refused, with nothing changed, by 25 where no such ticket is outstanding.
     pub fn abandon(&mut self, ticket: Ticket) -> Result<(), PortFault>
-        ensures { Abandons (CoreCalled self.old self.new) self.old self.new
-            ticket result }
+        ensures { Abandons (core_call self.old self.new) ticket result }
     {
         by_book(self.book.abandon(ticket))
     }
@@ -262,7 +255,7 @@ impl<A: Allocator + Copy> PortCore<A> {
     /// whatever comes. A request under way isn't touched; clients may submit, withdraw and abandon
     /// as before. The journal has no entry of it.
     pub fn serve(&mut self, which: Serve)
-        ensures { Serves (CoreCalled self.old self.new) self.old self.new which }
+        ensures { Serves (core_call self.old self.new) which }
     {
         self.book.serve(which);
     }
@@ -278,7 +271,7 @@ impl<A: Allocator + Copy> PortCore<A> {
     /// Rules REQ-11, PORT-6.
     pub fn restart(&mut self)
         requires { awaited_answer self.old ≡ AwaitedAnswer.Nothing }
-        ensures { Restarts (CoreCalled self.old self.new) self.old self.new }
+        ensures { Restarts (core_call self.old self.new) }
     {
         let began = self.core.status().mode;
         let cut = self.core.restart();
@@ -294,15 +287,14 @@ impl<A: Allocator + Copy> PortCore<A> {
     /// Refused, with nothing changed, by the first of 34 where no start-up has told the lengths
     /// of the process data yet, and 29 where the image has not the length that was told last.
     pub fn set_output(&mut self, image: &Image) -> Result<(), PortFault>
-        ensures { SetsOutput (CoreCalled self.old self.new) self.old self.new
-            image.now result }
+        ensures { SetsOutput (core_call self.old self.new) image.now result }
     {
         by_output(self.core.set_output(image))
     }
 
     /// Wants no output of the device.
     pub fn clear_output(&mut self)
-        ensures { ClearsOutput (CoreCalled self.old self.new) self.old self.new }
+        ensures { ClearsOutput (core_call self.old self.new) }
     {
         self.core.clear_output();
     }
@@ -316,8 +308,7 @@ impl<A: Allocator + Copy> PortCore<A> {
     ///
     /// Rule PORT-10.
     pub fn expect(&mut self, identity: Identity) -> Counting
-        ensures { Expects (CoreCalled self.old self.new) self.old self.new
-            (Some identity) result }
+        ensures { Expects (core_call self.old self.new) (Some identity) result }
     {
         let counting = self.counting();
         self.core.expect(Some(identity));
@@ -326,8 +317,7 @@ impl<A: Allocator + Copy> PortCore<A> {
 
     /// Expects any device, as a port does that is new.
     pub fn expect_any(&mut self) -> Counting
-        ensures { Expects (CoreCalled self.old self.new) self.old self.new
-            None result }
+        ensures { Expects (core_call self.old self.new) None result }
     {
         let counting = self.counting();
         self.core.expect(None);
@@ -339,8 +329,7 @@ impl<A: Allocator + Copy> PortCore<A> {
     ///
     /// Rule PORT-10.
     pub fn set_cycle(&mut self, cycle: Option<CycleTime>) -> Counting
-        ensures { SetsCycle (CoreCalled self.old self.new) self.old self.new
-            cycle result }
+        ensures { SetsCycle (core_call self.old self.new) cycle result }
     {
         let counting = self.counting();
         self.core.set_cycle(cycle);
@@ -352,14 +341,14 @@ impl<A: Allocator + Copy> PortCore<A> {
     ///
     /// Rule PORT-11.
     pub fn page(&self) -> Option<Page>
-        ensures { ShowsPage (CoreCalled self.now self.now) self.now result }
+        ensures { ShowsPage (core_look self.now) result }
     {
         self.core.page().copied()
     }
 
     /// What was counted since the opening. A message that is out counts once it is answered.
     pub fn counters(&self) -> &Counters
-        ensures { ShowsCounters (CoreCalled self.now self.now) self.now result.now }
+        ensures { ShowsCounters (core_look self.now) result.now }
     {
         &self.counters
     }
@@ -371,7 +360,7 @@ impl<A: Allocator + Copy> PortCore<A> {
     ///
     /// Rule PORT-13.
     pub fn last_loss(&self) -> Option<Why>
-        ensures { ShowsLastLoss (CoreCalled self.now self.now) self.now result }
+        ensures { ShowsLastLoss (core_look self.now) result }
     {
         self.last_loss
     }
@@ -389,7 +378,7 @@ impl<A: Allocator + Copy> PortCore<A> {
     /// The device's input by the last good reply in OPERATE: one whole image, or
     /// none where it was not valid. None in every other mode.
     pub fn image(&self) -> Option<&Image>
-        ensures { ShowsImage (CoreCalled self.now self.now) self.now (option_copied result) }
+        ensures { ShowsImage (core_look self.now) (option_copied result) }
     {
         self.core.image()
     }
@@ -398,15 +387,14 @@ impl<A: Allocator + Copy> PortCore<A> {
     ///
     /// Rule PORT-5.
     pub fn take_event(&mut self) -> Result<Event, PortFault>
-        ensures { TakesEvent (CoreCalled self.old self.new) self.old self.new
-            result }
+        ensures { TakesEvent (core_call self.old self.new) result }
     {
         self.queued.pop_at(0).ok_or(PortFault::NoEvent)
     }
 
     /// The mode of the link, and why it is down.
     pub fn status(&self) -> Status
-        ensures { ShowsStatus (CoreCalled self.now self.now) self.now result }
+        ensures { ShowsStatus (core_look self.now) result }
     {
         self.core.status()
     }
@@ -419,8 +407,7 @@ impl<A: Allocator + Copy> PortCore<A> {
     /// a port for any device it is reset once it has left its mode. Refused by 63 where the port
     /// keeps no journal.
     pub fn archive(&mut self) -> Result<Journal<A>, PortFault>
-        ensures is { Archives (CoreCalled self.old self.new) self.old self.new
-            (λ entries. entries.items) result }
+        ensures is { Archives (core_call self.old self.new) (λ entries. entries.items) result }
         ensures within { IfOk result (λ entries. length entries.items ≤ 1000000) }
     {
         by_book(self.book.archive())
@@ -438,8 +425,7 @@ impl<A: Allocator + Copy> PortCore<A> {
     /// The list that is answered takes memory. Refused, with nothing changed, by 24 where there is
     /// none for it, and by 63 where the port keeps no journal.
     pub fn drain(&mut self) -> Result<Journal<A>, PortFault>
-        ensures is { Drains (CoreCalled self.old self.new) self.old self.new
-            (λ entries. entries.items) result }
+        ensures is { Drains (core_call self.old self.new) (λ entries. entries.items) result }
         ensures within { IfOk result (λ entries. length entries.items ≤ 1000000) }
     {
         by_book(self.book.drain())
@@ -452,8 +438,7 @@ impl<A: Allocator + Copy> PortCore<A> {
     /// Refused by 24 where there is none for it, and by 63 where the port keeps no journal; port
     /// and list are then as they were.
     pub fn drain_into(&mut self, list: &mut Journal<A>) -> Result<usize, PortFault>
-        ensures is { DrainsInto (CoreCalled self.old self.new) self.old self.new
-            list.old.items list.new.items result }
+        ensures is { DrainsInto (core_call self.old self.new) list.old.items list.new.items result }
         ensures full { OnErr result (LacksRoomFor self.old.book.state list.old) }
     {
         by_book(self.book.drain_into(list))

@@ -10,7 +10,7 @@ use iol_peers::{AnyWire, Peer};
 use iol_port::{
     Answered, Call, Port, PortFault, cancelled_requests_were_asked, denied_requests_stay_out,
     each_done_has_its_pair, late_requests_end, pieces_are_turns, record_fits_journal, runs_join,
-    turns_admit, turns_rule_out,
+    turns_rule_out,
 };
 use refusing_alloc::{Refusal, RefusingAlloc};
 
@@ -45,7 +45,6 @@ fn laws_of_all_ports_need_none() {
     pieces_are_turns();
     record_fits_journal();
     runs_join();
-    turns_admit();
     turns_rule_out();
 }
 

@@ -23,7 +23,7 @@ use Rattle.iol_port.specs.declared.call.Answered.TheVariants as answered
 use Rattle.iol_port.specs.declared.fault.PortFault.{PortFault}
 use Rattle.iol_port.specs.declared.fault.PortFault.TheVariants as port_fault
 use Rattle.iol_port.specs.Asks.{asks_of, begun_next}
-use Rattle.iol_port.specs.Called.{CoreCalled}
+use Rattle.iol_port.specs.Called.{CallAt, CoreCalled}
 use Rattle.iol_port.specs.CorePort.{CoreDoes, SendDoes, PortSendGives}
 use Rattle.iol_port.specs.EveryWire.{CoreCallGives, page_shown, takes_next}
 use Rattle.iol_port.specs.View.{PortParts}
@@ -172,6 +172,12 @@ pub record StoredForwards (old new : StoredParts) (c : Call) (reply : Answered) 
     Type 0 where
   pub call : CoreCalled old.port new.port c reply effect
   pub rest : new ≡ record old { port = new.port }
+
+abbrev pub stored_call : StoredParts → StoredParts → CallAt
+stored_call old new = record { old = old.port; new = new.port; Says = StoredCalled old new }
+
+abbrev pub stored_forward : StoredParts → StoredParts → CallAt
+stored_forward old new = record { old = old.port; new = new.port; Says = StoredForwards old new }
 
 -- a client may not write at the Index of Data Storage, nor have the tickets that are kept
 -- STO-15, JOB-6

@@ -24,7 +24,7 @@ use Rattle.iol_port.specs.declared.call.Counting.{Counting}
 use Rattle.iol_mode.specs.declared.configuration.Devices.{Devices}
 use Rattle.iol_port.specs.declared.fault.PortFault.{PortFault}
 use Rattle.iol_port.specs.declared.fault.PortFault.TheVariants as port_fault
-use Rattle.iol_port.specs.Called.{Submits, SubmitsUrgent, Collects, Withdraws, Cancels, Abandons, Restarts, ClearsOutput, Expects, SetsCycle, TakesEvent, Archives, Drains, CoreCalled}
+use Rattle.iol_port.specs.Called.{Submits, SubmitsUrgent, Collects, Withdraws, Cancels, Abandons, Restarts, ClearsOutput, Expects, SetsCycle, TakesEvent, Archives, Drains, core_call}
 use Rattle.iol_port.specs.CorePort.{CoreOpensFor, PortReceiveGives, ReceiveDoes, WakeGives, WakeDoes, awaited_answer}
 use Rattle.iol_port.specs.EveryWire.{page_shown}
 use Rattle.iol_port.specs.Replies.{drained_answer}
@@ -36,7 +36,7 @@ use Rattle.iol_storage.specs.declared.stored.fault.StoredFault.TheVariants as fa
 use Rattle.iol_storage.specs.declared.stored.storage.Storage.{Storage}
 use Rattle.iol_storage.specs.Sets.{set_image}
 use Rattle.iol_storage.specs.Stored.{block_answer, block_collected, is_own, load_refusal, number_unsaved, storage_at_opening, storage_behind_block, storage_behind_event, storage_loaded, storage_released, storage_saved, storage_with_block}
-use Rattle.iol_storage.specs.StoredPort.{PortAnswers, SetsStoredOutput, StoredCalled, StoredForwards, StoredParts, StoredSends, client_refusal, image_shown, places_with_room, tickets_behind_submit, tickets_without, unknown_ticket}
+use Rattle.iol_storage.specs.StoredPort.{PortAnswers, SetsStoredOutput, stored_call, stored_forward, StoredParts, StoredSends, client_refusal, image_shown, places_with_room, tickets_behind_submit, tickets_without, unknown_ticket}
 use Rattle.iol_stored_script.specs.declared.storage_line.StorageCall.{StorageCall}
 use Rattle.iol_stored_script.specs.declared.storage_line.StorageCall.TheVariants as storage
 use Rattle.iol_stored_commands.specs.declared.storage_answer.StorageAnswer.{StorageAnswer}
@@ -101,66 +101,66 @@ pub record OfClients {X : Type 0} (old : StoredParts) (ticket : Ticket) (made : 
 
 -- nothing is out between two turns, and a restart is made there
 abbrev pub RestartsIfFree : AwaitedAnswer → StoredParts → StoredParts → Type 0
-RestartsIfFree awaited.Nothing old new = Restarts (StoredForwards old new) old.port new.port
+RestartsIfFree awaited.Nothing old new = Restarts (stored_forward old new)
 RestartsIfFree other old new = new ≡ old
 
 abbrev pub PortMakes : StoredParts → Call → Result Answered StoredFault → StoredParts → Type 0
 PortMakes old (call.Submit request) reply new = (returned : Result Ticket StoredFault)
     × (reply ≡ result_map_both (λ ticket. answered.Ticket ticket) (λ why. why) returned)
     × ClientSubmits old request
-    (Submits (StoredCalled old new) old.port new.port request) returned new
+    (Submits (stored_call old new) request) returned new
 PortMakes old (call.SubmitUrgent request) reply new = (returned : Result Ticket StoredFault)
     × (reply ≡ result_map_both (λ ticket. answered.Ticket ticket) (λ why. why) returned)
     × ClientSubmits old request
-    (SubmitsUrgent (StoredCalled old new) old.port new.port request) returned new
+    (SubmitsUrgent (stored_call old new) request) returned new
 PortMakes old (call.Collect ticket) reply new = (returned : Result Outcome PortFault)
     × (reply ≡ port_reply (λ outcome. answered.Outcome outcome) returned)
     × OfClients old ticket
-    (Collects (StoredCalled old new) old.port new.port ticket returned) returned new
+    (Collects (stored_call old new) ticket returned) returned new
     × (new.tickets ≡ tickets_without (is_ok returned) old.tickets)
 PortMakes old (call.Withdraw ticket) reply new = (returned : Result (Unit {0}) PortFault)
     × (reply ≡ port_reply (λ _. answered.Nothing) returned)
     × OfClients old ticket
-    (Withdraws (StoredCalled old new) old.port new.port ticket returned) returned new
+    (Withdraws (stored_call old new) ticket returned) returned new
     × (new.tickets ≡ old.tickets)
 PortMakes old (call.Cancel ticket) reply new = (returned : Result (Unit {0}) PortFault)
     × (reply ≡ port_reply (λ _. answered.Nothing) returned)
     × OfClients old ticket
-    (Cancels (StoredCalled old new) old.port new.port ticket returned) returned new
+    (Cancels (stored_call old new) ticket returned) returned new
     × (new.tickets ≡ old.tickets)
 PortMakes old (call.Abandon ticket) reply new = (returned : Result (Unit {0}) PortFault)
     × (reply ≡ port_reply (λ _. answered.Nothing) returned)
     × OfClients old ticket
-    (Abandons (StoredCalled old new) old.port new.port ticket returned) returned new
+    (Abandons (stored_call old new) ticket returned) returned new
     × (new.tickets ≡ tickets_without (is_ok returned) old.tickets)
 PortMakes old (call.SetOutput image) reply new = (returned : Result (Unit {0}) PortFault)
     × (reply ≡ port_reply (λ _. answered.Nothing) returned)
     × SetsStoredOutput image returned old new
 PortMakes old call.TakeEvent reply new = (returned : Result Event PortFault)
     × (reply ≡ port_reply (λ event. answered.Event event) returned)
-    × TakesEvent (CoreCalled old.port new.port) old.port new.port returned
+    × TakesEvent (core_call old.port new.port) returned
     × (new ≡ record old {
       port = new.port;
       storage = storage_behind_event old.storage returned;
     })
 PortMakes old call.Archive reply new = (returned : Result (List Entry) PortFault)
     × (reply ≡ port_reply (λ entries. answered.Archived (length entries)) returned)
-    × Archives (StoredForwards old new) old.port new.port (λ entries. entries) returned
+    × Archives (stored_forward old new) (λ entries. entries) returned
 PortMakes old call.Drain reply new = (returned : Result (List Entry) PortFault)
     × (reply ≡ port_reply
     (λ entries. drained_answer (length entries) old.port.book.state.restated) returned)
-    × Drains (StoredForwards old new) old.port new.port (λ entries. entries) returned
+    × Drains (stored_forward old new) (λ entries. entries) returned
 PortMakes old call.Restart reply new = (reply ≡ Ok answered.Nothing)
     × RestartsIfFree (awaited_answer old.port) old new
 PortMakes old call.ClearOutput reply new = (reply ≡ Ok answered.Nothing)
-    × ClearsOutput (CoreCalled old.port new.port) old.port new.port
+    × ClearsOutput (core_call old.port new.port)
     × (new ≡ record old { port = new.port; output = None })
 PortMakes old (call.Expect identity) reply new = (returned : Counting)
     × (reply ≡ Ok (answered.Counts returned))
-    × Expects (StoredForwards old new) old.port new.port identity returned
+    × Expects (stored_forward old new) identity returned
 PortMakes old (call.Cycle cycle) reply new = (returned : Counting)
     × (reply ≡ Ok (answered.Counts returned))
-    × SetsCycle (StoredForwards old new) old.port new.port cycle returned
+    × SetsCycle (stored_forward old new) cycle returned
 PortMakes old call.Look reply new = (reply ≡ Ok (answered.Image (image_shown old))) × (new ≡ old)
 PortMakes old call.Page reply new = (reply ≡ Ok (answered.Page (page_shown old.port)))
     × (new ≡ old)

@@ -8,7 +8,7 @@ use Rattle.iol_port.specs.declared.call.Answered.TheVariants as answered
 use Rattle.iol_port.specs.declared.fault.PortFault.TheVariants as fault
 use Rattle.iol_port.specs.declared.fault.PortFault.{PortFault}
 use Rattle.iol_port.specs.View.{PortParts}
-use Rattle.iol_port.specs.Called.{Drains, CoreCalled}
+use Rattle.iol_port.specs.Called.{Drains, core_call}
 use Rattle.iolink_port_forms.specs.Answers.{answer_number}
 use Rattle.iolink_port_c.specs.declared.held.IolPort.{IolPort}
 use Rattle.iolink_port_c.specs.Calls.{held_parts, call_taken, Stays, CallDoes}
@@ -37,7 +37,7 @@ pub record RefusesArchive (old : IolPort) (number count : ℕ) (new : IolPort) :
 -- the port is drained, or it has no journal, or there is no memory for it
 abbrev pub PortDrains : PortParts → PortParts → Result (ℕ × ℕ) PortFault → Type 0
 PortDrains old new answer =
-    Drains (CoreCalled old new) old new (λ counts. old.book.state.journal) answer
+    Drains (core_call old new) (λ counts. old.book.state.journal) answer
 
 -- what was drained goes to the handle, which has read none of it, with how many entries it has, and
 -- how many of these are restated; else the journal that the handle keeps stays

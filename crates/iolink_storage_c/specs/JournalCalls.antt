@@ -2,13 +2,13 @@
 use Rattle.std.specs.Prelude.{◌≡◌, ℕ, length, Result, IfOk, OnOk, OnErr}
 use Rattle.iol_port.specs.declared.fault.PortFault.{PortFault}
 use Rattle.iol_port.specs.Called.{Drains}
-use Rattle.iol_storage.specs.StoredPort.{StoredParts, StoredForwards}
+use Rattle.iol_storage.specs.StoredPort.{StoredParts, stored_forward}
 use Rattle.iolink_port_forms.specs.Answers.{answer_number}
 use Rattle.iolink_storage_c.specs.declared.held.HeldStore.{HeldStore}
 
 -- the port is drained, or there is no memory for it
 abbrev pub DrainsStored : StoredParts → StoredParts → Result (ℕ × ℕ) PortFault → Type 0
-DrainsStored old new answer = Drains (StoredForwards old new) old.port new.port
+DrainsStored old new answer = Drains (stored_forward old new)
     (λ counts. old.port.book.state.journal) answer
 
 -- what was drained goes to the handle, which has read none of it, with how many entries it has, and

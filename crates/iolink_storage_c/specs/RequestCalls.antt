@@ -9,7 +9,7 @@ use Rattle.iol_port.specs.declared.fault.PortFault.{PortFault}
 use Rattle.iol_port.specs.Called.{Submits, SubmitsUrgent, Collects, Withdraws, Cancels, Abandons}
 use Rattle.iol_storage.specs.declared.stored.fault.StoredFault.{StoredFault}
 use Rattle.iol_storage.specs.Stored.{is_own}
-use Rattle.iol_storage.specs.StoredPort.{StoredParts, StoredCalled, client_refusal, unknown_ticket, PortAnswers, tickets_behind_submit, tickets_without}
+use Rattle.iol_storage.specs.StoredPort.{StoredParts, stored_call, client_refusal, unknown_ticket, PortAnswers, tickets_behind_submit, tickets_without}
 use Rattle.iolink_port_forms.specs.declared.request.Urgency.{Urgency}
 use Rattle.iolink_port_forms.specs.declared.request.Urgency.TheVariants.{Ordinary, Urgent}
 use Rattle.iolink_port_forms.specs.declared.outcome.IolOutcome.{IolOutcome}
@@ -21,9 +21,9 @@ use Rattle.iolink_storage_c.specs.Calls.{stored_number}
 abbrev pub EntersWithin : Urgency → Request → StoredParts → StoredParts → Result Ticket PortFault
     → Type 0
 EntersWithin Ordinary request old new returned =
-    Submits (StoredCalled old new) old.port new.port request returned
+    Submits (stored_call old new) request returned
 EntersWithin Urgent request old new returned =
-    SubmitsUrgent (StoredCalled old new) old.port new.port request returned
+    SubmitsUrgent (stored_call old new) request returned
 
 -- a request is entered: the number, and the ticket that C is told
 pub record StoreEnters (urgency : Urgency) (request : Request) (old : StoredParts)
@@ -49,7 +49,7 @@ pub record StoreCollects (ticket : ℕ) (old : StoredParts) (number : ℕ) (befo
   pub number_is : number ≡ answer_number answer
   pub own : IsUnknownToClients ticket old answer new
   pub collects : is_own old.storage (ticket_of ticket) ≡ false
-      → Collects (StoredCalled old new) old.port new.port (ticket_of ticket) answer
+      → Collects (stored_call old new) (ticket_of ticket) answer
   pub tickets : new.tickets ≡ tickets_without (is_ok answer) old.tickets
   pub shown : IfOk answer (λ outcome. OutcomeIsShown outcome after)
   pub unwritten : OnErr answer (after ≡ before)
@@ -61,7 +61,7 @@ pub record StoreWithdraws (ticket : ℕ) (old : StoredParts) (number : ℕ) (new
   pub number_is : number ≡ answer_number answer
   pub own : IsUnknownToClients ticket old answer new
   pub withdraws : is_own old.storage (ticket_of ticket) ≡ false
-      → Withdraws (StoredCalled old new) old.port new.port (ticket_of ticket) answer
+      → Withdraws (stored_call old new) (ticket_of ticket) answer
   pub tickets : new.tickets ≡ old.tickets
 
 -- the request under way is asked to be cut off, or not
@@ -71,7 +71,7 @@ pub record StoreCancels (ticket : ℕ) (old : StoredParts) (number : ℕ) (new :
     pub number_is : number ≡ answer_number answer
     pub own : IsUnknownToClients ticket old answer new
     pub cancels : is_own old.storage (ticket_of ticket) ≡ false
-        → Cancels (StoredCalled old new) old.port new.port (ticket_of ticket) answer
+        → Cancels (stored_call old new) (ticket_of ticket) answer
     pub tickets : new.tickets ≡ old.tickets
 
 -- the outcome of a ticket is given up, or not
@@ -81,5 +81,5 @@ pub record StoreAbandons (ticket : ℕ) (old : StoredParts) (number : ℕ) (new 
     pub number_is : number ≡ answer_number answer
     pub own : IsUnknownToClients ticket old answer new
     pub abandons : is_own old.storage (ticket_of ticket) ≡ false
-        → Abandons (StoredCalled old new) old.port new.port (ticket_of ticket) answer
+        → Abandons (stored_call old new) (ticket_of ticket) answer
     pub tickets : new.tickets ≡ tickets_without (is_ok answer) old.tickets

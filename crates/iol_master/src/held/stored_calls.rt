@@ -3,10 +3,10 @@ ghost use Rattle.std.specs.Prelude.{◌≡◌, ◌<◌, ◌≤◌, ◌+◌, [], 
 ghost use Rattle.iol_book.specs.Drained.{LacksRoomFor};
 ghost use Rattle.std.specs.Result.{result_err};
 ghost use Rattle.iol_port.specs.Called.{Collects, Withdraws, Cancels, Abandons, Restarts, ClearsOutput};
-ghost use Rattle.iol_port.specs.Called.{Expects, SetsCycle, TakesEvent, Archives, Drains, DrainsInto, CoreCalled};
+ghost use Rattle.iol_port.specs.Called.{Expects, SetsCycle, TakesEvent, Archives, Drains, DrainsInto, core_call};
 ghost use Rattle.iol_storage.specs.Stored.{saved_refusal, storage_saved, load_refusal, storage_loaded, storage_released, block_answer, storage_with_block};
 ghost use Rattle.iol_storage.specs.Stored.{block_collected, storage_behind_block, is_own, storage_behind_event};
-ghost use Rattle.iol_storage.specs.StoredPort.{StoredCalled, StoredForwards, unknown_ticket, SetsStoredOutput, tickets_without};
+ghost use Rattle.iol_storage.specs.StoredPort.{stored_call, stored_forward, unknown_ticket, SetsStoredOutput, tickets_without};
 ghost use Rattle.iol_master.specs.Line.{stored_facts};
 ghost use Rattle.iol_master.specs.Wired.{IsWiredTurn};
 
@@ -113,8 +113,7 @@ impl<W: Wire, K: Ledger, A: Handle> Held<W, K, A, Wired<W, StoredPort<A>>> {
         ensures own { IsTrue (is_own self.old.port.storage ticket)
             → (result ≡ Err unknown_ticket) × (self.new.port ≡ self.old.port) }
         ensures is { is_own self.old.port.storage ticket ≡ false
-            → Collects (StoredCalled self.old.port self.new.port) self.old.port.port
-            self.new.port.port ticket result }
+            → Collects (stored_call self.old.port self.new.port) ticket result }
         ensures tickets { self.new.port.tickets
             ≡ tickets_without (is_ok result) self.old.port.tickets }
         ensures wire { self.new.wire ≡ self.old.wire }
@@ -127,8 +126,7 @@ impl<W: Wire, K: Ledger, A: Handle> Held<W, K, A, Wired<W, StoredPort<A>>> {
         ensures own { IsTrue (is_own self.old.port.storage ticket)
             → (result ≡ Err unknown_ticket) × (self.new.port ≡ self.old.port) }
         ensures is { is_own self.old.port.storage ticket ≡ false
-            → Withdraws (StoredCalled self.old.port self.new.port) self.old.port.port
-            self.new.port.port ticket result }
+            → Withdraws (stored_call self.old.port self.new.port) ticket result }
         ensures tickets { self.new.port.tickets ≡ self.old.port.tickets }
         ensures wire { self.new.wire ≡ self.old.wire }
     {
@@ -140,8 +138,7 @@ impl<W: Wire, K: Ledger, A: Handle> Held<W, K, A, Wired<W, StoredPort<A>>> {
         ensures own { IsTrue (is_own self.old.port.storage ticket)
             → (result ≡ Err unknown_ticket) × (self.new.port ≡ self.old.port) }
         ensures is { is_own self.old.port.storage ticket ≡ false
-            → Cancels (StoredCalled self.old.port self.new.port) self.old.port.port
-            self.new.port.port ticket result }
+            → Cancels (stored_call self.old.port self.new.port) ticket result }
         ensures tickets { self.new.port.tickets ≡ self.old.port.tickets }
         ensures wire { self.new.wire ≡ self.old.wire }
     {
@@ -153,8 +150,7 @@ impl<W: Wire, K: Ledger, A: Handle> Held<W, K, A, Wired<W, StoredPort<A>>> {
         ensures own { IsTrue (is_own self.old.port.storage ticket)
             → (result ≡ Err unknown_ticket) × (self.new.port ≡ self.old.port) }
         ensures is { is_own self.old.port.storage ticket ≡ false
-            → Abandons (StoredCalled self.old.port self.new.port) self.old.port.port
-            self.new.port.port ticket result }
+            → Abandons (stored_call self.old.port self.new.port) ticket result }
         ensures tickets { self.new.port.tickets
             ≡ tickets_without (is_ok result) self.old.port.tickets }
         ensures wire { self.new.wire ≡ self.old.wire }
@@ -175,8 +171,7 @@ impl<W: Wire, K: Ledger, A: Handle> Held<W, K, A, Wired<W, StoredPort<A>>> {
 
     /// As [`StoredPort::clear_output`].
     pub fn clear_output(&mut self)
-        ensures call { ClearsOutput (CoreCalled self.old.port.port self.new.port.port)
-            self.old.port.port self.new.port.port }
+        ensures call { ClearsOutput (core_call self.old.port.port self.new.port.port) }
         ensures rest { self.new.port
             ≡ record self.old.port { port = self.new.port.port; output = None } }
         ensures wire { self.new.wire ≡ self.old.wire }
@@ -186,8 +181,7 @@ impl<W: Wire, K: Ledger, A: Handle> Held<W, K, A, Wired<W, StoredPort<A>>> {
 
     /// As [`StoredPort::take_event`].
     pub fn take_event(&mut self) -> Result<Event, PortFault>
-        ensures call { TakesEvent (CoreCalled self.old.port.port self.new.port.port)
-            self.old.port.port self.new.port.port result }
+        ensures call { TakesEvent (core_call self.old.port.port self.new.port.port) result }
         ensures rest { self.new.port ≡ record self.old.port {
           port = self.new.port.port;
           storage = storage_behind_event self.old.port.storage result;
@@ -199,8 +193,7 @@ impl<W: Wire, K: Ledger, A: Handle> Held<W, K, A, Wired<W, StoredPort<A>>> {
 
     /// As [`StoredPort::restart`].
     pub fn restart(&mut self)
-        ensures is { Restarts (StoredForwards self.old.port self.new.port) self.old.port.port
-            self.new.port.port }
+        ensures is { Restarts (stored_forward self.old.port self.new.port) }
         ensures wire { self.new.wire ≡ self.old.wire }
     {
         self.port.port.restart();
@@ -208,8 +201,7 @@ impl<W: Wire, K: Ledger, A: Handle> Held<W, K, A, Wired<W, StoredPort<A>>> {
 
     /// As [`StoredPort::expect`].
     pub fn expect(&mut self, identity: Identity) -> Counting
-        ensures is { Expects (StoredForwards self.old.port self.new.port) self.old.port.port
-            self.new.port.port (Some identity) result }
+        ensures is { Expects (stored_forward self.old.port self.new.port) (Some identity) result }
         ensures wire { self.new.wire ≡ self.old.wire }
     {
         self.port.port.expect(identity)
@@ -217,8 +209,7 @@ impl<W: Wire, K: Ledger, A: Handle> Held<W, K, A, Wired<W, StoredPort<A>>> {
 
     /// As [`StoredPort::expect_any`].
     pub fn expect_any(&mut self) -> Counting
-        ensures is { Expects (StoredForwards self.old.port self.new.port) self.old.port.port
-            self.new.port.port None result }
+        ensures is { Expects (stored_forward self.old.port self.new.port) None result }
         ensures wire { self.new.wire ≡ self.old.wire }
     {
         self.port.port.expect_any()
@@ -226,8 +217,7 @@ impl<W: Wire, K: Ledger, A: Handle> Held<W, K, A, Wired<W, StoredPort<A>>> {
 
     /// As [`StoredPort::set_cycle`].
     pub fn set_cycle(&mut self, cycle: Option<CycleTime>) -> Counting
-        ensures is { SetsCycle (StoredForwards self.old.port self.new.port) self.old.port.port
-            self.new.port.port cycle result }
+        ensures is { SetsCycle (stored_forward self.old.port self.new.port) cycle result }
         ensures wire { self.new.wire ≡ self.old.wire }
     {
         self.port.port.set_cycle(cycle)
@@ -235,8 +225,8 @@ impl<W: Wire, K: Ledger, A: Handle> Held<W, K, A, Wired<W, StoredPort<A>>> {
 
     /// As [`StoredPort::archive`].
     pub fn archive(&mut self) -> Result<Journal<A>, PortFault>
-        ensures is { Archives (StoredForwards self.old.port self.new.port) self.old.port.port
-            self.new.port.port (λ entries. entries.items) result }
+        ensures is { Archives (stored_forward self.old.port self.new.port)
+            (λ entries. entries.items) result }
         ensures within { IfOk result (λ entries. length entries.items ≤ 1000000) }
         ensures wire { self.new.wire ≡ self.old.wire }
     {
@@ -245,8 +235,8 @@ impl<W: Wire, K: Ledger, A: Handle> Held<W, K, A, Wired<W, StoredPort<A>>> {
 
     /// As [`StoredPort::drain`].
     pub fn drain(&mut self) -> Result<Journal<A>, PortFault>
-        ensures is { Drains (StoredForwards self.old.port self.new.port) self.old.port.port
-            self.new.port.port (λ entries. entries.items) result }
+        ensures is { Drains (stored_forward self.old.port self.new.port)
+            (λ entries. entries.items) result }
         ensures within { IfOk result (λ entries. length entries.items ≤ 1000000) }
         ensures wire { self.new.wire ≡ self.old.wire }
     {
@@ -255,8 +245,8 @@ impl<W: Wire, K: Ledger, A: Handle> Held<W, K, A, Wired<W, StoredPort<A>>> {
 
     /// As [`StoredPort::drain_into`].
     pub fn drain_into(&mut self, list: &mut Journal<A>) -> Result<usize, PortFault>
-        ensures is { DrainsInto (StoredForwards self.old.port self.new.port) self.old.port.port
-            self.new.port.port list.old.items list.new.items result }
+        ensures is { DrainsInto (stored_forward self.old.port self.new.port)
+            list.old.items list.new.items result }
         ensures full { OnErr result (LacksRoomFor self.old.port.port.book.state list.old) }
         ensures wire { self.new.wire ≡ self.old.wire }
     {

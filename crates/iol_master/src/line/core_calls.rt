@@ -6,7 +6,7 @@ ghost use Rattle.iol_book.specs.declared.fault.BookFault.TheVariants.{OutOfMemor
 ghost use Rattle.iol_port.specs.declared.fault.PortFault.TheVariants as fault;
 ghost use Rattle.iol_port.specs.Called.{Submits, SubmitsUrgent, Collects, Withdraws, Cancels, Abandons, SetsOutput, ClearsOutput};
 ghost use Rattle.iol_port.specs.Called.{Expects, SetsCycle, TakesEvent, Archives, Drains, DrainsInto};
-ghost use Rattle.iol_master.specs.Line.{LineCalled};
+ghost use Rattle.iol_master.specs.Line.{core_line_call};
 
 use crate::line::{LineCore, LinePort};
 use iol_app::Transmission;
@@ -50,8 +50,7 @@ impl<A: Allocator + Copy> LineCore for PortCore<A> {
 impl<K: Ledger, A: Allocator + Copy> LinePort<K, PortCore<A>> {
     /// As [`PortCore::submit`].
     pub fn submit(&mut self, request: Request) -> Result<Ticket, PortFault>
-        ensures is { Submits (LineCalled self.old self.new) self.old.port self.new.port
-            request result }
+        ensures is { Submits (core_line_call self.old self.new) request result }
         ensures lacks { IfErr result (λ e. e ≡ fault.Book OutOfMemory
             → self.old.port.book.room ≡ 0) }
     {
@@ -60,8 +59,7 @@ impl<K: Ledger, A: Allocator + Copy> LinePort<K, PortCore<A>> {
 
     /// As [`PortCore::submit_urgent`].
     pub fn submit_urgent(&mut self, request: Request) -> Result<Ticket, PortFault>
-        ensures is { SubmitsUrgent (LineCalled self.old self.new) self.old.port self.new.port
-            request result }
+        ensures is { SubmitsUrgent (core_line_call self.old self.new) request result }
         ensures lacks { IfErr result (λ e. e ≡ fault.Book OutOfMemory
             → self.old.port.book.room ≡ 0) }
     {
@@ -70,16 +68,14 @@ impl<K: Ledger, A: Allocator + Copy> LinePort<K, PortCore<A>> {
 
     /// As [`PortCore::collect`].
     pub fn collect(&mut self, ticket: Ticket) -> Result<Outcome, PortFault>
-        ensures { Collects (LineCalled self.old self.new) self.old.port self.new.port
-            ticket result }
+        ensures { Collects (core_line_call self.old self.new) ticket result }
     {
         self.port.collect(ticket)
     }
 
     /// As [`PortCore::collect_into`].
     pub fn collect_into(&mut self, ticket: Ticket, into: &mut Outcome) -> Result<(), PortFault>
-        ensures is { Collects (LineCalled self.old self.new) self.old.port self.new.port
-            ticket (in_place into.new result) }
+        ensures is { Collects (core_line_call self.old self.new) ticket (in_place into.new result) }
         ensures unchanged { IfErr result (λ _. into.new ≡ into.old) }
     {
         self.port.collect_into(ticket, into)
@@ -87,79 +83,70 @@ impl<K: Ledger, A: Allocator + Copy> LinePort<K, PortCore<A>> {
 
     /// As [`PortCore::withdraw`].
     pub fn withdraw(&mut self, ticket: Ticket) -> Result<(), PortFault>
-        ensures { Withdraws (LineCalled self.old self.new) self.old.port self.new.port
-            ticket result }
+        ensures { Withdraws (core_line_call self.old self.new) ticket result }
     {
         self.port.withdraw(ticket)
     }
 
     /// As [`PortCore::cancel`].
     pub fn cancel(&mut self, ticket: Ticket) -> Result<(), PortFault>
-        ensures { Cancels (LineCalled self.old self.new) self.old.port self.new.port
-            ticket result }
+        ensures { Cancels (core_line_call self.old self.new) ticket result }
     {
         self.port.cancel(ticket)
     }
 
     /// As [`PortCore::abandon`].
     pub fn abandon(&mut self, ticket: Ticket) -> Result<(), PortFault>
-        ensures { Abandons (LineCalled self.old self.new) self.old.port self.new.port
-            ticket result }
+        ensures { Abandons (core_line_call self.old self.new) ticket result }
     {
         self.port.abandon(ticket)
     }
 
     /// As [`PortCore::set_output`].
     pub fn set_output(&mut self, image: &Image) -> Result<(), PortFault>
-        ensures { SetsOutput (LineCalled self.old self.new) self.old.port self.new.port
-            image.now result }
+        ensures { SetsOutput (core_line_call self.old self.new) image.now result }
     {
         self.port.set_output(image)
     }
 
     /// As [`PortCore::clear_output`].
     pub fn clear_output(&mut self)
-        ensures { ClearsOutput (LineCalled self.old self.new) self.old.port self.new.port }
+        ensures { ClearsOutput (core_line_call self.old self.new) }
     {
         self.port.clear_output();
     }
 
     /// As [`PortCore::expect`].
     pub fn expect(&mut self, identity: Identity) -> Counting
-        ensures { Expects (LineCalled self.old self.new) self.old.port self.new.port
-            (Some identity) result }
+        ensures { Expects (core_line_call self.old self.new) (Some identity) result }
     {
         self.port.expect(identity)
     }
 
     /// As [`PortCore::expect_any`].
     pub fn expect_any(&mut self) -> Counting
-        ensures { Expects (LineCalled self.old self.new) self.old.port self.new.port
-            None result }
+        ensures { Expects (core_line_call self.old self.new) None result }
     {
         self.port.expect_any()
     }
 
     /// As [`PortCore::set_cycle`].
     pub fn set_cycle(&mut self, cycle: Option<CycleTime>) -> Counting
-        ensures { SetsCycle (LineCalled self.old self.new) self.old.port self.new.port
-            cycle result }
+        ensures { SetsCycle (core_line_call self.old self.new) cycle result }
     {
         self.port.set_cycle(cycle)
     }
 
     /// As [`PortCore::take_event`].
     pub fn take_event(&mut self) -> Result<Event, PortFault>
-        ensures { TakesEvent (LineCalled self.old self.new) self.old.port self.new.port
-            result }
+        ensures { TakesEvent (core_line_call self.old self.new) result }
     {
         self.port.take_event()
     }
 
     /// As [`PortCore::archive`].
     pub fn archive(&mut self) -> Result<Journal<A>, PortFault>
-        ensures is { Archives (LineCalled self.old self.new) self.old.port self.new.port
-            (λ entries. entries.items) result }
+        ensures is { Archives (core_line_call self.old self.new) (λ entries. entries.items) result }
         ensures within { IfOk result (λ entries. length entries.items ≤ 1000000) }
     {
         self.port.archive()
@@ -167,8 +154,7 @@ impl<K: Ledger, A: Allocator + Copy> LinePort<K, PortCore<A>> {
 
     /// As [`PortCore::drain`].
     pub fn drain(&mut self) -> Result<Journal<A>, PortFault>
-        ensures is { Drains (LineCalled self.old self.new) self.old.port self.new.port
-            (λ entries. entries.items) result }
+        ensures is { Drains (core_line_call self.old self.new) (λ entries. entries.items) result }
         ensures within { IfOk result (λ entries. length entries.items ≤ 1000000) }
     {
         self.port.drain()
@@ -176,7 +162,7 @@ impl<K: Ledger, A: Allocator + Copy> LinePort<K, PortCore<A>> {
 
     /// As [`PortCore::drain_into`].
     pub fn drain_into(&mut self, list: &mut Journal<A>) -> Result<usize, PortFault>
-        ensures is { DrainsInto (LineCalled self.old self.new) self.old.port self.new.port
+        ensures is { DrainsInto (core_line_call self.old self.new)
             list.old.items list.new.items result }
         ensures full { OnErr result (LacksRoomFor self.old.port.book.state list.old) }
     {

@@ -4,10 +4,10 @@ ghost use Rattle.iol_book.specs.Drained.{LacksRoomFor};
 ghost use Rattle.std.specs.Result.{result_err};
 ghost use Rattle.iol_book.specs.BookModel.{in_place};
 ghost use Rattle.iol_port.specs.Called.{Submits, SubmitsUrgent, Collects, Withdraws, Cancels, Abandons, ClearsOutput};
-ghost use Rattle.iol_port.specs.Called.{Expects, SetsCycle, TakesEvent, Archives, Drains, DrainsInto, CoreCalled};
+ghost use Rattle.iol_port.specs.Called.{Expects, SetsCycle, TakesEvent, Archives, Drains, DrainsInto, core_call};
 ghost use Rattle.iol_storage.specs.Stored.{saved_refusal, storage_saved, load_refusal, storage_loaded, storage_released, block_answer, storage_with_block};
 ghost use Rattle.iol_storage.specs.Stored.{block_collected, storage_behind_block, is_own, storage_behind_event};
-ghost use Rattle.iol_storage.specs.StoredPort.{StoredCalled, StoredForwards, client_refusal, unknown_ticket, PortAnswers, SetsStoredOutput};
+ghost use Rattle.iol_storage.specs.StoredPort.{stored_call, stored_forward, client_refusal, unknown_ticket, PortAnswers, SetsStoredOutput};
 ghost use Rattle.iol_storage.specs.StoredPort.{tickets_behind_submit, tickets_without};
 
 use crate::line::{LineCore, LinePort};
@@ -133,8 +133,7 @@ impl<K: Ledger, A: Allocator + Copy> LinePort<K, StoredPort<A>> {
         ensures denied { IfSome (client_refusal self.old.port request) (λ why.
             (result ≡ Err why) × (self.new.port ≡ self.old.port)) }
         ensures is { IfNone (client_refusal self.old.port request) (PortAnswers result
-            (Submits (StoredCalled self.old.port self.new.port) self.old.port.port
-            self.new.port.port request)) }
+            (Submits (stored_call self.old.port self.new.port) request)) }
         ensures tickets { self.new.port.tickets
             ≡ tickets_behind_submit self.old.port.tickets result }
         ensures only_port { self.new ≡ record self.old { port = self.new.port } }
@@ -147,8 +146,7 @@ impl<K: Ledger, A: Allocator + Copy> LinePort<K, StoredPort<A>> {
         ensures denied { IfSome (client_refusal self.old.port request) (λ why.
             (result ≡ Err why) × (self.new.port ≡ self.old.port)) }
         ensures is { IfNone (client_refusal self.old.port request) (PortAnswers result
-            (SubmitsUrgent (StoredCalled self.old.port self.new.port) self.old.port.port
-            self.new.port.port request)) }
+            (SubmitsUrgent (stored_call self.old.port self.new.port) request)) }
         ensures tickets { self.new.port.tickets
             ≡ tickets_behind_submit self.old.port.tickets result }
         ensures only_port { self.new ≡ record self.old { port = self.new.port } }
@@ -161,8 +159,7 @@ impl<K: Ledger, A: Allocator + Copy> LinePort<K, StoredPort<A>> {
         ensures own { IsTrue (is_own self.old.port.storage ticket)
             → (result ≡ Err unknown_ticket) × (self.new.port ≡ self.old.port) }
         ensures is { is_own self.old.port.storage ticket ≡ false
-            → Collects (StoredCalled self.old.port self.new.port) self.old.port.port
-            self.new.port.port ticket result }
+            → Collects (stored_call self.old.port self.new.port) ticket result }
         ensures tickets { self.new.port.tickets
             ≡ tickets_without (is_ok result) self.old.port.tickets }
         ensures only_port { self.new ≡ record self.old { port = self.new.port } }
@@ -175,8 +172,7 @@ impl<K: Ledger, A: Allocator + Copy> LinePort<K, StoredPort<A>> {
         ensures own { IsTrue (is_own self.old.port.storage ticket)
             → (result ≡ Err unknown_ticket) × (self.new.port ≡ self.old.port) }
         ensures is { is_own self.old.port.storage ticket ≡ false
-            → Collects (StoredCalled self.old.port self.new.port) self.old.port.port
-            self.new.port.port ticket (in_place into.new result) }
+            → Collects (stored_call self.old.port self.new.port) ticket (in_place into.new result) }
         ensures unchanged { IfErr result (λ _. into.new ≡ into.old) }
         ensures tickets { self.new.port.tickets
             ≡ tickets_without (is_ok result) self.old.port.tickets }
@@ -190,8 +186,7 @@ impl<K: Ledger, A: Allocator + Copy> LinePort<K, StoredPort<A>> {
         ensures own { IsTrue (is_own self.old.port.storage ticket)
             → (result ≡ Err unknown_ticket) × (self.new.port ≡ self.old.port) }
         ensures is { is_own self.old.port.storage ticket ≡ false
-            → Withdraws (StoredCalled self.old.port self.new.port) self.old.port.port
-            self.new.port.port ticket result }
+            → Withdraws (stored_call self.old.port self.new.port) ticket result }
         ensures tickets { self.new.port.tickets ≡ self.old.port.tickets }
         ensures only_port { self.new ≡ record self.old { port = self.new.port } }
     {
@@ -203,8 +198,7 @@ impl<K: Ledger, A: Allocator + Copy> LinePort<K, StoredPort<A>> {
         ensures own { IsTrue (is_own self.old.port.storage ticket)
             → (result ≡ Err unknown_ticket) × (self.new.port ≡ self.old.port) }
         ensures is { is_own self.old.port.storage ticket ≡ false
-            → Cancels (StoredCalled self.old.port self.new.port) self.old.port.port
-            self.new.port.port ticket result }
+            → Cancels (stored_call self.old.port self.new.port) ticket result }
         ensures tickets { self.new.port.tickets ≡ self.old.port.tickets }
         ensures only_port { self.new ≡ record self.old { port = self.new.port } }
     {
@@ -216,8 +210,7 @@ impl<K: Ledger, A: Allocator + Copy> LinePort<K, StoredPort<A>> {
         ensures own { IsTrue (is_own self.old.port.storage ticket)
             → (result ≡ Err unknown_ticket) × (self.new.port ≡ self.old.port) }
         ensures is { is_own self.old.port.storage ticket ≡ false
-            → Abandons (StoredCalled self.old.port self.new.port) self.old.port.port
-            self.new.port.port ticket result }
+            → Abandons (stored_call self.old.port self.new.port) ticket result }
         ensures tickets { self.new.port.tickets
             ≡ tickets_without (is_ok result) self.old.port.tickets }
         ensures only_port { self.new ≡ record self.old { port = self.new.port } }
@@ -238,8 +231,7 @@ impl<K: Ledger, A: Allocator + Copy> LinePort<K, StoredPort<A>> {
 
     /// As [`StoredPort::clear_output`].
     pub fn clear_output(&mut self)
-        ensures call { ClearsOutput (CoreCalled self.old.port.port self.new.port.port)
-            self.old.port.port self.new.port.port }
+        ensures call { ClearsOutput (core_call self.old.port.port self.new.port.port) }
         ensures rest { self.new.port
             ≡ record self.old.port { port = self.new.port.port; output = None } }
         ensures only_port { self.new ≡ record self.old { port = self.new.port } }
@@ -249,8 +241,7 @@ impl<K: Ledger, A: Allocator + Copy> LinePort<K, StoredPort<A>> {
 
     /// As [`StoredPort::take_event`].
     pub fn take_event(&mut self) -> Result<Event, PortFault>
-        ensures call { TakesEvent (CoreCalled self.old.port.port self.new.port.port)
-            self.old.port.port self.new.port.port result }
+        ensures call { TakesEvent (core_call self.old.port.port self.new.port.port) result }
         ensures rest { self.new.port ≡ record self.old.port {
           port = self.new.port.port;
           storage = storage_behind_event self.old.port.storage result;
@@ -262,8 +253,7 @@ impl<K: Ledger, A: Allocator + Copy> LinePort<K, StoredPort<A>> {
 
     /// As [`StoredPort::expect`].
     pub fn expect(&mut self, identity: Identity) -> Counting
-        ensures is { Expects (StoredForwards self.old.port self.new.port) self.old.port.port
-            self.new.port.port (Some identity) result }
+        ensures is { Expects (stored_forward self.old.port self.new.port) (Some identity) result }
         ensures only_port { self.new ≡ record self.old { port = self.new.port } }
     {
         self.port.expect(identity)
@@ -271,8 +261,7 @@ impl<K: Ledger, A: Allocator + Copy> LinePort<K, StoredPort<A>> {
 
     /// As [`StoredPort::expect_any`].
     pub fn expect_any(&mut self) -> Counting
-        ensures is { Expects (StoredForwards self.old.port self.new.port) self.old.port.port
-            self.new.port.port None result }
+        ensures is { Expects (stored_forward self.old.port self.new.port) None result }
         ensures only_port { self.new ≡ record self.old { port = self.new.port } }
     {
         self.port.expect_any()
@@ -280,8 +269,7 @@ impl<K: Ledger, A: Allocator + Copy> LinePort<K, StoredPort<A>> {
 
     /// As [`StoredPort::set_cycle`].
     pub fn set_cycle(&mut self, cycle: Option<CycleTime>) -> Counting
-        ensures is { SetsCycle (StoredForwards self.old.port self.new.port) self.old.port.port
-            self.new.port.port cycle result }
+        ensures is { SetsCycle (stored_forward self.old.port self.new.port) cycle result }
         ensures only_port { self.new ≡ record self.old { port = self.new.port } }
     {
         self.port.set_cycle(cycle)
@@ -289,8 +277,8 @@ impl<K: Ledger, A: Allocator + Copy> LinePort<K, StoredPort<A>> {
 
     /// As [`StoredPort::archive`].
     pub fn archive(&mut self) -> Result<Journal<A>, PortFault>
-        ensures is { Archives (StoredForwards self.old.port self.new.port) self.old.port.port
-            self.new.port.port (λ entries. entries.items) result }
+        ensures is { Archives (stored_forward self.old.port self.new.port)
+            (λ entries. entries.items) result }
         ensures within { IfOk result (λ entries. length entries.items ≤ 1000000) }
         ensures only_port { self.new ≡ record self.old { port = self.new.port } }
     {
@@ -299,8 +287,8 @@ impl<K: Ledger, A: Allocator + Copy> LinePort<K, StoredPort<A>> {
 
     /// As [`StoredPort::drain`].
     pub fn drain(&mut self) -> Result<Journal<A>, PortFault>
-        ensures is { Drains (StoredForwards self.old.port self.new.port) self.old.port.port
-            self.new.port.port (λ entries. entries.items) result }
+        ensures is { Drains (stored_forward self.old.port self.new.port)
+            (λ entries. entries.items) result }
         ensures within { IfOk result (λ entries. length entries.items ≤ 1000000) }
         ensures only_port { self.new ≡ record self.old { port = self.new.port } }
     {
@@ -309,8 +297,8 @@ impl<K: Ledger, A: Allocator + Copy> LinePort<K, StoredPort<A>> {
 
     /// As [`StoredPort::drain_into`].
     pub fn drain_into(&mut self, list: &mut Journal<A>) -> Result<usize, PortFault>
-        ensures is { DrainsInto (StoredForwards self.old.port self.new.port) self.old.port.port
-            self.new.port.port list.old.items list.new.items result }
+        ensures is { DrainsInto (stored_forward self.old.port self.new.port)
+            list.old.items list.new.items result }
         ensures full { OnErr result (LacksRoomFor self.old.port.port.book.state list.old) }
         ensures only_port { self.new ≡ record self.old { port = self.new.port } }
     {

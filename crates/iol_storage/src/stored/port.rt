@@ -9,10 +9,10 @@ ghost use Rattle.iol_book.specs.BookModel.{is_outstanding};
 ghost use Rattle.iol_port.specs.View.{IsNewFor};
 ghost use Rattle.iol_port.specs.CorePort.{CoreOpensFor, awaited_answer, PortReceiveGives, ReceiveDoes, WakeGives, WakeDoes};
 ghost use Rattle.iol_port.specs.Called.{Submits, SubmitsUrgent, Collects, Withdraws, Cancels, Abandons, Restarts, ClearsOutput, Expects, SetsCycle};
-ghost use Rattle.iol_port.specs.Called.{TakesEvent, Archives, Drains, DrainsInto, CoreCalled};
+ghost use Rattle.iol_port.specs.Called.{TakesEvent, Archives, Drains, DrainsInto, core_call};
 ghost use Rattle.iol_storage.specs.Sets.{is_no_set};
 ghost use Rattle.iol_storage.specs.Stored.{storage_at_opening, set_unsaved, number_unsaved, saved_refusal, storage_saved, load_refusal, storage_loaded, storage_released, block_answer, storage_with_block, block_collected, storage_behind_block, is_unserved, is_own, storage_behind_event};
-ghost use Rattle.iol_storage.specs.StoredPort.{Tends, StoredSends, session_page, CollectsOf, SubmitsOf, to_submit, ShowsOf, StoredCalled, StoredForwards, client_refusal, unknown_ticket, by_port, PortAnswers, tickets_behind_submit, tickets_without, SetsStoredOutput, image_shown, IsOpeningRefused, places_with_room, answer_to};
+ghost use Rattle.iol_storage.specs.StoredPort.{Tends, StoredSends, session_page, CollectsOf, SubmitsOf, to_submit, ShowsOf, stored_call, stored_forward, client_refusal, unknown_ticket, by_port, PortAnswers, tickets_behind_submit, tickets_without, SetsStoredOutput, image_shown, IsOpeningRefused, places_with_room, answer_to};
 
 use crate::attempt::StorageMode;
 use crate::download::{DownloadResult, Keep};
@@ -373,8 +373,7 @@ impl<A: Allocator + Copy> StoredPort<A> {
         ensures denied { IfSome (client_refusal self.old request) (λ why.
             (result ≡ Err why) × (self.new ≡ self.old)) }
         ensures is { IfNone (client_refusal self.old request)
-            (PortAnswers result (Submits (StoredCalled self.old self.new) self.old.port
-            self.new.port request)) }
+            (PortAnswers result (Submits (stored_call self.old self.new) request)) }
         ensures tickets { self.new.tickets ≡ tickets_behind_submit self.old.tickets result }
     {
         self.allow(&request)?;
@@ -388,8 +387,7 @@ impl<A: Allocator + Copy> StoredPort<A> {
         ensures denied { IfSome (client_refusal self.old request) (λ why.
             (result ≡ Err why) × (self.new ≡ self.old)) }
         ensures is { IfNone (client_refusal self.old request)
-            (PortAnswers result (SubmitsUrgent (StoredCalled self.old self.new) self.old.port
-            self.new.port request)) }
+            (PortAnswers result (SubmitsUrgent (stored_call self.old self.new) request)) }
         ensures tickets { self.new.tickets ≡ tickets_behind_submit self.old.tickets result }
     {
         self.allow(&request)?;
@@ -438,8 +436,7 @@ impl<A: Allocator + Copy> StoredPort<A> {
         ensures own { IsTrue (is_own self.old.storage ticket) → (result ≡ Err unknown_ticket)
             × (self.new ≡ self.old) }
         ensures is { is_own self.old.storage ticket ≡ false
-            → Collects (StoredCalled self.old self.new) self.old.port self.new.port
-            ticket result }
+            → Collects (stored_call self.old self.new) ticket result }
         ensures tickets { self.new.tickets ≡ tickets_without (is_ok result) self.old.tickets }
     {
         if self.is_own(ticket) {
@@ -458,8 +455,7 @@ impl<A: Allocator + Copy> StoredPort<A> {
         ensures own { IsTrue (is_own self.old.storage ticket) → (result ≡ Err unknown_ticket)
             × (self.new ≡ self.old) }
         ensures is { is_own self.old.storage ticket ≡ false
-            → Collects (StoredCalled self.old self.new) self.old.port self.new.port
-            ticket (in_place into.new result) }
+            → Collects (stored_call self.old self.new) ticket (in_place into.new result) }
         ensures unchanged { IfErr result (λ _. into.new ≡ into.old) }
         ensures tickets { self.new.tickets ≡ tickets_without (is_ok result) self.old.tickets }
     {
@@ -479,8 +475,7 @@ impl<A: Allocator + Copy> StoredPort<A> {
         ensures own { IsTrue (is_own self.old.storage ticket) → (result ≡ Err unknown_ticket)
             × (self.new ≡ self.old) }
         ensures is { is_own self.old.storage ticket ≡ false
-            → Withdraws (StoredCalled self.old self.new) self.old.port self.new.port
-            ticket result }
+            → Withdraws (stored_call self.old self.new) ticket result }
         ensures tickets { self.new.tickets ≡ self.old.tickets }
     {
         if self.is_own(ticket) {
@@ -494,8 +489,7 @@ impl<A: Allocator + Copy> StoredPort<A> {
         ensures own { IsTrue (is_own self.old.storage ticket) → (result ≡ Err unknown_ticket)
             × (self.new ≡ self.old) }
         ensures is { is_own self.old.storage ticket ≡ false
-            → Cancels (StoredCalled self.old self.new) self.old.port self.new.port
-            ticket result }
+            → Cancels (stored_call self.old self.new) ticket result }
         ensures tickets { self.new.tickets ≡ self.old.tickets }
     {
         if self.is_own(ticket) {
@@ -509,8 +503,7 @@ impl<A: Allocator + Copy> StoredPort<A> {
         ensures own { IsTrue (is_own self.old.storage ticket) → (result ≡ Err unknown_ticket)
             × (self.new ≡ self.old) }
         ensures is { is_own self.old.storage ticket ≡ false
-            → Abandons (StoredCalled self.old self.new) self.old.port self.new.port
-            ticket result }
+            → Abandons (stored_call self.old self.new) ticket result }
         ensures tickets { self.new.tickets ≡ tickets_without (is_ok result) self.old.tickets }
     {
         if self.is_own(ticket) {
@@ -541,7 +534,7 @@ impl<A: Allocator + Copy> StoredPort<A> {
     /// As [`PortCore::restart`](iol_port::PortCore::restart).
     pub fn restart(&mut self)
         requires { awaited_answer self.old.port ≡ AwaitedAnswer.Nothing }
-        ensures { Restarts (StoredForwards self.old self.new) self.old.port self.new.port }
+        ensures { Restarts (stored_forward self.old self.new) }
     {
         self.port.restart();
     }
@@ -561,8 +554,7 @@ impl<A: Allocator + Copy> StoredPort<A> {
 
     /// As [`PortCore::clear_output`](iol_port::PortCore::clear_output).
     pub fn clear_output(&mut self)
-        ensures call { ClearsOutput (CoreCalled self.old.port self.new.port) self.old.port
-            self.new.port }
+        ensures call { ClearsOutput (core_call self.old.port self.new.port) }
         ensures rest { self.new ≡ record self.old { port = self.new.port; output = None } }
     {
         self.output = None;
@@ -586,8 +578,7 @@ impl<A: Allocator + Copy> StoredPort<A> {
     /// As [`PortCore::take_event`](iol_port::PortCore::take_event). By the event 0xFF91 the device
     /// asks for a check.
     pub fn take_event(&mut self) -> Result<Event, PortFault>
-        ensures call { TakesEvent (CoreCalled self.old.port self.new.port) self.old.port
-            self.new.port result }
+        ensures call { TakesEvent (core_call self.old.port self.new.port) result }
         ensures rest { self.new ≡ record self.old {
           port = self.new.port;
           storage = storage_behind_event self.old.storage result;
@@ -600,24 +591,21 @@ impl<A: Allocator + Copy> StoredPort<A> {
 
     /// As [`PortCore::expect`](iol_port::PortCore::expect).
     pub fn expect(&mut self, identity: Identity) -> Counting
-        ensures { Expects (StoredForwards self.old self.new) self.old.port self.new.port
-            (Some identity) result }
+        ensures { Expects (stored_forward self.old self.new) (Some identity) result }
     {
         self.port.expect(identity)
     }
 
     /// As [`PortCore::expect_any`](iol_port::PortCore::expect_any).
     pub fn expect_any(&mut self) -> Counting
-        ensures { Expects (StoredForwards self.old self.new) self.old.port self.new.port None
-            result }
+        ensures { Expects (stored_forward self.old self.new) None result }
     {
         self.port.expect_any()
     }
 
     /// As [`PortCore::set_cycle`](iol_port::PortCore::set_cycle).
     pub fn set_cycle(&mut self, cycle: Option<CycleTime>) -> Counting
-        ensures { SetsCycle (StoredForwards self.old self.new) self.old.port self.new.port cycle
-            result }
+        ensures { SetsCycle (stored_forward self.old self.new) cycle result }
     {
         self.port.set_cycle(cycle)
     }
@@ -634,8 +622,7 @@ impl<A: Allocator + Copy> StoredPort<A> {
     ///
     /// Rule JOB-5.
     pub fn archive(&mut self) -> Result<Journal<A>, PortFault>
-        ensures is { Archives (StoredForwards self.old self.new) self.old.port self.new.port
-            (λ entries. entries.items) result }
+        ensures is { Archives (stored_forward self.old self.new) (λ entries. entries.items) result }
         ensures within { IfOk result (λ entries. length entries.items ≤ 1000000) }
     {
         self.port.archive()
@@ -643,8 +630,7 @@ impl<A: Allocator + Copy> StoredPort<A> {
 
     /// As [`PortCore::drain`](iol_port::PortCore::drain).
     pub fn drain(&mut self) -> Result<Journal<A>, PortFault>
-        ensures is { Drains (StoredForwards self.old self.new) self.old.port self.new.port
-            (λ entries. entries.items) result }
+        ensures is { Drains (stored_forward self.old self.new) (λ entries. entries.items) result }
         ensures within { IfOk result (λ entries. length entries.items ≤ 1000000) }
     {
         self.port.drain()
@@ -652,7 +638,7 @@ impl<A: Allocator + Copy> StoredPort<A> {
 
     /// As [`PortCore::drain_into`](iol_port::PortCore::drain_into).
     pub fn drain_into(&mut self, list: &mut Journal<A>) -> Result<usize, PortFault>
-        ensures is { DrainsInto (StoredForwards self.old self.new) self.old.port self.new.port
+        ensures is { DrainsInto (stored_forward self.old self.new)
             list.old.items list.new.items result }
         ensures full { OnErr result (LacksRoomFor self.old.port.book.state list.old) }
     {

@@ -1,0 +1,2 @@
+-- The files of iol_turns's definitions.
+pub mod Admitted
