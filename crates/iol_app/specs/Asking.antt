@@ -12,7 +12,7 @@ use Rattle.iol_link.specs.declared.wire.Rate.{Rate}
 use Rattle.iol_link.specs.WireFacts.{WireFacts}
 use Rattle.iol_mode.specs.Next.{message_out}
 use Rattle.iol_app.specs.declared.transmission.Transmission.{Transmission}
-use Rattle.iol_app.specs.declared.asked.Outgoing.{Outgoing}
+use Rattle.iol_app.specs.declared.transmission.Outgoing.{Outgoing}
 use Rattle.iol_app.specs.declared.transmission.Transmission.TheVariants.{Wake, Exchange}
 use Rattle.iol_app.specs.declared.event_work.EventRoom.{EventRoom}
 use Rattle.iol_app.specs.declared.session.Purpose as purpose

@@ -5,7 +5,7 @@ use Rattle.iol_link.specs.declared.handler.Attempt.{Attempt}
 use Rattle.iol_link.specs.declared.handler.Attempt.TheVariants.{Got}
 use Rattle.iol_mode.specs.declared.states.State.{State}
 use Rattle.iol_mode.specs.Exchanges.{text_out, layout_out, tries_in}
-use Rattle.iol_app.specs.declared.asked.Outgoing.{Outgoing}
+use Rattle.iol_app.specs.declared.transmission.Outgoing.{Outgoing}
 use Rattle.iol_app.specs.declared.wire_result.WireResult.{WireResult}
 use Rattle.iol_app.specs.declared.wire_result.WireResult.TheVariants.{NoDevice, Woken, Exchanged}
 use Rattle.iol_app.specs.declared.wire_result.ReplyVerdict.{ReplyVerdict}

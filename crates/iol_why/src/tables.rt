@@ -126,7 +126,12 @@ const COUNT: Field = number!("N", "count", 1, 100_000);
 
 const BUSY: Field = number!("BUSY", "limit of busy replies", 2, 65_535);
 
-const JOURNAL: Field = number!("JOURNAL", "limit of the journal", 4, 1_000_000);
+const JOURNAL: Field = number!(
+    "JOURNAL",
+    "limit of the journal, nor 0 for none",
+    4,
+    1_000_000
+);
 
 const QUEUE: Field = number!("QUEUE", "limit of tickets", 1, 64);
 
@@ -212,7 +217,7 @@ pub(crate) static SETTINGS: [LineForm; 11] = [
         "the busy replies that end a request, the entries of the journal, the tickets",
         word!("limits"),
         one!(BUSY),
-        one!(JOURNAL),
+        Part::WordsOr(&["0"], JOURNAL),
         Part::Optional(QUEUE)
     ),
     form!(

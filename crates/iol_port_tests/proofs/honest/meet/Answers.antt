@@ -1,6 +1,6 @@
 -- What the search can't prove of the body of `honest::meet`.
 use Rattle.std.proofs.Common.{◌≡◌, ◌∙◌, ap}
-use Rattle.iol_app.specs.declared.asked.Outgoing.{Outgoing}
+use Rattle.iol_app.specs.declared.transmission.Outgoing.{Outgoing}
 use Rattle.iol_port.specs.Honestly.{HonestParts}
 use Rattle.iol_port_tests.proofs.honest.meet.Goals as goal
 
