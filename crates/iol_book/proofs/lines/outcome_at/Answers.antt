@@ -1,3 +1,4 @@
+-- The clauses of `lines::outcome_at` that the search can't prove.
 use Rattle.iol_book.specs.Replay.{same_ticket}
 use Rattle.iol_book.proofs.LineLemmas.{is_some-position, lookup-position, remove-position}
 use Rattle.iol_book.proofs.lines.outcome_at.Goals as goal

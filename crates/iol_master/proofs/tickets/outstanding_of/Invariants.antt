@@ -1,3 +1,4 @@
+-- What each round of a loop of `tickets::outstanding_of` keeps.
 use Rattle.std.proofs.Common.{◌≡◌, ◌≤◌, filter, length, take}
 use Rattle.iol_master.specs.Ports.{awaits_client}
 use Rattle.iol_master.proofs.tickets.outstanding_of.Given as goal
