@@ -160,16 +160,32 @@ impl fmt::Display for Field {
     }
 }
 
-/// A field, and why a word isn't one.
+/// A field, why a word isn't one, and the words that could stand there too.
 #[derive(Clone, Copy, Debug, PartialEq, Eq)]
 pub struct Unfit {
     pub field: Field,
     pub fault: FieldFault,
+    pub names: &'static [&'static str],
 }
 
 impl fmt::Display for Unfit {
     fn fmt<W: fmt::Write>(&self, f: &mut fmt::Formatter<W>) -> fmt::Result {
-        let Unfit { field, fault } = self;
+        self.write_fault(f)?;
+        // What has the value's form but for a digit was not meant for one of these words.
+        if matches!(self.fault, FieldFault::LeadingZero | FieldFault::OddDigits) {
+            return Ok(());
+        }
+        for name in self.names {
+            write!(f, ", or {name}")?;
+        }
+        Ok(())
+    }
+}
+
+impl Unfit {
+    /// Why the word isn't that field.
+    fn write_fault<W: fmt::Write>(&self, f: &mut fmt::Formatter<W>) -> fmt::Result {
+        let Unfit { field, fault, .. } = self;
         match fault {
             FieldFault::Form => write!(f, "is no {field}"),
             FieldFault::Range => write!(f, "is no {}: out of range, {}", field.name, field.value),

@@ -126,12 +126,7 @@ const COUNT: Field = number!("N", "count", 1, 100_000);
 
 const BUSY: Field = number!("BUSY", "limit of busy replies", 2, 65_535);
 
-const JOURNAL: Field = number!(
-    "JOURNAL",
-    "limit of the journal, nor 0 for none",
-    4,
-    1_000_000
-);
+const JOURNAL: Field = number!("JOURNAL", "limit of the journal", 4, 1_000_000);
 
 const QUEUE: Field = number!("QUEUE", "limit of tickets", 1, 64);
 

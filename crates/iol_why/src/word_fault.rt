@@ -3,7 +3,7 @@ ghost use Rattle.std.specs.Prelude.{IfSome};
 ghost use Rattle.iol_why.specs.Explained.{IsColumnOf};
 
 use crate::departure::{Furthest, WantedList, furthest_of};
-use crate::field::{Field, Unfit};
+use crate::field::Unfit;
 use crate::form::{LineForm, Lines, Part};
 use crate::near::is_near;
 use crate::quoted::Quoted;
@@ -139,7 +139,7 @@ fn fault_at<'a>(lines: Lines, word: &'a [u8], furthest: Furthest<'a>) -> WordFau
     if furthest.wanted.is_empty() {
         return WordFault::OneTooMany(word);
     }
-    match only_field(&furthest.wanted, word).and_then(|field| unfit(field, word)) {
+    match only_value(&furthest.wanted, word).and_then(|part| unfit(part, word)) {
         Some(unfit) => WordFault::Unfit(word, unfit),
         None => WordFault::NoneOf(word, furthest.wanted),
     }
@@ -157,9 +157,9 @@ fn near_name(wanted: &WantedList, word: &[u8]) -> Option<&'static str> {
     None
 }
 
-/// The value that is wanted, if the word can have been meant for it alone: there is one value, and
-/// no name, or the word begins with a digit.
-fn only_field(wanted: &WantedList, word: &[u8]) -> Option<Field> {
+/// What has the one value that is wanted, if the word can have been meant for it alone: there is
+/// one value, and no name, or the word begins with a digit.
+fn only_value(wanted: &WantedList, word: &[u8]) -> Option<Part> {
     let mut only = None;
     for part in wanted {
         if !part.names().is_empty() && !matches!(word, [b'0'..=b'9', ..]) {
@@ -167,15 +167,21 @@ fn only_field(wanted: &WantedList, word: &[u8]) -> Option<Field> {
         }
         match (only, part.field()) {
             (Some(_), Some(_)) => return None,
-            (None, field) => only = field,
-            (Some(_), None) => {}
+            (None, Some(_)) => only = Some(*part),
+            (_, None) => {}
         }
     }
     only
 }
 
-/// Why a word isn't a field.
-fn unfit(field: Field, word: &[u8]) -> Option<Unfit> {
+/// Why a word isn't the value of a part.
+fn unfit(part: Part, word: &[u8]) -> Option<Unfit> {
+    let field = part.field()?;
     let fault = field.fault_of(word)?;
-    Some(Unfit { field, fault })
+    let names = part.names();
+    Some(Unfit {
+        field,
+        fault,
+        names,
+    })
 }
